@@ -1,0 +1,223 @@
+-- The Agreement law, by induction on a process: no statement's meaning is looked at.
+use Rattle.std.proofs.Common.{◌≡◌, ◌≢◌, ℕ, ◌+◌, ◌≤◌, arith, ◌⊎◌, inl, inr, Bool, true, false, List, [], ◌∷◌, ◌++◌, length, refl, sym, ◌∙◌, ap, subst, append_assoc, append-nil, Option, Some, None, IsSome, cond}
+use Rattle.wb_model.specs.declared.heap.TheConstants.{CEILING}
+use Rattle.wb_model.specs.declared.heap.Rule.{Rule}
+use Rattle.wb_model.specs.declared.heap.Rule.TheVariants.{Unlimited, Limit, Number}
+use Rattle.wb_model.specs.declared.heap.Shape.{Shape}
+use Rattle.wb_model.specs.declared.heap.Answer.{Answer}
+use Rattle.wb_model.specs.declared.heap.Answer.TheVariants.{Granted, Simulated, Refused}
+use Rattle.wb_model.specs.declared.heap.Attempt.{Attempt}
+use Rattle.wb_model.specs.declared.run.Why.TheVariants.{Ceiling}
+use Rattle.wb_model.specs.declared.script.Script.{Script}
+use Rattle.wb_model.specs.Rules.{refusal_of, unless_refused, answer_to, Request}
+use Rattle.wb_model.specs.State.{is_cut, State, Query, heap_note, available_note, compress_note, Process, ends, stops, asks, notes}
+use Rattle.wb_model.specs.Space.{Space, space_below, bound_below, limit_under, space_of}
+use Rattle.wb_model.specs.Account.{stopped, Account, Settled, settled, on_answer, recorded, noted, next_number}
+use Rattle.wb_model.specs.Run.{process, before, result_of, outcome_of}
+use Rattle.wb_model.specs.Agreement.{RefusesAtLeast, IsNoLimit, IsSameButNotes, PartsAt, Agrees}
+
+-- a note leaves the trace
+noted-trace : (space : Space) (q : Query) (a : Account) → (noted space q a).trace ≡ a.trace
+noted-trace space (heap_note count total) a = refl
+noted-trace space (available_note row) a = refl
+noted-trace space (compress_note top) a = refl
+
+-- a trace only grows
+pub record Extends (old new : List Attempt) : Type 0 where
+  pub more : List Attempt
+  pub is : new ≡ old ++ more
+
+extends_self : (xs : List Attempt) → Extends xs xs
+extends_self xs = record { more = []; is = sym (append-nil xs) }
+
+extends_on : (xs ys zs : List Attempt) → Extends xs ys → Extends ys zs → Extends xs zs
+extends_on xs ys zs p q = record { more = p.more ++ q.more; is = q.is ∙ ap (λ l. l ++ q.more) p.is ∙ append_assoc xs p.more q.more }
+
+recorded_extends : (space : Space) (n : ℕ) (t : Request) (w : Answer) (a : Account) → Extends a.trace (recorded space n t w a).trace
+recorded_extends space n t w a = record { more = record { number = n; length = t.length; place = t.place; answer = w } ∷ []; is = refl }
+
+pub settled_extends : (rule : Rule) (space : Space) (p : Process) (a : Account) → Extends a.trace (settled rule space p a).account.trace
+settled_extends rule space (ends way st) a = extends_self a.trace
+settled_extends rule space (stops stop st) a = extends_self a.trace
+settled_extends rule space (asks t cut go) a =
+    let n = next_number a in
+    answered (answer_to rule n t) (λ w. extends_on _ _ _ (recorded_extends space n t w a) (settled_extends rule space (go n w) (recorded space n t w a)))
+  where
+    answered : (o : Option Answer) → ((w : Answer) → Extends a.trace (settled rule space (go (next_number a) w) (recorded space (next_number a) t w a)).account.trace) →
+        Extends a.trace (on_answer o (record { end = stopped (is_cut Ceiling); state = cut; account = a })
+        (λ w. settled rule space (go (next_number a) w) (recorded space (next_number a) t w a))).account.trace
+    answered None h = extends_self a.trace
+    answered (Some w) h = h w
+settled_extends rule space (notes q p) a =
+    let P : List Attempt → Type 0 = λ l. Extends l (settled rule space p (noted space q a)).account.trace in
+    subst P (noted-trace space q a) (settled_extends rule space p (noted space q a))
+
+-- equal answers or not
+answer_cases : (x y : Answer) → (x ≡ y) ⊎ (y ≢ x)
+answer_cases Granted Granted = inl refl
+answer_cases Granted Simulated = inr (λ e. cc)
+answer_cases Granted Refused = inr (λ e. cc)
+answer_cases Simulated Granted = inr (λ e. cc)
+answer_cases Simulated Simulated = inl refl
+answer_cases Simulated Refused = inr (λ e. cc)
+answer_cases Refused Granted = inr (λ e. cc)
+answer_cases Refused Simulated = inr (λ e. cc)
+answer_cases Refused Refused = inl refl
+
+-- where the first rule doesn't cut, the second doesn't
+not_cut : (r s : Rule) → RefusesAtLeast r s → (n : ℕ) → 1 ≤ n → (t : Request) → answer_to s n t ≡ None → answer_to r n t ≡ None
+not_cut r s h n one t = due t.due
+  where
+    end : ℕ
+    end = t.place + t.length
+
+    by : (x y : Option Answer) → (IsSome x → IsSome y) → unless_refused y end ≡ None → unless_refused x end ≡ None
+    by None None k e = e
+    by None (Some w) k e = cc
+    by (Some v) None k e = let no : false ≡ true = k refl in cc
+    by (Some v) (Some w) k e = cc
+
+    due : (b : Bool) → cond b (Some Simulated) (unless_refused (refusal_of s n end) end) ≡ None →
+        cond b (Some Simulated) (unless_refused (refusal_of r n end) end) ≡ None
+    due true e = cc
+    due false e = by (refusal_of r n end) (refusal_of s n end) (h n end one) e
+
+-- two ends that are the same, with accounts that differ in notes alone
+pub record Same (x_space y_space : Space) (a b : Account) (x y : Settled) : Type 0 where
+  pub end : y.end ≡ x.end
+  pub state : y.state ≡ x.state
+  pub trace : y.account.trace ≡ x.account.trace
+  pub account : y_space ≡ x_space → b ≡ a → y.account ≡ x.account
+
+abbrev Law : Space → Space → Account → Account → Settled → Settled → Type 0
+Law x_space y_space a b x y = Same x_space y_space a b x y ⊎ PartsAt x.account.trace y.account.trace
+
+-- accounts with the same trace
+same_number : (a b : Account) → b.trace ≡ a.trace → next_number b ≡ next_number a
+same_number a b e = ap (λ l. length l + 1) e
+
+-- what a process comes to after an answer
+abbrev after : Rule → Space → Request → (ℕ → Answer → Process) → Account → ℕ → Answer → Settled
+after rule space t go a n w = settled rule space (go n w) (recorded space n t w a)
+
+abbrev cut_at : State → Account → Settled
+cut_at st a = record { end = stopped (is_cut Ceiling); state = st; account = a }
+
+recorded_trace : (x_space y_space : Space) (n : ℕ) (t : Request) (w : Answer) (a b : Account) → b.trace ≡ a.trace →
+    (recorded y_space n t w b).trace ≡ (recorded x_space n t w a).trace
+recorded_trace x_space y_space n t w a b e = ap (λ l. l ++ record { number = n; length = t.length; place = t.place; answer = w } ∷ []) e
+
+-- the answers differ: the traces part here
+parts : (r s : Rule) (x_space y_space : Space) (t : Request) (go : ℕ → Answer → Process) (a b : Account) (n : ℕ) (v w : Answer) →
+    b.trace ≡ a.trace → w ≢ v → PartsAt (after r x_space t go a n v).account.trace (after s y_space t go b n w).account.trace
+parts r s x_space y_space t go a b n v w e ne =
+    let line : Answer → Attempt = λ u. record { number = n; length = t.length; place = t.place; answer = u } in
+    let x = settled_extends r x_space (go n v) (recorded x_space n t v a) in
+    let y = settled_extends s y_space (go n w) (recorded y_space n t w b) in
+    record {
+      before = a.trace;
+      one = line v;
+      other = line w;
+      after_one = x.more;
+      after_other = y.more;
+      is_one = x.is ∙ append_assoc a.trace (line v ∷ []) x.more;
+      is_other = y.is ∙ append_assoc b.trace (line w ∷ []) y.more ∙ ap (λ l. l ++ line w ∷ y.more) e;
+      number = refl;
+      length = refl;
+      place = refl;
+      answer = ne;
+    }
+
+pub agree : (r s : Rule) (x_space y_space : Space) → RefusesAtLeast r s → (p : Process) (a b : Account) → b.trace ≡ a.trace →
+    (settled r x_space p a).end ≢ stopped (is_cut Ceiling) → Law x_space y_space a b (settled r x_space p a) (settled s y_space p b)
+agree r s x_space y_space h (ends way st) a b e not = inl (record { end = refl; state = refl; trace = e; account = λ _ ab. ab })
+agree r s x_space y_space h (stops stop st) a b e not = inl (record { end = refl; state = refl; trace = e; account = λ _ ab. ab })
+agree r s x_space y_space h (notes q p) a b e not =
+    let e' = noted-trace y_space q b ∙ e ∙ sym (noted-trace x_space q a) in
+    noted_too (agree r s x_space y_space h p (noted x_space q a) (noted y_space q b) e' not)
+  where
+    noted_too : {x y : Settled} → Law x_space y_space (noted x_space q a) (noted y_space q b) x y → Law x_space y_space a b x y
+    noted_too (inl same) = inl (record {
+      end = same.end;
+      state = same.state;
+      trace = same.trace;
+      account = λ sp ab. same.account sp (ap (λ z. noted z q b) sp ∙ ap (noted x_space q) ab);
+    })
+    noted_too (inr part) = inr part
+agree r s x_space y_space h (asks t cut go) a b e not =
+    let P : ℕ → Type 0 = λ m. Law x_space y_space a b
+    (on_answer (answer_to r (next_number a) t) (cut_at cut a) (after r x_space t go a (next_number a)))
+    (on_answer (answer_to s m t) (cut_at cut b) (after s y_space t go b m)) in
+    subst P (sym (same_number a b e))
+    (told (answer_to r n t) (answer_to s n t) (not_cut r s h n (omega arith) t)
+    (λ w. agree r s x_space y_space h (go n w) (recorded x_space n t w a) (recorded y_space n t w b) (recorded_trace x_space y_space n t w a b e)) not)
+  where
+    n : ℕ
+    n = next_number a
+
+    recorded_too : (w : Answer) {x y : Settled} → Law x_space y_space (recorded x_space n t w a) (recorded y_space n t w b) x y → Law x_space y_space a b x y
+    recorded_too w (inl same) = inl (record {
+      end = same.end;
+      state = same.state;
+      trace = same.trace;
+      account = λ sp ab. same.account sp (ap (λ z. recorded z n t w b) sp ∙ ap (recorded x_space n t w) ab);
+    })
+    recorded_too w (inr part) = inr part
+
+    one : (v w : Answer) → (v ≡ w) ⊎ (w ≢ v) →
+        Law x_space y_space (recorded x_space n t v a) (recorded y_space n t v b) (after r x_space t go a n v) (after s y_space t go b n v) →
+        Law x_space y_space a b (after r x_space t go a n v) (after s y_space t go b n w)
+    one v w (inl vw) ih =
+        let P : Answer → Type 0 = λ u. Law x_space y_space a b (after r x_space t go a n v) (after s y_space t go b n u) in
+        subst P vw (recorded_too v ih)
+    one v w (inr ne) ih = inr (parts r s x_space y_space t go a b n v w e ne)
+
+    told : (o o' : Option Answer) → (o' ≡ None → o ≡ None) →
+        ((w : Answer) → (after r x_space t go a n w).end ≢ stopped (is_cut Ceiling) →
+        Law x_space y_space (recorded x_space n t w a) (recorded y_space n t w b) (after r x_space t go a n w) (after s y_space t go b n w)) →
+        (on_answer o (cut_at cut a) (after r x_space t go a n)).end ≢ stopped (is_cut Ceiling) →
+        Law x_space y_space a b (on_answer o (cut_at cut a) (after r x_space t go a n)) (on_answer o' (cut_at cut b) (after s y_space t go b n))
+    told None o' k ih not = absurd (not refl)
+    told (Some v) None k ih not = let never : Some v ≡ None = k refl in absurd cc
+    told (Some v) (Some w) k ih not = one v w (answer_cases v w) (ih v not)
+
+-- the law, of whole runs
+pub rules_agree-law : (script : Script) (budget : ℕ) (shape : Shape) (r s : Rule) → Agrees script budget shape r s
+rules_agree-law script budget shape r s h not =
+    of_run (agree r s (space_of r shape) (space_of s shape) h (process script budget) (before (space_of r shape)) (before (space_of s shape)) refl
+    (λ e. not (ap (λ w. outcome_of w (settled r (space_of r shape) (process script budget) (before (space_of r shape))).state) e)))
+  where
+    x : Settled
+    x = settled r (space_of r shape) (process script budget) (before (space_of r shape))
+
+    y : Settled
+    y = settled s (space_of s shape) (process script budget) (before (space_of s shape))
+
+    spaces : (r s : Rule) → IsNoLimit r → IsNoLimit s → space_of s shape ≡ space_of r shape
+    spaces r s p q = ap (λ b. space_below (bound_below b) shape) (bound s q ∙ sym (bound r p))
+      where
+        bound : (r : Rule) → IsNoLimit r → limit_under r ≡ CEILING
+        bound (Limit l) p = absurd p
+        bound Unlimited p = refl
+        bound (Number n) p = refl
+
+    whole : Same (space_of r shape) (space_of s shape) (before (space_of r shape)) (before (space_of s shape)) x y → IsNoLimit r → IsNoLimit s → result_of y ≡ result_of x
+    whole same p q =
+        let sp = spaces r s p q in
+        let account : y.account ≡ x.account = same.account sp (ap before sp) in
+        ap (λ w. result_of (record { end = w; state = y.state; account = y.account })) same.end
+        ∙ ap (λ st. result_of (record { end = x.end; state = st; account = y.account })) same.state
+        ∙ ap (λ a. result_of (record { end = x.end; state = x.state; account = a })) account
+
+    of_run : Law (space_of r shape) (space_of s shape) (before (space_of r shape)) (before (space_of s shape)) x y →
+        (IsSameButNotes (result_of x) (result_of y) × (IsNoLimit r → IsNoLimit s → result_of y ≡ result_of x)) ⊎ PartsAt (result_of x).trace (result_of y).trace
+    of_run (inl same) = inl (
+      record {
+        outcome = ap (λ w. outcome_of w y.state) same.end ∙ ap (λ st. outcome_of x.end st) same.state;
+        trace = same.trace;
+        lines = ap (λ st. st.lines) same.state;
+        steps = ap (λ st. st.steps) same.state;
+      },
+      whole same,
+    )
+    of_run (inr part) = inr part

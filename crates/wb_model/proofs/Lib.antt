@@ -1,0 +1,5 @@
+pub mod AgreementLemmas
+pub mod AlikeLemmas
+pub mod Places
+pub mod ResumeLemmas
+pub mod MeaningLemmas

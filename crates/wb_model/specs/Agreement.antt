@@ -1,0 +1,50 @@
+-- The Agreement law: two rules give the same run up to the first attempt that they answer differently.
+use Rattle.std.specs.Prelude.{◌≡◌, ◌≢◌, ◌≤◌, ℕ, List, ◌∷◌, ◌++◌, ◌⊎◌, IsSome}
+use Rattle.wb_model.specs.declared.heap.Rule.{Rule}
+use Rattle.wb_model.specs.declared.heap.Rule.TheVariants.{Limit}
+use Rattle.wb_model.specs.declared.heap.Shape.{Shape}
+use Rattle.wb_model.specs.declared.heap.Attempt.{Attempt}
+use Rattle.wb_model.specs.declared.run.Why.TheVariants.{Ceiling}
+use Rattle.wb_model.specs.declared.run.Outcome.TheVariants.{Cut}
+use Rattle.wb_model.specs.declared.run.RunResult.{RunResult}
+use Rattle.wb_model.specs.declared.script.Script.{Script}
+use Rattle.wb_model.specs.Rules.{refusal_of}
+use Rattle.wb_model.specs.Run.{run}
+
+-- of the attempts, which count from 1, the second rule refuses at least what the first refuses
+abbrev pub RefusesAtLeast : Rule → Rule → Type 0
+RefusesAtLeast r s = (number end : ℕ) → 1 ≤ number → IsSome (refusal_of r number end) → IsSome (refusal_of s number end)
+
+abbrev pub IsNoLimit : Rule → Type 0
+IsNoLimit (Limit l) = ⊥
+IsNoLimit _ = Unit {0}
+
+-- equal but for notes
+pub record IsSameButNotes (x y : RunResult) : Type 0 where
+  pub outcome : y.outcome ≡ x.outcome
+  pub trace : y.trace ≡ x.trace
+  pub lines : y.lines ≡ x.lines
+  pub steps : y.steps ≡ x.steps
+
+-- the same lines, and then an attempt that is answered otherwise
+pub record PartsAt (x y : List Attempt) : Type 0 where
+  pub before : List Attempt
+  pub one : Attempt
+  pub other : Attempt
+  pub after_one : List Attempt
+  pub after_other : List Attempt
+  pub is_one : x ≡ before ++ one ∷ after_one
+  pub is_other : y ≡ before ++ other ∷ after_other
+  pub number : other.number ≡ one.number
+  pub length : other.length ≡ one.length
+  pub place : other.place ≡ one.place
+  pub answer : other.answer ≢ one.answer
+
+-- Where the second rule refuses at least what the first refuses, and the ceiling doesn't cut the first run, the runs are the
+-- same, but for notes where one rule is a limit; or they part at one attempt that the rules answer otherwise.
+abbrev pub Agrees : Script → ℕ → Shape → Rule → Rule → Type 0
+Agrees script budget shape r s =
+    RefusesAtLeast r s → (run script r budget shape).outcome ≢ Cut Ceiling →
+    (IsSameButNotes (run script r budget shape) (run script s budget shape)
+    × (IsNoLimit r → IsNoLimit s → run script s budget shape ≡ run script r budget shape))
+    ⊎ PartsAt (run script r budget shape).trace (run script s budget shape).trace

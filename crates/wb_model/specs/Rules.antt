@@ -1,0 +1,56 @@
+-- What a rule and the script's own setting say of an attempt.
+use Rattle.std.specs.Prelude.{ℕ, zero, suc, ◌+◌, Bool, false, nat_eq, nat_lt, if◌then◌else◌, Option, Some, None}
+use Rattle.wb_model.specs.declared.heap.TheConstants.{CEILING}
+use Rattle.wb_model.specs.declared.heap.Rule.{Rule}
+use Rattle.wb_model.specs.declared.heap.Rule.TheVariants.{Unlimited, Limit, Number}
+use Rattle.wb_model.specs.declared.heap.Answer.{Answer}
+use Rattle.wb_model.specs.declared.heap.Answer.TheVariants.{Granted, Simulated, Refused}
+
+-- what a rule says of an attempt with this number and end
+abbrev pub refusal_of : Rule → ℕ → ℕ → Option Answer
+refusal_of Unlimited number end = None
+refusal_of (Limit l) number end = if nat_lt l end then Some Refused else None
+refusal_of (Number n) number end = if nat_eq n number then Some Simulated else None
+
+-- the script's own setting
+pub data Setting : Type 0 where
+  never : Setting
+  next : ℕ → Setting
+  -- each of this many, and how many are left until the next
+  each : ℕ → ℕ → Setting
+
+-- whether the setting refuses the attempt at hand
+abbrev pub is_due : Setting → Bool
+is_due never = false
+is_due (next k) = nat_eq k 1
+is_due (each k left) = nat_eq left 1
+
+-- the setting once it has after_attempt the attempt
+abbrev pub count_down : ℕ → Setting
+count_down zero = never
+count_down (suc zero) = never
+count_down (suc (suc k)) = next (suc k)
+
+abbrev pub turn_round : ℕ → ℕ → Setting
+turn_round k zero = each k k
+turn_round k (suc zero) = each k k
+turn_round k (suc (suc left)) = each k (suc left)
+
+abbrev pub after_attempt : Setting → Setting
+after_attempt never = never
+after_attempt (next k) = count_down k
+after_attempt (each k left) = turn_round k left
+
+-- what an attempt asks for, and whether the script's own setting refuses it
+pub record Request : Type 0 where
+  pub length : ℕ
+  pub place : ℕ
+  pub due : Bool
+
+abbrev pub unless_refused : Option Answer → ℕ → Option Answer
+unless_refused (Some answer) end = Some answer
+unless_refused None end = if nat_lt CEILING end then None else Some Granted
+
+-- the answer to an attempt: the setting is asked first, then the rule; none where the ceiling cuts the run
+abbrev pub answer_to : Rule → ℕ → Request → Option Answer
+answer_to rule number t = if t.due then Some Simulated else unless_refused (refusal_of rule number (t.place + t.length)) (t.place + t.length)

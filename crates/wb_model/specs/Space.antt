@@ -1,0 +1,56 @@
+-- The committed length of a chunk: how a limit and a shape decide it, and the free runs below it.
+use Rattle.std.specs.Prelude.{ℕ, ◌+◌, ◌-◌, ◌*◌, ◌/◌, ◌%◌, ◌≡◌, ◌≤◌, List, [], ◌∷◌, Bool, ◌&&◌, nat_lt, nat_le, nat_eq, if◌then◌else◌, min, max}
+use Rattle.wb_model.specs.declared.heap.TheConstants.{CEILING}
+use Rattle.wb_model.specs.declared.heap.Rule.{Rule}
+use Rattle.wb_model.specs.declared.heap.Rule.TheVariants.{Limit}
+use Rattle.wb_model.specs.declared.heap.Shape.{Shape}
+use Rattle.wb_model.specs.declared.heap.Header.{Header}
+use Rattle.wb_model.specs.Row.{end_of}
+
+-- the shapes that a heap may have
+abbrev pub is_shape : Shape → Bool
+is_shape shape =
+    nat_eq (shape.min % 16) 0 && nat_le shape.min 1048576 && (nat_eq (shape.step % 16) 0 && (nat_le 16 shape.step && nat_le shape.step 1048576))
+
+-- the least committed length, the greatest, and the step
+pub record Space : Type 0 where
+  pub least : ℕ
+  pub bound : ℕ
+  pub step : ℕ
+
+-- what a shape leaves below a greatest length
+abbrev pub space_below : ℕ → Shape → Space
+space_below bound shape = record { least = min shape.min bound; bound = bound; step = shape.step }
+
+-- the greatest committed length of a heap with a limit: the limit, rounded down to 16
+abbrev pub bound_below : ℕ → ℕ
+bound_below limit = limit / 16 * 16
+
+-- the length that a heap may reach under a rule: the limit or the ceiling, whichever is less
+abbrev pub limit_under : Rule → ℕ
+limit_under (Limit l) = min l CEILING
+limit_under _ = CEILING
+
+abbrev pub space_of : Rule → Shape → Space
+space_of rule shape = space_below (bound_below (limit_under rule)) shape
+
+-- a multiple of the step that is no less
+abbrev pub round_up : ℕ → ℕ → ℕ
+round_up n step = (n + (step - 1)) / step * step
+
+-- the committed length once a cell with this end was granted
+abbrev pub committed_by : Space → ℕ → ℕ → ℕ
+committed_by space committed end = if nat_lt committed end then min (round_up end space.step) space.bound else committed
+
+-- the committed length once a chunk with this top was compressed
+abbrev pub compressed_to : Space → ℕ → ℕ → ℕ
+compressed_to space committed top = min committed (max space.least (min (round_up top space.step) space.bound))
+
+-- the lengths of the runs below a length that no cell meets, empty ones among them
+abbrev pub free_runs : ℕ → List Header → ℕ → List ℕ
+free_runs at [] committed = (committed - at) ∷ []
+free_runs at (h ∷ hs) committed = (h.place - at) ∷ free_runs (end_of h) hs committed
+
+abbrev pub longest : List ℕ → ℕ
+longest [] = 0
+longest (n ∷ ns) = max n (longest ns)

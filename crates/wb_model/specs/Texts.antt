@@ -1,0 +1,42 @@
+-- Texts as lists of units, with a maximum.
+use Rattle.std.specs.Prelude.{ℕ, ◌+◌, ◌-◌, List, ◌++◌, nat_lt, nat_le, ◌||◌, if◌then◌else◌, Result, Ok, Err, length, take, drop, replicate}
+use Rattle.wb_model.specs.declared.heap.Panic.{Panic}
+use Rattle.wb_model.specs.declared.heap.Panic.TheVariants.{User}
+
+abbrev pub Edited : Type 0
+Edited = Result (List ℕ) Panic
+
+-- USER 11 where a text is longer than its maximum
+abbrev pub at_most : ℕ → List ℕ → Edited
+at_most max t = if nat_le (length t) max then Ok t else Err (User 11)
+
+abbrev pub insert_text : ℕ → List ℕ → ℕ → List ℕ → Edited
+insert_text max t at s = if nat_lt (length t) at then Err (User 10) else at_most max (take at t ++ s ++ drop at t)
+
+abbrev pub delete_text : List ℕ → ℕ → ℕ → Edited
+delete_text t at count = if nat_lt (length t) at then Err (User 10) else Ok (take at t ++ drop (at + count) t)
+
+-- cut or filled up with zeros
+abbrev pub exactly : ℕ → List ℕ → List ℕ
+exactly n t = take n t ++ replicate (n - length t) 0
+
+abbrev pub set_length_text : ℕ → List ℕ → ℕ → Edited
+set_length_text max t n = if nat_le n max then Ok (exactly n t) else Err (User 11)
+
+-- a part of a text of this length: where it begins and how long it is
+pub record Part : Type 0 where
+  pub from : ℕ
+  pub count : ℕ
+
+abbrev pub left_part : ℕ → ℕ → Result Part Panic
+left_part len n = if nat_le n len then Ok (record { from = 0; count = n }) else Err (User 10)
+
+abbrev pub right_part : ℕ → ℕ → Result Part Panic
+right_part len n = if nat_le n len then Ok (record { from = len - n; count = n }) else Err (User 10)
+
+abbrev pub mid_part : ℕ → ℕ → ℕ → Result Part Panic
+mid_part len at n = if nat_lt len at || nat_lt (len - at) n then Err (User 10) else Ok (record { from = at; count = n })
+
+-- the units of a part, zeros past the end
+abbrev pub units_of_part : List ℕ → ℕ → ℕ → List ℕ
+units_of_part base from count = exactly count (drop from base)

@@ -1,0 +1,17 @@
+//! The plain types of the out-of-memory testing workbench, the definitions of what a script means,
+//! and the laws of these definitions.
+//!
+//! The definitions stand in `specs/`, one subject a file; `docs/ARCHITECTURE.md` says which. No code of
+//! the workbench but small lists stands here.
+#![tactic(auto)]
+
+pub mod fault;
+pub mod heap;
+pub mod items;
+pub mod laws;
+pub mod line;
+pub mod run;
+pub mod script;
+#[cfg(test)]
+mod tests;
+pub mod text;
