@@ -3,6 +3,7 @@ pub mod Agreement
 pub mod Attempts
 pub mod Heap
 pub mod Keeping
+pub mod LimitedHeap
 pub mod Meaning
 pub mod Operands
 pub mod Reading

@@ -10,6 +10,8 @@ pub mod heap;
 pub mod items;
 pub mod laws;
 pub mod line;
+pub mod lines;
+pub mod memory;
 pub mod run;
 pub mod script;
 #[cfg(test)]
