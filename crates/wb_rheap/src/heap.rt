@@ -45,8 +45,8 @@ impl Heap {
     pub fn new(alloc: Global, limit: u32, shape: Shape) -> Result<Heap, HeapFault>
         requires { limit ≤ CEILING }
         ensures ok { IfOk result (λ heap. heap ≡ empty_heap limit shape) }
-        ensures bad_shape { (result ≡ Err HeapFault.BadShape) ↔ (is_shape shape ≡ false) }
-        ensures no_other_fault { IfErr result (λ fault. fault ≢ HeapFault.BadShape → fault ≡ HeapFault.NoMemory) }
+        ensures shape { (result ≡ Err HeapFault.BadShape) ↔ (is_shape shape ≡ false) }
+        ensures no_other { IfErr result (λ fault. fault ≢ HeapFault.BadShape → fault ≡ HeapFault.NoMemory) }
         ensures sound { IfOk result IsSoundHeap }
     {
         if !space::may_have_shape(shape) {
@@ -95,9 +95,9 @@ impl Heap {
         ensures pointer { IfOk result (λ ptr. ptr ≡ record { place = place_in self.old length; number = number }) }
         ensures granted { OnOk result (self.new ≡ heap_with self.old length kind number level) }
 
-        ensures too_short { (result ≡ Err HeapFault.TooShort) ↔ (self.old.limit < place_in self.old length + length) }
-        ensures no_other_fault { IfErr result (λ fault. fault ≢ HeapFault.TooShort → fault ≡ HeapFault.NoMemory) }
-        ensures refused { OnErr result (self.new ≡ self.old) }
+        ensures short { (result ≡ Err HeapFault.TooShort) ↔ (self.old.limit < place_in self.old length + length) }
+        ensures no_other { IfErr result (λ fault. fault ≢ HeapFault.TooShort → fault ≡ HeapFault.NoMemory) }
+        ensures err { OnErr result (self.new ≡ self.old) }
 
         ensures sound { IsSoundHeap self.new }
     {
@@ -124,11 +124,11 @@ impl Heap {
     /// place was used again. `BadCell` exactly where it names no live cell, and then the heap is as it was.
     /// Source: Symbian OS v9 SDK reference, RHeap.
     pub fn free(&mut self, ptr: Ptr) -> Result<(), HeapFault>
-        ensures released { OnOk result (self.new ≡ heap_without self.old ptr) }
+        ensures freed { OnOk result (self.new ≡ heap_without self.old ptr) }
 
-        ensures bad_cell { (result ≡ Err HeapFault.BadCell) ↔ (cell_at ptr self.old.row ≡ None) }
-        ensures no_other_fault { IfErr result (λ fault. fault ≡ HeapFault.BadCell) }
-        ensures refused { OnErr result (self.new ≡ self.old) }
+        ensures bad { (result ≡ Err HeapFault.BadCell) ↔ (cell_at ptr self.old.row ≡ None) }
+        ensures no_other { IfErr result (λ fault. fault ≡ HeapFault.BadCell) }
+        ensures err { OnErr result (self.new ≡ self.old) }
 
         ensures sound { IsSoundHeap self.new }
     {

@@ -17,4 +17,4 @@ granted old new length kind number level (Err e) ok err below =
 
 pub returns : goal.returns
 returns c =
-    granted c.args.heap.now c.alloc.new.self c.args.length _ c.args.number 0 c.alloc.result c.alloc.ensures.granted c.alloc.ensures.refused c.requires.below
+    granted c.args.heap.now c.alloc.new.self c.args.length _ c.args.number 0 c.alloc.result c.alloc.ensures.granted c.alloc.ensures.err c.requires.below

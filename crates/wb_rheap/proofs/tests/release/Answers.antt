@@ -13,4 +13,4 @@ released old new p (Ok x) ok err n below =
 released old new p (Err e) ok err n below = subst (λ heap. All (λ h. h.number < n) (headers heap.row)) (sym err) below
 
 pub returns : goal.returns
-returns c = released c.args.heap.now c.free.new.self c.args.ptr c.free.result c.free.ensures.released c.free.ensures.refused
+returns c = released c.args.heap.now c.free.new.self c.args.ptr c.free.result c.free.ensures.freed c.free.ensures.err
