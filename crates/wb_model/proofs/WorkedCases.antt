@@ -150,117 +150,138 @@ stale_pointer_freed_after_reuse_run : run script_stale_pointer_freed_after_reuse
 unfolding everything
 stale_pointer_freed_after_reuse_run = refl
 
-abbrev script_committed_length_notes_run : Script
-script_committed_length_notes_run = record { classes = []; procedures = (record { parameters = []; body = record { locals = (OfPointer None) ∷ []; statements = rolled ((Statement-F.Alloc (Held (H.Local 0)) (Constant (pos 200)) GivesNull) ∷ Statement-F.NoteAvailable ∷ Statement-F.NoteHeap ∷ (Statement-F.Free (Held (H.Local 0))) ∷ Statement-F.NoteAvailable ∷ Statement-F.NoteCompress ∷ Statement-F.NoteHeap ∷ []) } }) ∷ []; operations = []; literals = []; main = 0 }
+abbrev script_empty_main_json_run : Script
+script_empty_main_json_run = record { classes = []; procedures = (record { parameters = []; body = record { locals = []; statements = [] } }) ∷ []; operations = []; literals = []; main = 0 }
 
-committed_length_notes_run : run script_committed_length_notes_run R.Unlimited 10000 (shaped 256 64) ≡ record { outcome = Ended None []; trace = (line 1 144 0 Granted) ∷ (line 2 224 144 Granted) ∷ []; lines = []; notes = (Available 16 16) ∷ (Heap 2 368 384) ∷ (Available 240 240) ∷ (Compress 128) ∷ (Heap 1 144 256) ∷ []; steps = 7 }
+empty_main_json_run : run script_empty_main_json_run R.Unlimited 10000 (shaped 4096 4096) ≡ record { outcome = Ended None []; trace = (line 1 144 0 Granted) ∷ []; lines = []; notes = []; steps = 0 }
 unfolding everything
-committed_length_notes_run = refl
+empty_main_json_run = refl
 
-abbrev script_forged_header_in_a_payload_run : Script
-script_forged_header_in_a_payload_run = record { classes = []; procedures = (record { parameters = []; body = record { locals = (OfPointer None) ∷ (OfPointer None) ∷ (OfPointer None) ∷ []; statements = rolled ((Statement-F.Alloc (Held (H.Local 0)) (Constant (pos 16)) GivesNull) ∷ (Statement-F.Alloc (Held (H.Local 1)) (Constant (pos 16)) GivesNull) ∷ (Statement-F.Free (Held (H.Local 0))) ∷ (Statement-F.Free (Held (H.Local 1))) ∷ (Statement-F.Alloc (Held (H.Local 2)) (Constant (pos 64)) GivesNull) ∷ (Statement-F.Store (Held (H.Local 2)) (Constant (pos 4)) (Constant (pos 32))) ∷ (Statement-F.Store (Held (H.Local 2)) (Constant (pos 5)) (Constant (pos 1))) ∷ (Statement-F.Store (Held (H.Local 2)) (Constant (pos 6)) (Constant (pos 0))) ∷ (Statement-F.Store (Held (H.Local 2)) (Constant (pos 7)) (Constant (pos 3))) ∷ (Statement-F.Free (Held (H.Local 1))) ∷ []) } }) ∷ []; operations = []; literals = []; main = 0 }
+abbrev script_leave_runs_a_cleanup_operation_run : Script
+script_leave_runs_a_cleanup_operation_run = record { classes = []; procedures = (record { parameters = []; body = record { locals = (OfPointer None) ∷ OfNumber ∷ []; statements = rolled ((Statement-F.Alloc (Held (H.Local 0)) (Constant (pos 4)) Leaves) ∷ (Statement-F.PushOperation (Held (H.Local 0)) 0) ∷ (Statement-F.Trap 1 (rolled ((Statement-F.Leave (Constant (negsuc 6))) ∷ []))) ∷ (Statement-F.PrintNumber (Variable 1)) ∷ (Statement-F.LeaveIfError (Variable 1)) ∷ []) } }) ∷ []; operations = (record { locals = []; statements = rolled ((Statement-F.PrintText (Quoted 0)) ∷ (Statement-F.Free (Held (H.Local 0))) ∷ []) }) ∷ []; literals = (111 ∷ 112 ∷ []) ∷ []; main = 0 }
 
-forged_header_in_a_payload_run : run script_forged_header_in_a_payload_run R.Unlimited 10000 (shaped 4096 4096) ≡ record { outcome = Panicked (P.User 42); trace = (line 1 144 0 Granted) ∷ (line 2 32 144 Granted) ∷ (line 3 32 176 Granted) ∷ (line 4 80 144 Granted) ∷ []; lines = []; notes = []; steps = 10 }
+leave_runs_a_cleanup_operation_run : run script_leave_runs_a_cleanup_operation_run R.Unlimited 10000 (shaped 4096 4096) ≡ record { outcome = Ended (Some (negsuc 6)) []; trace = (line 1 144 0 Granted) ∷ (line 2 32 144 Granted) ∷ []; lines = (45 ∷ 55 ∷ []) ∷ (111 ∷ 112 ∷ []) ∷ []; notes = []; steps = 9 }
 unfolding everything
-forged_header_in_a_payload_run = refl
+leave_runs_a_cleanup_operation_run = refl
 
-abbrev script_limit_not_a_multiple_of_sixteen_run : Script
-script_limit_not_a_multiple_of_sixteen_run = record { classes = []; procedures = (record { parameters = []; body = record { locals = (OfPointer None) ∷ []; statements = rolled ((Statement-F.Alloc (Held (H.Local 0)) (Constant (pos 9)) GivesNull) ∷ Statement-F.NoteAvailable ∷ Statement-F.NoteHeap ∷ Statement-F.NoteCompress ∷ (Statement-F.Alloc (Held (H.Local 0)) (Constant (pos 1)) GivesNull) ∷ []) } }) ∷ []; operations = []; literals = []; main = 0 }
+abbrev script_newest_item_is_destroyed_first_run : Script
+script_newest_item_is_destroyed_first_run = record { classes = []; procedures = (record { parameters = []; body = record { locals = (OfPointer None) ∷ (OfPointer None) ∷ []; statements = rolled ((Statement-F.Alloc (Held (H.Local 0)) (Constant (pos 4)) GivesNull) ∷ (Statement-F.Alloc (Held (H.Local 1)) (Constant (pos 4)) GivesNull) ∷ (Statement-F.PushOperation (Held (H.Local 0)) 0) ∷ (Statement-F.PushOperation (Held (H.Local 1)) 1) ∷ (Statement-F.Leave (Constant (negsuc 0))) ∷ []) } }) ∷ []; operations = (record { locals = []; statements = rolled ((Statement-F.PrintText (Quoted 0)) ∷ (Statement-F.Free (Held (H.Local 0))) ∷ []) }) ∷ (record { locals = []; statements = rolled ((Statement-F.PrintText (Quoted 1)) ∷ (Statement-F.Free (Held (H.Local 0))) ∷ []) }) ∷ []; literals = (49 ∷ []) ∷ (50 ∷ []) ∷ []; main = 0 }
 
-limit_not_a_multiple_of_sixteen_run : run script_limit_not_a_multiple_of_sixteen_run (R.Limit 190) 10000 (shaped 176 16) ≡ record { outcome = Ended None ((record { number = 2; length = 32; place = 144 }) ∷ []); trace = (line 1 144 0 Granted) ∷ (line 2 32 144 Granted) ∷ (line 3 32 176 Refused) ∷ []; lines = []; notes = (Available 0 0) ∷ (Heap 2 176 176) ∷ (Compress 0) ∷ []; steps = 5 }
+newest_item_is_destroyed_first_run : run script_newest_item_is_destroyed_first_run R.Unlimited 10000 (shaped 4096 4096) ≡ record { outcome = Ended (Some (negsuc 0)) []; trace = (line 1 144 0 Granted) ∷ (line 2 32 144 Granted) ∷ (line 3 32 176 Granted) ∷ []; lines = (50 ∷ []) ∷ (49 ∷ []) ∷ []; notes = []; steps = 11 }
 unfolding everything
-limit_not_a_multiple_of_sixteen_run = refl
+newest_item_is_destroyed_first_run = refl
 
-abbrev script_limit_one_byte_below_the_cleanup_cell_run : Script
-script_limit_one_byte_below_the_cleanup_cell_run = record { classes = []; procedures = (record { parameters = []; body = record { locals = []; statements = [] } }) ∷ []; operations = []; literals = []; main = 0 }
+abbrev script_object_made_and_deleted_run : Script
+script_object_made_and_deleted_run = record { classes = (record { extra = 16; fields = None ∷ []; construct = Some (record { locals = []; statements = rolled ((Statement-F.NewText (Field H.This 0 0) (Constant (pos 4)) Leaves) ∷ []) }); destroy = Some (record { locals = []; statements = rolled ((Statement-F.Free (Field H.This 0 0)) ∷ []) }) }) ∷ []; procedures = (record { parameters = []; body = record { locals = (OfPointer (Some 0)) ∷ []; statements = rolled ((Statement-F.New (Held (H.Local 0)) 0 Leaves) ∷ (Statement-F.Construct (Held (H.Local 0))) ∷ (Statement-F.Delete (Held (H.Local 0))) ∷ []) } }) ∷ []; operations = []; literals = []; main = 0 }
 
-limit_one_byte_below_the_cleanup_cell_run : run script_limit_one_byte_below_the_cleanup_cell_run (R.Limit 143) 10000 (shaped 4096 4096) ≡ record { outcome = NoCleanup; trace = (line 1 144 0 Refused) ∷ []; lines = []; notes = []; steps = 0 }
+object_made_and_deleted_run : run script_object_made_and_deleted_run R.Unlimited 10000 (shaped 4096 4096) ≡ record { outcome = Ended None []; trace = (line 1 144 0 Granted) ∷ (line 2 48 144 Granted) ∷ (line 3 32 192 Granted) ∷ []; lines = []; notes = []; steps = 6 }
 unfolding everything
-limit_one_byte_below_the_cleanup_cell_run = refl
+object_made_and_deleted_run = refl
 
-abbrev script_limit_refuses_one_cell_run : Script
-script_limit_refuses_one_cell_run = record { classes = []; procedures = (record { parameters = []; body = record { locals = (OfPointer None) ∷ (OfPointer None) ∷ (OfPointer None) ∷ []; statements = rolled ((Statement-F.Alloc (Held (H.Local 0)) (Constant (pos 10)) GivesNull) ∷ (Statement-F.Alloc (Held (H.Local 1)) (Constant (pos 100)) GivesNull) ∷ (Statement-F.Free (Held (H.Local 0))) ∷ (Statement-F.Alloc (Held (H.Local 2)) (Constant (pos 16)) GivesNull) ∷ (Statement-F.Free (Held (H.Local 1))) ∷ (Statement-F.Free (Held (H.Local 2))) ∷ []) } }) ∷ []; operations = []; literals = []; main = 0 }
+abbrev script_objects_that_delete_each_other_budget_just_enough_run : Script
+script_objects_that_delete_each_other_budget_just_enough_run = record { classes = (record { extra = 0; fields = (Some 0) ∷ []; construct = None; destroy = Some (record { locals = []; statements = rolled ((Statement-F.Delete (Field H.This 0 0)) ∷ []) }) }) ∷ []; procedures = (record { parameters = []; body = record { locals = (OfPointer (Some 0)) ∷ (OfPointer (Some 0)) ∷ []; statements = rolled ((Statement-F.New (Held (H.Local 0)) 0 Leaves) ∷ (Statement-F.New (Held (H.Local 1)) 0 Leaves) ∷ (Statement-F.Set (Field (H.Local 0) 0 0) (Held (H.Local 1))) ∷ (Statement-F.Set (Field (H.Local 1) 0 0) (Held (H.Local 0))) ∷ (Statement-F.Delete (Held (H.Local 0))) ∷ []) } }) ∷ []; operations = []; literals = []; main = 0 }
 
-limit_refuses_one_cell_run : run script_limit_refuses_one_cell_run (R.Limit 303) 10000 (shaped 4096 4096) ≡ record { outcome = Ended None []; trace = (line 1 144 0 Granted) ∷ (line 2 32 144 Granted) ∷ (line 3 128 176 Refused) ∷ (line 4 32 144 Granted) ∷ []; lines = []; notes = []; steps = 6 }
+objects_that_delete_each_other_budget_just_enough_run : run script_objects_that_delete_each_other_budget_just_enough_run R.Unlimited 260 (shaped 4096 4096) ≡ record { outcome = Panicked (P.Workbench 7); trace = (line 1 144 0 Granted) ∷ (line 2 32 144 Granted) ∷ (line 3 32 176 Granted) ∷ []; lines = []; notes = []; steps = 260 }
 unfolding everything
-limit_refuses_one_cell_run = refl
+objects_that_delete_each_other_budget_just_enough_run = refl
 
-abbrev script_limit_zero_run : Script
-script_limit_zero_run = record { classes = []; procedures = (record { parameters = []; body = record { locals = (OfPointer None) ∷ (OfPointer None) ∷ (OfPointer None) ∷ []; statements = rolled ((Statement-F.Alloc (Held (H.Local 0)) (Constant (pos 10)) GivesNull) ∷ (Statement-F.Alloc (Held (H.Local 1)) (Constant (pos 100)) GivesNull) ∷ (Statement-F.Free (Held (H.Local 0))) ∷ (Statement-F.Alloc (Held (H.Local 2)) (Constant (pos 16)) GivesNull) ∷ (Statement-F.Free (Held (H.Local 1))) ∷ (Statement-F.Free (Held (H.Local 2))) ∷ []) } }) ∷ []; operations = []; literals = []; main = 0 }
+abbrev script_objects_that_delete_each_other_one_step_short_run : Script
+script_objects_that_delete_each_other_one_step_short_run = record { classes = (record { extra = 0; fields = (Some 0) ∷ []; construct = None; destroy = Some (record { locals = []; statements = rolled ((Statement-F.Delete (Field H.This 0 0)) ∷ []) }) }) ∷ []; procedures = (record { parameters = []; body = record { locals = (OfPointer (Some 0)) ∷ (OfPointer (Some 0)) ∷ []; statements = rolled ((Statement-F.New (Held (H.Local 0)) 0 Leaves) ∷ (Statement-F.New (Held (H.Local 1)) 0 Leaves) ∷ (Statement-F.Set (Field (H.Local 0) 0 0) (Held (H.Local 1))) ∷ (Statement-F.Set (Field (H.Local 1) 0 0) (Held (H.Local 0))) ∷ (Statement-F.Delete (Held (H.Local 0))) ∷ []) } }) ∷ []; operations = []; literals = []; main = 0 }
 
-limit_zero_run : run script_limit_zero_run (R.Limit 0) 10000 (shaped 4096 4096) ≡ record { outcome = NoCleanup; trace = (line 1 144 0 Refused) ∷ []; lines = []; notes = []; steps = 0 }
+objects_that_delete_each_other_one_step_short_run : run script_objects_that_delete_each_other_one_step_short_run R.Unlimited 259 (shaped 4096 4096) ≡ record { outcome = Cut Budget; trace = (line 1 144 0 Granted) ∷ (line 2 32 144 Granted) ∷ (line 3 32 176 Granted) ∷ []; lines = []; notes = []; steps = 259 }
 unfolding everything
-limit_zero_run = refl
+objects_that_delete_each_other_one_step_short_run = refl
 
-abbrev script_cell_for_zero_bytes_run : Script
-script_cell_for_zero_bytes_run = record { classes = []; procedures = (record { parameters = []; body = record { locals = (OfPointer None) ∷ OfNumber ∷ []; statements = rolled ((Statement-F.Alloc (Held (H.Local 0)) (Constant (pos 0)) GivesNull) ∷ (Statement-F.AllocLen 1 (Held (H.Local 0))) ∷ (Statement-F.PrintNumber (Variable 1)) ∷ (Statement-F.Free (Held (H.Local 0))) ∷ []) } }) ∷ []; operations = []; literals = []; main = 0 }
+abbrev script_objects_that_delete_each_other_small_budget_run : Script
+script_objects_that_delete_each_other_small_budget_run = record { classes = (record { extra = 0; fields = (Some 0) ∷ []; construct = None; destroy = Some (record { locals = []; statements = rolled ((Statement-F.Delete (Field H.This 0 0)) ∷ []) }) }) ∷ []; procedures = (record { parameters = []; body = record { locals = (OfPointer (Some 0)) ∷ (OfPointer (Some 0)) ∷ []; statements = rolled ((Statement-F.New (Held (H.Local 0)) 0 Leaves) ∷ (Statement-F.New (Held (H.Local 1)) 0 Leaves) ∷ (Statement-F.Set (Field (H.Local 0) 0 0) (Held (H.Local 1))) ∷ (Statement-F.Set (Field (H.Local 1) 0 0) (Held (H.Local 0))) ∷ (Statement-F.Delete (Held (H.Local 0))) ∷ []) } }) ∷ []; operations = []; literals = []; main = 0 }
 
-cell_for_zero_bytes_run : run script_cell_for_zero_bytes_run R.Unlimited 10000 (shaped 4096 4096) ≡ record { outcome = Ended None []; trace = (line 1 144 0 Granted) ∷ (line 2 16 144 Granted) ∷ []; lines = (48 ∷ []) ∷ []; notes = []; steps = 4 }
+objects_that_delete_each_other_small_budget_run : run script_objects_that_delete_each_other_small_budget_run R.Unlimited 20 (shaped 4096 4096) ≡ record { outcome = Cut Budget; trace = (line 1 144 0 Granted) ∷ (line 2 32 144 Granted) ∷ (line 3 32 176 Granted) ∷ []; lines = []; notes = []; steps = 20 }
 unfolding everything
-cell_for_zero_bytes_run = refl
+objects_that_delete_each_other_small_budget_run = refl
 
-abbrev script_fail_next_fires_once_run : Script
-script_fail_next_fires_once_run = record { classes = []; procedures = (record { parameters = []; body = record { locals = (OfPointer None) ∷ []; statements = rolled ((Statement-F.FailNext (Constant (pos 1))) ∷ (Statement-F.Alloc (Held (H.Local 0)) (Constant (pos 16)) GivesNull) ∷ (Statement-F.Alloc (Held (H.Local 0)) (Constant (pos 16)) GivesNull) ∷ (Statement-F.Free (Held (H.Local 0))) ∷ []) } }) ∷ []; operations = []; literals = []; main = 0 }
+abbrev script_objects_that_delete_each_other_run : Script
+script_objects_that_delete_each_other_run = record { classes = (record { extra = 0; fields = (Some 0) ∷ []; construct = None; destroy = Some (record { locals = []; statements = rolled ((Statement-F.Delete (Field H.This 0 0)) ∷ []) }) }) ∷ []; procedures = (record { parameters = []; body = record { locals = (OfPointer (Some 0)) ∷ (OfPointer (Some 0)) ∷ []; statements = rolled ((Statement-F.New (Held (H.Local 0)) 0 Leaves) ∷ (Statement-F.New (Held (H.Local 1)) 0 Leaves) ∷ (Statement-F.Set (Field (H.Local 0) 0 0) (Held (H.Local 1))) ∷ (Statement-F.Set (Field (H.Local 1) 0 0) (Held (H.Local 0))) ∷ (Statement-F.Delete (Held (H.Local 0))) ∷ []) } }) ∷ []; operations = []; literals = []; main = 0 }
 
-fail_next_fires_once_run : run script_fail_next_fires_once_run R.Unlimited 10000 (shaped 4096 4096) ≡ record { outcome = Ended None []; trace = (line 1 144 0 Granted) ∷ (line 2 32 144 Simulated) ∷ (line 3 32 144 Granted) ∷ []; lines = []; notes = []; steps = 4 }
+objects_that_delete_each_other_run : run script_objects_that_delete_each_other_run R.Unlimited 10000 (shaped 4096 4096) ≡ record { outcome = Panicked (P.Workbench 7); trace = (line 1 144 0 Granted) ∷ (line 2 32 144 Granted) ∷ (line 3 32 176 Granted) ∷ []; lines = []; notes = []; steps = 260 }
 unfolding everything
-fail_next_fires_once_run = refl
+objects_that_delete_each_other_run = refl
 
-abbrev script_growth_past_the_hole_moves_run : Script
-script_growth_past_the_hole_moves_run = record { classes = []; procedures = (record { parameters = []; body = record { locals = (OfPointer None) ∷ (OfPointer None) ∷ (OfPointer None) ∷ []; statements = rolled ((Statement-F.Alloc (Held (H.Local 0)) (Constant (pos 16)) GivesNull) ∷ (Statement-F.Alloc (Held (H.Local 1)) (Constant (pos 16)) GivesNull) ∷ (Statement-F.Alloc (Held (H.Local 2)) (Constant (pos 16)) GivesNull) ∷ (Statement-F.Free (Held (H.Local 1))) ∷ (Statement-F.Realloc (Held (H.Local 0)) (Held (H.Local 0)) (Constant (pos 49)) GivesNull) ∷ Statement-F.NoteHeap ∷ []) } }) ∷ []; operations = []; literals = []; main = 0 }
+abbrev script_pushed_object_made_and_deleted_run : Script
+script_pushed_object_made_and_deleted_run = record { classes = (record { extra = 16; fields = None ∷ []; construct = Some (record { locals = []; statements = rolled ((Statement-F.NewText (Field H.This 0 0) (Constant (pos 4)) Leaves) ∷ []) }); destroy = Some (record { locals = []; statements = rolled ((Statement-F.Free (Field H.This 0 0)) ∷ []) }) }) ∷ []; procedures = (record { parameters = []; body = record { locals = (OfPointer (Some 0)) ∷ []; statements = rolled ((Statement-F.New (Held (H.Local 0)) 0 Leaves) ∷ (Statement-F.PushObject (Held (H.Local 0))) ∷ (Statement-F.Construct (Held (H.Local 0))) ∷ (Statement-F.Pop (Constant (pos 1))) ∷ (Statement-F.Delete (Held (H.Local 0))) ∷ []) } }) ∷ []; operations = []; literals = []; main = 0 }
 
-growth_past_the_hole_moves_run : run script_growth_past_the_hole_moves_run R.Unlimited 10000 (shaped 4096 4096) ≡ record { outcome = Ended None ((record { number = 4; length = 32; place = 208 }) ∷ (record { number = 5; length = 80; place = 240 }) ∷ []); trace = (line 1 144 0 Granted) ∷ (line 2 32 144 Granted) ∷ (line 3 32 176 Granted) ∷ (line 4 32 208 Granted) ∷ (line 5 80 240 Granted) ∷ []; lines = []; notes = (Heap 3 256 4096) ∷ []; steps = 6 }
+pushed_object_made_and_deleted_run : run script_pushed_object_made_and_deleted_run R.Unlimited 10000 (shaped 4096 4096) ≡ record { outcome = Ended None []; trace = (line 1 144 0 Granted) ∷ (line 2 48 144 Granted) ∷ (line 3 32 192 Granted) ∷ []; lines = []; notes = []; steps = 8 }
 unfolding everything
-growth_past_the_hole_moves_run = refl
+pushed_object_made_and_deleted_run = refl
 
-abbrev script_growth_that_exactly_fills_the_hole_run : Script
-script_growth_that_exactly_fills_the_hole_run = record { classes = []; procedures = (record { parameters = []; body = record { locals = (OfPointer None) ∷ (OfPointer None) ∷ (OfPointer None) ∷ []; statements = rolled ((Statement-F.Alloc (Held (H.Local 0)) (Constant (pos 16)) GivesNull) ∷ (Statement-F.Alloc (Held (H.Local 1)) (Constant (pos 16)) GivesNull) ∷ (Statement-F.Alloc (Held (H.Local 2)) (Constant (pos 16)) GivesNull) ∷ (Statement-F.Free (Held (H.Local 1))) ∷ (Statement-F.Store (Held (H.Local 0)) (Constant (pos 3)) (Constant (pos 7))) ∷ (Statement-F.Realloc (Held (H.Local 0)) (Held (H.Local 0)) (Constant (pos 48)) GivesNull) ∷ Statement-F.NoteHeap ∷ []) } }) ∷ []; operations = []; literals = []; main = 0 }
+abbrev script_unpushed_object_leaks_when_construction_fails_run : Script
+script_unpushed_object_leaks_when_construction_fails_run = record { classes = (record { extra = 16; fields = None ∷ []; construct = Some (record { locals = []; statements = rolled ((Statement-F.NewText (Field H.This 0 0) (Constant (pos 4)) Leaves) ∷ []) }); destroy = Some (record { locals = []; statements = rolled ((Statement-F.Free (Field H.This 0 0)) ∷ []) }) }) ∷ []; procedures = (record { parameters = []; body = record { locals = (OfPointer (Some 0)) ∷ []; statements = rolled ((Statement-F.New (Held (H.Local 0)) 0 Leaves) ∷ (Statement-F.Construct (Held (H.Local 0))) ∷ (Statement-F.Delete (Held (H.Local 0))) ∷ []) } }) ∷ []; operations = []; literals = []; main = 0 }
 
-growth_that_exactly_fills_the_hole_run : run script_growth_that_exactly_fills_the_hole_run R.Unlimited 10000 (shaped 4096 4096) ≡ record { outcome = Ended None ((record { number = 2; length = 64; place = 144 }) ∷ (record { number = 4; length = 32; place = 208 }) ∷ []); trace = (line 1 144 0 Granted) ∷ (line 2 32 144 Granted) ∷ (line 3 32 176 Granted) ∷ (line 4 32 208 Granted) ∷ (line 5 64 144 Granted) ∷ []; lines = []; notes = (Heap 3 240 4096) ∷ []; steps = 7 }
+unpushed_object_leaks_when_construction_fails_run : run script_unpushed_object_leaks_when_construction_fails_run (R.Number 3) 10000 (shaped 4096 4096) ≡ record { outcome = Ended (Some (negsuc 3)) ((record { number = 2; length = 48; place = 144 }) ∷ []); trace = (line 1 144 0 Granted) ∷ (line 2 48 144 Granted) ∷ (line 3 32 192 Simulated) ∷ []; lines = []; notes = []; steps = 3 }
 unfolding everything
-growth_that_exactly_fills_the_hole_run = refl
+unpushed_object_leaks_when_construction_fails_run = refl
 
-abbrev script_mark_end_finds_live_cells_run : Script
-script_mark_end_finds_live_cells_run = record { classes = []; procedures = (record { parameters = []; body = record { locals = (OfPointer None) ∷ (OfPointer None) ∷ []; statements = rolled (Statement-F.Mark ∷ (Statement-F.Alloc (Held (H.Local 0)) (Constant (pos 16)) GivesNull) ∷ (Statement-F.Alloc (Held (H.Local 1)) (Constant (pos 16)) GivesNull) ∷ (Statement-F.MarkEnd (Constant (pos 0))) ∷ []) } }) ∷ []; operations = []; literals = []; main = 0 }
+abbrev script_check_names_a_cell_after_the_stack_moved_run : Script
+script_check_names_a_cell_after_the_stack_moved_run = record { classes = []; procedures = (record { parameters = []; body = record { locals = (OfPointer None) ∷ (OfPointer None) ∷ []; statements = rolled ((Statement-F.Alloc (Held (H.Local 0)) (Constant (pos 1)) GivesNull) ∷ (Statement-F.Push (Held (H.Local 0))) ∷ (Statement-F.Push (Held (H.Local 0))) ∷ (Statement-F.Push (Held (H.Local 0))) ∷ (Statement-F.Push (Held (H.Local 0))) ∷ (Statement-F.Push (Held (H.Local 0))) ∷ (Statement-F.Push (Held (H.Local 0))) ∷ (Statement-F.Push (Held (H.Local 0))) ∷ (Statement-F.Push (Held (H.Local 0))) ∷ (Statement-F.Alloc (Held (H.Local 1)) (Constant (pos 100)) GivesNull) ∷ (Statement-F.Pop (Constant (pos 8))) ∷ Statement-F.Mark ∷ (Statement-F.Alloc (Held (H.Local 1)) (Constant (pos 4)) GivesNull) ∷ (Statement-F.Check (Constant (pos 0))) ∷ []) } }) ∷ []; operations = []; literals = []; main = 0 }
 
-mark_end_finds_live_cells_run : run script_mark_end_finds_live_cells_run R.Unlimited 10000 (shaped 4096 4096) ≡ record { outcome = Panicked (P.Alloc 144); trace = (line 1 144 0 Granted) ∷ (line 2 32 144 Granted) ∷ (line 3 32 176 Granted) ∷ []; lines = []; notes = []; steps = 4 }
+check_names_a_cell_after_the_stack_moved_run : run script_check_names_a_cell_after_the_stack_moved_run R.Unlimited 10000 (shaped 4096 4096) ≡ record { outcome = Panicked (P.Alloc 384); trace = (line 1 144 0 Granted) ∷ (line 2 32 144 Granted) ∷ (line 3 208 176 Granted) ∷ (line 4 128 0 Granted) ∷ (line 5 32 384 Granted) ∷ []; lines = []; notes = []; steps = 14 }
 unfolding everything
-mark_end_finds_live_cells_run = refl
+check_names_a_cell_after_the_stack_moved_run = refl
 
-abbrev script_mark_end_hands_cells_to_the_outer_level_run : Script
-script_mark_end_hands_cells_to_the_outer_level_run = record { classes = []; procedures = (record { parameters = []; body = record { locals = (OfPointer None) ∷ (OfPointer None) ∷ []; statements = rolled (Statement-F.Mark ∷ (Statement-F.Alloc (Held (H.Local 0)) (Constant (pos 16)) GivesNull) ∷ (Statement-F.Alloc (Held (H.Local 1)) (Constant (pos 16)) GivesNull) ∷ (Statement-F.MarkEnd (Constant (pos 2))) ∷ (Statement-F.Check (Constant (pos 2))) ∷ (Statement-F.Free (Held (H.Local 0))) ∷ (Statement-F.Free (Held (H.Local 1))) ∷ []) } }) ∷ []; operations = []; literals = []; main = 0 }
+abbrev script_check_names_the_cell_at_place_zero_run : Script
+script_check_names_the_cell_at_place_zero_run = record { classes = []; procedures = (record { parameters = []; body = record { locals = (OfPointer None) ∷ (OfPointer None) ∷ []; statements = rolled ((Statement-F.Alloc (Held (H.Local 0)) (Constant (pos 1)) GivesNull) ∷ (Statement-F.Push (Held (H.Local 0))) ∷ (Statement-F.Push (Held (H.Local 0))) ∷ (Statement-F.Push (Held (H.Local 0))) ∷ (Statement-F.Push (Held (H.Local 0))) ∷ (Statement-F.Push (Held (H.Local 0))) ∷ (Statement-F.Push (Held (H.Local 0))) ∷ (Statement-F.Push (Held (H.Local 0))) ∷ (Statement-F.Push (Held (H.Local 0))) ∷ Statement-F.Mark ∷ (Statement-F.Alloc (Held (H.Local 1)) (Constant (pos 100)) GivesNull) ∷ (Statement-F.Check (Constant (pos 0))) ∷ []) } }) ∷ []; operations = []; literals = []; main = 0 }
 
-mark_end_hands_cells_to_the_outer_level_run : run script_mark_end_hands_cells_to_the_outer_level_run R.Unlimited 10000 (shaped 4096 4096) ≡ record { outcome = Ended None []; trace = (line 1 144 0 Granted) ∷ (line 2 32 144 Granted) ∷ (line 3 32 176 Granted) ∷ []; lines = []; notes = []; steps = 7 }
+check_names_the_cell_at_place_zero_run : run script_check_names_the_cell_at_place_zero_run R.Unlimited 10000 (shaped 4096 4096) ≡ record { outcome = Panicked (P.Alloc 0); trace = (line 1 144 0 Granted) ∷ (line 2 32 144 Granted) ∷ (line 3 208 176 Granted) ∷ (line 4 128 0 Granted) ∷ []; lines = []; notes = []; steps = 12 }
 unfolding everything
-mark_end_hands_cells_to_the_outer_level_run = refl
+check_names_the_cell_at_place_zero_run = refl
 
-abbrev script_moved_cell_leaves_a_stale_pointer_run : Script
-script_moved_cell_leaves_a_stale_pointer_run = record { classes = []; procedures = (record { parameters = []; body = record { locals = (OfPointer None) ∷ (OfPointer None) ∷ (OfPointer None) ∷ OfNumber ∷ []; statements = rolled ((Statement-F.Alloc (Held (H.Local 0)) (Constant (pos 16)) GivesNull) ∷ (Statement-F.Store (Held (H.Local 0)) (Constant (pos 0)) (Constant (pos 77))) ∷ (Statement-F.Alloc (Held (H.Local 1)) (Constant (pos 16)) GivesNull) ∷ (Statement-F.Realloc (Held (H.Local 2)) (Held (H.Local 0)) (Constant (pos 32)) GivesNull) ∷ (Statement-F.Load 3 (Held (H.Local 2)) (Constant (pos 0))) ∷ (Statement-F.PrintNumber (Variable 3)) ∷ (Statement-F.Load 3 (Held (H.Local 0)) (Constant (pos 0))) ∷ []) } }) ∷ []; operations = []; literals = []; main = 0 }
+abbrev script_eighth_push_grows_the_cleanup_cell_run : Script
+script_eighth_push_grows_the_cleanup_cell_run = record { classes = []; procedures = (record { parameters = []; body = record { locals = (OfPointer None) ∷ []; statements = rolled ((Statement-F.Repeat (Constant (pos 8)) (rolled ((Statement-F.Alloc (Held (H.Local 0)) (Constant (pos 16)) Leaves) ∷ (Statement-F.Push (Held (H.Local 0))) ∷ []))) ∷ (Statement-F.PopDestroy (Constant (pos 8))) ∷ []) } }) ∷ []; operations = []; literals = []; main = 0 }
 
-moved_cell_leaves_a_stale_pointer_run : run script_moved_cell_leaves_a_stale_pointer_run R.Unlimited 10000 (shaped 4096 4096) ≡ record { outcome = Panicked (P.Workbench 1); trace = (line 1 144 0 Granted) ∷ (line 2 32 144 Granted) ∷ (line 3 32 176 Granted) ∷ (line 4 48 208 Granted) ∷ []; lines = (55 ∷ 55 ∷ []) ∷ []; notes = []; steps = 7 }
+eighth_push_grows_the_cleanup_cell_run : run script_eighth_push_grows_the_cleanup_cell_run R.Unlimited 10000 (shaped 4096 4096) ≡ record { outcome = Ended None []; trace = (line 1 144 0 Granted) ∷ (line 2 32 144 Granted) ∷ (line 3 32 176 Granted) ∷ (line 4 32 208 Granted) ∷ (line 5 32 240 Granted) ∷ (line 6 32 272 Granted) ∷ (line 7 32 304 Granted) ∷ (line 8 32 336 Granted) ∷ (line 9 32 368 Granted) ∷ (line 10 208 400 Granted) ∷ []; lines = []; notes = []; steps = 34 }
 unfolding everything
-moved_cell_leaves_a_stale_pointer_run = refl
+eighth_push_grows_the_cleanup_cell_run = refl
 
-abbrev script_nested_marks_hand_cells_outward_run : Script
-script_nested_marks_hand_cells_outward_run = record { classes = []; procedures = (record { parameters = []; body = record { locals = (OfPointer None) ∷ (OfPointer None) ∷ []; statements = rolled (Statement-F.Mark ∷ Statement-F.Mark ∷ (Statement-F.Alloc (Held (H.Local 0)) (Constant (pos 1)) GivesNull) ∷ (Statement-F.MarkEnd (Constant (pos 1))) ∷ (Statement-F.Check (Constant (pos 1))) ∷ (Statement-F.Alloc (Held (H.Local 1)) (Constant (pos 1)) GivesNull) ∷ (Statement-F.MarkEnd (Constant (pos 2))) ∷ (Statement-F.Check (Constant (pos 2))) ∷ []) } }) ∷ []; operations = []; literals = []; main = 0 }
+abbrev script_item_left_at_the_end_of_a_trap_run : Script
+script_item_left_at_the_end_of_a_trap_run = record { classes = []; procedures = (record { parameters = []; body = record { locals = (OfPointer None) ∷ OfNumber ∷ []; statements = rolled ((Statement-F.Trap 1 (rolled ((Statement-F.Push (Held (H.Local 0))) ∷ []))) ∷ []) } }) ∷ []; operations = []; literals = []; main = 0 }
 
-nested_marks_hand_cells_outward_run : run script_nested_marks_hand_cells_outward_run R.Unlimited 10000 (shaped 4096 4096) ≡ record { outcome = Ended None ((record { number = 2; length = 32; place = 144 }) ∷ (record { number = 3; length = 32; place = 176 }) ∷ []); trace = (line 1 144 0 Granted) ∷ (line 2 32 144 Granted) ∷ (line 3 32 176 Granted) ∷ []; lines = []; notes = []; steps = 8 }
+item_left_at_the_end_of_a_trap_run : run script_item_left_at_the_end_of_a_trap_run R.Unlimited 10000 (shaped 4096 4096) ≡ record { outcome = Panicked (P.Workbench 5); trace = (line 1 144 0 Granted) ∷ []; lines = []; notes = []; steps = 2 }
 unfolding everything
-nested_marks_hand_cells_outward_run = refl
+item_left_at_the_end_of_a_trap_run = refl
 
-abbrev script_refused_top_cell_stays_and_leaks_run : Script
-script_refused_top_cell_stays_and_leaks_run = record { classes = []; procedures = (record { parameters = []; body = record { locals = (OfPointer None) ∷ (OfPointer None) ∷ (OfPointer None) ∷ []; statements = rolled ((Statement-F.Alloc (Held (H.Local 0)) (Constant (pos 48)) GivesNull) ∷ (Statement-F.Alloc (Held (H.Local 1)) (Constant (pos 16)) GivesNull) ∷ (Statement-F.Free (Held (H.Local 0))) ∷ (Statement-F.Realloc (Held (H.Local 2)) (Held (H.Local 1)) (Constant (pos 48)) GivesNull) ∷ (Statement-F.Free (Held (H.Local 2))) ∷ []) } }) ∷ []; operations = []; literals = []; main = 0 }
+abbrev script_marks_never_count_the_cleanup_cell_run : Script
+script_marks_never_count_the_cleanup_cell_run = record { classes = []; procedures = (record { parameters = []; body = record { locals = (OfPointer None) ∷ []; statements = rolled (Statement-F.Mark ∷ (Statement-F.Repeat (Constant (pos 8)) (rolled ((Statement-F.Push (Held (H.Local 0))) ∷ []))) ∷ (Statement-F.Pop (Constant (pos 8))) ∷ (Statement-F.MarkEnd (Constant (pos 0))) ∷ []) } }) ∷ []; operations = []; literals = []; main = 0 }
 
-refused_top_cell_stays_and_leaks_run : run script_refused_top_cell_stays_and_leaks_run (R.Limit 256) 10000 (shaped 4096 4096) ≡ record { outcome = Ended None ((record { number = 3; length = 32; place = 208 }) ∷ []); trace = (line 1 144 0 Granted) ∷ (line 2 64 144 Granted) ∷ (line 3 32 208 Granted) ∷ (line 4 64 208 Refused) ∷ []; lines = []; notes = []; steps = 5 }
+marks_never_count_the_cleanup_cell_run : run script_marks_never_count_the_cleanup_cell_run R.Unlimited 10000 (shaped 4096 4096) ≡ record { outcome = Ended None []; trace = (line 1 144 0 Granted) ∷ (line 2 208 0 Granted) ∷ []; lines = []; notes = []; steps = 20 }
 unfolding everything
-refused_top_cell_stays_and_leaks_run = refl
+marks_never_count_the_cleanup_cell_run = refl
 
-abbrev script_second_attempt_fails_run : Script
-script_second_attempt_fails_run = record { classes = []; procedures = (record { parameters = []; body = record { locals = (OfPointer None) ∷ (OfPointer None) ∷ (OfPointer None) ∷ []; statements = rolled ((Statement-F.Alloc (Held (H.Local 0)) (Constant (pos 10)) GivesNull) ∷ (Statement-F.Alloc (Held (H.Local 1)) (Constant (pos 100)) GivesNull) ∷ (Statement-F.Free (Held (H.Local 0))) ∷ (Statement-F.Alloc (Held (H.Local 2)) (Constant (pos 16)) GivesNull) ∷ (Statement-F.Free (Held (H.Local 1))) ∷ (Statement-F.Free (Held (H.Local 2))) ∷ []) } }) ∷ []; operations = []; literals = []; main = 0 }
+abbrev script_pop_below_the_trap_run : Script
+script_pop_below_the_trap_run = record { classes = []; procedures = (record { parameters = []; body = record { locals = (OfPointer None) ∷ OfNumber ∷ []; statements = rolled ((Statement-F.Push (Held (H.Local 0))) ∷ (Statement-F.Trap 1 (rolled ((Statement-F.Pop (Constant (pos 1))) ∷ []))) ∷ []) } }) ∷ []; operations = []; literals = []; main = 0 }
 
-second_attempt_fails_run : run script_second_attempt_fails_run (R.Number 2) 10000 (shaped 4096 4096) ≡ record { outcome = Ended None []; trace = (line 1 144 0 Granted) ∷ (line 2 32 144 Simulated) ∷ (line 3 128 144 Granted) ∷ (line 4 32 272 Granted) ∷ []; lines = []; notes = []; steps = 6 }
+pop_below_the_trap_run : run script_pop_below_the_trap_run R.Unlimited 10000 (shaped 4096 4096) ≡ record { outcome = Panicked (P.Workbench 3); trace = (line 1 144 0 Granted) ∷ []; lines = []; notes = []; steps = 3 }
 unfolding everything
-second_attempt_fails_run = refl
+pop_below_the_trap_run = refl
+
+abbrev script_pop_expects_another_item_run : Script
+script_pop_expects_another_item_run = record { classes = []; procedures = (record { parameters = []; body = record { locals = (OfPointer None) ∷ (OfPointer None) ∷ []; statements = rolled ((Statement-F.Alloc (Held (H.Local 0)) (Constant (pos 16)) Leaves) ∷ (Statement-F.Push (Held (H.Local 1))) ∷ (Statement-F.PopCheck (Held (H.Local 0))) ∷ []) } }) ∷ []; operations = []; literals = []; main = 0 }
+
+pop_expects_another_item_run : run script_pop_expects_another_item_run R.Unlimited 10000 (shaped 4096 4096) ≡ record { outcome = Panicked (P.Workbench 4); trace = (line 1 144 0 Granted) ∷ (line 2 32 144 Granted) ∷ []; lines = []; notes = []; steps = 3 }
+unfolding everything
+pop_expects_another_item_run = refl
+
+abbrev script_procedure_returns_a_pushed_cell_run : Script
+script_procedure_returns_a_pushed_cell_run = record { classes = []; procedures = (record { parameters = Par.OfNumber ∷ []; body = record { locals = (OfPointer None) ∷ []; statements = rolled ((Statement-F.Alloc (Held (H.Local 1)) (Variable 0) Leaves) ∷ (Statement-F.Push (Held (H.Local 1))) ∷ (Statement-F.ReturnPointer (Held (H.Local 1))) ∷ []) } }) ∷ (record { parameters = []; body = record { locals = (OfPointer None) ∷ []; statements = rolled ((Statement-F.CallTo 0 0 ((Given (Constant (pos 40))) ∷ [])) ∷ (Statement-F.PopDestroy (Constant (pos 1))) ∷ []) } }) ∷ []; operations = []; literals = []; main = 1 }
+
+procedure_returns_a_pushed_cell_run : run script_procedure_returns_a_pushed_cell_run R.Unlimited 10000 (shaped 4096 4096) ≡ record { outcome = Ended None []; trace = (line 1 144 0 Granted) ∷ (line 2 64 144 Granted) ∷ []; lines = []; notes = []; steps = 6 }
+unfolding everything
+procedure_returns_a_pushed_cell_run = refl
+
+abbrev script_push_that_cannot_grow_keeps_its_item_run : Script
+script_push_that_cannot_grow_keeps_its_item_run = record { classes = []; procedures = (record { parameters = []; body = record { locals = (OfPointer None) ∷ []; statements = rolled ((Statement-F.Repeat (Constant (pos 8)) (rolled ((Statement-F.Alloc (Held (H.Local 0)) (Constant (pos 16)) Leaves) ∷ (Statement-F.Push (Held (H.Local 0))) ∷ []))) ∷ (Statement-F.PopDestroy (Constant (pos 8))) ∷ []) } }) ∷ []; operations = []; literals = []; main = 0 }
+
+push_that_cannot_grow_keeps_its_item_run : run script_push_that_cannot_grow_keeps_its_item_run (R.Number 10) 10000 (shaped 4096 4096) ≡ record { outcome = Ended (Some (negsuc 3)) []; trace = (line 1 144 0 Granted) ∷ (line 2 32 144 Granted) ∷ (line 3 32 176 Granted) ∷ (line 4 32 208 Granted) ∷ (line 5 32 240 Granted) ∷ (line 6 32 272 Granted) ∷ (line 7 32 304 Granted) ∷ (line 8 32 336 Granted) ∷ (line 9 32 368 Granted) ∷ (line 10 208 400 Simulated) ∷ []; lines = []; notes = []; steps = 33 }
+unfolding everything
+push_that_cannot_grow_keeps_its_item_run = refl
 
 abbrev script_buffer_edits_one_after_another_run : Script
 script_buffer_edits_one_after_another_run = record { classes = []; procedures = (record { parameters = []; body = record { locals = (OfBuffer 8) ∷ OfView ∷ []; statements = rolled ((Statement-F.Copy (OwnBuffer 0) (Quoted 0)) ∷ (Statement-F.Insert (OwnBuffer 0) (Constant (pos 1)) (Quoted 1)) ∷ (Statement-F.DeleteText (OwnBuffer 0) (Constant (pos 4)) (Constant (pos 99))) ∷ (Statement-F.Right 1 (Of (OwnBuffer 0)) (Constant (pos 2))) ∷ (Statement-F.Append (OwnBuffer 0) (ViewOf 1)) ∷ (Statement-F.SetLength (OwnBuffer 0) (Constant (pos 8))) ∷ (Statement-F.PrintText (Of (OwnBuffer 0))) ∷ []) } }) ∷ []; operations = []; literals = (97 ∷ 98 ∷ 99 ∷ 100 ∷ []) ∷ (88 ∷ 89 ∷ []) ∷ []; main = 0 }
@@ -430,138 +451,117 @@ view_past_text_from_leaving_allocation_run : run script_view_past_text_from_leav
 unfolding everything
 view_past_text_from_leaving_allocation_run = refl
 
-abbrev script_check_names_a_cell_after_the_stack_moved_run : Script
-script_check_names_a_cell_after_the_stack_moved_run = record { classes = []; procedures = (record { parameters = []; body = record { locals = (OfPointer None) ∷ (OfPointer None) ∷ []; statements = rolled ((Statement-F.Alloc (Held (H.Local 0)) (Constant (pos 1)) GivesNull) ∷ (Statement-F.Push (Held (H.Local 0))) ∷ (Statement-F.Push (Held (H.Local 0))) ∷ (Statement-F.Push (Held (H.Local 0))) ∷ (Statement-F.Push (Held (H.Local 0))) ∷ (Statement-F.Push (Held (H.Local 0))) ∷ (Statement-F.Push (Held (H.Local 0))) ∷ (Statement-F.Push (Held (H.Local 0))) ∷ (Statement-F.Push (Held (H.Local 0))) ∷ (Statement-F.Alloc (Held (H.Local 1)) (Constant (pos 100)) GivesNull) ∷ (Statement-F.Pop (Constant (pos 8))) ∷ Statement-F.Mark ∷ (Statement-F.Alloc (Held (H.Local 1)) (Constant (pos 4)) GivesNull) ∷ (Statement-F.Check (Constant (pos 0))) ∷ []) } }) ∷ []; operations = []; literals = []; main = 0 }
+abbrev script_committed_length_notes_run : Script
+script_committed_length_notes_run = record { classes = []; procedures = (record { parameters = []; body = record { locals = (OfPointer None) ∷ []; statements = rolled ((Statement-F.Alloc (Held (H.Local 0)) (Constant (pos 200)) GivesNull) ∷ Statement-F.NoteAvailable ∷ Statement-F.NoteHeap ∷ (Statement-F.Free (Held (H.Local 0))) ∷ Statement-F.NoteAvailable ∷ Statement-F.NoteCompress ∷ Statement-F.NoteHeap ∷ []) } }) ∷ []; operations = []; literals = []; main = 0 }
 
-check_names_a_cell_after_the_stack_moved_run : run script_check_names_a_cell_after_the_stack_moved_run R.Unlimited 10000 (shaped 4096 4096) ≡ record { outcome = Panicked (P.Alloc 384); trace = (line 1 144 0 Granted) ∷ (line 2 32 144 Granted) ∷ (line 3 208 176 Granted) ∷ (line 4 128 0 Granted) ∷ (line 5 32 384 Granted) ∷ []; lines = []; notes = []; steps = 14 }
+committed_length_notes_run : run script_committed_length_notes_run R.Unlimited 10000 (shaped 256 64) ≡ record { outcome = Ended None []; trace = (line 1 144 0 Granted) ∷ (line 2 224 144 Granted) ∷ []; lines = []; notes = (Available 16 16) ∷ (Heap 2 368 384) ∷ (Available 240 240) ∷ (Compress 128) ∷ (Heap 1 144 256) ∷ []; steps = 7 }
 unfolding everything
-check_names_a_cell_after_the_stack_moved_run = refl
+committed_length_notes_run = refl
 
-abbrev script_check_names_the_cell_at_place_zero_run : Script
-script_check_names_the_cell_at_place_zero_run = record { classes = []; procedures = (record { parameters = []; body = record { locals = (OfPointer None) ∷ (OfPointer None) ∷ []; statements = rolled ((Statement-F.Alloc (Held (H.Local 0)) (Constant (pos 1)) GivesNull) ∷ (Statement-F.Push (Held (H.Local 0))) ∷ (Statement-F.Push (Held (H.Local 0))) ∷ (Statement-F.Push (Held (H.Local 0))) ∷ (Statement-F.Push (Held (H.Local 0))) ∷ (Statement-F.Push (Held (H.Local 0))) ∷ (Statement-F.Push (Held (H.Local 0))) ∷ (Statement-F.Push (Held (H.Local 0))) ∷ (Statement-F.Push (Held (H.Local 0))) ∷ Statement-F.Mark ∷ (Statement-F.Alloc (Held (H.Local 1)) (Constant (pos 100)) GivesNull) ∷ (Statement-F.Check (Constant (pos 0))) ∷ []) } }) ∷ []; operations = []; literals = []; main = 0 }
+abbrev script_forged_header_in_a_payload_run : Script
+script_forged_header_in_a_payload_run = record { classes = []; procedures = (record { parameters = []; body = record { locals = (OfPointer None) ∷ (OfPointer None) ∷ (OfPointer None) ∷ []; statements = rolled ((Statement-F.Alloc (Held (H.Local 0)) (Constant (pos 16)) GivesNull) ∷ (Statement-F.Alloc (Held (H.Local 1)) (Constant (pos 16)) GivesNull) ∷ (Statement-F.Free (Held (H.Local 0))) ∷ (Statement-F.Free (Held (H.Local 1))) ∷ (Statement-F.Alloc (Held (H.Local 2)) (Constant (pos 64)) GivesNull) ∷ (Statement-F.Store (Held (H.Local 2)) (Constant (pos 4)) (Constant (pos 32))) ∷ (Statement-F.Store (Held (H.Local 2)) (Constant (pos 5)) (Constant (pos 1))) ∷ (Statement-F.Store (Held (H.Local 2)) (Constant (pos 6)) (Constant (pos 0))) ∷ (Statement-F.Store (Held (H.Local 2)) (Constant (pos 7)) (Constant (pos 3))) ∷ (Statement-F.Free (Held (H.Local 1))) ∷ []) } }) ∷ []; operations = []; literals = []; main = 0 }
 
-check_names_the_cell_at_place_zero_run : run script_check_names_the_cell_at_place_zero_run R.Unlimited 10000 (shaped 4096 4096) ≡ record { outcome = Panicked (P.Alloc 0); trace = (line 1 144 0 Granted) ∷ (line 2 32 144 Granted) ∷ (line 3 208 176 Granted) ∷ (line 4 128 0 Granted) ∷ []; lines = []; notes = []; steps = 12 }
+forged_header_in_a_payload_run : run script_forged_header_in_a_payload_run R.Unlimited 10000 (shaped 4096 4096) ≡ record { outcome = Panicked (P.User 42); trace = (line 1 144 0 Granted) ∷ (line 2 32 144 Granted) ∷ (line 3 32 176 Granted) ∷ (line 4 80 144 Granted) ∷ []; lines = []; notes = []; steps = 10 }
 unfolding everything
-check_names_the_cell_at_place_zero_run = refl
+forged_header_in_a_payload_run = refl
 
-abbrev script_eighth_push_grows_the_cleanup_cell_run : Script
-script_eighth_push_grows_the_cleanup_cell_run = record { classes = []; procedures = (record { parameters = []; body = record { locals = (OfPointer None) ∷ []; statements = rolled ((Statement-F.Repeat (Constant (pos 8)) (rolled ((Statement-F.Alloc (Held (H.Local 0)) (Constant (pos 16)) Leaves) ∷ (Statement-F.Push (Held (H.Local 0))) ∷ []))) ∷ (Statement-F.PopDestroy (Constant (pos 8))) ∷ []) } }) ∷ []; operations = []; literals = []; main = 0 }
+abbrev script_limit_not_a_multiple_of_sixteen_run : Script
+script_limit_not_a_multiple_of_sixteen_run = record { classes = []; procedures = (record { parameters = []; body = record { locals = (OfPointer None) ∷ []; statements = rolled ((Statement-F.Alloc (Held (H.Local 0)) (Constant (pos 9)) GivesNull) ∷ Statement-F.NoteAvailable ∷ Statement-F.NoteHeap ∷ Statement-F.NoteCompress ∷ (Statement-F.Alloc (Held (H.Local 0)) (Constant (pos 1)) GivesNull) ∷ []) } }) ∷ []; operations = []; literals = []; main = 0 }
 
-eighth_push_grows_the_cleanup_cell_run : run script_eighth_push_grows_the_cleanup_cell_run R.Unlimited 10000 (shaped 4096 4096) ≡ record { outcome = Ended None []; trace = (line 1 144 0 Granted) ∷ (line 2 32 144 Granted) ∷ (line 3 32 176 Granted) ∷ (line 4 32 208 Granted) ∷ (line 5 32 240 Granted) ∷ (line 6 32 272 Granted) ∷ (line 7 32 304 Granted) ∷ (line 8 32 336 Granted) ∷ (line 9 32 368 Granted) ∷ (line 10 208 400 Granted) ∷ []; lines = []; notes = []; steps = 34 }
+limit_not_a_multiple_of_sixteen_run : run script_limit_not_a_multiple_of_sixteen_run (R.Limit 190) 10000 (shaped 176 16) ≡ record { outcome = Ended None ((record { number = 2; length = 32; place = 144 }) ∷ []); trace = (line 1 144 0 Granted) ∷ (line 2 32 144 Granted) ∷ (line 3 32 176 Refused) ∷ []; lines = []; notes = (Available 0 0) ∷ (Heap 2 176 176) ∷ (Compress 0) ∷ []; steps = 5 }
 unfolding everything
-eighth_push_grows_the_cleanup_cell_run = refl
+limit_not_a_multiple_of_sixteen_run = refl
 
-abbrev script_item_left_at_the_end_of_a_trap_run : Script
-script_item_left_at_the_end_of_a_trap_run = record { classes = []; procedures = (record { parameters = []; body = record { locals = (OfPointer None) ∷ OfNumber ∷ []; statements = rolled ((Statement-F.Trap 1 (rolled ((Statement-F.Push (Held (H.Local 0))) ∷ []))) ∷ []) } }) ∷ []; operations = []; literals = []; main = 0 }
+abbrev script_limit_one_byte_below_the_cleanup_cell_run : Script
+script_limit_one_byte_below_the_cleanup_cell_run = record { classes = []; procedures = (record { parameters = []; body = record { locals = []; statements = [] } }) ∷ []; operations = []; literals = []; main = 0 }
 
-item_left_at_the_end_of_a_trap_run : run script_item_left_at_the_end_of_a_trap_run R.Unlimited 10000 (shaped 4096 4096) ≡ record { outcome = Panicked (P.Workbench 5); trace = (line 1 144 0 Granted) ∷ []; lines = []; notes = []; steps = 2 }
+limit_one_byte_below_the_cleanup_cell_run : run script_limit_one_byte_below_the_cleanup_cell_run (R.Limit 143) 10000 (shaped 4096 4096) ≡ record { outcome = NoCleanup; trace = (line 1 144 0 Refused) ∷ []; lines = []; notes = []; steps = 0 }
 unfolding everything
-item_left_at_the_end_of_a_trap_run = refl
+limit_one_byte_below_the_cleanup_cell_run = refl
 
-abbrev script_marks_never_count_the_cleanup_cell_run : Script
-script_marks_never_count_the_cleanup_cell_run = record { classes = []; procedures = (record { parameters = []; body = record { locals = (OfPointer None) ∷ []; statements = rolled (Statement-F.Mark ∷ (Statement-F.Repeat (Constant (pos 8)) (rolled ((Statement-F.Push (Held (H.Local 0))) ∷ []))) ∷ (Statement-F.Pop (Constant (pos 8))) ∷ (Statement-F.MarkEnd (Constant (pos 0))) ∷ []) } }) ∷ []; operations = []; literals = []; main = 0 }
+abbrev script_limit_refuses_one_cell_run : Script
+script_limit_refuses_one_cell_run = record { classes = []; procedures = (record { parameters = []; body = record { locals = (OfPointer None) ∷ (OfPointer None) ∷ (OfPointer None) ∷ []; statements = rolled ((Statement-F.Alloc (Held (H.Local 0)) (Constant (pos 10)) GivesNull) ∷ (Statement-F.Alloc (Held (H.Local 1)) (Constant (pos 100)) GivesNull) ∷ (Statement-F.Free (Held (H.Local 0))) ∷ (Statement-F.Alloc (Held (H.Local 2)) (Constant (pos 16)) GivesNull) ∷ (Statement-F.Free (Held (H.Local 1))) ∷ (Statement-F.Free (Held (H.Local 2))) ∷ []) } }) ∷ []; operations = []; literals = []; main = 0 }
 
-marks_never_count_the_cleanup_cell_run : run script_marks_never_count_the_cleanup_cell_run R.Unlimited 10000 (shaped 4096 4096) ≡ record { outcome = Ended None []; trace = (line 1 144 0 Granted) ∷ (line 2 208 0 Granted) ∷ []; lines = []; notes = []; steps = 20 }
+limit_refuses_one_cell_run : run script_limit_refuses_one_cell_run (R.Limit 303) 10000 (shaped 4096 4096) ≡ record { outcome = Ended None []; trace = (line 1 144 0 Granted) ∷ (line 2 32 144 Granted) ∷ (line 3 128 176 Refused) ∷ (line 4 32 144 Granted) ∷ []; lines = []; notes = []; steps = 6 }
 unfolding everything
-marks_never_count_the_cleanup_cell_run = refl
+limit_refuses_one_cell_run = refl
 
-abbrev script_pop_below_the_trap_run : Script
-script_pop_below_the_trap_run = record { classes = []; procedures = (record { parameters = []; body = record { locals = (OfPointer None) ∷ OfNumber ∷ []; statements = rolled ((Statement-F.Push (Held (H.Local 0))) ∷ (Statement-F.Trap 1 (rolled ((Statement-F.Pop (Constant (pos 1))) ∷ []))) ∷ []) } }) ∷ []; operations = []; literals = []; main = 0 }
+abbrev script_limit_zero_run : Script
+script_limit_zero_run = record { classes = []; procedures = (record { parameters = []; body = record { locals = (OfPointer None) ∷ (OfPointer None) ∷ (OfPointer None) ∷ []; statements = rolled ((Statement-F.Alloc (Held (H.Local 0)) (Constant (pos 10)) GivesNull) ∷ (Statement-F.Alloc (Held (H.Local 1)) (Constant (pos 100)) GivesNull) ∷ (Statement-F.Free (Held (H.Local 0))) ∷ (Statement-F.Alloc (Held (H.Local 2)) (Constant (pos 16)) GivesNull) ∷ (Statement-F.Free (Held (H.Local 1))) ∷ (Statement-F.Free (Held (H.Local 2))) ∷ []) } }) ∷ []; operations = []; literals = []; main = 0 }
 
-pop_below_the_trap_run : run script_pop_below_the_trap_run R.Unlimited 10000 (shaped 4096 4096) ≡ record { outcome = Panicked (P.Workbench 3); trace = (line 1 144 0 Granted) ∷ []; lines = []; notes = []; steps = 3 }
+limit_zero_run : run script_limit_zero_run (R.Limit 0) 10000 (shaped 4096 4096) ≡ record { outcome = NoCleanup; trace = (line 1 144 0 Refused) ∷ []; lines = []; notes = []; steps = 0 }
 unfolding everything
-pop_below_the_trap_run = refl
+limit_zero_run = refl
 
-abbrev script_pop_expects_another_item_run : Script
-script_pop_expects_another_item_run = record { classes = []; procedures = (record { parameters = []; body = record { locals = (OfPointer None) ∷ (OfPointer None) ∷ []; statements = rolled ((Statement-F.Alloc (Held (H.Local 0)) (Constant (pos 16)) Leaves) ∷ (Statement-F.Push (Held (H.Local 1))) ∷ (Statement-F.PopCheck (Held (H.Local 0))) ∷ []) } }) ∷ []; operations = []; literals = []; main = 0 }
+abbrev script_cell_for_zero_bytes_run : Script
+script_cell_for_zero_bytes_run = record { classes = []; procedures = (record { parameters = []; body = record { locals = (OfPointer None) ∷ OfNumber ∷ []; statements = rolled ((Statement-F.Alloc (Held (H.Local 0)) (Constant (pos 0)) GivesNull) ∷ (Statement-F.AllocLen 1 (Held (H.Local 0))) ∷ (Statement-F.PrintNumber (Variable 1)) ∷ (Statement-F.Free (Held (H.Local 0))) ∷ []) } }) ∷ []; operations = []; literals = []; main = 0 }
 
-pop_expects_another_item_run : run script_pop_expects_another_item_run R.Unlimited 10000 (shaped 4096 4096) ≡ record { outcome = Panicked (P.Workbench 4); trace = (line 1 144 0 Granted) ∷ (line 2 32 144 Granted) ∷ []; lines = []; notes = []; steps = 3 }
+cell_for_zero_bytes_run : run script_cell_for_zero_bytes_run R.Unlimited 10000 (shaped 4096 4096) ≡ record { outcome = Ended None []; trace = (line 1 144 0 Granted) ∷ (line 2 16 144 Granted) ∷ []; lines = (48 ∷ []) ∷ []; notes = []; steps = 4 }
 unfolding everything
-pop_expects_another_item_run = refl
+cell_for_zero_bytes_run = refl
 
-abbrev script_procedure_returns_a_pushed_cell_run : Script
-script_procedure_returns_a_pushed_cell_run = record { classes = []; procedures = (record { parameters = Par.OfNumber ∷ []; body = record { locals = (OfPointer None) ∷ []; statements = rolled ((Statement-F.Alloc (Held (H.Local 1)) (Variable 0) Leaves) ∷ (Statement-F.Push (Held (H.Local 1))) ∷ (Statement-F.ReturnPointer (Held (H.Local 1))) ∷ []) } }) ∷ (record { parameters = []; body = record { locals = (OfPointer None) ∷ []; statements = rolled ((Statement-F.CallTo 0 0 ((Given (Constant (pos 40))) ∷ [])) ∷ (Statement-F.PopDestroy (Constant (pos 1))) ∷ []) } }) ∷ []; operations = []; literals = []; main = 1 }
+abbrev script_fail_next_fires_once_run : Script
+script_fail_next_fires_once_run = record { classes = []; procedures = (record { parameters = []; body = record { locals = (OfPointer None) ∷ []; statements = rolled ((Statement-F.FailNext (Constant (pos 1))) ∷ (Statement-F.Alloc (Held (H.Local 0)) (Constant (pos 16)) GivesNull) ∷ (Statement-F.Alloc (Held (H.Local 0)) (Constant (pos 16)) GivesNull) ∷ (Statement-F.Free (Held (H.Local 0))) ∷ []) } }) ∷ []; operations = []; literals = []; main = 0 }
 
-procedure_returns_a_pushed_cell_run : run script_procedure_returns_a_pushed_cell_run R.Unlimited 10000 (shaped 4096 4096) ≡ record { outcome = Ended None []; trace = (line 1 144 0 Granted) ∷ (line 2 64 144 Granted) ∷ []; lines = []; notes = []; steps = 6 }
+fail_next_fires_once_run : run script_fail_next_fires_once_run R.Unlimited 10000 (shaped 4096 4096) ≡ record { outcome = Ended None []; trace = (line 1 144 0 Granted) ∷ (line 2 32 144 Simulated) ∷ (line 3 32 144 Granted) ∷ []; lines = []; notes = []; steps = 4 }
 unfolding everything
-procedure_returns_a_pushed_cell_run = refl
+fail_next_fires_once_run = refl
 
-abbrev script_push_that_cannot_grow_keeps_its_item_run : Script
-script_push_that_cannot_grow_keeps_its_item_run = record { classes = []; procedures = (record { parameters = []; body = record { locals = (OfPointer None) ∷ []; statements = rolled ((Statement-F.Repeat (Constant (pos 8)) (rolled ((Statement-F.Alloc (Held (H.Local 0)) (Constant (pos 16)) Leaves) ∷ (Statement-F.Push (Held (H.Local 0))) ∷ []))) ∷ (Statement-F.PopDestroy (Constant (pos 8))) ∷ []) } }) ∷ []; operations = []; literals = []; main = 0 }
+abbrev script_growth_past_the_hole_moves_run : Script
+script_growth_past_the_hole_moves_run = record { classes = []; procedures = (record { parameters = []; body = record { locals = (OfPointer None) ∷ (OfPointer None) ∷ (OfPointer None) ∷ []; statements = rolled ((Statement-F.Alloc (Held (H.Local 0)) (Constant (pos 16)) GivesNull) ∷ (Statement-F.Alloc (Held (H.Local 1)) (Constant (pos 16)) GivesNull) ∷ (Statement-F.Alloc (Held (H.Local 2)) (Constant (pos 16)) GivesNull) ∷ (Statement-F.Free (Held (H.Local 1))) ∷ (Statement-F.Realloc (Held (H.Local 0)) (Held (H.Local 0)) (Constant (pos 49)) GivesNull) ∷ Statement-F.NoteHeap ∷ []) } }) ∷ []; operations = []; literals = []; main = 0 }
 
-push_that_cannot_grow_keeps_its_item_run : run script_push_that_cannot_grow_keeps_its_item_run (R.Number 10) 10000 (shaped 4096 4096) ≡ record { outcome = Ended (Some (negsuc 3)) []; trace = (line 1 144 0 Granted) ∷ (line 2 32 144 Granted) ∷ (line 3 32 176 Granted) ∷ (line 4 32 208 Granted) ∷ (line 5 32 240 Granted) ∷ (line 6 32 272 Granted) ∷ (line 7 32 304 Granted) ∷ (line 8 32 336 Granted) ∷ (line 9 32 368 Granted) ∷ (line 10 208 400 Simulated) ∷ []; lines = []; notes = []; steps = 33 }
+growth_past_the_hole_moves_run : run script_growth_past_the_hole_moves_run R.Unlimited 10000 (shaped 4096 4096) ≡ record { outcome = Ended None ((record { number = 4; length = 32; place = 208 }) ∷ (record { number = 5; length = 80; place = 240 }) ∷ []); trace = (line 1 144 0 Granted) ∷ (line 2 32 144 Granted) ∷ (line 3 32 176 Granted) ∷ (line 4 32 208 Granted) ∷ (line 5 80 240 Granted) ∷ []; lines = []; notes = (Heap 3 256 4096) ∷ []; steps = 6 }
 unfolding everything
-push_that_cannot_grow_keeps_its_item_run = refl
+growth_past_the_hole_moves_run = refl
 
-abbrev script_empty_main_json_run : Script
-script_empty_main_json_run = record { classes = []; procedures = (record { parameters = []; body = record { locals = []; statements = [] } }) ∷ []; operations = []; literals = []; main = 0 }
+abbrev script_growth_that_exactly_fills_the_hole_run : Script
+script_growth_that_exactly_fills_the_hole_run = record { classes = []; procedures = (record { parameters = []; body = record { locals = (OfPointer None) ∷ (OfPointer None) ∷ (OfPointer None) ∷ []; statements = rolled ((Statement-F.Alloc (Held (H.Local 0)) (Constant (pos 16)) GivesNull) ∷ (Statement-F.Alloc (Held (H.Local 1)) (Constant (pos 16)) GivesNull) ∷ (Statement-F.Alloc (Held (H.Local 2)) (Constant (pos 16)) GivesNull) ∷ (Statement-F.Free (Held (H.Local 1))) ∷ (Statement-F.Store (Held (H.Local 0)) (Constant (pos 3)) (Constant (pos 7))) ∷ (Statement-F.Realloc (Held (H.Local 0)) (Held (H.Local 0)) (Constant (pos 48)) GivesNull) ∷ Statement-F.NoteHeap ∷ []) } }) ∷ []; operations = []; literals = []; main = 0 }
 
-empty_main_json_run : run script_empty_main_json_run R.Unlimited 10000 (shaped 4096 4096) ≡ record { outcome = Ended None []; trace = (line 1 144 0 Granted) ∷ []; lines = []; notes = []; steps = 0 }
+growth_that_exactly_fills_the_hole_run : run script_growth_that_exactly_fills_the_hole_run R.Unlimited 10000 (shaped 4096 4096) ≡ record { outcome = Ended None ((record { number = 2; length = 64; place = 144 }) ∷ (record { number = 4; length = 32; place = 208 }) ∷ []); trace = (line 1 144 0 Granted) ∷ (line 2 32 144 Granted) ∷ (line 3 32 176 Granted) ∷ (line 4 32 208 Granted) ∷ (line 5 64 144 Granted) ∷ []; lines = []; notes = (Heap 3 240 4096) ∷ []; steps = 7 }
 unfolding everything
-empty_main_json_run = refl
+growth_that_exactly_fills_the_hole_run = refl
 
-abbrev script_leave_runs_a_cleanup_operation_run : Script
-script_leave_runs_a_cleanup_operation_run = record { classes = []; procedures = (record { parameters = []; body = record { locals = (OfPointer None) ∷ OfNumber ∷ []; statements = rolled ((Statement-F.Alloc (Held (H.Local 0)) (Constant (pos 4)) Leaves) ∷ (Statement-F.PushOperation (Held (H.Local 0)) 0) ∷ (Statement-F.Trap 1 (rolled ((Statement-F.Leave (Constant (negsuc 6))) ∷ []))) ∷ (Statement-F.PrintNumber (Variable 1)) ∷ (Statement-F.LeaveIfError (Variable 1)) ∷ []) } }) ∷ []; operations = (record { locals = []; statements = rolled ((Statement-F.PrintText (Quoted 0)) ∷ (Statement-F.Free (Held (H.Local 0))) ∷ []) }) ∷ []; literals = (111 ∷ 112 ∷ []) ∷ []; main = 0 }
+abbrev script_mark_end_finds_live_cells_run : Script
+script_mark_end_finds_live_cells_run = record { classes = []; procedures = (record { parameters = []; body = record { locals = (OfPointer None) ∷ (OfPointer None) ∷ []; statements = rolled (Statement-F.Mark ∷ (Statement-F.Alloc (Held (H.Local 0)) (Constant (pos 16)) GivesNull) ∷ (Statement-F.Alloc (Held (H.Local 1)) (Constant (pos 16)) GivesNull) ∷ (Statement-F.MarkEnd (Constant (pos 0))) ∷ []) } }) ∷ []; operations = []; literals = []; main = 0 }
 
-leave_runs_a_cleanup_operation_run : run script_leave_runs_a_cleanup_operation_run R.Unlimited 10000 (shaped 4096 4096) ≡ record { outcome = Ended (Some (negsuc 6)) []; trace = (line 1 144 0 Granted) ∷ (line 2 32 144 Granted) ∷ []; lines = (45 ∷ 55 ∷ []) ∷ (111 ∷ 112 ∷ []) ∷ []; notes = []; steps = 9 }
+mark_end_finds_live_cells_run : run script_mark_end_finds_live_cells_run R.Unlimited 10000 (shaped 4096 4096) ≡ record { outcome = Panicked (P.Alloc 144); trace = (line 1 144 0 Granted) ∷ (line 2 32 144 Granted) ∷ (line 3 32 176 Granted) ∷ []; lines = []; notes = []; steps = 4 }
 unfolding everything
-leave_runs_a_cleanup_operation_run = refl
+mark_end_finds_live_cells_run = refl
 
-abbrev script_newest_item_is_destroyed_first_run : Script
-script_newest_item_is_destroyed_first_run = record { classes = []; procedures = (record { parameters = []; body = record { locals = (OfPointer None) ∷ (OfPointer None) ∷ []; statements = rolled ((Statement-F.Alloc (Held (H.Local 0)) (Constant (pos 4)) GivesNull) ∷ (Statement-F.Alloc (Held (H.Local 1)) (Constant (pos 4)) GivesNull) ∷ (Statement-F.PushOperation (Held (H.Local 0)) 0) ∷ (Statement-F.PushOperation (Held (H.Local 1)) 1) ∷ (Statement-F.Leave (Constant (negsuc 0))) ∷ []) } }) ∷ []; operations = (record { locals = []; statements = rolled ((Statement-F.PrintText (Quoted 0)) ∷ (Statement-F.Free (Held (H.Local 0))) ∷ []) }) ∷ (record { locals = []; statements = rolled ((Statement-F.PrintText (Quoted 1)) ∷ (Statement-F.Free (Held (H.Local 0))) ∷ []) }) ∷ []; literals = (49 ∷ []) ∷ (50 ∷ []) ∷ []; main = 0 }
+abbrev script_mark_end_hands_cells_to_the_outer_level_run : Script
+script_mark_end_hands_cells_to_the_outer_level_run = record { classes = []; procedures = (record { parameters = []; body = record { locals = (OfPointer None) ∷ (OfPointer None) ∷ []; statements = rolled (Statement-F.Mark ∷ (Statement-F.Alloc (Held (H.Local 0)) (Constant (pos 16)) GivesNull) ∷ (Statement-F.Alloc (Held (H.Local 1)) (Constant (pos 16)) GivesNull) ∷ (Statement-F.MarkEnd (Constant (pos 2))) ∷ (Statement-F.Check (Constant (pos 2))) ∷ (Statement-F.Free (Held (H.Local 0))) ∷ (Statement-F.Free (Held (H.Local 1))) ∷ []) } }) ∷ []; operations = []; literals = []; main = 0 }
 
-newest_item_is_destroyed_first_run : run script_newest_item_is_destroyed_first_run R.Unlimited 10000 (shaped 4096 4096) ≡ record { outcome = Ended (Some (negsuc 0)) []; trace = (line 1 144 0 Granted) ∷ (line 2 32 144 Granted) ∷ (line 3 32 176 Granted) ∷ []; lines = (50 ∷ []) ∷ (49 ∷ []) ∷ []; notes = []; steps = 11 }
+mark_end_hands_cells_to_the_outer_level_run : run script_mark_end_hands_cells_to_the_outer_level_run R.Unlimited 10000 (shaped 4096 4096) ≡ record { outcome = Ended None []; trace = (line 1 144 0 Granted) ∷ (line 2 32 144 Granted) ∷ (line 3 32 176 Granted) ∷ []; lines = []; notes = []; steps = 7 }
 unfolding everything
-newest_item_is_destroyed_first_run = refl
+mark_end_hands_cells_to_the_outer_level_run = refl
 
-abbrev script_object_made_and_deleted_run : Script
-script_object_made_and_deleted_run = record { classes = (record { extra = 16; fields = None ∷ []; construct = Some (record { locals = []; statements = rolled ((Statement-F.NewText (Field H.This 0 0) (Constant (pos 4)) Leaves) ∷ []) }); destroy = Some (record { locals = []; statements = rolled ((Statement-F.Free (Field H.This 0 0)) ∷ []) }) }) ∷ []; procedures = (record { parameters = []; body = record { locals = (OfPointer (Some 0)) ∷ []; statements = rolled ((Statement-F.New (Held (H.Local 0)) 0 Leaves) ∷ (Statement-F.Construct (Held (H.Local 0))) ∷ (Statement-F.Delete (Held (H.Local 0))) ∷ []) } }) ∷ []; operations = []; literals = []; main = 0 }
+abbrev script_moved_cell_leaves_a_stale_pointer_run : Script
+script_moved_cell_leaves_a_stale_pointer_run = record { classes = []; procedures = (record { parameters = []; body = record { locals = (OfPointer None) ∷ (OfPointer None) ∷ (OfPointer None) ∷ OfNumber ∷ []; statements = rolled ((Statement-F.Alloc (Held (H.Local 0)) (Constant (pos 16)) GivesNull) ∷ (Statement-F.Store (Held (H.Local 0)) (Constant (pos 0)) (Constant (pos 77))) ∷ (Statement-F.Alloc (Held (H.Local 1)) (Constant (pos 16)) GivesNull) ∷ (Statement-F.Realloc (Held (H.Local 2)) (Held (H.Local 0)) (Constant (pos 32)) GivesNull) ∷ (Statement-F.Load 3 (Held (H.Local 2)) (Constant (pos 0))) ∷ (Statement-F.PrintNumber (Variable 3)) ∷ (Statement-F.Load 3 (Held (H.Local 0)) (Constant (pos 0))) ∷ []) } }) ∷ []; operations = []; literals = []; main = 0 }
 
-object_made_and_deleted_run : run script_object_made_and_deleted_run R.Unlimited 10000 (shaped 4096 4096) ≡ record { outcome = Ended None []; trace = (line 1 144 0 Granted) ∷ (line 2 48 144 Granted) ∷ (line 3 32 192 Granted) ∷ []; lines = []; notes = []; steps = 6 }
+moved_cell_leaves_a_stale_pointer_run : run script_moved_cell_leaves_a_stale_pointer_run R.Unlimited 10000 (shaped 4096 4096) ≡ record { outcome = Panicked (P.Workbench 1); trace = (line 1 144 0 Granted) ∷ (line 2 32 144 Granted) ∷ (line 3 32 176 Granted) ∷ (line 4 48 208 Granted) ∷ []; lines = (55 ∷ 55 ∷ []) ∷ []; notes = []; steps = 7 }
 unfolding everything
-object_made_and_deleted_run = refl
+moved_cell_leaves_a_stale_pointer_run = refl
 
-abbrev script_objects_that_delete_each_other_budget_just_enough_run : Script
-script_objects_that_delete_each_other_budget_just_enough_run = record { classes = (record { extra = 0; fields = (Some 0) ∷ []; construct = None; destroy = Some (record { locals = []; statements = rolled ((Statement-F.Delete (Field H.This 0 0)) ∷ []) }) }) ∷ []; procedures = (record { parameters = []; body = record { locals = (OfPointer (Some 0)) ∷ (OfPointer (Some 0)) ∷ []; statements = rolled ((Statement-F.New (Held (H.Local 0)) 0 Leaves) ∷ (Statement-F.New (Held (H.Local 1)) 0 Leaves) ∷ (Statement-F.Set (Field (H.Local 0) 0 0) (Held (H.Local 1))) ∷ (Statement-F.Set (Field (H.Local 1) 0 0) (Held (H.Local 0))) ∷ (Statement-F.Delete (Held (H.Local 0))) ∷ []) } }) ∷ []; operations = []; literals = []; main = 0 }
+abbrev script_nested_marks_hand_cells_outward_run : Script
+script_nested_marks_hand_cells_outward_run = record { classes = []; procedures = (record { parameters = []; body = record { locals = (OfPointer None) ∷ (OfPointer None) ∷ []; statements = rolled (Statement-F.Mark ∷ Statement-F.Mark ∷ (Statement-F.Alloc (Held (H.Local 0)) (Constant (pos 1)) GivesNull) ∷ (Statement-F.MarkEnd (Constant (pos 1))) ∷ (Statement-F.Check (Constant (pos 1))) ∷ (Statement-F.Alloc (Held (H.Local 1)) (Constant (pos 1)) GivesNull) ∷ (Statement-F.MarkEnd (Constant (pos 2))) ∷ (Statement-F.Check (Constant (pos 2))) ∷ []) } }) ∷ []; operations = []; literals = []; main = 0 }
 
-objects_that_delete_each_other_budget_just_enough_run : run script_objects_that_delete_each_other_budget_just_enough_run R.Unlimited 260 (shaped 4096 4096) ≡ record { outcome = Panicked (P.Workbench 7); trace = (line 1 144 0 Granted) ∷ (line 2 32 144 Granted) ∷ (line 3 32 176 Granted) ∷ []; lines = []; notes = []; steps = 260 }
+nested_marks_hand_cells_outward_run : run script_nested_marks_hand_cells_outward_run R.Unlimited 10000 (shaped 4096 4096) ≡ record { outcome = Ended None ((record { number = 2; length = 32; place = 144 }) ∷ (record { number = 3; length = 32; place = 176 }) ∷ []); trace = (line 1 144 0 Granted) ∷ (line 2 32 144 Granted) ∷ (line 3 32 176 Granted) ∷ []; lines = []; notes = []; steps = 8 }
 unfolding everything
-objects_that_delete_each_other_budget_just_enough_run = refl
+nested_marks_hand_cells_outward_run = refl
 
-abbrev script_objects_that_delete_each_other_one_step_short_run : Script
-script_objects_that_delete_each_other_one_step_short_run = record { classes = (record { extra = 0; fields = (Some 0) ∷ []; construct = None; destroy = Some (record { locals = []; statements = rolled ((Statement-F.Delete (Field H.This 0 0)) ∷ []) }) }) ∷ []; procedures = (record { parameters = []; body = record { locals = (OfPointer (Some 0)) ∷ (OfPointer (Some 0)) ∷ []; statements = rolled ((Statement-F.New (Held (H.Local 0)) 0 Leaves) ∷ (Statement-F.New (Held (H.Local 1)) 0 Leaves) ∷ (Statement-F.Set (Field (H.Local 0) 0 0) (Held (H.Local 1))) ∷ (Statement-F.Set (Field (H.Local 1) 0 0) (Held (H.Local 0))) ∷ (Statement-F.Delete (Held (H.Local 0))) ∷ []) } }) ∷ []; operations = []; literals = []; main = 0 }
+abbrev script_refused_top_cell_stays_and_leaks_run : Script
+script_refused_top_cell_stays_and_leaks_run = record { classes = []; procedures = (record { parameters = []; body = record { locals = (OfPointer None) ∷ (OfPointer None) ∷ (OfPointer None) ∷ []; statements = rolled ((Statement-F.Alloc (Held (H.Local 0)) (Constant (pos 48)) GivesNull) ∷ (Statement-F.Alloc (Held (H.Local 1)) (Constant (pos 16)) GivesNull) ∷ (Statement-F.Free (Held (H.Local 0))) ∷ (Statement-F.Realloc (Held (H.Local 2)) (Held (H.Local 1)) (Constant (pos 48)) GivesNull) ∷ (Statement-F.Free (Held (H.Local 2))) ∷ []) } }) ∷ []; operations = []; literals = []; main = 0 }
 
-objects_that_delete_each_other_one_step_short_run : run script_objects_that_delete_each_other_one_step_short_run R.Unlimited 259 (shaped 4096 4096) ≡ record { outcome = Cut Budget; trace = (line 1 144 0 Granted) ∷ (line 2 32 144 Granted) ∷ (line 3 32 176 Granted) ∷ []; lines = []; notes = []; steps = 259 }
+refused_top_cell_stays_and_leaks_run : run script_refused_top_cell_stays_and_leaks_run (R.Limit 256) 10000 (shaped 4096 4096) ≡ record { outcome = Ended None ((record { number = 3; length = 32; place = 208 }) ∷ []); trace = (line 1 144 0 Granted) ∷ (line 2 64 144 Granted) ∷ (line 3 32 208 Granted) ∷ (line 4 64 208 Refused) ∷ []; lines = []; notes = []; steps = 5 }
 unfolding everything
-objects_that_delete_each_other_one_step_short_run = refl
+refused_top_cell_stays_and_leaks_run = refl
 
-abbrev script_objects_that_delete_each_other_small_budget_run : Script
-script_objects_that_delete_each_other_small_budget_run = record { classes = (record { extra = 0; fields = (Some 0) ∷ []; construct = None; destroy = Some (record { locals = []; statements = rolled ((Statement-F.Delete (Field H.This 0 0)) ∷ []) }) }) ∷ []; procedures = (record { parameters = []; body = record { locals = (OfPointer (Some 0)) ∷ (OfPointer (Some 0)) ∷ []; statements = rolled ((Statement-F.New (Held (H.Local 0)) 0 Leaves) ∷ (Statement-F.New (Held (H.Local 1)) 0 Leaves) ∷ (Statement-F.Set (Field (H.Local 0) 0 0) (Held (H.Local 1))) ∷ (Statement-F.Set (Field (H.Local 1) 0 0) (Held (H.Local 0))) ∷ (Statement-F.Delete (Held (H.Local 0))) ∷ []) } }) ∷ []; operations = []; literals = []; main = 0 }
+abbrev script_second_attempt_fails_run : Script
+script_second_attempt_fails_run = record { classes = []; procedures = (record { parameters = []; body = record { locals = (OfPointer None) ∷ (OfPointer None) ∷ (OfPointer None) ∷ []; statements = rolled ((Statement-F.Alloc (Held (H.Local 0)) (Constant (pos 10)) GivesNull) ∷ (Statement-F.Alloc (Held (H.Local 1)) (Constant (pos 100)) GivesNull) ∷ (Statement-F.Free (Held (H.Local 0))) ∷ (Statement-F.Alloc (Held (H.Local 2)) (Constant (pos 16)) GivesNull) ∷ (Statement-F.Free (Held (H.Local 1))) ∷ (Statement-F.Free (Held (H.Local 2))) ∷ []) } }) ∷ []; operations = []; literals = []; main = 0 }
 
-objects_that_delete_each_other_small_budget_run : run script_objects_that_delete_each_other_small_budget_run R.Unlimited 20 (shaped 4096 4096) ≡ record { outcome = Cut Budget; trace = (line 1 144 0 Granted) ∷ (line 2 32 144 Granted) ∷ (line 3 32 176 Granted) ∷ []; lines = []; notes = []; steps = 20 }
+second_attempt_fails_run : run script_second_attempt_fails_run (R.Number 2) 10000 (shaped 4096 4096) ≡ record { outcome = Ended None []; trace = (line 1 144 0 Granted) ∷ (line 2 32 144 Simulated) ∷ (line 3 128 144 Granted) ∷ (line 4 32 272 Granted) ∷ []; lines = []; notes = []; steps = 6 }
 unfolding everything
-objects_that_delete_each_other_small_budget_run = refl
-
-abbrev script_objects_that_delete_each_other_run : Script
-script_objects_that_delete_each_other_run = record { classes = (record { extra = 0; fields = (Some 0) ∷ []; construct = None; destroy = Some (record { locals = []; statements = rolled ((Statement-F.Delete (Field H.This 0 0)) ∷ []) }) }) ∷ []; procedures = (record { parameters = []; body = record { locals = (OfPointer (Some 0)) ∷ (OfPointer (Some 0)) ∷ []; statements = rolled ((Statement-F.New (Held (H.Local 0)) 0 Leaves) ∷ (Statement-F.New (Held (H.Local 1)) 0 Leaves) ∷ (Statement-F.Set (Field (H.Local 0) 0 0) (Held (H.Local 1))) ∷ (Statement-F.Set (Field (H.Local 1) 0 0) (Held (H.Local 0))) ∷ (Statement-F.Delete (Held (H.Local 0))) ∷ []) } }) ∷ []; operations = []; literals = []; main = 0 }
-
-objects_that_delete_each_other_run : run script_objects_that_delete_each_other_run R.Unlimited 10000 (shaped 4096 4096) ≡ record { outcome = Panicked (P.Workbench 7); trace = (line 1 144 0 Granted) ∷ (line 2 32 144 Granted) ∷ (line 3 32 176 Granted) ∷ []; lines = []; notes = []; steps = 260 }
-unfolding everything
-objects_that_delete_each_other_run = refl
-
-abbrev script_pushed_object_made_and_deleted_run : Script
-script_pushed_object_made_and_deleted_run = record { classes = (record { extra = 16; fields = None ∷ []; construct = Some (record { locals = []; statements = rolled ((Statement-F.NewText (Field H.This 0 0) (Constant (pos 4)) Leaves) ∷ []) }); destroy = Some (record { locals = []; statements = rolled ((Statement-F.Free (Field H.This 0 0)) ∷ []) }) }) ∷ []; procedures = (record { parameters = []; body = record { locals = (OfPointer (Some 0)) ∷ []; statements = rolled ((Statement-F.New (Held (H.Local 0)) 0 Leaves) ∷ (Statement-F.PushObject (Held (H.Local 0))) ∷ (Statement-F.Construct (Held (H.Local 0))) ∷ (Statement-F.Pop (Constant (pos 1))) ∷ (Statement-F.Delete (Held (H.Local 0))) ∷ []) } }) ∷ []; operations = []; literals = []; main = 0 }
-
-pushed_object_made_and_deleted_run : run script_pushed_object_made_and_deleted_run R.Unlimited 10000 (shaped 4096 4096) ≡ record { outcome = Ended None []; trace = (line 1 144 0 Granted) ∷ (line 2 48 144 Granted) ∷ (line 3 32 192 Granted) ∷ []; lines = []; notes = []; steps = 8 }
-unfolding everything
-pushed_object_made_and_deleted_run = refl
-
-abbrev script_unpushed_object_leaks_when_construction_fails_run : Script
-script_unpushed_object_leaks_when_construction_fails_run = record { classes = (record { extra = 16; fields = None ∷ []; construct = Some (record { locals = []; statements = rolled ((Statement-F.NewText (Field H.This 0 0) (Constant (pos 4)) Leaves) ∷ []) }); destroy = Some (record { locals = []; statements = rolled ((Statement-F.Free (Field H.This 0 0)) ∷ []) }) }) ∷ []; procedures = (record { parameters = []; body = record { locals = (OfPointer (Some 0)) ∷ []; statements = rolled ((Statement-F.New (Held (H.Local 0)) 0 Leaves) ∷ (Statement-F.Construct (Held (H.Local 0))) ∷ (Statement-F.Delete (Held (H.Local 0))) ∷ []) } }) ∷ []; operations = []; literals = []; main = 0 }
-
-unpushed_object_leaks_when_construction_fails_run : run script_unpushed_object_leaks_when_construction_fails_run (R.Number 3) 10000 (shaped 4096 4096) ≡ record { outcome = Ended (Some (negsuc 3)) ((record { number = 2; length = 48; place = 144 }) ∷ []); trace = (line 1 144 0 Granted) ∷ (line 2 48 144 Granted) ∷ (line 3 32 192 Simulated) ∷ []; lines = []; notes = []; steps = 3 }
-unfolding everything
-unpushed_object_leaks_when_construction_fails_run = refl
+second_attempt_fails_run = refl
 
 abbrev script_cell_for_zero_bytes_size : Script
 script_cell_for_zero_bytes_size = record { classes = []; procedures = (record { parameters = []; body = record { locals = (OfPointer None) ∷ OfNumber ∷ []; statements = rolled ((Statement-F.Alloc (Held (H.Local 0)) (Constant (pos 0)) GivesNull) ∷ (Statement-F.AllocLen 1 (Held (H.Local 0))) ∷ (Statement-F.PrintNumber (Variable 1)) ∷ (Statement-F.Free (Held (H.Local 0))) ∷ []) } }) ∷ []; operations = []; literals = []; main = 0 }
