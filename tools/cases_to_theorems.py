@@ -444,6 +444,23 @@ def head(crate: Path) -> str:
     return "\n".join(lines) + "\n" + SHORTHANDS
 
 
+def without_unused(text: str) -> str:
+    """The text of an antt file without the imported names that it doesn't use."""
+    lines = text.split("\n")
+    rest = "\n".join(line for line in lines if not line.startswith("use "))
+    used = set(re.findall(r"[^\s(){};]+", rest)) | {word.split(".")[0] for word in re.findall(r"[^\s(){};]+", rest)}
+    kept = []
+    for line in lines:
+        listed_names = re.fullmatch(r"use (\S+)\.\{(.*)\}", line)
+        renamed = re.fullmatch(r"use \S+ as (\S+)", line)
+        if listed_names:
+            names = [name for name in listed_names[2].split(", ") if name.strip("◌") in used]
+            kept += [f"use {listed_names[1]}.{{{', '.join(names)}}}"] if names else []
+        elif not renamed or renamed[1] in used:
+            kept.append(line)
+    return "\n".join(kept)
+
+
 def main() -> int:
     """Reads the arguments, and writes the file."""
     parser = argparse.ArgumentParser(
@@ -472,7 +489,7 @@ def main() -> int:
             sys.exit(f"two cases are called {name}")
         else:
             theorems[name] = theorem(name, path.read_bytes().decode(), *case)
-    written = head(chosen.crate.resolve()) + "\n" + "\n".join(theorems.values())
+    written = without_unused(head(chosen.crate.resolve()) + "\n" + "\n".join(theorems.values()))
     if not chosen.compare:
         chosen.out.write_text(written)
     elif chosen.out.read_text() != written:

@@ -12,7 +12,6 @@ use Rattle.wb_model.specs.declared.heap.Panic.{Panic}
 use Rattle.wb_model.specs.declared.heap.Panic.TheVariants.{User, Workbench}
 use Rattle.wb_model.specs.declared.script.Script.{Script}
 use Rattle.wb_model.specs.declared.script.Body.{Body}
-use Rattle.wb_model.specs.declared.script.Procedure.{Procedure}
 use Rattle.wb_model.specs.declared.script.Class.{Class}
 use Rattle.wb_model.specs.declared.script.Pointer.{Pointer}
 use Rattle.wb_model.specs.declared.script.Refusal.{Refusal}
