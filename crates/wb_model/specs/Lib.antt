@@ -1,9 +1,12 @@
 pub mod Account
 pub mod Agreement
 pub mod Attempts
+pub mod Forms
 pub mod Heap
 pub mod Keeping
+pub mod Keys
 pub mod LimitedHeap
+pub mod Lines
 pub mod Meaning
 pub mod Operands
 pub mod Reading
@@ -17,4 +20,5 @@ pub mod Spelling
 pub mod State
 pub mod Statements
 pub mod Texts
+pub mod Words
 pub mod formers
