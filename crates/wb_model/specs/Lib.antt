@@ -1,11 +1,13 @@
 pub mod Account
 pub mod Agreement
 pub mod Attempts
+pub mod Grammar
 pub mod Heap
 pub mod Keeping
 pub mod LimitedHeap
 pub mod Meaning
 pub mod Operands
+pub mod Passes
 pub mod Reading
 pub mod Rest
 pub mod Row
