@@ -2,6 +2,7 @@ pub mod Account
 pub mod Agreement
 pub mod Attempts
 pub mod Forms
+pub mod Grammar
 pub mod Heap
 pub mod Keeping
 pub mod Keys
@@ -9,6 +10,7 @@ pub mod LimitedHeap
 pub mod Lines
 pub mod Meaning
 pub mod Operands
+pub mod Passes
 pub mod Reading
 pub mod Rest
 pub mod Row
