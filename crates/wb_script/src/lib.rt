@@ -1,4 +1,9 @@
 //! Reads a script: from its bytes to its tree, or to its first fault.
 #![tactic(auto)]
 
+mod foreign;
+mod forms;
+mod keys;
+mod lines;
 pub mod nesting;
+mod words;
