@@ -1,7 +1,7 @@
 //! Reads a script: from its bytes to its tree, or to its first fault.
 #![tactic(auto)]
 
-mod foreign;
+mod bytes;
 mod forms;
 mod keys;
 mod lines;
