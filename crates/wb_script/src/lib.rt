@@ -4,6 +4,8 @@
 mod bytes;
 mod forms;
 mod keys;
+#[cfg(test)]
+mod line_tests;
 mod lines;
 pub mod nesting;
 mod words;
