@@ -3,6 +3,7 @@
 ghost use Rattle.std.specs.Prelude.{◌≡◌, map, IfOk};
 ghost use Rattle.std.specs.Option.{option_map};
 ghost use Rattle.wb_model.specs.Forms.{operand_of, operands_of, form_in, form_of, forms_of, line_form, begins_comment, renamed, renamed_operand, role_of_form};
+ghost use Rattle.wb_model.specs.Keys.{keys};
 
 use crate::keys::{ALL, letters_of, role_of, text_of};
 use crate::lines::words;
@@ -68,6 +69,17 @@ fn form_in<'a>(
     Ok(Form::Unknown)
 }
 
+/// The form of words that are no comment, by the tables.
+fn keyed_form<'a>(
+    alloc: Global,
+    first: &[u8],
+    words: &[&'a [u8]],
+) -> Result<Form<&'a [u8]>, AllocError>
+    ensures { IfOk result (λ form. renamed (λ n. n.now) form ≡ form_in keys first.now (map (λ w. w.now) words.now)) }
+{
+    form_in(alloc, &ALL, first, words)
+}
+
 fn begins_comment(word: &[u8]) -> bool
     ensures { result ≡ begins_comment word.now }
 {
@@ -84,7 +96,7 @@ fn form_of<'a>(alloc: Global, words: &[&'a [u8]]) -> Result<Form<&'a [u8]>, Allo
             if begins_comment(first) {
                 return Ok(Form::Skip);
             }
-            form_in(alloc, &ALL, first, rest)
+            keyed_form(alloc, first, rest)
         }
     }
 }
