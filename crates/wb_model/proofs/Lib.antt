@@ -4,3 +4,4 @@ pub mod LineExamples
 pub mod Places
 pub mod ResumeLemmas
 pub mod MeaningLemmas
+pub mod WritingLemmas

@@ -23,4 +23,5 @@ pub mod State
 pub mod Statements
 pub mod Texts
 pub mod Words
+pub mod Writing
 pub mod formers
