@@ -4,4 +4,5 @@ pub mod LineExamples
 pub mod Places
 pub mod ResumeLemmas
 pub mod MeaningLemmas
+pub mod WordLemmas
 pub mod WritingLemmas

@@ -135,7 +135,7 @@ literal_of_quoted text h = chosen (is_literal (quoted text)) (inside (quoted tex
 front_and_last : (xs : List ℕ) → 1 ≤ length xs → xs ≡ take (length xs - 1) xs ++ slice_index xs (length xs - 1) ∷ []
 front_and_last xs some = sym (take_all (length xs - 1 + 1) xs (omega arith)) ∙ take_more xs (length xs - 1) 0 (omega arith)
 
-quoted_of_literal : (word text : List ℕ) → literal_of word ≡ Some text → (is_quoted_text text ≡ true) × (word ≡ quoted text)
+pub quoted_of_literal : (word text : List ℕ) → literal_of word ≡ Some text → (is_quoted_text text ≡ true) × (word ≡ quoted text)
 quoted_of_literal [] text h = let clash : ⊥ = cc in absurd clash
 quoted_of_literal (first ∷ rest) text h =
     let word = first ∷ rest in

@@ -1,6 +1,10 @@
 -- Lines, words and literals as they are written; what is written so is read as it was meant.
 use Rattle.std.specs.Prelude.{◌≡◌, ◌≢◌, ◌⊎◌, ℕ, List, [], ◌∷◌, ◌++◌, Bool, true, not, ◌&&◌, ◌==◌, Some}
 use Rattle.std.specs.List.{list_all, flat_map}
+use Rattle.wb_model.specs.declared.lines.Key.{Key}
+use Rattle.wb_model.specs.declared.lines.Operand.{Operand}
+use Rattle.wb_model.specs.declared.lines.Form.TheVariants.{Line}
+use Rattle.wb_model.specs.Forms.{line_form}
 use Rattle.wb_model.specs.Lines.{is_blank, lines_of, words_of}
 use Rattle.wb_model.specs.Sound.{is_quotable}
 use Rattle.wb_model.specs.Words.{literal_of}
@@ -48,3 +52,7 @@ spaced word = word ++ 32 ∷ []
 -- Words with a blank behind each are read as these words.
 abbrev pub ReadsWords : List (List ℕ) → Type 0
 ReadsWords words = AreWords words → words_of (flat_map spaced words) ≡ words
+
+-- A line that says something is made of words: no quote stands in it but around a literal.
+abbrev pub IsMadeOfWords : List ℕ → Type 0
+IsMadeOfWords line = (key : Key) (operands : List (Operand (List ℕ))) → line_form line ≡ Line key operands → AreWords (words_of line)
