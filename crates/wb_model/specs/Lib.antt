@@ -1,11 +1,16 @@
 pub mod Account
 pub mod Agreement
 pub mod Attempts
+pub mod Forms
+pub mod Grammar
 pub mod Heap
 pub mod Keeping
+pub mod Keys
 pub mod LimitedHeap
+pub mod Lines
 pub mod Meaning
 pub mod Operands
+pub mod Passes
 pub mod Reading
 pub mod Rest
 pub mod Row
@@ -17,4 +22,6 @@ pub mod Spelling
 pub mod State
 pub mod Statements
 pub mod Texts
+pub mod Words
+pub mod Writing
 pub mod formers

@@ -1,0 +1,11 @@
+//! Reads a script: from its bytes to its tree, or to its first fault.
+#![tactic(auto)]
+
+mod bytes;
+mod forms;
+mod keys;
+#[cfg(test)]
+mod line_tests;
+mod lines;
+pub mod nesting;
+mod words;
