@@ -1,4 +1,6 @@
 //! Reads a script: from its bytes to its tree, or to its first fault.
 #![tactic(auto)]
 
+mod names;
 pub mod nesting;
+mod stub;

@@ -1,0 +1,21 @@
+-- What the code's names of picks and checks mean.
+use Rattle.std.specs.Prelude.{ℕ, List, map}
+use Rattle.wb_model.specs.Names.{Pick, name_declared, name_used, name_in, literal_in}
+use Rattle.wb_model.specs.Names as model
+use Rattle.wb_script.specs.declared.names.Wanted.{Wanted}
+use Rattle.wb_script.specs.declared.names.Wanted.TheVariants.{Declared, Used, Names, Literals}
+use Rattle.wb_script.specs.declared.names.Known.{Known}
+
+abbrev pub pick_of : Wanted → Pick
+pick_of Declared = name_declared
+pick_of Used = name_used
+pick_of Names = name_in
+pick_of Literals = literal_in
+
+-- what is known, without the references
+abbrev pub known_in : Known → model.Known
+known_in known = record {
+  procedures = map (λ n. n.now) known.procedures.items;
+  locals = map (λ n. n.now) known.locals.items;
+  literals = map (λ n. n.now) known.literals.items;
+}
