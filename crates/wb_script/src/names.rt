@@ -4,8 +4,8 @@ ghost use Rattle.std.specs.Prelude.{◌≡◌, ◌<◌, ◌||◌, [], length, ma
 ghost use Rattle.std.specs.Option.{option_map};
 ghost use Rattle.std.specs.List.{list_any};
 ghost use Rattle.wb_model.specs.Forms.{renamed, renamed_operand};
-ghost use Rattle.wb_model.specs.Names.{picked_of, picked, known_after, place_of, space_of, is_one_more, first_refused, known_of};
-ghost use Rattle.wb_script.specs.Checks.{pick_of, known_in};
+ghost use Rattle.wb_model.specs.Names.{picked_of, picked, known_after, place_of, space_of, is_one_more, first_refused, nothing_known, known_of};
+ghost use Rattle.wb_script.specs.Checks.{pick_of, known_in, test_of};
 
 use crate::stub::{letters_of, role};
 use std::alloc::{AllocError, Global};
@@ -113,4 +113,146 @@ fn add_line<'a>(alloc: Global, known: &mut Known<'a>, form: &Form<&'a [u8]>) -> 
         _ => {}
     }
     Ok(())
+}
+
+/// The index of the first declaration of a name.
+pub(crate) fn place_of(names: &[&[u8]], name: &[u8]) -> Option<usize>
+    ensures { result ≡ place_of (map (λ n. n.now) names.now) name.now }
+{
+    for (index, known) in names.iter().enumerate() {
+        if *known == name {
+            return Some(index);
+        }
+    }
+    None
+}
+
+fn any_unknown(known: &[&[u8]], names: &[&[u8]]) -> bool
+    ensures { result ≡ list_any (λ n. is_none (place_of (map (λ k. k.now) known.now) n)) (map (λ n. n.now) names.now) }
+{
+    for name in names {
+        if place_of(known, name).is_none() {
+            return true;
+        }
+    }
+    false
+}
+
+fn any_known(known: &[&[u8]], names: &[&[u8]]) -> bool
+    ensures { result ≡ list_any (λ n. is_some (place_of (map (λ k. k.now) known.now) n)) (map (λ n. n.now) names.now) }
+{
+    for name in names {
+        if place_of(known, name).is_some() {
+            return true;
+        }
+    }
+    false
+}
+
+/// The greatest length of a name, in bytes.
+const NAME_LENGTH: usize = 32;
+/// The greatest number of procedures.
+const PROCEDURES: usize = 256;
+/// The greatest number of locals of a body.
+const LOCALS: usize = 32;
+
+fn any_long(names: &[&[u8]]) -> bool
+    ensures { result ≡ list_any (λ n. nat_lt 32 (length n)) (map (λ n. n.now) names.now) }
+{
+    for name in names {
+        if name.len() > NAME_LENGTH {
+            return true;
+        }
+    }
+    false
+}
+
+fn is_one_more(role: Role, known: &Known) -> bool
+    ensures { result ≡ is_one_more role (known_in known.now) }
+{
+    match role {
+        Role::Procedure => known.procedures.len() >= PROCEDURES,
+        Role::Declaration => known.locals.len() >= LOCALS,
+        _ => false,
+    }
+}
+
+/// What a line is looked at for.
+#[derive(Clone, Copy)]
+pub(crate) enum Check {
+    UnknownName,
+    DoubleName,
+    TooMany,
+}
+
+fn is_refused(
+    alloc: Global,
+    check: Check,
+    known: &Known,
+    form: &Form<&[u8]>,
+) -> Result<bool, AllocError>
+    ensures { IfOk result (λ bad. bad ≡ test_of check (known_in known.now) (renamed (λ n. n.now) form.now)) }
+{
+    match check {
+        Check::UnknownName => {
+            let names = picked(alloc, Wanted::Used, form)?;
+            Ok(any_unknown(&known.locals, &names))
+        }
+        Check::DoubleName => {
+            let names = picked(alloc, Wanted::Declared, form)?;
+            match role(form) {
+                Role::Procedure => Ok(any_known(&known.procedures, &names)),
+                _ => Ok(any_known(&known.locals, &names)),
+            }
+        }
+        Check::TooMany => {
+            let names = picked(alloc, Wanted::Names, form)?;
+            Ok(any_long(&names) || is_one_more(role(form), known))
+        }
+    }
+}
+
+impl<'a> Known<'a> {
+    fn nothing(alloc: Global) -> Known<'a>
+        ensures { known_in result ≡ nothing_known }
+    {
+        Known {
+            procedures: Vec::new(alloc),
+            locals: Vec::new(alloc),
+            literals: Vec::new(alloc),
+        }
+    }
+}
+
+/// The index of the first line that a check refuses.
+pub(crate) fn first_refused(
+    alloc: Global,
+    check: Check,
+    forms: &[Form<&[u8]>],
+) -> Result<Option<usize>, AllocError>
+    ensures found { IfOk result (λ found. found ≡ first_refused (test_of check) (map (renamed (λ n. n.now)) forms.now)) }
+    ensures within { IfOk result (λ found. IfSome found (λ n. n < length forms.now)) }
+{
+    let mut known = Known::nothing(alloc);
+    for (index, form) in forms.iter().enumerate() {
+        if is_refused(alloc, check, &known, form)? {
+            return Ok(Some(index));
+        }
+        add_line(alloc, &mut known, form)?;
+    }
+    Ok(None)
+}
+
+/// What all lines declare.
+pub(crate) fn known_of<'a>(
+    alloc: Global,
+    forms: &[Form<&'a [u8]>],
+) -> Result<Known<'a>, AllocError>
+    ensures { IfOk result (λ known. known_in known ≡ known_of (map (renamed (λ n. n.now)) forms.now)) }
+{
+    let mut known = Known::nothing(alloc);
+    for form in forms {
+        add_line(alloc, &mut known, form)?;
+    }
+    Ok(known)
 }
