@@ -3,4 +3,5 @@
 
 mod names;
 pub mod nesting;
+mod resolved;
 mod stub;

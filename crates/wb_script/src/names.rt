@@ -98,7 +98,7 @@ pub(crate) struct Known<'a> {
 }
 
 /// Takes in one more line.
-fn add_line<'a>(alloc: Global, known: &mut Known<'a>, form: &Form<&'a [u8]>) -> Result<(), AllocError>
+pub(crate) fn add_line<'a>(alloc: Global, known: &mut Known<'a>, form: &Form<&'a [u8]>) -> Result<(), AllocError>
     ensures { OnOk result (known_in known.new ≡ known_after (known_in known.old) (renamed (λ n. n.now) form.now)) }
 {
     let names = picked(alloc, Wanted::Declared, form)?;
@@ -213,7 +213,7 @@ fn is_refused(
 }
 
 impl<'a> Known<'a> {
-    fn nothing(alloc: Global) -> Known<'a>
+    pub(crate) fn nothing(alloc: Global) -> Known<'a>
         ensures { known_in result ≡ nothing_known }
     {
         Known {
