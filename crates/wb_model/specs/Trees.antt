@@ -1,6 +1,8 @@
 -- The lines of a script's tree, with indexes for names and literals.
 use Rattle.std.specs.Prelude.{ℕ, suc, List, [], ◌∷◌, ◌++◌, Option, Some, None, map}
 use Rattle.wb_model.specs.declared.lines.Key.TheVariants.{Proc, Ptr, Alloc, Free, Print, End}
+use Rattle.wb_model.specs.declared.lines.Key.{Key}
+use Rattle.wb_model.specs.declared.lines.Operand.{Operand}
 use Rattle.wb_model.specs.declared.lines.Operand.TheVariants.{Name, Number, Literal}
 use Rattle.wb_model.specs.declared.lines.Form.{Form}
 use Rattle.wb_model.specs.declared.lines.Form.TheVariants.{Skip, Unknown, Line}
@@ -11,8 +13,11 @@ use Rattle.wb_model.specs.declared.script.Parameter.{Parameter}
 use Rattle.wb_model.specs.declared.script.Local.{Local}
 use Rattle.wb_model.specs.declared.script.Local.TheVariants.{OfPointer}
 use Rattle.wb_model.specs.declared.script.Holder.TheVariants as H
+use Rattle.wb_model.specs.declared.script.Pointer.{Pointer}
 use Rattle.wb_model.specs.declared.script.Pointer.TheVariants.{Held}
+use Rattle.wb_model.specs.declared.script.Number as N
 use Rattle.wb_model.specs.declared.script.Number.TheVariants.{Constant}
+use Rattle.wb_model.specs.declared.script.Readable.{Readable}
 use Rattle.wb_model.specs.declared.script.Readable.TheVariants.{Quoted}
 use Rattle.wb_model.specs.declared.script.Refusal.TheVariants.{GivesNull}
 use Rattle.wb_model.specs.declared.script.Statement.{Statement}
@@ -27,12 +32,43 @@ abbrev pub counted : Indexed → List Indexed
 counted Skip = []
 counted line = line ∷ []
 
+-- The operand that spells a pointer, a number or a text to print; none where no line spells it yet.
+abbrev pub Spelled : Type 0
+Spelled = Option (Operand ℕ)
+
+abbrev pub pointer_operand : Pointer → Spelled
+pointer_operand (Held (H.Local i)) = Some (Name i)
+pointer_operand _ = None
+
+abbrev pub number_operand : N.Number → Spelled
+number_operand (Constant z) = Some (Number z)
+number_operand _ = None
+
+abbrev pub text_operand : Readable → Spelled
+text_operand (Quoted i) = Some (Literal i)
+text_operand _ = None
+
+abbrev pub and_operand : Spelled → Option (List (Operand ℕ)) → Option (List (Operand ℕ))
+and_operand (Some operand) (Some operands) = Some (operand ∷ operands)
+and_operand _ _ = None
+
+abbrev pub operands : List Spelled → Option (List (Operand ℕ))
+operands [] = Some []
+operands (operand ∷ rest) = and_operand operand (operands rest)
+
+abbrev pub line_or_unknown : Key → Option (List (Operand ℕ)) → Indexed
+line_or_unknown key (Some operands) = Line key operands
+line_or_unknown key None = Unknown
+
+abbrev pub line : Key → List Spelled → Indexed
+line key words = line_or_unknown key (operands words)
+
 -- The line of a statement. One that no line spells yet has a line of no script.
 abbrev pub statement_line : Statement-F Statement → Indexed
-statement_line (Statement-F.Alloc (Held (H.Local i)) (Constant z) GivesNull) = Line Alloc (Name i ∷ Number z ∷ [])
-statement_line (Statement-F.Free (Held (H.Local i))) = Line Free (Name i ∷ [])
-statement_line (Statement-F.PrintNumber (Constant z)) = Line Print (Number z ∷ [])
-statement_line (Statement-F.PrintText (Quoted i)) = Line Print (Literal i ∷ [])
+statement_line (Statement-F.Alloc p v GivesNull) = line Alloc (pointer_operand p ∷ number_operand v ∷ [])
+statement_line (Statement-F.Free p) = line Free (pointer_operand p ∷ [])
+statement_line (Statement-F.PrintNumber v) = line Print (number_operand v ∷ [])
+statement_line (Statement-F.PrintText t) = line Print (text_operand t ∷ [])
 statement_line _ = Unknown
 
 abbrev pub statement_lines : List Statement → List Indexed

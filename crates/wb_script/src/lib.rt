@@ -5,3 +5,4 @@ mod names;
 pub mod nesting;
 mod resolved;
 mod stub;
+mod tree;
