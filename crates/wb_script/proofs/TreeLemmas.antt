@@ -1,12 +1,19 @@
 -- Trees that keep what a script has to keep.
-use Rattle.std.proofs.Common.{◌≡◌, refl, ℕ, ◌<◌, List, Bool, true, false, length, get_or, Option, Some, None, IsTrue, subst, sym}
+use Rattle.std.proofs.Common.{◌≡◌, refl, sym, ap, subst, ◌∙◌, ℕ, suc, ◌+◌, ◌<◌, List, [], ◌∷◌, ◌++◌, Bool, true, false, length, get_or, Option, Some, None, IsTrue, add-zero, zero-add, append-nil, arith}
 use Rattle.std.specs.List.{list_all}
 use Rattle.std.specs.Prelude.{slice_get}
 use Rattle.std.proofs.lemmas.Option.{slice_get-get_or}
 use Rattle.std.proofs.lemmas.List.Folds.{list_all_at}
+use Rattle.wb_model.specs.declared.lines.Form.TheVariants.{Line}
+use Rattle.wb_model.specs.declared.lines.Key.TheVariants.{Ptr}
+use Rattle.wb_model.specs.declared.lines.Operand.{Operand}
+use Rattle.wb_model.specs.declared.lines.Operand.TheVariants.{Name}
+use Rattle.wb_model.specs.declared.script.Body.{Body}
 use Rattle.wb_model.specs.declared.script.Local.{Local}
 use Rattle.wb_model.specs.declared.script.Local.TheVariants.{OfPointer, OfNumber}
 use Rattle.wb_model.specs.Sound.{is_local, is_pointer_local}
+use Rattle.wb_model.specs.Trees.{local_line, local_lines, statement_lines, body_lines}
+use Rattle.wb_script.specs.Building.{TakesLocal}
 
 -- where all pass, each does
 pub all_at : {X : Type 0} (p : X → Bool) (xs : List X) (i : ℕ) (d : X) → i < length xs → IsTrue (list_all p xs) → IsTrue (p (get_or xs i d))
@@ -23,3 +30,20 @@ local_is_pointer _ sound = let clash : ⊥ = cc in absurd clash
 pub pointer_at : (locals : List Local) (i : ℕ) → i < length locals → IsTrue (list_all is_local locals) → IsTrue (is_pointer_local (slice_get locals i))
 pointer_at locals i lt all =
     subst (λ o. IsTrue (is_pointer_local o)) (sym (slice_get-get_or locals i OfNumber lt)) (local_is_pointer (get_or locals i OfNumber) (all_at is_local locals i OfNumber lt all))
+
+local_lines-last : (index : ℕ) (locals : List Local) (local : Local) → local_lines index (locals ++ local ∷ []) ≡ local_lines index locals ++ local_line (index + length locals) local ∷ []
+local_lines-last index [] local = ap (λ i. local_line i local ∷ []) (sym (add-zero index))
+local_lines-last index (l ∷ ls) local =
+    let same : suc index + length ls ≡ index + suc (length ls) = omega arith in
+    ap (λ lines. local_line index l ∷ lines) (local_lines-last (suc index) ls local ∙ ap (λ i. local_lines (suc index) ls ++ local_line i local ∷ []) same)
+
+pub local_added : (body next : Body) (operands : List (Operand ℕ)) → TakesLocal body operands → next ≡ record body { locals = body.locals ++ OfPointer None ∷ [] } → body_lines next ≡ body_lines body ++ Line Ptr operands ∷ []
+local_added body next operands takes is =
+    ap body_lines is
+    ∙ ap (λ s. local_lines 0 (body.locals ++ OfPointer None ∷ []) ++ statement_lines s) takes.first
+    ∙ append-nil (local_lines 0 (body.locals ++ OfPointer None ∷ []))
+    ∙ local_lines-last 0 body.locals (OfPointer None)
+    ∙ ap (λ i. local_lines 0 body.locals ++ Line Ptr (Name i ∷ []) ∷ []) (zero-add (length body.locals))
+    ∙ ap (λ o. local_lines 0 body.locals ++ Line Ptr o ∷ []) (sym takes.next)
+    ∙ ap (λ l. l ++ Line Ptr operands ∷ []) (sym (append-nil (local_lines 0 body.locals)))
+    ∙ ap (λ s. (local_lines 0 body.locals ++ statement_lines s) ++ Line Ptr operands ∷ []) (sym takes.first)

@@ -1,8 +1,9 @@
 -- What a tree in the making stands for, and which lines can be added to it.
-use Rattle.std.specs.Prelude.{◌≡◌, ℕ, suc, List, [], ◌∷◌, ◌++◌, Bool, true, false, not, ◌&&◌, nat_eq, nat_lt, nat_le, if◌then◌else◌, Option, Some, None, length}
+use Rattle.std.specs.Prelude.{◌≡◌, ℕ, suc, List, [], ◌∷◌, ◌++◌, Bool, true, false, not, ◌&&◌, ◌<◌, nat_eq, nat_lt, nat_le, Option, Some, None, length}
 use Rattle.std.specs.List.{list_all}
 use Rattle.std.specs.Option.{option_map_or}
-use Rattle.wb_model.specs.declared.lines.Key.TheVariants.{Proc}
+use Rattle.wb_model.specs.declared.lines.Key.{Key}
+use Rattle.wb_model.specs.declared.lines.Key.TheVariants.{Proc, End}
 use Rattle.wb_model.specs.declared.lines.Letter.{Letter}
 use Rattle.wb_model.specs.declared.lines.Letter.TheVariants as letter
 use Rattle.wb_model.specs.declared.lines.Operand.{Operand}
@@ -22,6 +23,8 @@ use Rattle.wb_model.specs.Trees.{Indexed, body_lines, procedures_lines}
 use Rattle.wb_script.specs.declared.nesting.Open.{Open}
 use Rattle.wb_script.specs.declared.nesting.Open.TheVariants.{Declarations, Statements}
 use Rattle.wb_script.specs.declared.tree.Building.{Building}
+use Rattle.wb_script.specs.declared.tree.Left.{Left}
+use Rattle.wb_script.specs.declared.tree.Left.TheVariants.{Inside, Done}
 
 -- how many procedures there are so far, and how many locals of the body that stands open or was the last
 pub record Counts : Type 0 where
@@ -71,11 +74,19 @@ abbrev pub begins_with : ℕ → List (Operand ℕ) → Bool
 begins_with index (Name name ∷ operands) = nat_eq name index
 begins_with index _ = false
 
+-- a local is the next of its body, and not one more than there may be
+abbrev pub is_local_due : Role → ℕ → List (Operand ℕ) → Bool
+is_local_due Declaration locals operands = begins_with locals operands && nat_lt locals 32
+is_local_due _ locals operands = true
+
 -- a declaration is the next of its space, and not one more than there may be
 abbrev pub is_due : Role → Counts → List (Operand ℕ) → Bool
 is_due Procedure counts operands = begins_with counts.procedures operands && nat_lt counts.procedures 256
-is_due Declaration counts operands = begins_with counts.locals operands && nat_lt counts.locals 32
-is_due _ counts operands = true
+is_due role counts operands = is_local_due role counts.locals operands
+
+-- a line of a body with so many locals has the operands of its key and keeps the limits
+abbrev pub fits_inside : ℕ → ℕ → Key → List (Operand ℕ) → Bool
+fits_inside literals locals key operands = operands_fit literals locals (letters_of key) operands && is_local_due (role_of key) locals operands
 
 -- a line has the operands of its key and keeps the limits, behind lines with these counts
 abbrev pub fits : ℕ → Counts → Indexed → Bool
@@ -96,6 +107,33 @@ counts_of lines = state_after counts_after nothing_counted lines
 abbrev pub place_in : List Statement → Open
 place_in [] = Declarations
 place_in _ = Statements
+
+-- a body takes one more local: before its first statement, by its index, and below the limit
+pub record TakesLocal (body : Body) (operands : List (Operand ℕ)) : Type 0 where
+  pub first : body.statements ≡ []
+  pub next : operands ≡ Name (length body.locals) ∷ []
+  pub room : length body.locals < 32
+
+-- a script takes one more procedure: by its index, and below the limit
+pub record TakesProcedure (procedures : List model.Procedure) (operands : List (Operand ℕ)) : Type 0 where
+  pub next : operands ≡ Name (length procedures) ∷ []
+  pub room : length procedures < 256
+
+abbrev pub locals_with : Role → ℕ → ℕ
+locals_with Declaration locals = suc locals
+locals_with _ locals = locals
+
+abbrev pub left_body : Left → Body
+left_body (Inside body) = body
+left_body (Done body) = body
+
+abbrev pub left_lines : Left → List Indexed
+left_lines (Inside body) = body_lines body
+left_lines (Done body) = body_lines body ++ Line End [] ∷ []
+
+abbrev pub left_places : Left → List Open
+left_places (Inside body) = place_in body.statements ∷ []
+left_places (Done body) = []
 
 -- the open body's lines without its end, for the procedure with this index
 abbrev pub open_lines : ℕ → Body → List Indexed

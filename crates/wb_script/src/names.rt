@@ -152,9 +152,9 @@ fn any_known(known: &[&[u8]], names: &[&[u8]]) -> bool
 /// The greatest length of a name, in bytes.
 const NAME_LENGTH: usize = 32;
 /// The greatest number of procedures.
-const PROCEDURES: usize = 256;
+pub(crate) const PROCEDURES: usize = 256;
 /// The greatest number of locals of a body.
-const LOCALS: usize = 32;
+pub(crate) const LOCALS: usize = 32;
 
 fn any_long(names: &[&[u8]]) -> bool
     ensures { result ≡ list_any (λ n. nat_lt 32 (length n)) (map (λ n. n.now) names.now) }

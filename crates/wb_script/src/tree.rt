@@ -1,16 +1,21 @@
 //! The tree of a script, from its lines with indexes.
 
-ghost use Rattle.std.specs.Prelude.{◌≡◌, ◌+◌, ◌<◌, ◌≤◌, ◌^◌, [], ◌∷◌, ◌++◌, length, map, is_some, IsTrue, IfOk, IfSome, Some};
+ghost use Rattle.std.specs.Prelude.{◌≡◌, ◌+◌, ◌<◌, ◌≤◌, ◌^◌, [], ◌∷◌, ◌++◌, length, map, is_some, IsTrue, IfOk, IfSome, Some, None, ◌↔◌};
+ghost use Rattle.std.specs.Option.{option_map};
 ghost use Rattle.std.specs.List.{list_all};
 ghost use Rattle.wb_model.specs.declared.lines.Role.TheVariants.{Plain};
 ghost use Rattle.wb_model.specs.declared.lines.Form.TheVariants.{Line};
 ghost use Rattle.wb_model.specs.declared.lines.Key.TheVariants.{Print};
+ghost use Rattle.wb_model.specs.declared.script.Local.TheVariants.{OfPointer};
 ghost use Rattle.wb_model.specs.declared.script.Statement.TheViews.{out-Statement};
 ghost use Rattle.wb_model.specs.Keys.{letters_of, role_of};
-ghost use Rattle.wb_model.specs.Sound.{is_local, is_pointer, is_number, is_statement};
-ghost use Rattle.wb_model.specs.Trees.{pointer_operand, number_operand, statement_line};
-ghost use Rattle.wb_script.specs.Building.{is_held, is_constant, is_printable, operands_fit};
+ghost use Rattle.wb_model.specs.Sound.{is_local, is_pointer, is_number, is_statement, is_body, is_procedure};
+ghost use Rattle.wb_model.specs.Forms.{role_of_form};
+ghost use Rattle.wb_model.specs.Trees.{counted, body_lines, procedures_lines, pointer_operand, number_operand, statement_line};
+ghost use Rattle.wb_script.specs.Building.{is_held, is_constant, is_printable, operands_fit, fits_inside, fits, TakesLocal, TakesProcedure, locals_with, place_in, left_body, left_lines, left_places, building_lines, building_places, building_counts, counts_after, is_sound, AllFit, counts_of};
+ghost use Rattle.wb_script.specs.Machine.{step, after_line};
 
+use crate::names::{LOCALS, PROCEDURES};
 use std::alloc::{AllocError, Global};
 use wb_model::items::Items;
 use wb_model::lines::{Form, Key, Operand};
@@ -113,5 +118,95 @@ fn statement_of(
             _ => None,
         },
         Key::Proc | Key::Ptr | Key::End => None,
+    }
+}
+
+fn takes_local(body: &Body, operands: &[Operand<usize>]) -> bool
+    ensures { IsTrue result ↔ TakesLocal body.now operands.now }
+{
+    match operands {
+        [Operand::Name(index)] => {
+            body.statements.len() == 0
+                && *index == body.locals.len()
+                && body.locals.len() < LOCALS
+        }
+        _ => false,
+    }
+}
+
+fn takes_procedure(procedures: &[Procedure], operands: &[Operand<usize>]) -> bool
+    ensures { IsTrue result ↔ TakesProcedure procedures.now operands.now }
+{
+    match operands {
+        [Operand::Name(index)] => *index == procedures.len() && procedures.len() < PROCEDURES,
+        _ => false,
+    }
+}
+
+fn with_local(body: Body) -> Result<Body, AllocError>
+    ensures { IfOk result (λ b. b ≡ record body { locals = body.locals ++ OfPointer None ∷ [] }) }
+{
+    let mut locals = body.locals;
+    locals.push(Local::OfPointer(None))?;
+    Ok(Body {
+        locals,
+        statements: body.statements,
+    })
+}
+
+fn with_statement(body: Body, statement: Statement) -> Result<Body, AllocError>
+    ensures { IfOk result (λ b. b ≡ record body { statements = body.statements ++ statement ∷ [] }) }
+{
+    let mut statements = body.statements;
+    statements.push(statement)?;
+    Ok(Body {
+        locals: body.locals,
+        statements,
+    })
+}
+
+/// What a line of a body leaves.
+#[derive(Drop)]
+enum Left {
+    Inside(Body),
+    Done(Body),
+}
+
+/// Adds a line to an open body; none where it has no place there.
+fn inside(
+    literals: usize,
+    body: Body,
+    key: Key,
+    operands: &[Operand<usize>],
+) -> Result<Option<Left>, AllocError>
+    requires literals { literals < 2 ^ 32 }
+    requires sound { IsTrue (is_body literals body) }
+    ensures lines { IfOk result (λ next. IfSome next (λ left. left_lines left ≡ body_lines body ++ Line key operands.now ∷ [])) }
+    ensures sound { IfOk result (λ next. IfSome next (λ left. IsTrue (is_body literals (left_body left)))) }
+    ensures locals { IfOk result (λ next. IfSome next (λ left. length (left_body left).locals ≡ locals_with (role_of key) (length body.locals))) }
+    ensures places { IfOk result (λ next. IsTrue (fits_inside literals (length body.locals) key operands.now) → step (place_in body.statements ∷ []) (role_of key) ≡ option_map left_places next) }
+{
+    match key {
+        Key::Proc => Ok(None),
+        Key::Ptr => {
+            if takes_local(&body, operands) {
+                Ok(Some(Left::Inside(with_local(body)?)))
+            } else {
+                Ok(None)
+            }
+        }
+        Key::End => {
+            if operands.is_empty() {
+                Ok(Some(Left::Done(body)))
+            } else {
+                Ok(None)
+            }
+        }
+        Key::Alloc | Key::Free | Key::Print => {
+            match statement_of(literals, body.locals.as_slice(), key, operands) {
+                Some(statement) => Ok(Some(Left::Inside(with_statement(body, statement)?))),
+                None => Ok(None),
+            }
+        }
     }
 }
