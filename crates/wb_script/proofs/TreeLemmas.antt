@@ -1,19 +1,20 @@
 -- Trees that keep what a script has to keep.
-use Rattle.std.proofs.Common.{◌≡◌, refl, sym, ap, subst, ◌∙◌, ℕ, suc, ◌+◌, ◌<◌, List, [], ◌∷◌, ◌++◌, Bool, true, false, length, get_or, Option, Some, None, IsTrue, add-zero, zero-add, append-nil, arith}
+use Rattle.std.proofs.Common.{◌≡◌, refl, sym, ap, subst, ◌∙◌, ℕ, suc, ◌+◌, ◌<◌, List, [], ◌∷◌, ◌++◌, Bool, true, false, length, get_or, Option, Some, None, IsTrue, add-zero, zero-add, append-nil, append_assoc, add-one, length-append, arith}
 use Rattle.std.specs.List.{list_all}
 use Rattle.std.specs.Prelude.{slice_get}
 use Rattle.std.proofs.lemmas.Option.{slice_get-get_or}
 use Rattle.std.proofs.lemmas.List.Folds.{list_all_at}
 use Rattle.wb_model.specs.declared.lines.Form.TheVariants.{Line}
-use Rattle.wb_model.specs.declared.lines.Key.TheVariants.{Ptr}
+use Rattle.wb_model.specs.declared.lines.Key.TheVariants.{Proc, Ptr, End}
 use Rattle.wb_model.specs.declared.lines.Operand.{Operand}
 use Rattle.wb_model.specs.declared.lines.Operand.TheVariants.{Name}
 use Rattle.wb_model.specs.declared.script.Body.{Body}
+use Rattle.wb_model.specs.declared.script.Procedure.{Procedure}
 use Rattle.wb_model.specs.declared.script.Local.{Local}
 use Rattle.wb_model.specs.declared.script.Local.TheVariants.{OfPointer, OfNumber}
 use Rattle.wb_model.specs.Sound.{is_local, is_pointer_local}
-use Rattle.wb_model.specs.Trees.{local_line, local_lines, statement_lines, body_lines}
-use Rattle.wb_script.specs.Building.{TakesLocal}
+use Rattle.wb_model.specs.Trees.{local_line, local_lines, statement_lines, body_lines, Indexed, procedure_lines, procedures_lines}
+use Rattle.wb_script.specs.Building.{TakesLocal, open_lines, locals_of_last, counts_where, counts_in}
 
 -- where all pass, each does
 pub all_at : {X : Type 0} (p : X → Bool) (xs : List X) (i : ℕ) (d : X) → i < length xs → IsTrue (list_all p xs) → IsTrue (p (get_or xs i d))
@@ -47,3 +48,32 @@ local_added body next operands takes is =
     ∙ ap (λ o. local_lines 0 body.locals ++ Line Ptr o ∷ []) (sym takes.next)
     ∙ ap (λ l. l ++ Line Ptr operands ∷ []) (sym (append-nil (local_lines 0 body.locals)))
     ∙ ap (λ s. (local_lines 0 body.locals ++ statement_lines s) ++ Line Ptr operands ∷ []) (sym takes.first)
+
+procedures_lines-last : (index : ℕ) (procedures : List Procedure) (p : Procedure) → procedures_lines index (procedures ++ p ∷ []) ≡ procedures_lines index procedures ++ procedure_lines (index + length procedures) p
+procedures_lines-last index [] p = append-nil (procedure_lines index p) ∙ ap (λ i. procedure_lines i p) (sym (add-zero index))
+procedures_lines-last index (q ∷ qs) p =
+    let same : suc index + length qs ≡ index + suc (length qs) = omega arith in
+    ap (λ lines. procedure_lines index q ++ lines) (procedures_lines-last (suc index) qs p ∙ ap (λ i. procedures_lines (suc index) qs ++ procedure_lines i p) same)
+    ∙ sym (append_assoc (procedure_lines index q) (procedures_lines (suc index) qs) (procedure_lines (index + suc (length qs)) p))
+
+-- a body with its end is a procedure
+pub procedure_added : (procedures : List Procedure) (body done : Body) (p : Procedure) (line : Indexed) → p ≡ record { parameters = []; body = done } → body_lines done ++ Line End [] ∷ [] ≡ body_lines body ++ line ∷ [] →
+    procedures_lines 0 (procedures ++ p ∷ []) ++ [] ≡ (procedures_lines 0 procedures ++ open_lines (length procedures) body) ++ line ∷ []
+procedure_added procedures body done p line is same =
+    append-nil (procedures_lines 0 (procedures ++ p ∷ []))
+    ∙ procedures_lines-last 0 procedures p
+    ∙ ap (λ i. procedures_lines 0 procedures ++ procedure_lines i p) (zero-add (length procedures))
+    ∙ ap (λ q. procedures_lines 0 procedures ++ procedure_lines (length procedures) q) is
+    ∙ ap (λ l. procedures_lines 0 procedures ++ (Line Proc (Name (length procedures) ∷ []) ∷ l)) same
+    ∙ sym (append_assoc (procedures_lines 0 procedures) (open_lines (length procedures) body) (line ∷ []))
+
+locals_of_last-append : (procedures : List Procedure) (p : Procedure) → locals_of_last (procedures ++ p ∷ []) ≡ length p.body.locals
+locals_of_last-append [] p = refl
+locals_of_last-append (q ∷ []) p = refl
+locals_of_last-append (q ∷ r ∷ rs) p = locals_of_last-append (r ∷ rs) p
+
+pub procedure_counted : (procedures : List Procedure) (p : Procedure) → counts_where (procedures ++ p ∷ []) None ≡ counts_in (suc (length procedures)) p.body
+procedure_counted procedures p =
+    let one_more : length (procedures ++ p ∷ []) ≡ suc (length procedures) = simp (length-append, add-one) in
+    let n = length (procedures ++ p ∷ []) in
+    ap (λ m. record { procedures = n; locals = m }) (locals_of_last-append procedures p) ∙ ap (λ m. counts_in m p.body) one_more

@@ -119,9 +119,9 @@ pub record TakesProcedure (procedures : List model.Procedure) (operands : List (
   pub next : operands ≡ Name (length procedures) ∷ []
   pub room : length procedures < 256
 
-abbrev pub locals_with : Role → ℕ → ℕ
-locals_with Declaration locals = suc locals
-locals_with _ locals = locals
+-- the counts in the body of the procedure that is the n-th
+abbrev pub counts_in : ℕ → Body → Counts
+counts_in n body = record { procedures = n; locals = length body.locals }
 
 abbrev pub left_body : Left → Body
 left_body (Inside body) = body
@@ -152,7 +152,7 @@ locals_of_last (p ∷ q ∷ ps) = locals_of_last (q ∷ ps)
 
 abbrev pub counts_where : List model.Procedure → Option Body → Counts
 counts_where procedures None = record { procedures = length procedures; locals = locals_of_last procedures }
-counts_where procedures (Some body) = record { procedures = suc (length procedures); locals = length body.locals }
+counts_where procedures (Some body) = counts_in (suc (length procedures)) body
 
 abbrev pub building_counts : Building → Counts
 building_counts b = counts_where b.procedures.items b.open

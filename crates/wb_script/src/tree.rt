@@ -1,6 +1,6 @@
 //! The tree of a script, from its lines with indexes.
 
-ghost use Rattle.std.specs.Prelude.{◌≡◌, ◌+◌, ◌<◌, ◌≤◌, ◌^◌, [], ◌∷◌, ◌++◌, length, map, is_some, IsTrue, IfOk, IfSome, Some, None, ◌↔◌};
+ghost use Rattle.std.specs.Prelude.{◌≡◌, ℕ, ◌+◌, ◌<◌, ◌≤◌, ◌^◌, [], ◌∷◌, ◌++◌, length, map, is_some, IsTrue, IfOk, IfSome, Some, None, ◌↔◌};
 ghost use Rattle.std.specs.Option.{option_map};
 ghost use Rattle.std.specs.List.{list_all};
 ghost use Rattle.wb_model.specs.declared.lines.Role.TheVariants.{Plain};
@@ -12,7 +12,7 @@ ghost use Rattle.wb_model.specs.Keys.{letters_of, role_of};
 ghost use Rattle.wb_model.specs.Sound.{is_local, is_pointer, is_number, is_statement, is_body, is_procedure};
 ghost use Rattle.wb_model.specs.Forms.{role_of_form};
 ghost use Rattle.wb_model.specs.Trees.{counted, body_lines, procedures_lines, pointer_operand, number_operand, statement_line};
-ghost use Rattle.wb_script.specs.Building.{is_held, is_constant, is_printable, operands_fit, fits_inside, fits, TakesLocal, TakesProcedure, locals_with, place_in, left_body, left_lines, left_places, building_lines, building_places, building_counts, counts_after, is_sound, AllFit, counts_of};
+ghost use Rattle.wb_script.specs.Building.{is_held, is_constant, is_printable, operands_fit, fits_inside, fits, TakesLocal, TakesProcedure, counts_in, counts_with, place_in, left_body, left_lines, left_places, building_lines, building_places, building_counts, counts_after, is_sound, AllFit, counts_of};
 ghost use Rattle.wb_script.specs.Machine.{step, after_line};
 
 use crate::names::{LOCALS, PROCEDURES};
@@ -183,7 +183,7 @@ fn inside(
     requires sound { IsTrue (is_body literals body) }
     ensures lines { IfOk result (λ next. IfSome next (λ left. left_lines left ≡ body_lines body ++ Line key operands.now ∷ [])) }
     ensures sound { IfOk result (λ next. IfSome next (λ left. IsTrue (is_body literals (left_body left)))) }
-    ensures locals { IfOk result (λ next. IfSome next (λ left. length (left_body left).locals ≡ locals_with (role_of key) (length body.locals))) }
+    ensures counts { IfOk result (λ next. IfSome next (λ left. (n : ℕ) → counts_in n (left_body left) ≡ counts_with (role_of key) (counts_in n body))) }
     ensures places { IfOk result (λ next. IsTrue (fits_inside literals (length body.locals) key operands.now) → step (place_in body.statements ∷ []) (role_of key) ≡ option_map left_places next) }
 {
     match key {
@@ -208,5 +208,63 @@ fn inside(
                 None => Ok(None),
             }
         }
+    }
+}
+
+/// Adds a line to the tree; none where it has no place there.
+fn add_line(
+    alloc: Global,
+    literals: usize,
+    building: Building,
+    line: &Form<usize>,
+) -> Result<Option<Building>, AllocError>
+    requires literals { literals < 2 ^ 32 }
+    requires sound { IsTrue (is_sound literals building) }
+    ensures lines { IfOk result (λ next. IfSome next (λ b. building_lines b ≡ building_lines building ++ counted line.now)) }
+    ensures sound { IfOk result (λ next. IfSome next (λ b. IsTrue (is_sound literals b))) }
+    ensures counts { IfOk result (λ next. IfSome next (λ b. building_counts b ≡ counts_after (building_counts building) line.now)) }
+    ensures places { IfOk result (λ next. IsTrue (fits literals (building_counts building) line.now) → after_line (building_places building) (role_of_form line.now) ≡ option_map building_places next) }
+{
+    let Form::Line(key, operands) = line else {
+        return match line {
+            Form::Skip => Ok(Some(building)),
+            _ => Ok(None),
+        };
+    };
+    let mut procedures = building.procedures;
+    match building.open {
+        None => match key {
+            Key::Proc => {
+                if takes_procedure(&procedures, operands.as_slice()) {
+                    Ok(Some(Building {
+                        procedures,
+                        open: Some(Body {
+                            locals: Items::new(alloc),
+                            statements: Items::new(alloc),
+                        }),
+                    }))
+                } else {
+                    Ok(None)
+                }
+            }
+            _ => Ok(None),
+        },
+        Some(body) => match inside(literals, body, *key, operands.as_slice())? {
+            None => Ok(None),
+            Some(Left::Inside(body)) => Ok(Some(Building {
+                procedures,
+                open: Some(body),
+            })),
+            Some(Left::Done(body)) => {
+                procedures.push(Procedure {
+                    parameters: Items::new(alloc),
+                    body,
+                })?;
+                Ok(Some(Building {
+                    procedures,
+                    open: None,
+                }))
+            }
+        },
     }
 }
