@@ -2,7 +2,7 @@
 
 ghost use Rattle.std.specs.Prelude.{◌≡◌, ℕ, ◌+◌, ◌<◌, ◌≤◌, ◌^◌, [], ◌∷◌, ◌++◌, length, map, is_some, IsTrue, IfOk, IfSome, Some, None, ◌↔◌};
 ghost use Rattle.std.specs.Option.{option_map};
-ghost use Rattle.std.specs.List.{list_all};
+ghost use Rattle.std.specs.List.{list_all, flat_map};
 ghost use Rattle.wb_model.specs.declared.lines.Role.TheVariants.{Plain};
 ghost use Rattle.wb_model.specs.declared.lines.Form.TheVariants.{Line};
 ghost use Rattle.wb_model.specs.declared.lines.Key.TheVariants.{Print};
@@ -11,6 +11,7 @@ ghost use Rattle.wb_model.specs.declared.script.Statement.TheViews.{out-Statemen
 ghost use Rattle.wb_model.specs.Keys.{letters_of, role_of};
 ghost use Rattle.wb_model.specs.Sound.{is_local, is_pointer, is_number, is_statement, is_body, is_procedure};
 ghost use Rattle.wb_model.specs.Forms.{role_of_form};
+ghost use Rattle.wb_model.specs.Grammar.{IsGrammatical};
 ghost use Rattle.wb_model.specs.Trees.{counted, body_lines, procedures_lines, pointer_operand, number_operand, statement_line};
 ghost use Rattle.wb_script.specs.Building.{is_held, is_constant, is_printable, operands_fit, fits_inside, fits, TakesLocal, TakesProcedure, counts_in, counts_with, place_in, left_body, left_lines, left_places, building_lines, building_places, building_counts, counts_after, is_sound, AllFit, counts_of};
 ghost use Rattle.wb_script.specs.Machine.{step, after_line};
@@ -266,5 +267,35 @@ fn add_line(
                 }))
             }
         },
+    }
+}
+
+/// The procedures of a script with so many literals, from all its lines.
+pub(crate) fn procedures_of(
+    alloc: Global,
+    literals: usize,
+    lines: &[Form<usize>],
+) -> Result<Vec<Procedure>, AllocError>
+    requires literals { literals < 2 ^ 32 }
+    requires grammar { IsGrammatical (map role_of_form lines.now) }
+    requires fit { AllFit literals lines.now }
+    ensures lines { IfOk result (λ ps. procedures_lines 0 ps.items ≡ flat_map counted lines.now) }
+    ensures sound { IfOk result (λ ps. IsTrue (list_all (is_procedure literals) ps.items)) }
+    ensures count { IfOk result (λ ps. length ps.items ≡ (counts_of lines.now).procedures) }
+    ensures few { IfOk result (λ ps. length ps.items ≤ 256) }
+{
+    let mut building = Building {
+        procedures: Vec::new(alloc),
+        open: None,
+    };
+    for line in lines {
+        building = match add_line(alloc, literals, building, line)? {
+            Some(next) => next,
+            None => unreachable!(),
+        };
+    }
+    match building.open {
+        None => Ok(building.procedures),
+        Some(_) => unreachable!(),
     }
 }
