@@ -5,7 +5,8 @@ use Rattle.wb_model.specs.declared.lines.Key.TheVariants.{Proc, Ptr, Alloc, Free
 use Rattle.wb_model.specs.declared.lines.Operand.TheVariants.{Name, Number, Literal}
 use Rattle.wb_model.specs.declared.lines.Form.TheVariants.{Skip, Unknown, Line}
 use Rattle.wb_model.specs.Lines.{lines_of, words_of, first_foreign_line}
-use Rattle.wb_model.specs.Words.{declared_name, number_of, literal_of}
+use Rattle.wb_model.specs.Words.{declared_name, number_of}
+use Rattle.wb_model.specs.Keys.{keys}
 use Rattle.wb_model.specs.Forms.{line_form}
 
 -- Lines.
@@ -28,7 +29,7 @@ open_quote_ends_with_line = refl
 
 -- Foreign bytes.
 
-foreign_in_comment : first_foreign_line (codes "proc main\n# \x7f\nend\0") ≡ Some 2
+foreign_in_comment : first_foreign_line (codes "proc main\n# \u{7f}\nend\0") ≡ Some 2
 foreign_in_comment = refl
 
 foreign_form_feed : first_foreign_line (12 ∷ []) ≡ Some 1
@@ -48,84 +49,71 @@ blanks_of_three_kinds = refl
 blank_between_quotes : words_of (codes "print \"a  b\" c") ≡ codes "print" ∷ codes "\"a  b\"" ∷ codes "c" ∷ []
 blank_between_quotes = refl
 
--- Skipped lines.
+-- Lines that say nothing, and lines that no script has.
 
-empty_is_skipped : line_form [] ≡ Skip
-empty_is_skipped = refl
-
-blanks_are_skipped : line_form (codes " \t\r") ≡ Skip
-blanks_are_skipped = refl
-
-comment_behind_blanks : line_form (codes "\t #\"proc") ≡ Skip
-comment_behind_blanks = refl
+skipped : map line_form ([] ∷ codes " \t\r" ∷ codes "#" ∷ codes "\t # \"proc" ∷ []) ≡ replicate 4 Skip
+unfolding keys
+skipped = refl
 
 no_comment_behind_a_word : line_form (codes "end # done") ≡ Unknown
+unfolding keys
 no_comment_behind_a_word = refl
+
+words_that_are_no_key : map line_form (codes "End" ∷ codes "ends" ∷ codes "en" ∷ codes "\"end\"" ∷ codes "end\" \"" ∷ []) ≡ replicate 5 Unknown
+unfolding keys
+words_that_are_no_key = refl
+
+too_many_words_or_too_few : map line_form (codes "end end" ∷ codes "free p q" ∷ codes "alloc p" ∷ codes "free" ∷ []) ≡ replicate 4 Unknown
+unfolding keys
+too_many_words_or_too_few = refl
 
 -- Keys.
 
 procedure : line_form (codes "proc main") ≡ Line Proc (Name (codes "main") ∷ [])
+unfolding keys
 procedure = refl
 
-end_with_return : line_form (codes "end\r") ≡ Line End []
-end_with_return = refl
-
-key_of_capitals : line_form (codes "End") ≡ Unknown
-key_of_capitals = refl
-
-key_with_more : line_form (codes "ends") ≡ Unknown
-key_with_more = refl
-
-key_with_less : line_form (codes "en") ≡ Unknown
-key_with_less = refl
-
-word_too_many : line_form (codes "end end") ≡ Unknown
-word_too_many = refl
-
-word_too_few : line_form (codes "alloc p") ≡ Unknown
-word_too_few = refl
-
-key_alone : line_form (codes "free") ≡ Unknown
-key_alone = refl
+end_before_carriage_return : line_form (codes "end\r") ≡ Line End []
+unfolding keys
+end_before_carriage_return = refl
 
 -- Names.
 
-longest_kind_of_name : line_form (codes "ptr zA_9_") ≡ Line Ptr (Name (codes "zA_9_") ∷ [])
-longest_kind_of_name = refl
+name_of_every_kind_of_byte : line_form (codes "ptr zA_9_") ≡ Line Ptr (Name (codes "zA_9_") ∷ [])
+unfolding keys
+name_of_every_kind_of_byte = refl
 
 name_like_a_key : line_form (codes "ptr end") ≡ Line Ptr (Name (codes "end") ∷ [])
+unfolding keys
 name_like_a_key = refl
 
-digit_begins_no_name : line_form (codes "ptr 1a") ≡ Unknown
-digit_begins_no_name = refl
-
-underscore_begins_no_name : line_form (codes "ptr _a") ≡ Unknown
-underscore_begins_no_name = refl
-
-stop_in_no_name : line_form (codes "free a.b") ≡ Unknown
-stop_in_no_name = refl
-
-null_is_not_declared : line_form (codes "ptr null") ≡ Unknown
-null_is_not_declared = refl
-
-less_is_no_procedure : line_form (codes "proc less") ≡ Unknown
-less_is_no_procedure = refl
+no_names : map line_form (codes "ptr 1a" ∷ codes "ptr _a" ∷ codes "ptr a.b" ∷ codes "ptr a-b" ∷ codes "ptr 4" ∷ []) ≡ replicate 5 Unknown
+unfolding keys
+no_names = refl
 
 the_reserved : map declared_name (codes "self" ∷ codes "ptr" ∷ codes "int" ∷ codes "null" ∷ codes "some" ∷ codes "eq" ∷ codes "less" ∷ []) ≡ replicate 7 None
 the_reserved = refl
 
+null_is_not_declared : map line_form (codes "ptr null" ∷ codes "proc less" ∷ []) ≡ replicate 2 Unknown
+unfolding keys
+null_is_not_declared = refl
+
 null_is_used : line_form (codes "free null") ≡ Line Free (Name (codes "null") ∷ [])
+unfolding keys
 null_is_used = refl
 
 self_is_not_used : line_form (codes "free self") ≡ Unknown
+unfolding keys
 self_is_not_used = refl
 
 name_that_begins_with_self : line_form (codes "free selfish") ≡ Line Free (Name (codes "selfish") ∷ [])
+unfolding keys
 name_that_begins_with_self = refl
 
 -- Numbers.
 
 negative : line_form (codes "alloc p -007") ≡ Line Alloc (Name (codes "p") ∷ Number (negsuc 6) ∷ [])
+unfolding keys
 negative = refl
 
 no_negative_zero : number_of (codes "-0") ≡ Some (pos 0)
@@ -137,68 +125,41 @@ nine_digits = refl
 nine_digits_below_zero : number_of (codes "-999999999") ≡ Some (negsuc 999999998)
 nine_digits_below_zero = refl
 
-ten_digits : number_of (codes "0000000001") ≡ None
-ten_digits = refl
+no_numbers : map number_of (codes "0000000001" ∷ codes "+5" ∷ codes "-" ∷ codes "--5" ∷ codes "5-" ∷ codes "1a" ∷ []) ≡ replicate 6 None
+no_numbers = refl
 
-plus : number_of (codes "+5") ≡ None
-plus = refl
-
-minus_alone : number_of (codes "-") ≡ None
-minus_alone = refl
-
-two_minuses : number_of (codes "--5") ≡ None
-two_minuses = refl
-
-name_for_a_number : line_form (codes "alloc p n") ≡ Unknown
-name_for_a_number = refl
+no_numbers_of_bytes : map line_form (codes "alloc p n" ∷ codes "alloc p \"4\"" ∷ []) ≡ replicate 2 Unknown
+unfolding keys
+no_numbers_of_bytes = refl
 
 -- Literals.
 
 literal : line_form (codes "print \"# a\"") ≡ Line Print (Literal (codes "# a") ∷ [])
+unfolding keys
 literal = refl
 
 empty_literal : line_form (codes "print \"\"") ≡ Line Print (Literal [] ∷ [])
+unfolding keys
 empty_literal = refl
 
-literal_before_return : line_form (codes "print \" \"\r") ≡ Line Print (Literal (codes " ") ∷ [])
-literal_before_return = refl
-
-one_quote : literal_of (codes "\"") ≡ None
-one_quote = refl
-
-open_quote : line_form (codes "print \"a b") ≡ Unknown
-open_quote = refl
-
-tab_between_quotes : line_form (codes "print \"a\tb\"") ≡ Unknown
-tab_between_quotes = refl
-
-return_between_quotes : line_form (codes "print \"\r\"") ≡ Unknown
-return_between_quotes = refl
-
-no_blank_behind_literal : line_form (codes "print \"a\"b") ≡ Unknown
-no_blank_behind_literal = refl
-
-two_literals_at_once : line_form (codes "print \"a\"\"b\"") ≡ Unknown
-two_literals_at_once = refl
-
-quote_in_a_word : line_form (codes "print a\"b\"") ≡ Unknown
-quote_in_a_word = refl
-
--- the quote within `a"` opens none, and the word has no form, whatever stands behind it
-quote_at_the_end_of_a_word : line_form (codes "alloc a\" 4") ≡ Unknown
-quote_at_the_end_of_a_word = refl
-
-quote_in_the_key : line_form (codes "end\" \"") ≡ Unknown
-quote_in_the_key = refl
-
-quoted_key : line_form (codes "\"end\"") ≡ Unknown
-quoted_key = refl
-
-literal_for_a_number : line_form (codes "alloc p \"4\"") ≡ Unknown
-literal_for_a_number = refl
+literal_before_carriage_return : line_form (codes "print \" \"\r") ≡ Line Print (Literal (codes " ") ∷ [])
+unfolding keys
+literal_before_carriage_return = refl
 
 number_is_printed : line_form (codes "print 12") ≡ Line Print (Number (pos 12) ∷ [])
+unfolding keys
 number_is_printed = refl
 
+-- open; with a tab or a carriage return; with something right behind; two at once; behind another byte
+no_literals : map line_form (codes "print \"a b" ∷ codes "print \"" ∷ codes "print \"a\tb\"" ∷ codes "print \"\r\"" ∷ codes "print \"a\"b" ∷ codes "print \"a\"\"b\"" ∷ codes "print a\"b\"" ∷ []) ≡ replicate 7 Unknown
+unfolding keys
+no_literals = refl
+
+-- a quote within a word opens none that makes a line of what stands behind it
+quotes_within_words : map line_form (codes "alloc a\" 4" ∷ codes "print \"a\" \"b" ∷ codes "free p\" #\"" ∷ []) ≡ replicate 3 Unknown
+unfolding keys
+quotes_within_words = refl
+
 name_is_not_printed : line_form (codes "print p") ≡ Unknown
+unfolding keys
 name_is_not_printed = refl

@@ -8,7 +8,8 @@ use Rattle.wb_model.specs.declared.lines.Letter.TheVariants.{Declared, Pointer, 
 use Rattle.wb_model.specs.declared.lines.Role.{Role}
 use Rattle.wb_model.specs.declared.lines.Role.TheVariants as role
 
-abbrev pub keys : List Key
+-- Opened only where a line is read, so that no other goal grows with the number of keys.
+unfoldable pub keys : List Key
 keys = Proc ∷ Ptr ∷ Alloc ∷ Free ∷ Print ∷ End ∷ []
 
 abbrev pub text_of : Key → List ℕ

@@ -1,3 +1,4 @@
 pub mod Building
 pub mod Checks
 pub mod Machine
+pub mod Pieces

@@ -7,7 +7,8 @@ ghost use Rattle.wb_model.specs.Forms.{renamed, renamed_operand};
 ghost use Rattle.wb_model.specs.Names.{picked_of, picked, known_after, place_of, space_of, is_one_more, first_refused, nothing_known, known_of};
 ghost use Rattle.wb_script.specs.Checks.{pick_of, known_in, test_of};
 
-use crate::stub::{letters_of, role};
+use crate::forms::role;
+use crate::keys::letters_of;
 use std::alloc::{AllocError, Global};
 use wb_model::lines::{Form, Letter, Operand, Role};
 

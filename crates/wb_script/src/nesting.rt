@@ -4,8 +4,8 @@ ghost use Rattle.std.specs.Prelude.{◌≡◌, IfOk, MatchOption, MatchBool, rev
 ghost use Rattle.wb_model.specs.Grammar.{IsGrammatical, IsFirstMisfit};
 ghost use Rattle.wb_script.specs.Machine.{move_of, step, after_line};
 
-use wb_model::lines::Role;
 use std::alloc::{AllocError, Global};
+use wb_model::lines::Role;
 
 /// A place in an open block: what may stand next in it.
 #[derive(Clone, Copy)]

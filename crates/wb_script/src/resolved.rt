@@ -6,7 +6,7 @@ ghost use Rattle.wb_model.specs.Resolved.{name_index, resolved_operand, resolved
 ghost use Rattle.wb_script.specs.Checks.{known_in};
 
 use crate::names::{Known, add_line, place_of};
-use crate::stub::{letters_of, role};
+use crate::keys::{letters_of, role_of};
 use std::alloc::{AllocError, Global};
 use wb_model::items::Items;
 use wb_model::lines::{Form, Letter, Operand, Role};
@@ -71,7 +71,7 @@ fn resolved_line(
             let found = resolved_operands(
                 alloc,
                 known,
-                role(form),
+                role_of(*key),
                 letters_of(*key),
                 operands.as_slice(),
             )?;

@@ -1,7 +1,7 @@
 use Rattle.std.proofs.Common.{sym, ◌∙◌, map}
 use Rattle.wb_model.specs.Forms.{renamed_operand}
 use Rattle.wb_script.specs.Checks.{pick_of}
-use Rattle.wb_script.proofs.Operands.{picked_short}
+use Rattle.wb_script.proofs.Short.{picked_short}
 use Rattle.wb_script.proofs.names.picked_of.Goals as goal
 
 pub returns-then-index-operands : goal.returns-then-index-operands

@@ -1,7 +1,7 @@
 use Rattle.std.proofs.Common.{sym, ◌∙◌}
 use Rattle.wb_model.specs.Forms.{renamed_operand}
 use Rattle.wb_script.specs.Checks.{known_in}
-use Rattle.wb_script.proofs.Operands.{resolved_short}
+use Rattle.wb_script.proofs.Short.{resolved_short}
 use Rattle.wb_script.proofs.resolved.resolved_operands.Goals as goal
 
 pub returns-then-index-operands : goal.returns-then-index-operands
