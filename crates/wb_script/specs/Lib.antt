@@ -2,3 +2,4 @@ pub mod Building
 pub mod Checks
 pub mod Machine
 pub mod Pieces
+pub mod Typed
