@@ -9,6 +9,7 @@ mod line_tests;
 mod lines;
 mod names;
 pub mod nesting;
+mod read;
 mod resolved;
 mod tree;
 mod words;
