@@ -1,17 +1,18 @@
 //! A script from its bytes.
 
 ghost use Rattle.std.specs.Prelude.{◌≡◌, ◌≢◌, ◌≤◌, ◌+◌, false, length, map, IsTrue, IfOk, IfErr, MatchOption, None, Some};
-ghost use Rattle.wb_model.specs.declared.fault.ScriptFault as fault;
 ghost use Rattle.wb_model.specs.Forms.{renamed, role_of_form};
 ghost use Rattle.wb_model.specs.Grammar.{IsGrammatical, IsFirstMisfit};
 ghost use Rattle.wb_model.specs.Names.{first_refused, known_of};
-ghost use Rattle.wb_model.specs.Scripts.{IsScriptOf, IsFaultOf, IsTreeOf, IsLinesFault, line_of};
+ghost use Rattle.wb_model.specs.Scripts.{IsText, IsScriptOf, IsFaultOf, IsTreeOf, IsLinesFault, line_of};
 ghost use Rattle.wb_model.specs.Sound.{is_script};
 ghost use Rattle.wb_script.specs.Checks.{known_in, test_of};
 ghost use Rattle.wb_script.specs.Reads.{roles_of, IsFaultless, IsFormsFault};
 ghost use Rattle.wb_script.specs.Typed.{AreTyped};
 
-use crate::forms::role;
+use crate::bytes::{first_foreign_line, is_too_long};
+use crate::forms::{forms, role};
+use crate::lines::lines;
 use crate::names::{Check, Known, first_refused, known_of, place_of};
 use crate::nesting::first_misfit;
 use crate::resolved::resolved;
@@ -149,5 +150,36 @@ fn read_forms(
             line: index as u32 + 1,
         })),
         None => checked(alloc, forms),
+    }
+}
+
+/// The script that a text spells, or the first fault of its lines.
+fn read_text(alloc: Global, bytes: &[u8]) -> Result<Result<Script, ScriptFault>, AllocError>
+    requires { IsText bytes.now }
+    ensures script { IfOk result (λ answer. IfOk answer (IsScriptOf bytes.now)) }
+    ensures sound { IfOk result (λ answer. IfOk answer (λ s. IsTrue (is_script s))) }
+    ensures fault { IfOk result (λ answer. IfErr answer (IsFaultOf bytes.now)) }
+{
+    let lines = lines(alloc, bytes)?;
+    let forms = forms(alloc, &lines)?;
+    read_forms(alloc, &forms)
+}
+
+/// The script that bytes spell, or their first fault in the order of `ScriptFault`. `NoMemory` is
+/// answered only where a growth was refused, and says nothing of the bytes.
+pub fn read(alloc: Global, bytes: &[u8]) -> Result<Script, ScriptFault>
+    ensures script { IfOk result (IsScriptOf bytes.now) }
+    ensures sound { IfOk result (λ s. IsTrue (is_script s)) }
+    ensures fault { IfErr result (λ fault. fault ≢ ScriptFault.NoMemory → IsFaultOf bytes.now fault) }
+{
+    if is_too_long(bytes) {
+        return Err(ScriptFault::TooLong);
+    }
+    match first_foreign_line(bytes) {
+        Some(line) => Err(ScriptFault::NotAscii { line }),
+        None => match read_text(alloc, bytes) {
+            Ok(answer) => answer,
+            Err(AllocError) => Err(ScriptFault::NoMemory),
+        },
     }
 }
