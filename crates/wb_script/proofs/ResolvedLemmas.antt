@@ -1,11 +1,10 @@
 -- Lines with indexes for names: they are of the same roles, and fit where the checks found nothing.
-use Rattle.std.proofs.Common.{◌≡◌, refl, sym, ap, subst, ◌∙◌, ℕ, suc, ◌+◌, ◌*◌, ◌<◌, ◌≤◌, List, [], ◌∷◌, ◌++◌, Bool, true, false, not, ◌&&◌, ◌||◌, nat_eq, nat_lt, nat_le, length, map, Option, Some, None, IsTrue, add-one, length-append, append-nil, arith}
-use Rattle.std.specs.Prelude.{if◌then◌else◌, is_none, is_some, unwrap_or}
+use Rattle.std.proofs.Common.{◌≡◌, refl, sym, ap, ◌∙◌, ℕ, suc, ◌+◌, ◌*◌, ◌<◌, ◌≤◌, List, [], ◌∷◌, ◌++◌, Bool, true, false, ◌||◌, nat_eq, nat_lt, nat_le, length, map, Option, Some, None, IsTrue, add-one, length-append, arith}
+use Rattle.std.specs.Prelude.{if◌then◌else◌, is_none, unwrap_or}
 use Rattle.std.specs.Option.{option_map}
 use Rattle.std.specs.List.{list_all, list_any}
 use Rattle.std.specs.Str.{bytes_eq}
 use Rattle.std.proofs.lemmas.Bool.Decides.{nat_tests}
-use Rattle.std.proofs.lemmas.Grind.{common_steps}
 use Rattle.std.proofs.lemmas.List.Folds.{list_all-append}
 use Rattle.wb_model.specs.declared.lines.Key.{Key}
 use Rattle.wb_model.specs.declared.lines.Key.TheVariants as key
@@ -21,10 +20,10 @@ use Rattle.wb_model.specs.declared.script.Number.TheVariants.{Constant}
 use Rattle.wb_model.specs.Forms.{role_of_form}
 use Rattle.wb_model.specs.Keys.{letters_of, role_of}
 use Rattle.wb_model.specs.Passes.{first_bad, first_where, state_after, each_with}
-use Rattle.wb_model.specs.Names.{Text, Pick, Known, known_with, nothing_known, name_used, name_declared, literal_in, picked_of, picked, with_picked, known_after, known_of, place_of, uses_unknown, passes_limit, index_in, first_refused}
+use Rattle.wb_model.specs.Names.{Text, Known, known_with, nothing_known, name_used, name_declared, literal_in, picked_of, picked, known_after, known_of, place_of, uses_unknown, passes_limit, index_in, first_refused}
 use Rattle.wb_model.specs.Resolved.{resolved_operands, resolved_line, resolved}
 use Rattle.wb_model.specs.Sound.{is_number, is_quotable}
-use Rattle.wb_script.specs.Building.{Counts, counts_after, counts_of, nothing_counted, operands_fit, is_held, is_due, fits, unfit, AllFit}
+use Rattle.wb_script.specs.Building.{Counts, counts_after, counts_of, operands_fit, is_due, fits, unfit, AllFit}
 use Rattle.wb_script.specs.Typed.{is_operand, are_operands, is_typed, AreTyped}
 use Rattle.wb_script.proofs.Steps.{good_first}
 use Rattle.wb_script.proofs.TypedLemmas.{both}

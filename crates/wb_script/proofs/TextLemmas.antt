@@ -1,5 +1,5 @@
 -- From the forms of lines to the lines: the line of a grammar fault, and how many lines there are.
-use Rattle.std.proofs.Common.{◌≡◌, ℕ, zero, suc, ◌+◌, ◌-◌, ◌≤◌, List, [], ◌∷◌, ◌++◌, Bool, true, false, length, map, take, replicate, refl, sym, ap, subst, ◌∙◌, arith, nat_eq, Result, Ok, Err}
+use Rattle.std.proofs.Common.{◌≡◌, ℕ, zero, suc, ◌+◌, ◌-◌, ◌≤◌, List, [], ◌∷◌, ◌++◌, Bool, true, false, length, take, replicate, refl, sym, ap, subst, ◌∙◌, arith, nat_eq, Result, Ok, Err}
 use Rattle.std.specs.Prelude.{codes, IfOk, IfErr}
 use Rattle.std.proofs.lemmas.List.{map-append, take-map, length-map}
 use Rattle.wb_model.specs.declared.fault.ScriptFault.{ScriptFault}
@@ -12,7 +12,7 @@ use Rattle.wb_model.specs.Grammar.{IsGrammatical, IsFirstMisfit}
 use Rattle.wb_model.specs.Keys.{keys}
 use Rattle.wb_model.specs.Lines.{lines_of, is_too_long, ends_line, pieces_from, onto_first, quoted_after}
 use Rattle.wb_model.specs.Names.{Text}
-use Rattle.wb_model.specs.Scripts.{IsGrammarLine, IsText, IsWellFormed, IsFaultOf}
+use Rattle.wb_model.specs.Scripts.{IsGrammarLine, IsText, IsFaultOf}
 use Rattle.wb_script.specs.Reads.{roles_of, IsFormsFault}
 use Rattle.wb_script.proofs.Foreign.{at_most}
 

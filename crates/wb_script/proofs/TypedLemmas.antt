@@ -1,20 +1,18 @@
 -- The form of a line has operands of the letters of its key.
-use Rattle.std.proofs.Common.{◌≡◌, refl, sym, ap, subst, ◌∙◌, ℕ, ℤ, zero, suc, pos, negsuc, neg_ℤ, ◌+◌, ◌-◌, ◌*◌, ◌^◌, ◌<◌, ◌≤◌, List, [], ◌∷◌, Bool, true, false, not, ◌&&◌, nat_eq, nat_lt, nat_le, length, map, Option, Some, None, IsTrue, fold, arith}
+use Rattle.std.proofs.Common.{◌≡◌, refl, subst, ℕ, ℤ, zero, suc, pos, neg_ℤ, ◌+◌, ◌-◌, ◌^◌, ◌<◌, ◌≤◌, List, [], ◌∷◌, Bool, true, false, ◌&&◌, nat_eq, nat_lt, nat_le, length, Option, Some, None, fold, arith}
 use Rattle.std.specs.Prelude.{if◌then◌else◌}
 use Rattle.std.specs.Option.{option_map}
 use Rattle.std.specs.List.{list_all}
 use Rattle.std.specs.Str.{bytes_eq}
 use Rattle.std.proofs.lemmas.Bool.Decides.{nat_tests}
-use Rattle.std.proofs.lemmas.Grind.{common_steps}
 use Rattle.wb_model.specs.declared.lines.Key.{Key}
 use Rattle.wb_model.specs.declared.lines.Letter.{Letter}
 use Rattle.wb_model.specs.declared.lines.Letter.TheVariants as letter
 use Rattle.wb_model.specs.declared.lines.Operand.{Operand}
 use Rattle.wb_model.specs.declared.lines.Operand.TheVariants.{Name, Number, Literal}
 use Rattle.wb_model.specs.declared.lines.Form.{Form}
-use Rattle.wb_model.specs.declared.lines.Form.TheVariants.{Skip, Unknown, Line}
 use Rattle.wb_model.specs.declared.script.Number.TheVariants.{Constant}
-use Rattle.wb_model.specs.Forms.{operand_of, operands_of, onto, operands_if, line_or, form_in, form_of, skipped_or, begins_comment, line_form, forms_of, number_or_literal}
+use Rattle.wb_model.specs.Forms.{operand_of, operands_of, onto, operands_if, line_or, form_in, form_of, skipped_or, begins_comment, forms_of, number_or_literal}
 use Rattle.wb_model.specs.Keys.{keys, letters_of, text_of}
 use Rattle.wb_model.specs.Lines.{words_of}
 use Rattle.wb_model.specs.Names.{Text}

@@ -1,4 +1,7 @@
 //! Reads a script: from its bytes to its tree, or to its first fault.
+//!
+//! Lines stay a flat list up to the last step. Each line has one form, and each check is one pass over
+//! the forms; the tree is made of lines that no check refuses.
 #![tactic(auto)]
 
 mod bytes;
@@ -8,8 +11,12 @@ mod keys;
 mod line_tests;
 mod lines;
 mod names;
-pub mod nesting;
-mod read;
+mod nesting;
+mod reading;
 mod resolved;
 mod tree;
 mod words;
+
+pub use reading::read;
+pub use wb_model::fault::ScriptFault;
+pub use wb_model::script::Script;

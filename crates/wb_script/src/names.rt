@@ -24,11 +24,7 @@ pub(crate) enum Wanted {
     Literals,
 }
 
-fn picked_text<'a>(
-    wanted: Wanted,
-    letter: Letter,
-    operand: &Operand<&'a [u8]>,
-) -> Option<&'a [u8]>
+fn picked_text<'a>(wanted: Wanted, letter: Letter, operand: &Operand<&'a [u8]>) -> Option<&'a [u8]>
     ensures { option_map (λ n. n.now) result ≡ pick_of wanted letter (renamed_operand (λ n. n.now) operand.now) }
 {
     match operand {
@@ -99,7 +95,11 @@ pub(crate) struct Known<'a> {
 }
 
 /// Takes in one more line.
-pub(crate) fn add_line<'a>(alloc: Global, known: &mut Known<'a>, form: &Form<&'a [u8]>) -> Result<(), AllocError>
+pub(crate) fn add_line<'a>(
+    alloc: Global,
+    known: &mut Known<'a>,
+    form: &Form<&'a [u8]>,
+) -> Result<(), AllocError>
     ensures { OnOk result (known_in known.new ≡ known_after (known_in known.old) (renamed (λ n. n.now) form.now)) }
 {
     let names = picked(alloc, Wanted::Declared, form)?;
@@ -245,10 +245,7 @@ pub(crate) fn first_refused(
 }
 
 /// What all lines declare.
-pub(crate) fn known_of<'a>(
-    alloc: Global,
-    forms: &[Form<&'a [u8]>],
-) -> Result<Known<'a>, AllocError>
+pub(crate) fn known_of<'a>(alloc: Global, forms: &[Form<&'a [u8]>]) -> Result<Known<'a>, AllocError>
     ensures { IfOk result (λ known. known_in known ≡ known_of (map (renamed (λ n. n.now)) forms.now)) }
 {
     let mut known = Known::nothing(alloc);

@@ -5,8 +5,8 @@ ghost use Rattle.wb_model.specs.Forms.{renamed, renamed_operand};
 ghost use Rattle.wb_model.specs.Resolved.{name_index, resolved_operand, resolved_operands, resolved_line, resolved};
 ghost use Rattle.wb_script.specs.Checks.{known_in};
 
-use crate::names::{Known, add_line, place_of};
 use crate::keys::{letters_of, role_of};
+use crate::names::{Known, add_line, place_of};
 use std::alloc::{AllocError, Global};
 use wb_model::items::Items;
 use wb_model::lines::{Form, Letter, Operand, Role};
@@ -81,10 +81,7 @@ fn resolved_line(
 }
 
 /// The lines with indexes for names and literals.
-pub(crate) fn resolved(
-    alloc: Global,
-    forms: &[Form<&[u8]>],
-) -> Result<Vec<Form<usize>>, AllocError>
+pub(crate) fn resolved(alloc: Global, forms: &[Form<&[u8]>]) -> Result<Vec<Form<usize>>, AllocError>
     ensures { IfOk result (λ found. found.items ≡ resolved (map (renamed (λ n. n.now)) forms.now)) }
 {
     let mut known = Known::nothing(alloc);

@@ -20,7 +20,9 @@ use crate::names::{LOCALS, PROCEDURES};
 use std::alloc::{AllocError, Global};
 use wb_model::items::Items;
 use wb_model::lines::{Form, Key, Operand};
-use wb_model::script::{Body, Holder, Local, Number, Pointer, Procedure, Readable, Refusal, Statement};
+use wb_model::script::{
+    Body, Holder, Local, Number, Pointer, Procedure, Readable, Refusal, Statement,
+};
 
 /// The procedures that are done, and the body of the one that is open.
 #[derive(Drop)]
@@ -127,9 +129,7 @@ fn takes_local(body: &Body, operands: &[Operand<usize>]) -> bool
 {
     match operands {
         [Operand::Name(index)] => {
-            body.statements.len() == 0
-                && *index == body.locals.len()
-                && body.locals.len() < LOCALS
+            body.statements.len() == 0 && *index == body.locals.len() && body.locals.len() < LOCALS
         }
         _ => false,
     }

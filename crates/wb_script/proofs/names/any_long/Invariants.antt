@@ -1,6 +1,5 @@
 use Rattle.std.proofs.Common.{◌≡◌, nat_lt, length, map, drop}
 use Rattle.std.specs.List.{list_any}
-use Rattle.wb_model.specs.Names.{place_of}
 use Rattle.wb_script.proofs.names.any_long.Given as goal
 
 abbrev pub invariant-loop-name : goal.invariant-loop-name

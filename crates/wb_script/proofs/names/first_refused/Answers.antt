@@ -1,9 +1,8 @@
 use Rattle.std.proofs.Common.{sym, ◌∙◌}
-use Rattle.wb_model.specs.declared.lines.Form.TheVariants.{Skip}
 use Rattle.wb_model.specs.Forms.{renamed}
 use Rattle.wb_model.specs.Names.{known_after}
 use Rattle.wb_script.specs.Checks.{test_of, known_in}
-use Rattle.wb_script.proofs.Passes.{found_here, found_later, found_none}
+use Rattle.wb_script.proofs.Passes.{found_none}
 use Rattle.wb_script.proofs.names.first_refused.Goals as goal
 
 pub returns-clause-found : goal.returns-clause-found

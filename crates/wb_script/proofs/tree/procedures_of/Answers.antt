@@ -1,9 +1,9 @@
-use Rattle.std.proofs.Common.{◌≡◌, ◌∙◌, sym, ap, subst, map, take, ◌++◌, Some, None, IsTrue}
+use Rattle.std.proofs.Common.{◌∙◌, sym, ap, subst, map, ◌++◌, IsTrue}
 use Rattle.std.specs.Option.{option_map}
 use Rattle.std.proofs.lemmas.List.{take_all}
 use Rattle.wb_model.specs.Forms.{role_of_form}
 use Rattle.wb_model.specs.Trees.{counted}
-use Rattle.wb_script.specs.Building.{building_places, building_counts, counts_of, counts_after, fits}
+use Rattle.wb_script.specs.Building.{building_places, building_counts, counts_after, fits}
 use Rattle.wb_script.proofs.Misfits.{blocks_after, none_open}
 use Rattle.wb_script.proofs.Steps.{counted_more, line_step, never_none, line_fits, counts_more}
 use Rattle.wb_script.proofs.tree.procedures_of.Goals as goal

@@ -5,7 +5,7 @@ use Rattle.wb_model.specs.Lines.{lines_of}
 use Rattle.wb_script.specs.Typed.{AreTyped}
 use Rattle.wb_script.proofs.TextLemmas.{few_lines, faults_of_lines}
 use Rattle.wb_script.proofs.TypedLemmas.{lines_typed}
-use Rattle.wb_script.proofs.read.read_text.Goals as goal
+use Rattle.wb_script.proofs.reading.read_text.Goals as goal
 
 pub read_forms-requires-clause-few : goal.read_forms-requires-clause-few
 read_forms-requires-clause-few c =

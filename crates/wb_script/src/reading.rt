@@ -104,10 +104,7 @@ fn script_of(
 }
 
 /// The script of lines that are grammatical, or the first fault of their names and limits.
-fn checked(
-    alloc: Global,
-    forms: &[Form<&[u8]>],
-) -> Result<Result<Script, ScriptFault>, AllocError>
+fn checked(alloc: Global, forms: &[Form<&[u8]>]) -> Result<Result<Script, ScriptFault>, AllocError>
     requires few { length forms.now ≤ 65536 }
     requires typed { AreTyped (map (renamed (λ n. n.now)) forms.now) }
     requires grammar { IsGrammatical (roles_of (map (renamed (λ n. n.now)) forms.now)) }

@@ -1,13 +1,12 @@
-use Rattle.std.proofs.Common.{◌≡◌, ◌∙◌, sym, ap, subst, map, length, rules, arith, ◌<◌}
+use Rattle.std.proofs.Common.{◌∙◌, sym, ap, subst, map, arith}
 use Rattle.wb_model.specs.declared.script.Script.{Script}
 use Rattle.wb_model.specs.Forms.{renamed, role_of_form}
 use Rattle.wb_model.specs.Grammar.{IsGrammatical}
-use Rattle.wb_model.specs.Names.{known_of}
-use Rattle.wb_script.specs.Building.{AllFit, counts_of}
+use Rattle.wb_script.specs.Building.{counts_of}
 use Rattle.wb_script.proofs.ReadLemmas.{few_enough, fit_tree, main_within, sound_tree}
 use Rattle.wb_script.proofs.ResolvedLemmas.{roles-resolved}
 use Rattle.std.proofs.lemmas.List.{length-map}
-use Rattle.wb_script.proofs.read.script_of.Goals as goal
+use Rattle.wb_script.proofs.reading.script_of.Goals as goal
 
 pub procedures_of-requires-clause-literals : goal.procedures_of-requires-clause-literals
 procedures_of-requires-clause-literals c =

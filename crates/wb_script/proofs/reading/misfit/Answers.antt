@@ -3,7 +3,7 @@ use Rattle.std.specs.Prelude.{IfOk, MatchOption}
 use Rattle.wb_model.specs.declared.lines.Role.{Role}
 use Rattle.wb_model.specs.Grammar.{IsGrammatical, IsFirstMisfit}
 use Rattle.wb_script.proofs.ReadLemmas.{roles-renamed}
-use Rattle.wb_script.proofs.read.misfit.Goals as goal
+use Rattle.wb_script.proofs.reading.misfit.Goals as goal
 
 pub returns : goal.returns
 returns c =
