@@ -13,6 +13,8 @@ mod lines;
 mod names;
 mod nesting;
 mod reading;
+#[cfg(test)]
+mod reading_tests;
 mod resolved;
 mod tree;
 mod words;
