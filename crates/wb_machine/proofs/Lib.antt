@@ -1,0 +1,6 @@
+pub mod Begins
+pub mod Fitting
+pub mod Flows
+pub mod Kept
+pub mod Rows
+pub mod Steps

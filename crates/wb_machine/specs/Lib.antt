@@ -1,0 +1,4 @@
+pub mod Carried
+pub mod Flow
+pub mod Held
+pub mod Inside
