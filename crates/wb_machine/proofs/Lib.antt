@@ -4,3 +4,5 @@ pub mod Flows
 pub mod Kept
 pub mod Rows
 pub mod Steps
+pub mod Outcomes
+pub mod Leaks

@@ -2,3 +2,5 @@ pub mod Carried
 pub mod Flow
 pub mod Held
 pub mod Inside
+pub mod Plain
+pub mod Told

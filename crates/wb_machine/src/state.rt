@@ -1,24 +1,38 @@
 //! What all bodies of a script share, and the statements that run no other.
 
-ghost use Rattle.std.specs.Prelude.{◌≡◌, ◌≢◌, ◌+◌, ◌*◌, ◌^◌, ◌<◌, ◌≤◌, ◌↔◌, ◌++◌, ◌∷◌, [], ℕ, length, false, map, IfOk, IfErr, OnOk, OnErr, IsTrue, All};
+ghost use Rattle.std.specs.Prelude.{◌≡◌, ◌≢◌, ◌+◌, ◌*◌, ◌^◌, ◌<◌, ◌≤◌, ◌↔◌, ◌++◌, ◌∷◌, [], ℕ, length, false, not, IfOk, IfErr, OnOk, OnErr, IsTrue, All};
 ghost use Rattle.wb_model.specs.Rules.{refusal_of, unless_refused};
 ghost use Rattle.wb_model.specs.Row.{headers, cell_length};
-ghost use Rattle.wb_model.specs.Heap.{cells_of_all_levels};
+ghost use Rattle.wb_model.specs.Heap.{is_cleanup};
 ghost use Rattle.wb_model.specs.Operands.{within};
 ghost use Rattle.wb_model.specs.Space.{is_shape, limit_under};
-ghost use Rattle.wb_model.specs.Run.{leak_of};
 ghost use Rattle.wb_model.specs.LimitedHeap.{IsCellLength, heap_with, place_in};
-ghost use Rattle.wb_machine.specs.Held.{Held, answer_for, gave_by, after_answer};
-ghost use Rattle.wb_machine.specs.Carried.{local_in, stored, stepped, start_held, entered, alloc_carried, free_carried, print_carried};
+ghost use Rattle.wb_model.specs.Sound.{is_statement};
+ghost use Rattle.wb_model.specs.Statements.{Meaning, statement};
+ghost use Rattle.wb_model.specs.Reading.{literal_of};
+ghost use Rattle.wb_model.specs.Rest.{Fits};
+ghost use Rattle.wb_model.specs.declared.heap.Rule.{Rule};
+ghost use Rattle.wb_model.specs.declared.script.Holder.TheVariants.{Local};
+ghost use Rattle.wb_model.specs.declared.script.Pointer.TheVariants.{Held};
+ghost use Rattle.wb_model.specs.declared.script.Number.TheVariants.{Constant};
+ghost use Rattle.wb_model.specs.declared.script.Readable.TheVariants.{Quoted};
+ghost use Rattle.wb_model.specs.declared.script.Statement.TheViews.{out-Statement};
+ghost use Rattle.wb_machine.specs.Plain.{names_local, is_constant, is_quoted};
+ghost use Rattle.wb_machine.specs.Flow.{in_main_frame, ended_by, is_stop, IsSameFlow, Stays};
+ghost use Rattle.wb_machine.specs.Told.{leaks_held, outcome_by, told_by};
+ghost use Rattle.wb_machine.specs.Held.{state_of, answer_for, gave_by, after_answer};
+ghost use Rattle.wb_machine.specs.Carried.{main_of, local_in, stored, stepped, start_held, entered, alloc_carried, free_carried, print_carried};
 
 use crate::control::Ending;
+use crate::print::{number_line, text_line};
 use std::alloc::{AllocError, Global};
 use std::marker::Model;
 use wb_model::heap::{Answer, Attempt, CEILING, Gave, Kind, Panic, Ptr, Rule, Shape};
 use wb_model::items::Items;
 use wb_model::line::Line;
 use wb_model::memory::NoMemory;
-use wb_model::run::{Leak, Leaks, Lines, Why};
+use wb_model::run::{Leak, Leaks, Lines, Outcome, RunResult, Why};
+use wb_model::script::{Holder, Number, Pointer, Readable, Script, Statement};
 use wb_rheap::fault::HeapFault;
 use wb_rheap::heap::Heap;
 
@@ -268,4 +282,138 @@ fn push_line(trace: &mut Vec<Attempt>, line: Attempt) -> Result<(), AllocError>
 {
     trace.push(line)?;
     Ok(())
+}
+
+impl State {
+    /// Carries out a statement that runs no other: how it ends.
+    pub fn carry_out(
+        &mut self,
+        script: &Script,
+        rule: Rule,
+        first: &Statement,
+    ) -> Result<Ending, NoMemory>
+        requires statement { IsTrue (is_statement (length script.now.literals) (main_of script.now).locals (out-Statement first.now)) }
+        requires locals { length self.old.locals ≡ length (main_of script.now).locals }
+        requires limit { self.old.heap.limit ≡ limit_under rule }
+        requires number { length self.old.trace + 1 < 2 ^ 32 }
+        ensures kept { IfOk result (λ ending. (r : Rule) → Fits r rule (is_stop ending) (length self.new.trace) → (rec : Meaning) →
+            IsSameFlow r (ended_by ending (state_of script.now self.new)) self.new
+            (statement script.now rec in_main_frame (out-Statement first.now) (state_of script.now self.old)) self.old) }
+        ensures stays { OnOk result (Stays self.old self.new) }
+        ensures steps { OnOk result (self.new.steps ≡ self.old.steps) }
+        ensures locals { OnOk result (length self.new.locals ≡ length self.old.locals) }
+    {
+        match first {
+            Statement::Alloc(target, bytes, _) => {
+                self.alloc(rule, local_of(*target), constant_of(*bytes))
+            }
+            Statement::Free(pointer) => {
+                let ptr = self.local(local_of(*pointer));
+                Ok(self.release(ptr))
+            }
+            Statement::PrintText(text) => self.print(text_line(literal(script, *text))),
+            Statement::PrintNumber(number) => self.print(number_line(constant_of(*number))),
+            _ => unreachable!(),
+        }
+    }
+}
+
+impl State {
+    /// The live cells but the cleanup stack's, by place.
+    pub fn leaks(&self, alloc: Global) -> Result<Leaks, NoMemory>
+        ensures { IfOk result (λ leaks. leaks ≡ leaks_held self.now) }
+    {
+        let mut leaks = Items::new(alloc);
+        let mut from = 0;
+        while let Some(cell) = self.heap.next_live(from) {
+            if may_leak(cell.kind) {
+                leaks.push(Leak {
+                    number: cell.number,
+                    length: cell.length,
+                    place: cell.place,
+                })?;
+            }
+            from = cell.place + cell.length;
+        }
+        Ok(leaks)
+    }
+
+    /// What a run tells that ended so, with these leaks.
+    pub fn finish(self, alloc: Global, ending: Ending, leaks: Leaks) -> RunResult
+        ensures { result ≡ told_by ending leaks self }
+    {
+        let State {
+            heap: _,
+            cleanup: _,
+            locals: _,
+            lines,
+            trace,
+            steps,
+        } = self;
+        RunResult {
+            outcome: outcome_by(ending, leaks),
+            trace: Items::from_vec(trace),
+            lines,
+            notes: Items::new(alloc),
+            steps,
+        }
+    }
+}
+
+/// Whether a cell that is live at the end is a leak.
+fn may_leak(kind: Kind) -> bool
+    ensures { result ≡ not (is_cleanup kind) }
+{
+    match kind {
+        Kind::Cleanup => false,
+        Kind::Raw | Kind::Object(_) | Kind::Text => true,
+    }
+}
+
+/// How a run ended, with these leaks.
+fn outcome_by(ending: Ending, leaks: Leaks) -> Outcome
+    ensures { result ≡ outcome_by ending leaks }
+{
+    match ending {
+        Ending::GoesOn => Outcome::Ended { left: None, leaks },
+        Ending::Panics(panic) => Outcome::Panicked(panic),
+        Ending::Cut(why) => Outcome::Cut(why),
+        Ending::NoCleanup => Outcome::NoCleanup,
+    }
+}
+
+/// The local that a pointer operand names.
+fn local_of(pointer: Pointer) -> u8
+    requires { IsTrue (names_local pointer) }
+    ensures { pointer ≡ Held (Local result) }
+{
+    match pointer {
+        Pointer::Held(Holder::Local(index)) => index,
+        Pointer::Held(Holder::This) | Pointer::Field(..) => unreachable!(),
+    }
+}
+
+/// The number that a number operand is.
+fn constant_of(number: Number) -> i32
+    requires { IsTrue (is_constant number) }
+    ensures { number ≡ Constant result }
+{
+    match number {
+        Number::Constant(number) => number,
+        Number::Variable(_) => unreachable!(),
+    }
+}
+
+/// The units of a literal.
+fn literal(script: &Script, text: Readable) -> &[u8]
+    requires { IsTrue (is_quoted text) }
+    ensures { (i : ℕ) → text ≡ Quoted i → result.now ≡ literal_of script.now.literals i }
+{
+    match text {
+        Readable::Quoted(index) => match script.literals.get(index as usize) {
+            Some(chars) => chars.as_slice(),
+            None => &[],
+        },
+        Readable::Of(_) | Readable::ViewOf(_) => unreachable!(),
+    }
 }
