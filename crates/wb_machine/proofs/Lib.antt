@@ -6,3 +6,4 @@ pub mod Rows
 pub mod Steps
 pub mod Outcomes
 pub mod Leaks
+pub mod Scripts

@@ -8,11 +8,9 @@ use Rattle.wb_model.specs.declared.heap.Answer.{Answer}
 use Rattle.wb_model.specs.declared.heap.Answer.TheVariants.{Granted, Simulated, Refused}
 use Rattle.wb_model.specs.declared.heap.Panic.TheVariants.{User, Workbench}
 use Rattle.wb_model.specs.declared.run.Why.TheVariants.{Ceiling}
-use Rattle.wb_model.specs.declared.script.Body.{Body}
-use Rattle.wb_model.specs.declared.script.Script.{Script}
 use Rattle.wb_model.specs.Row.{Cell, cell_at, cell_length}
 use Rattle.wb_model.specs.State.{null}
-use Rattle.wb_model.specs.Statements.{is_null, procedure_at}
+use Rattle.wb_model.specs.Statements.{is_null}
 use Rattle.wb_model.specs.LimitedHeap.{empty_heap, place_in, heap_without}
 use Rattle.wb_machine.specs.declared.control.Ending.{Ending}
 use Rattle.wb_machine.specs.declared.control.Ending.TheVariants.{GoesOn, Panics, Cut, NoCleanup}
@@ -84,7 +82,3 @@ begun_by h count (Some Refused) = record { ending = NoCleanup; held = after_answ
 
 abbrev pub begun_carried : Rule → Held → ℕ → Carried
 begun_carried rule h count = begun_by h count (answer_for rule h first_length)
-
--- the body of `main`
-abbrev pub main_of : Script → Body
-main_of script = procedure_at script script.main

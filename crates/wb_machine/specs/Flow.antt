@@ -3,6 +3,8 @@ use Rattle.std.specs.Prelude.{◌≡◌, ℕ, ◌+◌, ◌≤◌, List, [], ◌�
 use Rattle.wb_model.specs.declared.heap.Rule.{Rule}
 use Rattle.wb_model.specs.declared.run.RunResult.{RunResult}
 use Rattle.wb_model.specs.declared.script.Script.{Script}
+use Rattle.std.specs.List.{list_all}
+use Rattle.wb_model.specs.Sound.{are_statements}
 use Rattle.wb_model.specs.Space.{space_of}
 use Rattle.wb_model.specs.State.{State, Way, goes_on, panics, is_cut, no_cleanup, Process, ends, stops, and_then}
 use Rattle.wb_model.specs.Statements.{all, Where}
@@ -12,7 +14,7 @@ use Rattle.wb_machine.specs.declared.control.Ending.{Ending}
 use Rattle.wb_machine.specs.declared.control.Ending.TheVariants.{GoesOn, Panics, Cut, NoCleanup}
 use Rattle.wb_machine.specs.declared.control.Piece.{Piece}
 use Rattle.wb_machine.specs.declared.control.Piece.TheVariants.{Code, MainTrap}
-use Rattle.wb_machine.specs.Held.{Held, state_of, account_of}
+use Rattle.wb_machine.specs.Held.{Held, main_of, state_of, account_of}
 
 -- `main` stands in the first frame, over no items
 abbrev pub in_main_frame : Where
@@ -30,6 +32,14 @@ pending_of MainTrap = main_catching in_main_frame
 abbrev pub needs_step : Piece → Bool
 needs_step (Code statements) = not (is_nothing statements.now)
 needs_step MainTrap = false
+
+-- a piece of the script's own statements
+abbrev pub is_sound_piece : Script → Piece → Bool
+is_sound_piece script (Code statements) = are_statements (length script.literals) (main_of script).locals statements.now
+is_sound_piece script MainTrap = true
+
+abbrev pub are_sound : Script → List Piece → Bool
+are_sound script pieces = list_all (is_sound_piece script) pieces
 
 -- the pending pieces, the innermost first
 abbrev pub pending_in : List Piece → List Pending

@@ -8,11 +8,12 @@ use Rattle.wb_model.specs.declared.heap.Answer.TheVariants.{Granted, Simulated, 
 use Rattle.wb_model.specs.declared.heap.Attempt.{Attempt}
 use Rattle.wb_model.specs.declared.heap.Gave.{Gave}
 use Rattle.wb_model.specs.declared.heap.Gave.TheVariants as G
+use Rattle.wb_model.specs.declared.script.Body.{Body}
 use Rattle.wb_model.specs.declared.script.Script.{Script}
 use Rattle.wb_model.specs.Row.{Cell}
 use Rattle.wb_model.specs.Rules.{never, Request, answer_to}
 use Rattle.wb_model.specs.State.{Content, pointer, State, null}
-use Rattle.wb_model.specs.Statements.{class_at}
+use Rattle.wb_model.specs.Statements.{class_at, procedure_at}
 use Rattle.wb_model.specs.Account.{Account}
 use Rattle.wb_model.specs.LimitedHeap.{LimitedHeap, place_in, heap_with}
 use Rattle.wb_model.specs.Spelling.{read_as}
@@ -25,6 +26,10 @@ pub record Held : Type 0 where
   pub lines : List (List ℕ)
   pub trace : List Attempt
   pub steps : ℕ
+
+-- the body of `main`
+abbrev pub main_of : Script → Body
+main_of script = procedure_at script script.main
 
 -- how many fields the objects of a class have
 abbrev pub field_count : Script → ℕ → ℕ

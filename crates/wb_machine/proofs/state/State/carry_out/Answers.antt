@@ -8,8 +8,8 @@ use Rattle.wb_model.specs.Statements.{Meaning, statement}
 use Rattle.wb_model.specs.Operands.{within}
 use Rattle.wb_model.specs.Rest.{Fits}
 use Rattle.wb_machine.specs.declared.control.Ending.{Ending}
-use Rattle.wb_machine.specs.Held.{state_of}
-use Rattle.wb_machine.specs.Carried.{main_of, alloc_carried, print_carried}
+use Rattle.wb_machine.specs.Held.{main_of, state_of}
+use Rattle.wb_machine.specs.Carried.{alloc_carried, print_carried}
 use Rattle.wb_machine.specs.Flow.{in_main_frame, ended_by, is_stop, IsSameFlow}
 use Rattle.wb_machine.proofs.Outcomes.{if_ok_with}
 use Rattle.wb_machine.proofs.Kept.{alloc_carried_out, free_carried_out, number_carried_out, text_carried_out, local_within, alloc_target, text_quoted}
