@@ -26,14 +26,14 @@ use Rattle.wb_model.specs.Meaning.{meaning_of}
 use Rattle.wb_model.specs.Account.{settled}
 use Rattle.wb_model.specs.Attempts.{allocate}
 use Rattle.wb_model.specs.Run.{main_trapped, in_main, started, process, result_of, before, run}
-use Rattle.wb_model.specs.Rest.{Fits, Pending, doing, main_catching, resumed, resume}
+use Rattle.wb_model.specs.Rest.{Fits, Pending, doing, main_catching, resumed, resume, left_to_do, rest}
 use Rattle.wb_machine.specs.declared.control.Ending.{Ending}
 use Rattle.wb_machine.specs.declared.control.Ending.TheVariants.{GoesOn, Cut, NoCleanup}
 use Rattle.wb_machine.specs.declared.control.Piece.{Piece}
 use Rattle.wb_machine.specs.declared.control.Piece.TheVariants.{Code, MainTrap}
-use Rattle.wb_machine.specs.Held.{Held, main_of, state_of, account_of, answer_for, request_for, gave_by, after_answer}
-use Rattle.wb_machine.specs.Flow.{in_main_frame, pending_of, pending_in, ended_by, is_stop, flow, rest_from}
-use Rattle.wb_machine.specs.Carried.{Carried, start_held, entered, first_length, begun_by, begun_carried}
+use Rattle.wb_machine.specs.Held.{Held, start_held, main_of, state_of, account_of, answer_for, request_for, gave_by, after_answer}
+use Rattle.wb_machine.specs.Flow.{in_main_frame, pending_of, pending_in, ended_by, is_stop, flow, rest_from, rest_at}
+use Rattle.wb_machine.specs.Carried.{Carried, entered, first_length, begun_by, begun_carried}
 use Rattle.wb_machine.proofs.Flows.{followed, allocated}
 use Rattle.wb_machine.proofs.Fitting.{fits-limit, fits-answer, fits-ended}
 use Rattle.wb_machine.proofs.Steps.{rest_flow}
@@ -151,3 +151,11 @@ pub begun_pieces : (script : Script) (before_it one two : List Piece) (code : Pi
     pending_in two ≡ pending_of code ∷ main_catching in_main_frame ∷ []
 begun_pieces script before_it one two code e f g =
     ap pending_in (g ∙ ap (λ ps. ps ++ code ∷ []) (f ∙ ap (λ ps. ps ++ MainTrap ∷ []) e))
+
+-- before the first turn the rest is the run
+pub rest_first : (r own : Rule) (script : Script) (budget : ℕ) (ending : Ending) (pieces : List Piece) (h : Held) →
+    h ≡ start_held (limit_under own) h.heap.shape → limit_under r ≡ limit_under own → rest_at script budget r false ending pieces h ≡ run script r budget h.heap.shape
+unfolding rest left_to_do
+rest_first r own script budget ending pieces h start same =
+    ap (λ a. result_of (settled r (space_of r h.heap.shape) (process script budget) a))
+    (ap account_of start ∙ ap (λ b. record { trace = []; notes = []; committed = min h.heap.shape.min (bound_below b) }) (sym same))

@@ -3,7 +3,6 @@ use Rattle.std.specs.Prelude.{ℕ, ◌+◌, List, [], ◌∷◌, ◌++◌, lengt
 use Rattle.wb_model.specs.declared.heap.Ptr.{Ptr}
 use Rattle.wb_model.specs.declared.heap.Rule.{Rule}
 use Rattle.wb_model.specs.declared.heap.Kind.TheVariants.{Raw, Cleanup}
-use Rattle.wb_model.specs.declared.heap.Shape.{Shape}
 use Rattle.wb_model.specs.declared.heap.Answer.{Answer}
 use Rattle.wb_model.specs.declared.heap.Answer.TheVariants.{Granted, Simulated, Refused}
 use Rattle.wb_model.specs.declared.heap.Panic.TheVariants.{User, Workbench}
@@ -11,7 +10,7 @@ use Rattle.wb_model.specs.declared.run.Why.TheVariants.{Ceiling}
 use Rattle.wb_model.specs.Row.{Cell, cell_at, cell_length}
 use Rattle.wb_model.specs.State.{null}
 use Rattle.wb_model.specs.Statements.{is_null}
-use Rattle.wb_model.specs.LimitedHeap.{empty_heap, place_in, heap_without}
+use Rattle.wb_model.specs.LimitedHeap.{place_in, heap_without}
 use Rattle.wb_machine.specs.declared.control.Ending.{Ending}
 use Rattle.wb_machine.specs.declared.control.Ending.TheVariants.{GoesOn, Panics, Cut, NoCleanup}
 use Rattle.wb_machine.specs.Held.{Held, answer_for, after_answer}
@@ -57,10 +56,6 @@ print_carried h line = record { ending = GoesOn; held = record h { lines = h.lin
 -- one step more
 abbrev pub stepped : Held → Held
 stepped h = record h { steps = h.steps + 1 }
-
--- nothing is done yet
-abbrev pub start_held : ℕ → Shape → Held
-start_held limit shape = record { heap = empty_heap limit shape; cleanup = null; locals = []; lines = []; trace = []; steps = 0 }
 
 -- `main` begins, with so many locals
 abbrev pub entered : Held → Ptr → ℕ → Held

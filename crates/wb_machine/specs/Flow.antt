@@ -5,7 +5,7 @@ use Rattle.wb_model.specs.declared.run.RunResult.{RunResult}
 use Rattle.wb_model.specs.declared.script.Script.{Script}
 use Rattle.std.specs.List.{list_all}
 use Rattle.wb_model.specs.Sound.{are_statements}
-use Rattle.wb_model.specs.Space.{space_of}
+use Rattle.wb_model.specs.Space.{space_of, limit_under}
 use Rattle.wb_model.specs.State.{State, Way, goes_on, panics, is_cut, no_cleanup, Process, ends, stops, and_then}
 use Rattle.wb_model.specs.Statements.{all, Where}
 use Rattle.wb_model.specs.Account.{Settled, settled}
@@ -14,7 +14,7 @@ use Rattle.wb_machine.specs.declared.control.Ending.{Ending}
 use Rattle.wb_machine.specs.declared.control.Ending.TheVariants.{GoesOn, Panics, Cut, NoCleanup}
 use Rattle.wb_machine.specs.declared.control.Piece.{Piece}
 use Rattle.wb_machine.specs.declared.control.Piece.TheVariants.{Code, MainTrap}
-use Rattle.wb_machine.specs.Held.{Held, main_of, state_of, account_of}
+use Rattle.wb_machine.specs.Held.{Held, start_held, main_of, state_of, account_of}
 
 -- `main` stands in the first frame, over no items
 abbrev pub in_main_frame : Where
@@ -96,3 +96,14 @@ pub record Stays (before after : Held) : Type 0 where
   pub shape : after.heap.shape ≡ before.heap.shape
   pub fewer : length before.trace ≤ length after.trace
   pub more : length after.trace ≤ length before.trace + 1
+
+-- the same of a run that may not have begun
+abbrev pub rest_at : Script → ℕ → Rule → Bool → Ending → List Piece → Held → RunResult
+rest_at script budget r begun ending pieces h =
+    rest script budget h.heap.shape r (progress_of begun ending (pending_in pieces) (state_of script h)) (account_of h)
+
+-- nothing is done yet, and nothing is to do
+pub record IsFirst (rule : Rule) (ending : Ending) (pieces : List Piece) (h : Held) : Type 0 where
+  pub goes_on : ending ≡ GoesOn
+  pub nothing : pieces ≡ []
+  pub start : h ≡ start_held (limit_under rule) h.heap.shape

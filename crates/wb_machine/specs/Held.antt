@@ -3,6 +3,7 @@ use Rattle.std.specs.Prelude.{◌≡◌, ℕ, ◌+◌, ◌≤◌, List, [], ◌�
 use Rattle.wb_model.specs.declared.heap.Ptr.{Ptr}
 use Rattle.wb_model.specs.declared.heap.Kind.{Kind}
 use Rattle.wb_model.specs.declared.heap.Rule.{Rule}
+use Rattle.wb_model.specs.declared.heap.Shape.{Shape}
 use Rattle.wb_model.specs.declared.heap.Answer.{Answer}
 use Rattle.wb_model.specs.declared.heap.Answer.TheVariants.{Granted, Simulated, Refused}
 use Rattle.wb_model.specs.declared.heap.Attempt.{Attempt}
@@ -15,7 +16,7 @@ use Rattle.wb_model.specs.Rules.{never, Request, answer_to}
 use Rattle.wb_model.specs.State.{Content, pointer, State, null}
 use Rattle.wb_model.specs.Statements.{class_at, procedure_at}
 use Rattle.wb_model.specs.Account.{Account}
-use Rattle.wb_model.specs.LimitedHeap.{LimitedHeap, place_in, heap_with}
+use Rattle.wb_model.specs.LimitedHeap.{LimitedHeap, empty_heap, place_in, heap_with}
 use Rattle.wb_model.specs.Spelling.{read_as}
 
 -- the heap with its cells as words, the cleanup stack's cell, the locals, what was printed, the attempts, and the steps
@@ -26,6 +27,10 @@ pub record Held : Type 0 where
   pub lines : List (List ℕ)
   pub trace : List Attempt
   pub steps : ℕ
+
+-- nothing is done yet
+abbrev pub start_held : ℕ → Shape → Held
+start_held limit shape = record { heap = empty_heap limit shape; cleanup = null; locals = []; lines = []; trace = []; steps = 0 }
 
 -- the body of `main`
 abbrev pub main_of : Script → Body

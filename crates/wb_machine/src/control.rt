@@ -1,6 +1,6 @@
 //! What is still to do, as explicit pieces.
 
-ghost use Rattle.std.specs.Prelude.{◌≡◌, ◌+◌, ◌^◌, ◌<◌, ◌≤◌, ◌⊎◌, ◌++◌, ◌∷◌, [], ℕ, List, true, false, length, vec_len, not, IsTrue, OnOk};
+ghost use Rattle.std.specs.Prelude.{◌≡◌, ◌+◌, ◌^◌, ◌<◌, ◌≤◌, ◌⊎◌, ◌++◌, ◌∷◌, [], ℕ, List, true, false, length, vec_len, min, IsTrue, OnOk};
 ghost use Rattle.wb_model.specs.Sound.{is_script, is_statement};
 ghost use Rattle.wb_model.specs.Space.{limit_under};
 ghost use Rattle.wb_model.specs.Statements.{all};
@@ -12,9 +12,8 @@ ghost use Rattle.wb_model.specs.declared.script.Script.{Script};
 ghost use Rattle.wb_model.specs.declared.script.Statement.TheViews.{out-Statement};
 ghost use Rattle.wb_machine.specs.declared.control.Piece.{Piece};
 ghost use Rattle.wb_machine.specs.declared.control.Ending.TheVariants.{GoesOn, Cut};
-ghost use Rattle.wb_machine.specs.Held.{Held, main_of};
-ghost use Rattle.wb_machine.specs.Carried.{start_held};
-ghost use Rattle.wb_machine.specs.Flow.{in_main_frame, pending_of, needs_step, is_stop, is_over, is_sound_piece, are_sound, IsReady, Stays, rest_from};
+ghost use Rattle.wb_machine.specs.Held.{Held, start_held, main_of};
+ghost use Rattle.wb_machine.specs.Flow.{in_main_frame, pending_of, needs_step, is_stop, is_over, are_sound, IsReady, IsFirst, Stays, rest_from, rest_at};
 
 use crate::state::State;
 use std::alloc::{AllocError, Global};
@@ -242,5 +241,45 @@ impl<'a> Control<'a> {
         while self.is_done() {
             self.pieces.pop();
         }
+    }
+
+    /// A turn: the first begins the run; each later one takes a step, or cuts the run at the budget. All
+    /// ends that follow belong to the turn.
+    pub fn turn(
+        &mut self,
+        script: &'a Script,
+        rule: Rule,
+        budget: u32,
+        begun: bool,
+        state: &mut State,
+    ) -> Result<(), NoMemory>
+        requires script { IsTrue (is_script script.now) }
+        requires first { begun ≡ false → IsFirst rule self.old.ending self.old.pieces.items state.old }
+        requires later { begun ≡ true → IsReady self.old.ending self.old.pieces.items × (length state.old.locals ≡ length (main_of script.now).locals) }
+        requires sound { are_sound script.now self.old.pieces.items ≡ true }
+        requires limit { state.old.heap.limit ≡ limit_under rule }
+        requires small { budget ≤ 1000000 }
+        requires within { state.old.steps ≤ budget }
+        requires counted { length state.old.trace ≤ state.old.steps + 1 }
+        ensures kept { OnOk result ((r : Rule) → Fits r rule (is_over self.new.ending self.new.pieces.items) (length state.new.trace) →
+            rest_from script.now budget r self.new.ending self.new.pieces.items state.new
+            ≡ rest_at script.now budget r begun self.old.ending self.old.pieces.items state.old) }
+        ensures settled { OnOk result ((is_over self.new.ending self.new.pieces.items ≡ true) ⊎ IsReady self.new.ending self.new.pieces.items) }
+        ensures sound { OnOk result (are_sound script.now self.new.pieces.items ≡ true) }
+        ensures locals { OnOk result (is_stop self.new.ending ≡ false → length state.new.locals ≡ length (main_of script.now).locals) }
+        ensures stays { OnOk result (Stays state.old state.new) }
+        ensures first { OnOk result (begun ≡ false → state.new.steps ≡ 0) }
+        ensures later { OnOk result (begun ≡ true → state.new.steps ≡ min (state.old.steps + 1) budget) }
+        ensures steps { OnOk result (begun ≡ true → is_over self.new.ending self.new.pieces.items ≡ false → state.new.steps ≡ state.old.steps + 1) }
+    {
+        if !begun {
+            self.begin(script, rule, state)?;
+        } else if state.steps() < budget {
+            self.step(script, rule, state)?;
+        } else {
+            self.cut();
+        }
+        self.settle();
+        Ok(())
     }
 }

@@ -20,8 +20,8 @@ ghost use Rattle.wb_model.specs.declared.script.Statement.TheViews.{out-Statemen
 ghost use Rattle.wb_machine.specs.Plain.{names_local, is_constant, is_quoted};
 ghost use Rattle.wb_machine.specs.Flow.{in_main_frame, ended_by, is_stop, IsSameFlow, Stays};
 ghost use Rattle.wb_machine.specs.Told.{leaks_held, outcome_by, told_by};
-ghost use Rattle.wb_machine.specs.Held.{main_of, state_of, answer_for, gave_by, after_answer};
-ghost use Rattle.wb_machine.specs.Carried.{local_in, stored, stepped, start_held, entered, alloc_carried, free_carried, print_carried};
+ghost use Rattle.wb_machine.specs.Held.{start_held, main_of, state_of, answer_for, gave_by, after_answer};
+ghost use Rattle.wb_machine.specs.Carried.{local_in, stored, stepped, entered, alloc_carried, free_carried, print_carried};
 
 use crate::control::Ending;
 use crate::print::{number_line, text_line};
