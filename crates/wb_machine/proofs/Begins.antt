@@ -1,5 +1,5 @@
 -- The turn that makes attempt 1 and begins `main`.
-use Rattle.std.proofs.Common.{◌≡◌, ℕ, ◌+◌, ◌≤◌, suc, zero, Bool, true, false, List, [], ◌∷◌, ◌++◌, length, map, refl, ap, ◌∙◌, sym, subst, length-append, arith, Option, Some, None, replicate}
+use Rattle.std.proofs.Common.{◌≡◌, ℕ, ◌+◌, true, false, List, [], ◌∷◌, ◌++◌, length, map, refl, ap, ◌∙◌, sym, subst, length-append, arith, Option, Some, None, replicate}
 use Rattle.std.proofs.Math.Path.{fun_ext}
 use Rattle.std.specs.List.{list_all}
 use Rattle.std.specs.Prelude.{min}
@@ -11,29 +11,28 @@ use Rattle.wb_model.specs.declared.heap.Attempt.{Attempt}
 use Rattle.wb_model.specs.declared.heap.Gave.TheVariants as G
 use Rattle.wb_model.specs.declared.heap.Answer.{Answer}
 use Rattle.wb_model.specs.declared.heap.Answer.TheVariants.{Granted, Simulated, Refused}
-use Rattle.wb_model.specs.declared.run.RunResult.{RunResult}
 use Rattle.wb_model.specs.declared.script.Script.{Script}
 use Rattle.wb_model.specs.declared.script.Local.{Local}
 use Rattle.wb_model.specs.declared.script.Local.TheVariants.{OfPointer}
 use Rattle.wb_model.specs.declared.script.Statement.{Statement}
 use Rattle.wb_model.specs.Sound.{is_local}
 use Rattle.wb_model.specs.Space.{space_of, bound_below, limit_under}
-use Rattle.wb_model.specs.State.{none, null, initial, pointer, Value, State, Way, goes_on, Process, ends, stops, asks, notes, and_then, on_plain_end}
+use Rattle.wb_model.specs.State.{none, null, initial, pointer, Value, State, goes_on, Process, ends, stops, asks, notes, and_then, on_plain_end}
 use Rattle.wb_model.specs.LimitedHeap.{place_in}
 use Rattle.wb_model.specs.declared.run.Why.TheVariants.{Ceiling}
-use Rattle.wb_model.specs.Statements.{Meaning, all, procedure_at}
+use Rattle.wb_model.specs.Statements.{all}
 use Rattle.wb_model.specs.Meaning.{meaning_of}
 use Rattle.wb_model.specs.Account.{settled}
 use Rattle.wb_model.specs.Attempts.{allocate}
-use Rattle.wb_model.specs.Run.{main_trapped, in_main, started, process, result_of, before, run}
+use Rattle.wb_model.specs.Run.{main_trapped, in_main, started, process, result_of, run}
 use Rattle.wb_model.specs.Rest.{Fits, Pending, doing, main_catching, resumed, resume, left_to_do, rest}
 use Rattle.wb_machine.specs.declared.control.Ending.{Ending}
 use Rattle.wb_machine.specs.declared.control.Ending.TheVariants.{GoesOn, Cut, NoCleanup}
 use Rattle.wb_machine.specs.declared.control.Piece.{Piece}
-use Rattle.wb_machine.specs.declared.control.Piece.TheVariants.{Code, MainTrap}
+use Rattle.wb_machine.specs.declared.control.Piece.TheVariants.{MainTrap}
 use Rattle.wb_machine.specs.Held.{Held, start_held, main_of, state_of, account_of, answer_for, request_for, gave_by, after_answer}
-use Rattle.wb_machine.specs.Flow.{in_main_frame, pending_of, pending_in, ended_by, is_stop, flow, rest_from, rest_at}
-use Rattle.wb_machine.specs.Carried.{Carried, entered, first_length, begun_by, begun_carried}
+use Rattle.wb_machine.specs.Flow.{in_main_frame, pending_of, pending_in, is_stop, flow, rest_from, rest_at}
+use Rattle.wb_machine.specs.Carried.{entered, first_length, begun_by, begun_carried}
 use Rattle.wb_machine.proofs.Flows.{followed, allocated}
 use Rattle.wb_machine.proofs.Fitting.{fits-limit, fits-answer, fits-ended}
 use Rattle.wb_machine.proofs.Steps.{rest_flow}
@@ -126,7 +125,7 @@ run_begun r own script budget shape h g ending statements pieces start ends_so h
     let e : ending ≡ (begun_by first n o).ending = ends_so ∙ ap (λ x. (begun_carried own x n).ending) start in
     let k : g ≡ (begun_by first n o).held = holds ∙ ap (λ x. (begun_carried own x n).held) start in
     let f' : Fits r own (is_stop (begun_by first n o).ending) (length (begun_by first n o).held.trace) =
-        subst (λ x. Fits r own (is_stop (begun_by first n o).ending) (length x.trace)) k (subst (λ x. Fits r own (is_stop x) (length g.trace)) e f) in
+    subst (λ x. Fits r own (is_stop (begun_by first n o).ending) (length x.trace)) k (subst (λ x. Fits r own (is_stop x) (length g.trace)) e f) in
     ap (λ x. rest_from script budget r x pieces g) e ∙ ap (λ x. rest_from script budget r (begun_by first n o).ending pieces x) k
     ∙ rest_begun r script budget (limit_under own) shape statements pieces o (first_alike r own first n o refl f') (sym (fits-limit r own _ _ f)) ok body (λ x. is (e ∙ x))
 

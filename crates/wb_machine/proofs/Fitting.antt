@@ -12,7 +12,7 @@ use Rattle.wb_machine.specs.declared.control.Piece.{Piece}
 use Rattle.wb_machine.specs.Flow.{is_stop, is_over}
 use Rattle.wb_model.specs.Agreement.{IsNoLimit}
 use Rattle.wb_model.specs.Rest.{Fits}
-use Rattle.wb_model.specs.Rules.{refusal_of, unless_refused, answer_to, Request}
+use Rattle.wb_model.specs.Rules.{unless_refused, answer_to, Request}
 use Rattle.wb_model.specs.Space.{limit_under}
 
 no_limit : (r : Rule) → IsNoLimit r → limit_under r ≡ CEILING
@@ -42,11 +42,14 @@ fits-ended r own attempts (inr f) = cc
 pub fits-before : (r own : Rule) (ended later : Bool) (n m : ℕ) → (later ≡ false → ended ≡ false) → n ≤ m → Fits r own later m → Fits r own ended n
 fits-before r own ended later n m stays le (inl e) = inl e
 fits-before r own ended later n m stays le (inr f) =
-    inr (stays f.0, record {
-      no_limit = f.1.no_limit;
-      own_no_limit = f.1.own_no_limit;
-      same = λ number end first made. f.1.same number end first (omega (arith, made, le));
-    })
+    inr (
+      stays f.0,
+      record {
+        no_limit = f.1.no_limit;
+        own_no_limit = f.1.own_no_limit;
+        same = λ number end first made. f.1.same number end first (omega (arith, made, le));
+      },
+    )
 
 -- where more is to do, nothing has stopped the run
 pub going_on : (ending : Ending) (pieces : List Piece) → is_over ending pieces ≡ false → is_stop ending ≡ false

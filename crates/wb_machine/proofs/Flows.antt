@@ -1,25 +1,23 @@
 -- What attempts and statements come to, over what is held.
-use Rattle.std.proofs.Common.{◌≡◌, ℕ, ℤ, ◌+◌, ◌-◌, ◌≤◌, Bool, true, false, List, [], ◌∷◌, ◌++◌, length, map, refl, ap, ◌∙◌, sym, arith, Option, Some, None}
-use Rattle.std.specs.Prelude.{slice_set, option_map}
-use Rattle.std.proofs.lemmas.List.{map-set}
+use Rattle.std.proofs.Common.{◌≡◌, ℕ, ◌+◌, false, List, [], length, refl, ap, ◌∙◌, sym, Option, Some, None}
 use Rattle.wb_model.specs.declared.heap.Ptr.{Ptr}
 use Rattle.wb_model.specs.declared.heap.Kind.{Kind}
 use Rattle.wb_model.specs.declared.heap.Rule.{Rule}
 use Rattle.wb_model.specs.declared.heap.Answer.{Answer}
 use Rattle.wb_model.specs.declared.heap.Answer.TheVariants.{Granted, Simulated, Refused}
 use Rattle.wb_model.specs.declared.script.Script.{Script}
-use Rattle.wb_model.specs.Row.{Cell, headers, place_of, inserted, cell_length}
+use Rattle.wb_model.specs.Row.{Cell, place_of, inserted, cell_length}
 use Rattle.wb_model.specs.Rules.{never, Request, answer_to}
-use Rattle.wb_model.specs.Heap.{AfterAnswer, alloc_request, after_alloc}
+use Rattle.wb_model.specs.Heap.{alloc_request, after_alloc}
 use Rattle.wb_model.specs.Space.{Space, committed_by, space_of, space_below, bound_below, limit_under}
-use Rattle.wb_model.specs.State.{Content, State, Way, Process, ends, stops, asks, is_cut, and_then, set_heap}
+use Rattle.wb_model.specs.State.{Content, State, Way, Process, stops, is_cut, and_then, set_heap}
 use Rattle.wb_model.specs.declared.run.Why.TheVariants.{Ceiling}
 use Rattle.wb_model.specs.Attempts.{attempt, allocate}
-use Rattle.wb_model.specs.Account.{stopped, Account, Settled, settled, on_answer, recorded, next_number}
-use Rattle.wb_model.specs.LimitedHeap.{LimitedHeap, place_in, heap_with, zero_words}
+use Rattle.wb_model.specs.Account.{stopped, Settled, settled, on_answer, recorded}
+use Rattle.wb_model.specs.LimitedHeap.{place_in, heap_with, zero_words}
 use Rattle.wb_model.specs.Spelling.{read_as}
-use Rattle.wb_machine.specs.Held.{Held, field_count, read_cell, read_row, state_of, account_of, request_for, answer_for, after_answer}
-use Rattle.wb_machine.specs.Flow.{flow, IsSameFlow}
+use Rattle.wb_machine.specs.Held.{Held, field_count, read_row, state_of, account_of, request_for, answer_for, after_answer}
+use Rattle.wb_machine.specs.Flow.{flow}
 use Rattle.wb_machine.proofs.Rows.{headers_read, read_inserted}
 
 -- the process that follows an attempt
@@ -50,22 +48,29 @@ allocated r script h bytes kind fresh go k o answer limit is =
   where
     len : ℕ
     len = cell_length bytes
+
     n : ℕ
     n = length h.trace + 1
+
     space : Space
     space = space_of r h.heap.shape
+
     ptr : Ptr
     ptr = record { place = place_in h.heap len; number = n }
+
     F : Request → Settled
     F t = on_answer (answer_to r n t) (record { end = stopped (is_cut Ceiling); state = state_of script h; account = account_of h })
         (λ w. settled r space (and_then (go (after_alloc (state_of script h).heap t kind fresh n w).given
         (set_heap (state_of script h) (after_alloc (state_of script h).heap t kind fresh n w).heap)) k) (recorded space n t w (account_of h)))
+
     G : Option Answer → Settled
     G o = on_answer o (record { end = stopped (is_cut Ceiling); state = state_of script h; account = account_of h })
         (λ w. settled r space (and_then (go (after_alloc (state_of script h).heap (request_for h len) kind fresh n w).given
         (set_heap (state_of script h) (after_alloc (state_of script h).heap (request_for h len) kind fresh n w).heap)) k) (recorded space n (request_for h len) w (account_of h)))
+
     same : alloc_request (state_of script h).heap bytes ≡ request_for h len
     same = ap (λ hs. record { length = len; place = place_of hs len; due = false }) (headers_read script h.heap.row)
+
     by : (o : Option Answer) → G o ≡ flow r (and_then (followed script h len kind go o) k) (after_answer h len kind o)
     by None = refl
     by (Some Granted) =

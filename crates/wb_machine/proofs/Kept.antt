@@ -1,6 +1,6 @@
 -- Each statement, carried out, comes to what it means.
-use Rattle.std.proofs.Common.{◌≡◌, ℕ, ℤ, ◌+◌, ◌<◌, ◌≤◌, Bool, true, false, List, [], ◌∷◌, ◌++◌, length, length-append, map, refl, ap, ◌∙◌, sym, subst, arith, cond, Option, Some, None}
-use Rattle.std.specs.Prelude.{◌&&◌, pos, slice_get, slice_set, option_map, unwrap_or}
+use Rattle.std.proofs.Common.{◌≡◌, ℕ, ℤ, ◌+◌, ◌<◌, Bool, true, false, List, length, length-append, refl, ap, ◌∙◌, sym, subst, arith, cond, Option, Some, None}
+use Rattle.std.specs.Prelude.{◌&&◌, pos, slice_get, option_map, unwrap_or}
 use Rattle.std.proofs.lemmas.List.{map-set}
 use Rattle.std.proofs.lemmas.Option.{slice_get-map, slice_get_within}
 use Rattle.wb_model.specs.declared.heap.Ptr.{Ptr}
@@ -9,7 +9,7 @@ use Rattle.wb_model.specs.declared.heap.Rule.{Rule}
 use Rattle.wb_model.specs.declared.heap.Kind.TheVariants.{Raw}
 use Rattle.wb_model.specs.declared.heap.Answer.{Answer}
 use Rattle.wb_model.specs.declared.heap.Answer.TheVariants.{Granted, Simulated, Refused}
-use Rattle.wb_model.specs.declared.heap.Panic.TheVariants.{User, Workbench}
+use Rattle.wb_model.specs.declared.heap.Panic.TheVariants.{Workbench}
 use Rattle.wb_model.specs.declared.script.Script.{Script}
 use Rattle.wb_model.specs.declared.script.Holder.TheVariants as H
 use Rattle.wb_model.specs.declared.script.Pointer.TheVariants as P
@@ -24,9 +24,9 @@ use Rattle.wb_model.specs.declared.script.Readable.{Readable}
 use Rattle.wb_model.specs.Sound.{is_number, is_statement, is_pointer, is_pointer_local}
 use Rattle.wb_machine.specs.Plain.{is_quoted}
 use Rattle.wb_model.specs.declared.script.Statement.TheOpen.{Statement-F}
-use Rattle.wb_model.specs.Row.{Cell, cell_at, without, cell_length}
+use Rattle.wb_model.specs.Row.{Cell, cell_at, cell_length}
 use Rattle.wb_model.specs.Space.{limit_under}
-use Rattle.wb_model.specs.State.{Content, Value, pointer, number, pointer_in, local_of, State, Way, goes_on, panics, Process, ends, stops, and_then, with_some, set_local, null}
+use Rattle.wb_model.specs.State.{Content, Value, pointer, number, pointer_in, local_of, State, Way, goes_on, Process, ends, and_then, with_some, set_local, null}
 use Rattle.wb_model.specs.Operands.{set_row, within, with_pointer}
 use Rattle.wb_model.specs.Statements.{Layer, Meaning, Where, statement, given_to, alloc_raw, released, release, is_null, done, fresh_words}
 use Rattle.wb_model.specs.Reading.{with_readable, with_units, with_base, literal_of, printed}
@@ -34,10 +34,10 @@ use Rattle.wb_model.specs.Rest.{Fits}
 use Rattle.std.specs.Fmt.{signed_decimal}
 use Rattle.wb_machine.specs.declared.control.Ending.{Ending}
 use Rattle.wb_machine.specs.declared.control.Ending.TheVariants.{GoesOn}
-use Rattle.wb_machine.specs.Held.{Held, field_count, read_cell, read_row, state_of, account_of, answer_for, request_for, after_answer}
+use Rattle.wb_machine.specs.Held.{Held, field_count, read_cell, read_row, state_of, answer_for, request_for, after_answer}
 use Rattle.wb_machine.specs.Flow.{in_main_frame, flow, ended_by, is_stop, IsSameFlow}
 use Rattle.wb_machine.specs.Carried.{Carried, local_in, stored, attempt_carried, alloc_carried, free_found, free_carried, print_carried}
-use Rattle.wb_machine.proofs.Rows.{headers_read, read_without, read_cell_at, read_fresh}
+use Rattle.wb_machine.proofs.Rows.{read_without, read_cell_at, read_fresh}
 use Rattle.wb_machine.proofs.Flows.{followed, allocated}
 use Rattle.wb_machine.proofs.Fitting.{fits-limit, fits-answer, fits-ended}
 
@@ -175,7 +175,7 @@ pub alloc_carried_out : (r own : Rule) (script : Script) (rec : Meaning) (h g : 
 alloc_carried_out r own script rec h g literals locals layer p v x i z ending is ok names_it counts ends_so held limit f =
     let null_only = gives_null literals locals p v x (sym (ap (is_statement literals locals) is) ∙ ok) in
     let whole : layer ≡ Statement-F.Alloc (P.Held (H.Local i)) (N.Constant z) GivesNull =
-        is ∙ ap (λ q. Statement-F.Alloc q v x) names_it ∙ ap (λ w. Statement-F.Alloc (P.Held (H.Local i)) w x) counts ∙ ap (Statement-F.Alloc (P.Held (H.Local i)) (N.Constant z)) null_only in
+    is ∙ ap (λ q. Statement-F.Alloc q v x) names_it ∙ ap (λ w. Statement-F.Alloc (P.Held (H.Local i)) w x) counts ∙ ap (Statement-F.Alloc (P.Held (H.Local i)) (N.Constant z)) null_only in
     let c : Carried = alloc_carried own h i (within 1048576 z) in
     carried_same r script rec h g c ending layer _ ends_so held whole (alloc_kept r own script rec in_main_frame h i z (fits_same r own g c ending ends_so held f) limit)
 

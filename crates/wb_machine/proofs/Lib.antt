@@ -7,3 +7,4 @@ pub mod Steps
 pub mod Outcomes
 pub mod Leaks
 pub mod Scripts
+pub mod Ends

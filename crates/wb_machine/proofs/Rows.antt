@@ -1,6 +1,6 @@
 -- Reading the words of a row's cells as content goes along with what is done to rows.
-use Rattle.std.proofs.Common.{◌≡◌, ◌≢◌, ℕ, ◌+◌, ◌-◌, ◌*◌, ◌/◌, ◌<◌, ◌≤◌, ◌++◌, get_or, subst, length-append, zero, suc, pos, Bool, true, false, not, List, [], ◌∷◌, length, map, filter, refl, ap, ◌∙◌, sym, arith, cond, All, Option, Some, None, replicate}
-use Rattle.std.specs.Prelude.{nat_lt, find, option_map}
+use Rattle.std.proofs.Common.{◌≡◌, ◌≢◌, ℕ, ◌+◌, ◌-◌, ◌*◌, ◌/◌, ◌<◌, ◌≤◌, ◌++◌, get_or, subst, length-append, zero, suc, pos, Bool, true, false, not, List, [], ◌∷◌, length, map, refl, ap, ◌∙◌, sym, arith, cond, All, Some, replicate}
+use Rattle.std.specs.Prelude.{nat_lt, option_map}
 use Rattle.wb_model.specs.declared.heap.Ptr.{Ptr}
 use Rattle.wb_model.specs.declared.heap.Attempt.{Attempt}
 use Rattle.wb_model.specs.declared.heap.Header.{Header}
@@ -8,7 +8,7 @@ use Rattle.wb_model.specs.declared.heap.Kind.{Kind}
 use Rattle.wb_model.specs.declared.heap.Kind.TheVariants.{Raw}
 use Rattle.wb_model.specs.declared.script.Script.{Script}
 use Rattle.wb_model.specs.Row.{Cell, headers, is_at, cell_at, without, inserted, cell_length}
-use Rattle.wb_model.specs.State.{Content, words}
+use Rattle.wb_model.specs.State.{words}
 use Rattle.wb_model.specs.Statements.{fresh_words}
 use Rattle.wb_model.specs.Spelling.{signed, read_as}
 use Rattle.wb_model.specs.LimitedHeap.{LimitedHeap, zero_words, heap_with}

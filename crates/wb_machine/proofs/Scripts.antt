@@ -1,17 +1,15 @@
 -- What is known of the body of `main` of a script.
-use Rattle.std.proofs.Common.{◌≡◌, ℕ, ◌+◌, ◌<◌, suc, zero, Bool, true, false, List, [], ◌∷◌, ◌++◌, length, refl, ap, ◌∙◌, sym, arith, Option, Some, None}
+use Rattle.std.proofs.Common.{◌≡◌, ℕ, ◌<◌, suc, zero, Bool, true, false, List, [], ◌∷◌, ◌++◌, length, refl, ap, ◌∙◌, sym, arith, Option, Some, None}
 use Rattle.std.specs.Prelude.{◌&&◌, slice_get, unwrap_or, nat_lt, nat_le, nat_eq}
 use Rattle.std.specs.List.{list_all}
 use Rattle.std.proofs.lemmas.Bool.{ltb-true}
 use Rattle.std.proofs.lemmas.List.Folds.{list_all-append}
 use Rattle.wb_model.specs.declared.script.Script.{Script}
 use Rattle.wb_model.specs.declared.script.Procedure.{Procedure}
-use Rattle.wb_model.specs.declared.script.Statement.{Statement}
-use Rattle.wb_model.specs.declared.script.Statement.TheViews.{out-Statement}
 use Rattle.wb_model.specs.Statements.{no_body}
-use Rattle.wb_model.specs.Sound.{is_local, is_quotable, is_body, is_procedure, is_script, is_statement, are_statements}
+use Rattle.wb_model.specs.Sound.{is_local, is_quotable, is_body, is_procedure, is_script, are_statements}
 use Rattle.wb_machine.specs.declared.control.Piece.{Piece}
-use Rattle.wb_machine.specs.declared.control.Piece.TheVariants.{Code, MainTrap}
+use Rattle.wb_machine.specs.declared.control.Piece.TheVariants.{MainTrap}
 use Rattle.wb_machine.specs.Held.{main_of}
 use Rattle.wb_machine.specs.Flow.{is_sound_piece, are_sound}
 
@@ -44,14 +42,19 @@ main_body script ok = by (slice_get script.procedures script.main) refl
   where
     counts : Bool
     counts = nat_le (length script.procedures) 256 && nat_lt script.main (length script.procedures)
+
     parts : Bool
     parts = list_all (is_procedure (length script.literals)) script.procedures && list_all (list_all is_quotable) script.literals
+
     nothing : Bool
     nothing = nat_eq (length script.classes) 0 && nat_eq (length script.operations) 0
+
     each : list_all (is_procedure (length script.literals)) script.procedures ≡ true
     each = and_left _ (list_all (list_all is_quotable) script.literals) (and_right (nothing && counts) parts ok)
+
     within : script.main < length script.procedures
     within = ltb-true _ _ (and_right (nat_le (length script.procedures) 256) _ (and_right nothing counts (and_left (nothing && counts) parts ok)))
+
     by : (o : Option Procedure) → slice_get script.procedures script.main ≡ o →
         is_body (length script.literals) (unwrap_or o (record { parameters = []; body = no_body })).body ≡ true
     by None e = absurd (none_within script.procedures script.main within e)

@@ -1,28 +1,26 @@
 -- The rest of a run, from turn to turn.
-use Rattle.std.proofs.Common.{◌≡◌, ℕ, ◌+◌, ◌<◌, ◌≤◌, Bool, true, false, List, [], ◌∷◌, ◌++◌, length, map, reverse, refl, ap, ◌∙◌, sym, subst, arith, cond, Option, Some, None}
-use Rattle.std.proofs.Math.Path.{fun_ext}
+use Rattle.std.proofs.Common.{◌≡◌, ℕ, ◌<◌, ◌≤◌, true, false, List, [], ◌∷◌, ◌++◌, map, refl, ap, ◌∙◌, sym, arith}
 use Rattle.std.proofs.lemmas.List.{reverse-append}
 use Rattle.std.proofs.lemmas.Bool.{lt-ltb, le-ltb}
 use Rattle.wb_model.specs.declared.heap.Rule.{Rule}
-use Rattle.wb_model.specs.declared.run.RunResult.{RunResult}
 use Rattle.wb_model.specs.declared.run.Why.TheVariants.{Budget}
 use Rattle.wb_model.specs.declared.script.Script.{Script}
 use Rattle.wb_model.specs.declared.script.Statement.{Statement}
 use Rattle.wb_model.specs.declared.script.Statement.TheViews.{out-Statement}
-use Rattle.wb_model.specs.State.{State, Way, goes_on, Process, ends, stops, asks, notes, and_then, on_plain_end, require, is_cut}
-use Rattle.wb_model.specs.Statements.{Meaning, Where, all, statement}
+use Rattle.wb_model.specs.State.{goes_on, and_then, on_plain_end, require}
+use Rattle.wb_model.specs.Statements.{all, statement}
 use Rattle.wb_model.specs.Meaning.{begun, begun_if, piece, meaning_of}
 use Rattle.wb_model.specs.Run.{main_trapped, result_of}
-use Rattle.wb_model.specs.Rest.{Pending, doing, main_catching, resumed, resume, left_to_do, rest}
+use Rattle.wb_model.specs.Rest.{Pending, doing, resumed, resume, left_to_do, rest}
 use Rattle.wb_model.proofs.MeaningLemmas.{meaning_of-unfolds}
 use Rattle.wb_model.proofs.ResumeLemmas.{resume-all}
 use Rattle.wb_machine.specs.declared.control.Ending.{Ending}
 use Rattle.wb_machine.specs.declared.control.Ending.TheVariants.{GoesOn, Panics, Cut, NoCleanup}
 use Rattle.wb_machine.specs.declared.control.Piece.{Piece}
 use Rattle.wb_machine.specs.declared.control.Piece.TheVariants.{Code, MainTrap}
-use Rattle.wb_machine.specs.Held.{Held, state_of, account_of}
+use Rattle.wb_machine.specs.Held.{Held, state_of}
 use Rattle.wb_machine.specs.Carried.{stepped}
-use Rattle.wb_machine.specs.Flow.{in_main_frame, is_nothing, pending_of, needs_step, pending_in, ended_by, is_stop, progress_by, flow, IsSameFlow, rest_from}
+use Rattle.wb_machine.specs.Flow.{in_main_frame, is_nothing, pending_of, needs_step, pending_in, ended_by, flow, IsSameFlow, rest_from}
 
 -- one more piece on top
 pub pending_pushed : (ps : List Piece) (p : Piece) → pending_in (ps ++ p ∷ []) ≡ pending_of p ∷ pending_in ps

@@ -3,4 +3,6 @@ pub mod Flow
 pub mod Held
 pub mod Inside
 pub mod Plain
+pub mod Seen
 pub mod Told
+pub mod Whole

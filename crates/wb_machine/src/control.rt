@@ -268,6 +268,8 @@ impl<'a> Control<'a> {
         ensures sound { OnOk result (are_sound script.now self.new.pieces.items ≡ true) }
         ensures locals { OnOk result (is_stop self.new.ending ≡ false → length state.new.locals ≡ length (main_of script.now).locals) }
         ensures stays { OnOk result (Stays state.old state.new) }
+        ensures within { OnOk result (state.new.steps ≤ budget) }
+        ensures counted { OnOk result (length state.new.trace ≤ state.new.steps + 1) }
         ensures first { OnOk result (begun ≡ false → state.new.steps ≡ 0) }
         ensures later { OnOk result (begun ≡ true → state.new.steps ≡ min (state.old.steps + 1) budget) }
         ensures steps { OnOk result (begun ≡ true → is_over self.new.ending self.new.pieces.items ≡ false → state.new.steps ≡ state.old.steps + 1) }

@@ -2,9 +2,6 @@
 #![tactic(auto)]
 
 mod control;
+pub mod machine;
 mod print;
 mod state;
-
-pub fn stub(x: u32) -> u32 {
-    x
-}

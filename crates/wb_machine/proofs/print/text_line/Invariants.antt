@@ -1,4 +1,4 @@
-use Rattle.std.proofs.Common.{◌≡◌, ◌≤◌, length, map, take}
+use Rattle.std.proofs.Common.{◌≡◌, map, take}
 use Rattle.wb_model.specs.Reading.{printed_unit}
 use Rattle.wb_machine.proofs.print.text_line.Given as goal
 

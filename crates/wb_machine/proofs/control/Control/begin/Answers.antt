@@ -1,4 +1,4 @@
-use Rattle.std.proofs.Common.{◌≡◌, ap, ◌∙◌, sym, length, true, refl}
+use Rattle.std.proofs.Common.{ap, ◌∙◌, sym, length, refl}
 use Rattle.wb_model.specs.declared.heap.Kind.TheVariants.{Cleanup}
 use Rattle.wb_model.specs.Sound.{are_statements}
 use Rattle.wb_machine.specs.declared.control.Ending.TheVariants.{NoCleanup}

@@ -1,4 +1,4 @@
-use Rattle.std.proofs.Common.{◌≡◌, ap, ◌∙◌, vec_len}
+use Rattle.std.proofs.Common.{◌∙◌, vec_len}
 use Rattle.wb_machine.proofs.Steps.{rest_settled}
 use Rattle.wb_machine.proofs.Scripts.{sound_below}
 use Rattle.wb_machine.proofs.Outcomes.{popped, popped_fewer}

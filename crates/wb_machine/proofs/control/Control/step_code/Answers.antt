@@ -1,4 +1,4 @@
-use Rattle.std.proofs.Common.{◌≡◌, ap, ◌∙◌, sym, subst, refl, ◌++◌, ◌∷◌, []}
+use Rattle.std.proofs.Common.{subst, refl, ◌++◌, ◌∷◌, []}
 use Rattle.wb_model.specs.Statements.{statement}
 use Rattle.wb_model.specs.Meaning.{meaning_of}
 use Rattle.wb_model.specs.declared.script.Statement.TheViews.{out-Statement}

@@ -29,7 +29,7 @@ moved_on : (script : Script) (budget : ℕ) (r own : Rule) (made mid : Control) 
     rest_from script budget r mid.ending mid.pieces.items g ≡ told
 moved_on script budget r own made mid st g told e d f go =
     let f' : Fits r own (is_stop made.ending) (length st.trace) =
-        subst (λ (x : Held). Fits r own (is_stop made.ending) (length x.trace)) d (subst (λ (x : Control). Fits r own (is_stop x.ending) (length g.trace)) e f) in
+    subst (λ (x : Held). Fits r own (is_stop made.ending) (length x.trace)) d (subst (λ (x : Control). Fits r own (is_stop x.ending) (length g.trace)) e f) in
     ap (λ (x : Control). rest_from script budget r x.ending x.pieces.items g) e
     ∙ ap (λ (x : Held). rest_from script budget r made.ending made.pieces.items x) d ∙ go f'
 
@@ -46,7 +46,7 @@ returns-clause-kept c r f =
     let mid = c.if-not-begun.self in
     let g = c.if-not-begun.state in
     let goes : is_over c.settle.new.self.ending c.settle.new.self.pieces.items ≡ false → is_stop mid.ending ≡ false =
-        λ e. sym (ap is_stop c.settle.ensures.ending) ∙ going_on c.settle.new.self.ending c.settle.new.self.pieces.items e in
+    λ e. sym (ap is_stop c.settle.ensures.ending) ∙ going_on c.settle.new.self.ending c.settle.new.self.pieces.items e in
     let fits : Fits r own (is_stop mid.ending) (length g.trace) = fits-before r own _ _ (length g.trace) (length g.trace) goes (omega arith) f in
     let steps : g.steps ≤ budget = elim c.if-not-begun.branch [
       | then-not-begun+in_ok-begin w ↦ steps_are g w.begin.new.state budget w.state-is (omega (arith, w.in_ok-begin.ensures.steps))
@@ -54,19 +54,19 @@ returns-clause-kept c r f =
       | else-not-begun+else-steps-budget w ↦ steps_are g h budget w.state-is c.requires.within
     ] in
     let same : rest_from script budget r mid.ending mid.pieces.items g ≡ rest_at script budget r c.args.begun old.ending old.pieces.items h =
-        elim c.if-not-begun.branch [
-          | then-not-begun+in_ok-begin w ↦
-              moved_on script budget r own w.begin.new.self mid w.begin.new.state g _ w.self-is w.state-is fits (λ f'.
-              w.in_ok-begin.ensures.kept r budget f'
-              ∙ sym (ap (λ b. rest_at script budget r b old.ending old.pieces.items h) w.if-not-begun.true
-              ∙ rest_first r own script budget old.ending old.pieces.items h (c.requires.first w.if-not-begun.true).start (fits-limit r own _ _ f)))
-          | else-not-begun+then-steps-budget+in_ok-step w ↦
-              moved_on script budget r own w.step.new.self mid w.step.new.state g _ w.self-is w.state-is fits (λ f'.
-              w.in_ok-step.ensures.kept r budget (omega (arith, w.if-steps-budget.true, w.steps.ensures)) f'
-              ∙ sym (ap (λ b. rest_at script budget r b old.ending old.pieces.items h) w.if-not-begun.false))
-          | else-not-begun+else-steps-budget w ↦
-              moved_on script budget r own w.cut.new.self mid h g _ w.self-is w.state-is fits (λ f'.
-              w.cut.ensures.kept script r budget h (omega (arith, w.if-steps-budget.false, w.steps.ensures, c.requires.within))
-              ∙ sym (ap (λ b. rest_at script budget r b old.ending old.pieces.items h) w.if-not-begun.false))
-        ] in
+    elim c.if-not-begun.branch [
+      | then-not-begun+in_ok-begin w ↦
+          moved_on script budget r own w.begin.new.self mid w.begin.new.state g _ w.self-is w.state-is fits (λ f'.
+          w.in_ok-begin.ensures.kept r budget f'
+          ∙ sym (ap (λ b. rest_at script budget r b old.ending old.pieces.items h) w.if-not-begun.true
+          ∙ rest_first r own script budget old.ending old.pieces.items h (c.requires.first w.if-not-begun.true).start (fits-limit r own _ _ f)))
+      | else-not-begun+then-steps-budget+in_ok-step w ↦
+          moved_on script budget r own w.step.new.self mid w.step.new.state g _ w.self-is w.state-is fits (λ f'.
+          w.in_ok-step.ensures.kept r budget (omega (arith, w.if-steps-budget.true, w.steps.ensures)) f'
+          ∙ sym (ap (λ b. rest_at script budget r b old.ending old.pieces.items h) w.if-not-begun.false))
+      | else-not-begun+else-steps-budget w ↦
+          moved_on script budget r own w.cut.new.self mid h g _ w.self-is w.state-is fits (λ f'.
+          w.cut.ensures.kept script r budget h (omega (arith, w.if-steps-budget.false, w.steps.ensures, c.requires.within))
+          ∙ sym (ap (λ b. rest_at script budget r b old.ending old.pieces.items h) w.if-not-begun.false))
+    ] in
     c.settle.ensures.kept script r budget g steps ∙ same

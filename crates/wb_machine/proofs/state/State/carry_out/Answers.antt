@@ -1,16 +1,8 @@
-use Rattle.std.proofs.Common.{◌≡◌, ap, ◌∙◌, sym, length, arith, rules, w32, FitsSigned}
-use Rattle.std.specs.Prelude.{IfOk}
-use Rattle.wb_model.specs.declared.heap.Rule.{Rule}
+use Rattle.std.proofs.Common.{ap, ◌∙◌, sym, length, arith, rules, w32, FitsSigned}
 use Rattle.wb_model.specs.declared.script.Statement.TheViews.{out-Statement, outs-Alloc, outs-Free, outs-PrintText, outs-PrintNumber}
 use Rattle.std.proofs.lemmas.Int.{to_z-of_z}
 use Rattle.wb_model.specs.declared.script.Number.TheVariants.{Constant}
-use Rattle.wb_model.specs.Statements.{Meaning, statement}
-use Rattle.wb_model.specs.Operands.{within}
-use Rattle.wb_model.specs.Rest.{Fits}
-use Rattle.wb_machine.specs.declared.control.Ending.{Ending}
-use Rattle.wb_machine.specs.Held.{main_of, state_of}
-use Rattle.wb_machine.specs.Carried.{alloc_carried, print_carried}
-use Rattle.wb_machine.specs.Flow.{in_main_frame, ended_by, is_stop, IsSameFlow}
+use Rattle.wb_machine.specs.Held.{main_of}
 use Rattle.wb_machine.proofs.Outcomes.{if_ok_with}
 use Rattle.wb_machine.proofs.Kept.{alloc_carried_out, free_carried_out, number_carried_out, text_carried_out, local_within, alloc_target, text_quoted}
 use Rattle.wb_machine.proofs.state.State.carry_out.Goals as goal
@@ -19,7 +11,7 @@ pub alloc-requires-clause-target : goal.alloc-requires-clause-target
 alloc-requires-clause-target c =
     let locals = (main_of c.args.script.now).locals in
     let declared = alloc_target (length c.args.script.now.literals) locals (out-Statement c.args.first.now) c.in-Alloc.target c.in-Alloc.bytes c.in-Alloc.field-2
-        (ap out-Statement c.in-Alloc.is ∙ outs-Alloc c.in-Alloc.target c.in-Alloc.bytes c.in-Alloc.field-2) c.requires.statement in
+    (ap out-Statement c.in-Alloc.is ∙ outs-Alloc c.in-Alloc.target c.in-Alloc.bytes c.in-Alloc.field-2) c.requires.statement in
     omega (arith, local_within locals c.in-Alloc.target c.local_of.result declared c.local_of.ensures, c.requires.locals)
 
 pub returns-in-Alloc-clause-kept : goal.returns-in-Alloc-clause-kept
