@@ -4,4 +4,5 @@ pub mod Places
 pub mod LimitedHeaps
 pub mod Rows
 pub mod ResumeLemmas
+pub mod WorkedCases
 pub mod MeaningLemmas

@@ -106,3 +106,12 @@ live_from (h ∷ hs) at limit p s within = go (p h) (live_from hs (end_of h) lim
 
 pub found-live : (heap : LimitedHeap) (p : Header → Bool) → IsSoundHeap heap → IfSome (find p (headers heap.row)) (IsLiveBelow heap.limit)
 found-live heap p is = live_from (headers heap.row) 0 heap.limit p is.row.spaced (λ k d lt. omega (arith, is.within k d lt, is.bound))
+
+-- what holds of all cells, and of the new one
+pub All-heap_with : (P : Header → Type 0) (heap : LimitedHeap) (length : ℕ) (kind : Kind) (number level : ℕ) →
+    P (record { place = place_in heap length; length = length; kind = kind; level = level; number = number }) → All P (headers heap.row) →
+    All P (headers (heap_with heap length kind number level).row)
+All-heap_with P heap length kind number level here rest = All-inserted P (fresh_cell (place_in heap length) length kind number level) heap.row here rest
+
+pub All-heap_without : (P : Header → Type 0) (heap : LimitedHeap) (p : Ptr) → All P (headers heap.row) → All P (headers (heap_without heap p).row)
+All-heap_without P heap p all = subst (All P) (sym (headers-without p heap.row)) (All-filter _ P (headers heap.row) all)

@@ -1,3 +1,5 @@
+//! Why the heap refuses a call.
+
 use std::alloc::AllocError;
 
 /// Why a call of the heap was refused. A refused call leaves the heap as it was.
