@@ -22,7 +22,7 @@ loop-cell-preserved c =
     let row = headers c.self.inside.heap.row in
     let next = onward_next c.loop-cell.from 0 c.in-Some.cell row c.next_live.ensures.sound.row.spaced (sym c.in-Some.ensures.first) in
     elim c.if-may_leak.branch [
-      | then-may_leak+in_ok-push w ↦ leaks_on row c.loop-cell.from c.in-Some.cell c.loop-cell.leaks c.if-may_leak.leaks next (sym c.may_leak.ensures ∙ w.if-may_leak.true) (w.leaks-is ∙ w.in_ok-push.ensures) c.loop-cell.invariant
+      | then-may_leak+in_ok-push w ↦ leaks_on row c.loop-cell.from c.in-Some.cell c.loop-cell.leaks c.if-may_leak.leaks next (sym c.may_leak.ensures ∙ w.if-may_leak.true) (w.leaks-is ∙ w.in_ok-push.ensures.pushed) c.loop-cell.invariant
       | else-may_leak w ↦
           let P : List Leak → Type 0 = λ l. l ++ leaks_of (onward (end_of c.in-Some.cell) row) ≡ leaks_of row in
           subst P (sym w.leaks-is) (leaks_past row c.loop-cell.from c.in-Some.cell c.loop-cell.leaks next (sym c.may_leak.ensures ∙ w.if-may_leak.false) c.loop-cell.invariant)
