@@ -1,7 +1,6 @@
 -- The part of a run that reads the rule: the trace, the notes and the committed length; and how a process ends under a rule.
 use Rattle.std.specs.Prelude.{ℕ, ◌+◌, ◌-◌, List, [], ◌∷◌, ◌++◌, Option, Some, None, sum, length}
 use Rattle.wb_model.specs.declared.heap.Rule.{Rule}
-use Rattle.wb_model.specs.declared.heap.Header.{Header}
 use Rattle.wb_model.specs.declared.heap.Answer.{Answer}
 use Rattle.wb_model.specs.declared.heap.Answer.TheVariants.{Granted}
 use Rattle.wb_model.specs.declared.heap.Attempt.{Attempt}

@@ -27,4 +27,5 @@ pub mod Statements
 pub mod Texts
 pub mod Trees
 pub mod Words
+pub mod Writing
 pub mod formers

@@ -1,10 +1,12 @@
 -- A heap of cells of words with a limit: what contracts see of the heap, and what a grant and a release make of it.
-use Rattle.std.specs.Prelude.{ℕ, ◌+◌, ◌-◌, ◌/◌, ◌%◌, ◌≡◌, ◌≤◌, List, [], replicate, min}
+use Rattle.std.specs.Prelude.{ℕ, ◌+◌, ◌-◌, ◌/◌, ◌%◌, ◌≡◌, ◌≤◌, List, [], replicate, min, true, nat_le, Option, find, All}
+use Rattle.wb_model.specs.declared.heap.TheConstants.{CEILING}
+use Rattle.wb_model.specs.declared.heap.Header.{Header}
 use Rattle.wb_model.specs.declared.heap.Ptr.{Ptr}
 use Rattle.wb_model.specs.declared.heap.Kind.{Kind}
 use Rattle.wb_model.specs.declared.heap.Shape.{Shape}
-use Rattle.wb_model.specs.Row.{Cell, headers, place_of, inserted, without}
-use Rattle.wb_model.specs.Space.{Space, space_below, bound_below, committed_by}
+use Rattle.wb_model.specs.Row.{Cell, IsRow, headers, end_of, place_of, inserted, without}
+use Rattle.wb_model.specs.Space.{Space, space_below, bound_below, committed_by, is_shape}
 
 pub record LimitedHeap : Type 0 where
   pub row : List (Cell (List ℕ))
@@ -48,3 +50,24 @@ pub record IsCellLength (length : ℕ) : Type 0 where
   pub aligned : length % 16 ≡ 0
   pub least : 16 ≤ length
   pub greatest : length ≤ 16777232
+
+-- the first cell that begins at a place or above it
+abbrev pub next_live_of : ℕ → List Header → Option Header
+next_live_of from row = find (λ h. nat_le from h.place) row
+
+-- what holds of each live cell of a heap with this limit
+pub record IsLiveBelow (limit : ℕ) (h : Header) : Type 0 where
+  pub placed : h.place % 16 ≡ 0
+  pub aligned : h.length % 16 ≡ 0
+  pub least : 16 ≤ h.length
+  pub numbered : 1 ≤ h.number
+  pub within : end_of h ≤ limit
+
+-- what holds of every heap: its cells are a row below the committed length, which keeps its bounds
+pub record IsSoundHeap (heap : LimitedHeap) : Type 0 where
+  pub row : IsRow (headers heap.row)
+  pub within : All (λ h. end_of h ≤ heap.committed) (headers heap.row)
+  pub least : (space_in heap).least ≤ heap.committed
+  pub bound : heap.committed ≤ (space_in heap).bound
+  pub limit : heap.limit ≤ CEILING
+  pub shape : is_shape heap.shape ≡ true

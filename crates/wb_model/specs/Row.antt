@@ -30,6 +30,7 @@ pointer_to h = record { place = h.place; number = h.number }
 abbrev pub cell_at : {A : Type 0} → Ptr → List (Cell A) → Option (Cell A)
 cell_at p row = find (λ c. is_at p c.head) row
 
+-- the row but for one cell
 abbrev pub without : {A : Type 0} → Ptr → List (Cell A) → List (Cell A)
 without p row = filter (λ c. not (is_at p c.head)) row
 
@@ -49,7 +50,7 @@ IsSpacedFrom at [] = Unit {0}
 IsSpacedFrom at (h ∷ hs) =
     (at ≤ h.place) × (h.place % 16 ≡ 0) × (h.length % 16 ≡ 0) × (16 ≤ h.length) × (1 ≤ h.number) × IsSpacedFrom (end_of h) hs
 
--- Row
+-- what every heap keeps: its cells ascend without meeting, and no two have one number
 pub record IsRow (row : List Header) : Type 0 where
   pub spaced : IsSpacedFrom 0 row
   pub numbered : AllPairs (λ g h. g.number ≢ h.number) row
@@ -68,20 +69,21 @@ abbrev pub place_from : ℕ → List Header → ℕ → ℕ
 place_from at [] length = at
 place_from at (h ∷ hs) length = if nat_le (at + length) h.place then at else place_from (end_of h) hs length
 
--- Place
+-- first fit: the place of a request is the first gap that is long enough, and above the last cell there is always room
 abbrev pub place_of : List Header → ℕ → ℕ
 place_of row length = place_from 0 row length
 
--- what Place says in words: free, a multiple of 16, and the least such
+-- the same in words: free, a multiple of 16, and the least such; `place_is_least` among the laws says that it is the same
 pub record IsLeastPlace (row : List Header) (length place : ℕ) : Type 0 where
   pub aligned : place % 16 ≡ 0
   pub free : IsFree row place length
   pub least : (q : ℕ) → q % 16 ≡ 0 → IsFree row q length → place ≤ q
 
--- the length of the cell for these bytes
+-- the length of the cell for a request of so many bytes: a header of 16, and the bytes in steps of 16
 abbrev pub cell_length : ℕ → ℕ
 cell_length bytes = 16 + 16 * ((bytes + 15) / 16)
 
+-- the end of the last cell, or a place where there is none
 abbrev pub top_from : ℕ → List Header → ℕ
 top_from at [] = at
 top_from at (h ∷ hs) = top_from (end_of h) hs

@@ -12,11 +12,11 @@ refusal_of Unlimited number end = None
 refusal_of (Limit l) number end = if nat_lt l end then Some Refused else None
 refusal_of (Number n) number end = if nat_eq n number then Some Simulated else None
 
--- the script's own setting
+-- the script's own setting: none, the k-th next attempt, or every k-th
 pub data Setting : Type 0 where
   never : Setting
   next : ℕ → Setting
-  -- each of this many, and how many are left until the next
+  -- k, and how many attempts are left until the next that is refused
   each : ℕ → ℕ → Setting
 
 -- whether the setting refuses the attempt at hand
@@ -25,17 +25,19 @@ is_due never = false
 is_due (next k) = nat_eq k 1
 is_due (each k left) = nat_eq left 1
 
--- the setting once it has after_attempt the attempt
+-- a setting for the k-th next attempt, one attempt later; the one that fired becomes none
 abbrev pub count_down : ℕ → Setting
 count_down zero = never
 count_down (suc zero) = never
 count_down (suc (suc k)) = next (suc k)
 
+-- a setting for every k-th attempt, with so many left until the next, one attempt later
 abbrev pub turn_round : ℕ → ℕ → Setting
 turn_round k zero = each k k
 turn_round k (suc zero) = each k k
 turn_round k (suc (suc left)) = each k (suc left)
 
+-- the setting once it has counted an attempt
 abbrev pub after_attempt : Setting → Setting
 after_attempt never = never
 after_attempt (next k) = count_down k
@@ -47,6 +49,7 @@ pub record Request : Type 0 where
   pub place : ℕ
   pub due : Bool
 
+-- what a rule leaves open is granted, unless the end passes the ceiling
 abbrev pub unless_refused : Option Answer → ℕ → Option Answer
 unless_refused (Some answer) end = Some answer
 unless_refused None end = if nat_lt CEILING end then None else Some Granted

@@ -1,6 +1,6 @@
 -- Which trees are scripts: those that keep the checks and the limits of the lines that the reader knows. Whoever runs a
 -- script asks for such a tree, and the reader gives no other.
-use Rattle.std.specs.Prelude.{ℕ, pos, negsuc, ◌+◌, List, [], ◌∷◌, Bool, true, false, not, ◌&&◌, nat_eq, nat_le, nat_lt, Option, Some, None, length, slice_get}
+use Rattle.std.specs.Prelude.{ℕ, pos, negsuc, List, Bool, true, false, not, ◌&&◌, nat_eq, nat_le, nat_lt, Option, Some, None, length, slice_get}
 use Rattle.std.specs.List.{list_all}
 use Rattle.wb_model.specs.declared.script.Script.{Script}
 use Rattle.wb_model.specs.declared.script.Body.{Body}

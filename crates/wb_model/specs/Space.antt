@@ -1,5 +1,5 @@
 -- The committed length of a chunk: how a limit and a shape decide it, and the free runs below it.
-use Rattle.std.specs.Prelude.{ℕ, ◌+◌, ◌-◌, ◌*◌, ◌/◌, ◌%◌, ◌≡◌, ◌≤◌, List, [], ◌∷◌, Bool, ◌&&◌, nat_lt, nat_le, nat_eq, if◌then◌else◌, min, max}
+use Rattle.std.specs.Prelude.{ℕ, ◌+◌, ◌-◌, ◌*◌, ◌/◌, ◌%◌, List, [], ◌∷◌, Bool, ◌&&◌, nat_lt, nat_le, nat_eq, if◌then◌else◌, min, max}
 use Rattle.wb_model.specs.declared.heap.TheConstants.{CEILING}
 use Rattle.wb_model.specs.declared.heap.Rule.{Rule}
 use Rattle.wb_model.specs.declared.heap.Rule.TheVariants.{Limit}

@@ -16,7 +16,7 @@ use Rattle.wb_model.specs.Rules.{Request}
 abbrev pub null : Ptr
 null = record { place = 0; number = 0 }
 
--- Row: what a cell holds, by its kind
+-- what a cell holds, by its kind; a cleanup cell's items stand in the state itself
 pub data Content : Type 0 where
   words : List ℤ → Content
   fields : List Ptr → Content
@@ -30,6 +30,7 @@ pub data Value : Type 0 where
   buffer : ℕ → List ℕ → Value
   view : View → Value
 
+-- what a local holds at first
 abbrev pub initial : Local → Value
 initial (OfPointer class) = pointer null
 initial OfNumber = number (pos 0)
@@ -40,7 +41,7 @@ pub record Frame : Type 0 where
   pub this : Ptr
   pub locals : List Value
 
--- State, but for what the rule alone decides: trace, notes and committed length (`Account`)
+-- what a script sees and changes; what the rule decides of a run beside it (trace, notes, committed length) is an `Account`
 pub record State : Type 0 where
   pub heap : Heap Content
   -- the cleanup stack's cell, its items from the oldest on, and how many it has room for
@@ -51,13 +52,13 @@ pub record State : Type 0 where
   pub lines : List (List ℕ)
   pub steps : ℕ
 
--- Result: how a piece ends
+-- how a piece ends that nothing stopped
 pub data Way : Type 0 where
   goes_on : Way
   returns : Ptr → Way
   leaves : ℤ → Way
 
--- Result: what stops the whole run at once
+-- what stops the whole run at once
 pub data Stop : Type 0 where
   panics : Panic → Stop
   is_cut : Why → Stop
@@ -118,10 +119,12 @@ set_heap st heap = record st { heap = heap }
 abbrev pub set_local : State → ℕ → Value → State
 set_local st i v = record st { frame = record st.frame { locals = slice_set st.frame.locals i v } }
 
+-- a local that is no pointer reads as null; a sound script asks for none
 abbrev pub pointer_in : Value → Ptr
 pointer_in (pointer p) = p
 pointer_in _ = null
 
+-- a local that is no number reads as 0; a sound script asks for none
 abbrev pub number_in : Value → ℤ
 number_in (number z) = z
 number_in _ = pos 0

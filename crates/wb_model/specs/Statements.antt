@@ -12,7 +12,6 @@ use Rattle.wb_model.specs.declared.heap.Panic.{Panic}
 use Rattle.wb_model.specs.declared.heap.Panic.TheVariants.{User, Workbench}
 use Rattle.wb_model.specs.declared.script.Script.{Script}
 use Rattle.wb_model.specs.declared.script.Body.{Body}
-use Rattle.wb_model.specs.declared.script.Procedure.{Procedure}
 use Rattle.wb_model.specs.declared.script.Class.{Class}
 use Rattle.wb_model.specs.declared.script.Pointer.{Pointer}
 use Rattle.wb_model.specs.declared.script.Refusal.{Refusal}
@@ -67,18 +66,20 @@ given_to p Leaves None st = ends (leaves (negsuc 3)) st
 abbrev pub is_null : Ptr → Bool
 is_null p = nat_eq p.number 0
 
--- a word of a signed number, and back: the model keeps the numbers
+-- what a new Raw cell for so many bytes holds
 abbrev pub fresh_words : ℕ → Content
 fresh_words bytes = words (replicate (4 * ((bytes + 15) / 16)) (pos 0))
 
+-- `alloc` of a length in its range
 unfoldable pub alloc_raw : Pointer → Refusal → ℕ → State → Process
 alloc_raw p r bytes st = allocate bytes Raw (fresh_words bytes) st (given_to p r)
 
--- `free`, and what a destructor ends with
+-- a cell is released, or the pointer was invalid
 unfoldable pub released : Option (Cell Content) → Ptr → State → Process
 released None p st = panic_with (User 42) st
 released (Some c) p st = done (set_row st (without p st.heap.row))
 
+-- `free`, and the end of an object's destruction
 unfoldable pub release : Ptr → State → Process
 release p st = elim (is_null p) [ true ↦ done st | false ↦ released (cell_at p st.heap.row) p st ]
 
@@ -94,10 +95,12 @@ realloc_raw p r q z st =
     with_some (within 1048576 z) (Workbench 9) st (λ bytes.
     reallocate c bytes st st (given_to p r))))
 
+-- `realloc`: of null it is an allocation
 unfoldable pub realloc_of : Bool → Pointer → Refusal → Ptr → ℤ → State → Process
 realloc_of true p r q z st = with_some (within 1048576 z) (Workbench 9) st (λ bytes. alloc_raw p r bytes st)
 realloc_of false p r q z st = realloc_raw p r q z st
 
+-- the words of a Raw cell
 unfoldable pub with_words : State → Ptr → (Cell Content → List ℤ → Process) → Process
 with_words st p go = with_cell st p (λ c. with_some (words_of c.head.kind c.content) (Workbench 2) st (go c))
 
@@ -106,6 +109,7 @@ abbrev pub index_in : ℕ → ℤ → Option ℕ
 index_in usable (pos i) = if nat_lt i (usable / 4) then Some i else None
 index_in usable (negsuc i) = None
 
+-- the numbers that an int holds
 abbrev pub in_range : ℤ → Bool
 in_range z = int_le (negsuc 2147483647) z && int_le z (pos 2147483647)
 
@@ -139,6 +143,7 @@ plain go goes_on st = go null st
 plain go (returns p) st = go p st
 plain go (leaves code) st = ends (leaves code) st
 
+-- arguments, from left to right
 unfoldable pub with_arguments : State → List Argument → (List Value → Process) → Process
 with_arguments st [] go = go []
 with_arguments st (Passed p ∷ rest) go = with_pointer st p (λ q. with_arguments st rest (λ vs. go (pointer q ∷ vs)))
@@ -149,6 +154,7 @@ abbrev pub class_of : Kind → Option ℕ
 class_of (Object k) = Some k
 class_of _ = None
 
+-- the class of a valid object
 unfoldable pub with_class : State → Ptr → (ℕ → Process) → Process
 with_class st p go = with_cell st p (λ c. with_some (class_of c.head.kind) (Workbench 2) st go)
 
@@ -158,7 +164,7 @@ newest items = slice_get items (length items - 1)
 abbrev pub drop_newest : ℕ → State → State
 drop_newest n st = record st { items = take (length st.items - n) st.items }
 
--- WORKBENCH 3, or goes on
+-- so many items stand above the entry of the innermost TRAP
 abbrev pub has_above : Where → State → ℕ → Bool
 has_above at st n = nat_le (at.floor + n) (length st.items)
 
@@ -167,18 +173,19 @@ item_pointer (I.Free p) = p
 item_pointer (I.Delete p) = p
 item_pointer (I.Call p op) = p
 
--- Destruction: an item that was taken off
+-- null: nothing
 unfoldable pub destroyed_object : Bool → Meaning → Where → Ptr → State → Process
 destroyed_object true rec at p st = done st
 destroyed_object false rec at p st = rec at (destroy_object p) st
 
+-- the destruction of an item that was taken off
 unfoldable pub destroyed_item : Script → Meaning → Where → Item → State → Process
 destroyed_item script rec at (I.Free p) st = release p st
 destroyed_item script rec at (I.Delete p) st = destroyed_object (is_null p) rec at p st
 destroyed_item script rec at (I.Call p op) st =
     in_frame rec at null (pointer p ∷ []) (operation_at script op) st (plain (λ _ st. done st))
 
--- Trap: what a TRAP makes of its body's end
+-- what a TRAP makes of its body's end; no `return` stands inside one
 unfoldable pub trapped : Meaning → Where → ℕ → ℕ → Way → State → Process
 trapped rec at x entry goes_on st =
     require (nat_eq (length st.items) entry) (Workbench 5) st (λ st. done (set_local st x (number (pos 0))))
@@ -203,9 +210,11 @@ leave_if false code st = done st
 abbrev pub print_line : List ℕ → State → Process
 print_line line st = done (record st { lines = st.lines ++ line ∷ [] })
 
+-- the bytes that an object asks for
 abbrev pub payload_of_object : Class → ℕ
 payload_of_object class = 8 + 8 * length class.fields + class.extra
 
+-- `new`: all fields are null
 unfoldable pub new_object : Script → Pointer → ℕ → Refusal → State → Process
 new_object script p class r st =
     allocate (payload_of_object (class_at script class)) (Object class)
@@ -219,14 +228,16 @@ realloc_text p c us n st =
 abbrev pub set_setting : State → Rattle.wb_model.specs.Rules.Setting → State
 set_setting st s = set_heap st (record st.heap { setting = s })
 
+-- the lengths of all cells together
 abbrev pub total : List Header → ℕ
 total row = sum (map (λ h. h.length) row)
 
+-- a rate
 abbrev pub at_least_one : ℤ → Option ℕ
 at_least_one (pos (suc n)) = Some (suc n)
 at_least_one _ = None
 
--- Meaning: one statement that was begun
+-- one statement that was begun; `rec` is the meaning of the pieces that it leaves to be done
 unfoldable pub statement : Script → Meaning → Where → Layer → State → Process
 statement script rec at (Statement-F.Alloc p v r) st =
     with_pointer st p (λ _. with_some (within 1048576 (number_of st v)) (Workbench 9) st (λ bytes. alloc_raw p r bytes st))

@@ -1,0 +1,47 @@
+//! Each call of the lists once, on its happy path.
+
+use crate::heap::{Answer, Attempt};
+use crate::items::Items;
+use crate::line::Line;
+use crate::memory::NoMemory;
+use crate::run::Trace;
+use arrayvec::ArrayVec;
+use std::alloc::AllocError;
+use std::test::Fail;
+
+fn attempt(number: u32) -> Attempt {
+    Attempt {
+        number,
+        length: 144,
+        place: 0,
+        answer: Answer::Granted,
+    }
+}
+
+#[test]
+fn a_trace_is_read_in_order(rt: HostRuntime) -> Result<(), Fail> {
+    let mut trace: Trace = Items::new(rt.alloc());
+    trace.push(attempt(1))?;
+    trace.push(attempt(2))?;
+    assert_eq!(rt; trace.len(), 2);
+    assert_eq!(rt; trace.get(1).copied(), Some(attempt(2)));
+    assert!(rt; trace.get(2).is_none());
+    assert!(rt; trace.as_slice() == [attempt(1), attempt(2)].as_slice());
+    Ok(())
+}
+
+#[test]
+fn a_vec_becomes_a_list(rt: HostRuntime) -> Result<(), Fail> {
+    let list = Items::from_vec(vec![in rt.alloc(); 7u8, 8, 9]?);
+    assert!(rt; list.as_slice() == [7, 8, 9].as_slice());
+    Ok(())
+}
+
+#[test]
+fn a_line_holds_its_bytes(rt: HostRuntime) -> Result<(), Fail> {
+    let mut bytes = ArrayVec::new();
+    bytes.push(b'a');
+    let _line = Line::new(bytes);
+    assert!(rt; NoMemory::from(AllocError) == NoMemory);
+    Ok(())
+}

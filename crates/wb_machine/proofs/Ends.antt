@@ -1,0 +1,25 @@
+-- What is left of a run that is over, and of one that has not begun.
+use Rattle.std.proofs.Common.{◌≡◌, ℕ, true, List, [], ◌∷◌, map, refl, ap, sym}
+use Rattle.wb_model.specs.declared.heap.Rule.{Rule}
+use Rattle.wb_model.specs.declared.script.Script.{Script}
+use Rattle.wb_model.specs.Heap.{cells_of_all_levels}
+use Rattle.wb_model.specs.Run.{leak_of}
+use Rattle.wb_model.specs.Rest.{resume, left_to_do, rest}
+use Rattle.wb_machine.specs.declared.control.Ending.{Ending}
+use Rattle.wb_machine.specs.declared.control.Ending.TheVariants.{GoesOn, Panics, Cut, NoCleanup}
+use Rattle.wb_machine.specs.declared.control.Piece.{Piece}
+use Rattle.wb_machine.specs.Held.{Held}
+use Rattle.wb_machine.specs.Flow.{is_over, rest_from}
+use Rattle.wb_machine.specs.Told.{leaks_held, told_by}
+use Rattle.wb_machine.proofs.Rows.{headers_read}
+
+-- what a run tells that is over is what is left of it
+pub rest_over : (script : Script) (budget : ℕ) (r : Rule) (ending : Ending) (pieces : List Piece) (h : Held) → is_over ending pieces ≡ true →
+    told_by ending (leaks_held h) h ≡ rest_from script budget r ending pieces h
+unfolding rest left_to_do resume
+rest_over script budget r GoesOn [] h e =
+    ap (λ hs. told_by GoesOn (map leak_of (cells_of_all_levels hs)) h) (sym (headers_read script h.heap.row))
+rest_over script budget r GoesOn (p ∷ ps) h e = cc
+rest_over script budget r (Panics p) pieces h e = refl
+rest_over script budget r (Cut why) pieces h e = refl
+rest_over script budget r NoCleanup pieces h e = refl

@@ -1,0 +1,94 @@
+-- What is known of the body of `main` of a script.
+use Rattle.std.proofs.Common.{◌≡◌, ℕ, ◌<◌, suc, zero, Bool, true, false, List, [], ◌∷◌, ◌++◌, length, refl, ap, ◌∙◌, sym, arith, Option, Some, None}
+use Rattle.std.specs.Prelude.{◌&&◌, slice_get, unwrap_or, nat_lt, nat_le, nat_eq}
+use Rattle.std.specs.List.{list_all}
+use Rattle.std.proofs.lemmas.Bool.{ltb-true}
+use Rattle.std.proofs.lemmas.List.Folds.{list_all-append}
+use Rattle.wb_model.specs.declared.script.Script.{Script}
+use Rattle.wb_model.specs.declared.script.Procedure.{Procedure}
+use Rattle.wb_model.specs.Statements.{no_body}
+use Rattle.wb_model.specs.Sound.{is_local, is_quotable, is_body, is_procedure, is_script, are_statements}
+use Rattle.wb_machine.specs.declared.control.Piece.{Piece}
+use Rattle.wb_machine.specs.declared.control.Piece.TheVariants.{MainTrap}
+use Rattle.wb_machine.specs.Held.{main_of}
+use Rattle.wb_machine.specs.Flow.{is_sound_piece, are_sound}
+
+pub and_left : (a b : Bool) → (a && b) ≡ true → a ≡ true
+and_left true b e = refl
+and_left false b e = cc
+
+pub and_right : (a b : Bool) → (a && b) ≡ true → b ≡ true
+and_right true b e = e
+and_right false b e = cc
+
+and_both : (a b : Bool) → a ≡ true → b ≡ true → (a && b) ≡ true
+and_both true b e f = f
+and_both false b e f = cc
+
+-- one of the elements that all pass
+all_at : {X : Type 0} (p : X → Bool) (xs : List X) (i : ℕ) (x : X) → list_all p xs ≡ true → slice_get xs i ≡ Some x → p x ≡ true
+all_at p [] i x a e = cc
+all_at p (y ∷ ys) zero x a e = let same : y ≡ x = cc in sym (ap p same) ∙ and_left (p y) (list_all p ys) a
+all_at p (y ∷ ys) (suc i) x a e = all_at p ys i x (and_right (p y) (list_all p ys) a) e
+
+none_within : {X : Type 0} (xs : List X) (i : ℕ) → i < length xs → slice_get xs i ≡ None → ⊥
+none_within [] i lt e = omega (arith, lt)
+none_within (x ∷ xs) zero lt e = cc
+none_within (x ∷ xs) (suc i) lt e = none_within xs i (omega (arith, lt)) e
+
+-- `main` is a body over its own locals
+main_body : (script : Script) → is_script script ≡ true → is_body (length script.literals) (main_of script) ≡ true
+main_body script ok = by (slice_get script.procedures script.main) refl
+  where
+    counts : Bool
+    counts = nat_le (length script.procedures) 256 && nat_lt script.main (length script.procedures)
+
+    parts : Bool
+    parts = list_all (is_procedure (length script.literals)) script.procedures && list_all (list_all is_quotable) script.literals
+
+    nothing : Bool
+    nothing = nat_eq (length script.classes) 0 && nat_eq (length script.operations) 0
+
+    each : list_all (is_procedure (length script.literals)) script.procedures ≡ true
+    each = and_left _ (list_all (list_all is_quotable) script.literals) (and_right (nothing && counts) parts ok)
+
+    within : script.main < length script.procedures
+    within = ltb-true _ _ (and_right (nat_le (length script.procedures) 256) _ (and_right nothing counts (and_left (nothing && counts) parts ok)))
+
+    by : (o : Option Procedure) → slice_get script.procedures script.main ≡ o →
+        is_body (length script.literals) (unwrap_or o (record { parameters = []; body = no_body })).body ≡ true
+    by None e = absurd (none_within script.procedures script.main within e)
+    by (Some p) e = and_right (nat_eq (length p.parameters) 0) (is_body (length script.literals) p.body) (all_at (is_procedure (length script.literals)) script.procedures script.main p each e)
+
+pub main_locals : (script : Script) → is_script script ≡ true → list_all is_local (main_of script).locals ≡ true
+main_locals script ok =
+    and_left (list_all is_local (main_of script).locals) (nat_le (length (main_of script).locals) 32)
+    (and_left _ (are_statements (length script.literals) (main_of script).locals (main_of script).statements) (main_body script ok))
+
+pub main_statements : (script : Script) → is_script script ≡ true →
+    are_statements (length script.literals) (main_of script).locals (main_of script).statements ≡ true
+main_statements script ok =
+    and_right (list_all is_local (main_of script).locals && nat_le (length (main_of script).locals) 32)
+    (are_statements (length script.literals) (main_of script).locals (main_of script).statements) (main_body script ok)
+
+-- one more piece of the script's own
+pub sound_pushed : (script : Script) (below pieces : List Piece) (p : Piece) → pieces ≡ below ++ p ∷ [] → are_sound script below ≡ true → is_sound_piece script p ≡ true →
+    are_sound script pieces ≡ true
+sound_pushed script below pieces p is a b =
+    ap (are_sound script) is ∙ list_all-append (is_sound_piece script) below (p ∷ []) ∙ and_both (are_sound script below) (is_sound_piece script p && true) a
+    (and_both (is_sound_piece script p) true b refl)
+
+pub sound_below : (script : Script) (below pieces : List Piece) (p : Piece) → pieces ≡ below ++ p ∷ [] → are_sound script pieces ≡ true → are_sound script below ≡ true
+sound_below script below pieces p is a =
+    and_left (are_sound script below) (are_sound script (p ∷ [])) (sym (ap (are_sound script) is ∙ list_all-append (is_sound_piece script) below (p ∷ [])) ∙ a)
+
+pub sound_top : (script : Script) (below pieces : List Piece) (p : Piece) → pieces ≡ below ++ p ∷ [] → are_sound script pieces ≡ true → is_sound_piece script p ≡ true
+sound_top script below pieces p is a =
+    and_left (is_sound_piece script p) true
+    (and_right (are_sound script below) (are_sound script (p ∷ [])) (sym (ap (are_sound script) is ∙ list_all-append (is_sound_piece script) below (p ∷ [])) ∙ a))
+
+-- the pieces of a run that was begun are the script's own
+pub sound_begun : (script : Script) (none one two : List Piece) (code : Piece) → none ≡ [] → one ≡ none ++ MainTrap ∷ [] → two ≡ one ++ code ∷ [] →
+    is_sound_piece script code ≡ true → are_sound script two ≡ true
+sound_begun script none one two code e f g ok =
+    sound_pushed script one two code g (sound_pushed script none one MainTrap f (ap (are_sound script) e) refl) ok

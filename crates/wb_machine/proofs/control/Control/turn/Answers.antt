@@ -1,0 +1,72 @@
+use Rattle.std.proofs.Common.{◌≡◌, ◌≤◌, ap, ◌∙◌, sym, subst, arith, length, true, false}
+use Rattle.std.proofs.Common.{ℕ}
+use Rattle.wb_model.specs.declared.heap.Rule.{Rule}
+use Rattle.wb_model.specs.declared.run.RunResult.{RunResult}
+use Rattle.wb_model.specs.declared.script.Script.{Script}
+use Rattle.wb_model.specs.Rest.{Fits}
+use Rattle.wb_machine.specs.declared.control.Control.{Control}
+use Rattle.wb_machine.specs.Held.{Held}
+use Rattle.wb_machine.specs.Flow.{is_stop, is_over, are_sound, rest_from, rest_at}
+use Rattle.wb_machine.proofs.Begins.{rest_first}
+use Rattle.wb_machine.proofs.Fitting.{fits-limit, fits-before, going_on}
+use Rattle.wb_machine.proofs.control.Control.turn.Goals.{then-not-begun+in_ok-begin, else-not-begun+then-steps-budget+in_ok-step, else-not-begun+else-steps-budget}
+use Rattle.wb_machine.proofs.control.Control.turn.Goals as goal
+
+pub returns-clause-sound : goal.returns-clause-sound
+returns-clause-sound c =
+    let script = c.args.script.now in
+    let P : Control → Type 0 = λ x. are_sound script x.pieces.items ≡ true in
+    c.settle.ensures.sound script (elim c.if-not-begun.branch [
+      | then-not-begun+in_ok-begin w ↦ subst P (sym w.self-is) w.in_ok-begin.ensures.sound
+      | else-not-begun+then-steps-budget+in_ok-step w ↦ subst P (sym w.self-is) w.in_ok-step.ensures.sound
+      | else-not-begun+else-steps-budget w ↦ subst P (sym w.self-is) (ap (are_sound script) w.cut.ensures.pieces ∙ c.requires.sound)
+    ])
+
+-- a fact of what one of the branches made
+moved_on : (script : Script) (budget : ℕ) (r own : Rule) (made mid : Control) (st g : Held) (told : RunResult) → mid ≡ made → g ≡ st →
+    Fits r own (is_stop mid.ending) (length g.trace) →
+    (Fits r own (is_stop made.ending) (length st.trace) → rest_from script budget r made.ending made.pieces.items st ≡ told) →
+    rest_from script budget r mid.ending mid.pieces.items g ≡ told
+moved_on script budget r own made mid st g told e d f go =
+    let f' : Fits r own (is_stop made.ending) (length st.trace) =
+    subst (λ (x : Held). Fits r own (is_stop made.ending) (length x.trace)) d (subst (λ (x : Control). Fits r own (is_stop x.ending) (length g.trace)) e f) in
+    ap (λ (x : Control). rest_from script budget r x.ending x.pieces.items g) e
+    ∙ ap (λ (x : Held). rest_from script budget r made.ending made.pieces.items x) d ∙ go f'
+
+steps_are : (g st : Held) (budget : ℕ) → g ≡ st → st.steps ≤ budget → g.steps ≤ budget
+steps_are g st budget e le = subst (λ (x : Held). x.steps ≤ budget) (sym e) le
+
+pub returns-clause-kept : goal.returns-clause-kept
+returns-clause-kept c r f =
+    let script = c.args.script.now in
+    let budget = c.args.budget in
+    let own = c.args.rule in
+    let old = c.args.self.now in
+    let h = c.args.state.now in
+    let mid = c.if-not-begun.self in
+    let g = c.if-not-begun.state in
+    let goes : is_over c.settle.new.self.ending c.settle.new.self.pieces.items ≡ false → is_stop mid.ending ≡ false =
+    λ e. sym (ap is_stop c.settle.ensures.ending) ∙ going_on c.settle.new.self.ending c.settle.new.self.pieces.items e in
+    let fits : Fits r own (is_stop mid.ending) (length g.trace) = fits-before r own _ _ (length g.trace) (length g.trace) goes (omega arith) f in
+    let steps : g.steps ≤ budget = elim c.if-not-begun.branch [
+      | then-not-begun+in_ok-begin w ↦ steps_are g w.begin.new.state budget w.state-is (omega (arith, w.in_ok-begin.ensures.steps))
+      | else-not-begun+then-steps-budget+in_ok-step w ↦ steps_are g w.step.new.state budget w.state-is (omega (arith, w.in_ok-step.ensures.steps, w.if-steps-budget.true, w.steps.ensures))
+      | else-not-begun+else-steps-budget w ↦ steps_are g h budget w.state-is c.requires.within
+    ] in
+    let same : rest_from script budget r mid.ending mid.pieces.items g ≡ rest_at script budget r c.args.begun old.ending old.pieces.items h =
+    elim c.if-not-begun.branch [
+      | then-not-begun+in_ok-begin w ↦
+          moved_on script budget r own w.begin.new.self mid w.begin.new.state g _ w.self-is w.state-is fits (λ f'.
+          w.in_ok-begin.ensures.kept r budget f'
+          ∙ sym (ap (λ b. rest_at script budget r b old.ending old.pieces.items h) w.if-not-begun.true
+          ∙ rest_first r own script budget old.ending old.pieces.items h (c.requires.first w.if-not-begun.true).start (fits-limit r own _ _ f)))
+      | else-not-begun+then-steps-budget+in_ok-step w ↦
+          moved_on script budget r own w.step.new.self mid w.step.new.state g _ w.self-is w.state-is fits (λ f'.
+          w.in_ok-step.ensures.kept r budget (omega (arith, w.if-steps-budget.true, w.steps.ensures)) f'
+          ∙ sym (ap (λ b. rest_at script budget r b old.ending old.pieces.items h) w.if-not-begun.false))
+      | else-not-begun+else-steps-budget w ↦
+          moved_on script budget r own w.cut.new.self mid h g _ w.self-is w.state-is fits (λ f'.
+          w.cut.ensures.kept script r budget h (omega (arith, w.if-steps-budget.false, w.steps.ensures, c.requires.within))
+          ∙ sym (ap (λ b. rest_at script budget r b old.ending old.pieces.items h) w.if-not-begun.false))
+    ] in
+    c.settle.ensures.kept script r budget g steps ∙ same

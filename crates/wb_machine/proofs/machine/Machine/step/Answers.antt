@@ -1,0 +1,37 @@
+use Rattle.std.proofs.Common.{◌≡◌, ap, ◌∙◌, sym, length, false}
+use Rattle.std.specs.Prelude.{◌&&◌}
+use Rattle.wb_model.specs.Run.{run}
+use Rattle.wb_machine.specs.Flow.{is_over}
+use Rattle.wb_machine.specs.Whole.{has_ended}
+use Rattle.wb_machine.proofs.Fitting.{fits-before}
+use Rattle.wb_machine.proofs.machine.Machine.step.Goals.{else-self-2-via-then-self-2+else-is_over, else-self-2-via-else-self-2}
+use Rattle.wb_machine.proofs.machine.Machine.step.Goals as goal
+
+pub invariant_of-self-2 : goal.invariant_of-self-2
+invariant_of-self-2 c =
+    let m = c.self.inside in
+    let over = is_over m.control.ending m.control.pieces.items in
+    let old = c.self.invariant.sound c.if-self.false in
+    let turn = c.in_ok-turn.ensures in
+    let going : has_ended m ≡ false = elim c.else-self-2.branch [
+      | else-self-2-via-then-self-2+else-is_over w ↦ ap (λ b. b && over) w.if-self-2.true ∙ sym w.is_over.ensures ∙ w.if-is_over.false
+      | else-self-2-via-else-self-2 w ↦ ap (λ b. b && over) w.if-self-2.false
+    ] in
+    record {
+      sound = λ well. record {
+        script = old.script;
+        small = old.small;
+        limit = turn.stays.limit ∙ old.limit;
+        within = turn.within;
+        counted = turn.counted;
+        first = λ e. cc;
+        settled = λ e. turn.settled;
+        pieces = turn.sound;
+        locals = λ e. turn.locals;
+        leaks = λ e. c.in_ok-self-inside.ensures;
+      };
+      keeps = λ well r f.
+          turn.kept r f
+          ∙ c.self.invariant.keeps c.if-self.false r (fits-before r m.rule (has_ended m) _ (length m.state.trace) (length c.turn.new.state.trace) (λ e. going) turn.stays.fewer f)
+          ∙ ap (run m.script.now r m.budget) (sym turn.stays.shape);
+    }

@@ -1,0 +1,10 @@
+use Rattle.std.proofs.Common.{◌≡◌, ◌++◌, length}
+use Rattle.wb_model.specs.Row.{headers}
+use Rattle.wb_machine.proofs.Leaks.{onward, leaks_of}
+use Rattle.wb_machine.proofs.state.State.leaks.Given as goal
+
+abbrev pub invariant-loop-cell : goal.invariant-loop-cell
+invariant-loop-cell l = l.leaks ++ leaks_of (onward l.from (headers l.self-inside.heap.row)) ≡ leaks_of (headers l.self-inside.heap.row)
+
+abbrev pub decreases-loop-cell : goal.decreases-loop-cell
+decreases-loop-cell l = length (onward l.from (headers l.self-inside.heap.row))

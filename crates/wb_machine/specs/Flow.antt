@@ -1,0 +1,109 @@
+-- What is still to do as a machine holds it, and which process of the definitions that is.
+use Rattle.std.specs.Prelude.{◌≡◌, ℕ, ◌+◌, ◌≤◌, List, [], ◌∷◌, ◌++◌, Bool, true, false, not, ◌||◌, map, reverse, length}
+use Rattle.wb_model.specs.declared.heap.Rule.{Rule}
+use Rattle.wb_model.specs.declared.run.RunResult.{RunResult}
+use Rattle.wb_model.specs.declared.script.Script.{Script}
+use Rattle.std.specs.List.{list_all}
+use Rattle.wb_model.specs.Sound.{are_statements}
+use Rattle.wb_model.specs.Space.{space_of, limit_under}
+use Rattle.wb_model.specs.State.{State, Way, goes_on, panics, is_cut, no_cleanup, Process, ends, stops, and_then}
+use Rattle.wb_model.specs.Statements.{all, Where}
+use Rattle.wb_model.specs.Account.{Settled, settled}
+use Rattle.wb_model.specs.Rest.{Pending, doing, main_catching, Progress, not_begun, going, has_stopped, rest}
+use Rattle.wb_machine.specs.declared.control.Ending.{Ending}
+use Rattle.wb_machine.specs.declared.control.Ending.TheVariants.{GoesOn, Panics, Cut, NoCleanup}
+use Rattle.wb_machine.specs.declared.control.Piece.{Piece}
+use Rattle.wb_machine.specs.declared.control.Piece.TheVariants.{Code, MainTrap}
+use Rattle.wb_machine.specs.Held.{Held, start_held, main_of, state_of, account_of}
+
+-- `main` stands in the first frame, over no items
+abbrev pub in_main_frame : Where
+in_main_frame = record { depth = 1; floor = 0 }
+
+abbrev pub is_nothing : {A : Type 0} → List A → Bool
+is_nothing [] = true
+is_nothing (x ∷ xs) = false
+
+abbrev pub pending_of : Piece → Pending
+pending_of (Code statements) = doing in_main_frame (all statements.now)
+pending_of MainTrap = main_catching in_main_frame
+
+-- a piece that begins with a step
+abbrev pub needs_step : Piece → Bool
+needs_step (Code statements) = not (is_nothing statements.now)
+needs_step MainTrap = false
+
+-- a piece of the script's own statements
+abbrev pub is_sound_piece : Script → Piece → Bool
+is_sound_piece script (Code statements) = are_statements (length script.literals) (main_of script).locals statements.now
+is_sound_piece script MainTrap = true
+
+abbrev pub are_sound : Script → List Piece → Bool
+are_sound script pieces = list_all (is_sound_piece script) pieces
+
+-- the pending pieces, the innermost first
+abbrev pub pending_in : List Piece → List Pending
+pending_in pieces = map pending_of (reverse pieces)
+
+-- the process that ended so
+abbrev pub ended_by : Ending → State → Process
+ended_by GoesOn st = ends goes_on st
+ended_by (Panics p) st = stops (panics p) st
+ended_by (Cut why) st = stops (is_cut why) st
+ended_by NoCleanup st = stops no_cleanup st
+
+abbrev pub is_stop : Ending → Bool
+is_stop GoesOn = false
+is_stop (Panics p) = true
+is_stop (Cut why) = true
+is_stop NoCleanup = true
+
+-- nothing more is to do
+abbrev pub is_over : Ending → List Piece → Bool
+is_over ending pieces = is_stop ending || is_nothing pieces
+
+-- a step is to come: the piece on top begins with one
+abbrev pub IsReady : Ending → List Piece → Type 0
+IsReady ending pieces = (ending ≡ GoesOn) × (below : List Piece) × (p : Piece) × (pieces ≡ below ++ p ∷ []) × (needs_step p ≡ true)
+
+-- how far the run has come, once it was begun
+abbrev pub progress_by : Ending → List Pending → State → Progress
+progress_by GoesOn ps st = going ps goes_on st
+progress_by (Panics p) ps st = has_stopped (panics p) st
+progress_by (Cut why) ps st = has_stopped (is_cut why) st
+progress_by NoCleanup ps st = has_stopped no_cleanup st
+
+abbrev pub progress_of : Bool → Ending → List Pending → State → Progress
+progress_of false ending ps st = not_begun
+progress_of true ending ps st = progress_by ending ps st
+
+-- what a process comes to under a rule, after what is held
+unfoldable pub flow : Rule → Process → Held → Settled
+flow r p h = settled r (space_of r h.heap.shape) p (account_of h)
+
+-- one process comes to the same as another, whatever follows
+abbrev pub IsSameFlow : Rule → Process → Held → Process → Held → Type 0
+IsSameFlow r p h q g = (k : Way → State → Process) → flow r (and_then p k) h ≡ flow r (and_then q k) g
+
+-- what is left of a run that was begun gives this under a rule
+abbrev pub rest_from : Script → ℕ → Rule → Ending → List Piece → Held → RunResult
+rest_from script budget r ending pieces h =
+    rest script budget h.heap.shape r (progress_by ending (pending_in pieces) (state_of script h)) (account_of h)
+
+-- what no turn changes, how many attempts it makes, and that each live cell keeps a number of an attempt
+pub record Stays (before after : Held) : Type 0 where
+  pub limit : after.heap.limit ≡ before.heap.limit
+  pub shape : after.heap.shape ≡ before.heap.shape
+  pub fewer : length before.trace ≤ length after.trace
+  pub more : length after.trace ≤ length before.trace + 1
+
+-- the same of a run that may not have begun
+abbrev pub rest_at : Script → ℕ → Rule → Bool → Ending → List Piece → Held → RunResult
+rest_at script budget r begun ending pieces h =
+    rest script budget h.heap.shape r (progress_of begun ending (pending_in pieces) (state_of script h)) (account_of h)
+
+-- nothing is done yet, and nothing is to do
+pub record IsFirst (rule : Rule) (ending : Ending) (pieces : List Piece) (h : Held) : Type 0 where
+  pub goes_on : ending ≡ GoesOn
+  pub nothing : pieces ≡ []
+  pub start : h ≡ start_held (limit_under rule) h.heap.shape

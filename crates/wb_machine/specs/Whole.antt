@@ -1,0 +1,57 @@
+-- A whole machine: what callers see of it, and what it keeps.
+use Rattle.std.specs.Prelude.{◌≡◌, ◌⊎◌, ◌+◌, ◌≤◌, Bool, true, false, ◌&&◌, length}
+use Rattle.wb_model.specs.declared.heap.Rule.{Rule}
+use Rattle.wb_model.specs.declared.run.RunResult.{RunResult}
+use Rattle.wb_model.specs.Sound.{is_script}
+use Rattle.wb_model.specs.Space.{limit_under}
+use Rattle.wb_model.specs.Run.{run}
+use Rattle.wb_model.specs.Rest.{Fits}
+use Rattle.wb_machine.specs.declared.machine.Machine.TheInside.{Inside}
+use Rattle.wb_machine.specs.Seen.{Seen}
+use Rattle.wb_machine.specs.Held.{main_of}
+use Rattle.wb_machine.specs.Flow.{is_stop, is_over, are_sound, IsReady, IsFirst, rest_at}
+use Rattle.wb_machine.specs.Told.{leaks_held}
+
+-- the run has ended
+abbrev pub has_ended : Inside → Bool
+has_ended m = m.begun && is_over m.control.ending m.control.pieces.items
+
+abbrev pub seen : Inside → Seen
+seen m = record {
+  script = m.script.now;
+  rule = m.rule;
+  budget = m.budget;
+  shape = m.state.heap.shape;
+  attempts = length m.state.trace;
+  steps = m.state.steps;
+  begun = m.begun;
+  over = has_ended m;
+  failed = m.failed;
+}
+
+-- Rest: what the pending pieces give from the state on
+abbrev pub rest_in : Rule → Inside → RunResult
+rest_in r m = rest_at m.script.now m.budget r m.begun m.control.ending m.control.pieces.items m.state
+
+-- a machine that met no want of memory
+pub record IsSound (m : Inside) : Type 0 where
+  pub script : is_script m.script.now ≡ true
+  pub small : m.budget ≤ 1000000
+  pub limit : m.state.heap.limit ≡ limit_under m.rule
+  pub within : m.state.steps ≤ m.budget
+  pub counted : length m.state.trace ≤ m.state.steps + 1
+  pub first : m.begun ≡ false → IsFirst m.rule m.control.ending m.control.pieces.items m.state
+  -- a step is to come, or the run is over
+  pub settled : m.begun ≡ true → (is_over m.control.ending m.control.pieces.items ≡ true) ⊎ IsReady m.control.ending m.control.pieces.items
+  pub pieces : are_sound m.script.now m.control.pieces.items ≡ true
+  pub locals : m.begun ≡ true → is_stop m.control.ending ≡ false → length m.state.locals ≡ length (main_of m.script.now).locals
+  pub leaks : has_ended m ≡ true → m.leaks ≡ leaks_held m.state
+
+-- under each rule that fits, the rest is the run under that rule
+abbrev pub Keeps : Inside → Type 0
+Keeps m = (r : Rule) → Fits r m.rule (has_ended m) (length m.state.trace) → rest_in r m ≡ run m.script.now r m.budget m.state.heap.shape
+
+-- what each machine keeps, unless it met want of memory
+pub record IsMachine (m : Inside) : Type 0 where
+  pub sound : m.failed ≡ false → IsSound m
+  pub keeps : m.failed ≡ false → Keeps m

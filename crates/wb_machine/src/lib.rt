@@ -1,0 +1,7 @@
+//! A machine that runs a script one step at a time, over frames of its own.
+#![tactic(auto)]
+
+mod control;
+pub mod machine;
+mod print;
+mod state;

@@ -1,0 +1,217 @@
+//! The machine, and a whole run.
+
+ghost use Rattle.std.specs.Prelude.{◌≡◌, ◌+◌, ◌≤◌, ◌↔◌, true, false, min, is_err, IsTrue, IfOk, OnOk, OnErr};
+ghost use Rattle.wb_model.specs.Sound.{is_script};
+ghost use Rattle.wb_model.specs.Space.{is_shape};
+ghost use Rattle.wb_model.specs.Run.{run};
+ghost use Rattle.wb_machine.specs.declared.machine.Turn.TheVariants.{GoesOn, Ended};
+ghost use Rattle.wb_machine.specs.declared.machine.RunFault.TheVariants.{BadShape};
+
+use crate::control::Control;
+use crate::state::State;
+use std::alloc::Global;
+use std::marker::Model;
+use wb_model::heap::{Rule, Shape};
+use wb_model::items::Items;
+use wb_model::memory::NoMemory;
+use wb_model::run::{Leaks, RunResult};
+use wb_model::script::Script;
+use wb_rheap::fault::HeapFault;
+
+/// Why a run gives no result.
+#[derive(Clone, Copy, Debug, PartialEq, Eq)]
+pub enum RunFault {
+    /// The workbench's own memory ran out. This is never a refusal of the simulated heap.
+    NoMemory = 1,
+    /// A minimum length or a growth step that no heap may have.
+    BadShape = 2,
+}
+
+impl From<NoMemory> for RunFault {
+    ghost use Rattle.std.specs.Prelude.{◌≡◌};
+    ghost use Rattle.wb_machine.specs.declared.machine.RunFault.TheVariants as faults;
+
+    ghost from_gives = { λ _ fault. fault ≡ faults.NoMemory };
+
+    fn from(_error: NoMemory) -> RunFault {
+        RunFault::NoMemory
+    }
+}
+
+/// What a turn leaves.
+#[derive(Clone, Copy, Debug, PartialEq, Eq)]
+pub enum Turn {
+    /// A further turn is to come.
+    GoesOn,
+    /// The run is over.
+    Ended,
+}
+
+/// A run under way.
+#[derive(Drop)]
+pub struct Machine<'a> {
+    alloc: Global,
+    script: &'a Script,
+    rule: Rule,
+    budget: u32,
+    begun: bool,
+    control: Control<'a>,
+    state: State,
+    leaks: Leaks,
+    failed: bool,
+}
+
+impl<'a> Model for Machine<'a> {
+    ghost use Rattle.wb_machine.specs.Seen.{Seen};
+    ghost use Rattle.wb_model.specs.contracts.script.Statement as e;
+    ghost use Rattle.std.specs.Coded.{codes};
+
+    ghost Value = { Seen };
+
+    ghost coded = { Prim.hlevel (codes, e.the_row.coded) };
+
+    ghost use Rattle.wb_machine.specs.Whole.{seen, IsMachine};
+
+    ghost view = { seen };
+
+    ghost invariant = { IsMachine };
+}
+
+impl<'a> Machine<'a> {
+    /// A machine at the start of a run: no attempt is made yet.
+    ///
+    /// The budget counts steps. The shape's lengths are bytes. `BadShape` comes exactly where the shape is
+    /// none that a heap may have (source: this project's profile), and before `NoMemory`.
+    pub fn new(
+        alloc: Global,
+        script: &'a Script,
+        rule: Rule,
+        budget: u32,
+        shape: Shape,
+    ) -> Result<Machine<'a>, RunFault>
+        requires script { IsTrue (is_script script.now) }
+        requires least { 1 ≤ budget }
+        requires greatest { budget ≤ 1000000 }
+        ensures shape { (result ≡ Err RunFault.BadShape) ↔ (is_shape shape ≡ false) }
+        ensures seen { IfOk result (λ m. m ≡ record {
+          script = script.now;
+          rule = rule;
+          budget = budget;
+          shape = shape;
+          attempts = 0;
+          steps = 0;
+          begun = false;
+          over = false;
+          failed = false;
+        }) }
+    {
+        let state = match State::new(alloc, rule, shape) {
+            Ok(state) => state,
+            Err(HeapFault::BadShape) => return Err(RunFault::BadShape),
+            Err(_) => return Err(RunFault::NoMemory),
+        };
+        Ok(Machine {
+            alloc,
+            script,
+            rule,
+            budget,
+            begun: false,
+            control: Control::new(alloc),
+            state,
+            leaks: Items::new(alloc),
+            failed: false,
+        })
+    }
+
+    /// Takes the next turn.
+    ///
+    /// The first makes attempt 1 and begins `main`, and counts no step. Each later one counts a step and
+    /// carries it out, or cuts the run where the budget is used up; all ends that follow belong to it. A turn
+    /// makes at most one attempt. Once the run is over it answers `Ended` and changes nothing. After
+    /// `NoMemory` the machine answers `NoMemory` for good.
+    pub fn step(&mut self) -> Result<Turn, NoMemory>
+        ensures script { self.new.script ≡ self.old.script }
+        ensures rule { self.new.rule ≡ self.old.rule }
+        ensures budget { self.new.budget ≡ self.old.budget }
+        ensures shape { OnOk result (self.new.shape ≡ self.old.shape) }
+        ensures begun { OnOk result (self.new.begun ≡ true) }
+        ensures first { OnOk result (self.old.begun ≡ false → self.new.steps ≡ 0) }
+        ensures later { OnOk result (self.old.begun ≡ true → self.old.over ≡ false → self.new.steps ≡ min (self.old.steps + 1) self.old.budget) }
+        ensures counted { IfOk result (λ turn. self.old.begun ≡ true → turn ≡ Turn.GoesOn → self.new.steps ≡ self.old.steps + 1) }
+        ensures within { OnOk result (self.new.steps ≤ self.new.budget) }
+        ensures ended { IfOk result (λ turn. (turn ≡ Turn.Ended) ↔ (self.new.over ≡ true)) }
+        ensures over { self.old.failed ≡ false → self.old.over ≡ true → (result ≡ Ok Turn.Ended) × (self.new ≡ self.old) }
+        ensures fewer { OnOk result (self.old.attempts ≤ self.new.attempts) }
+        ensures more { OnOk result (self.new.attempts ≤ self.old.attempts + 1) }
+        ensures well { OnOk result (self.new.failed ≡ false) }
+        ensures failed { OnErr result (self.new.failed ≡ true) }
+        ensures for_good { self.old.failed ≡ true → (is_err result ≡ true) × (self.new ≡ self.old) }
+    {
+        if self.failed {
+            return Err(NoMemory);
+        }
+        if self.begun && self.control.is_over() {
+            return Ok(Turn::Ended);
+        }
+        self.failed = true;
+        self.control.turn(
+            self.script,
+            self.rule,
+            self.budget,
+            self.begun,
+            &mut self.state,
+        )?;
+        self.begun = true;
+        if !self.control.is_over() {
+            self.failed = false;
+            return Ok(Turn::GoesOn);
+        }
+        self.leaks = self.state.leaks(self.alloc)?;
+        self.failed = false;
+        Ok(Turn::Ended)
+    }
+
+    /// What the run tells, once it is over: exactly what the definitions say of the script, the rule, the
+    /// budget and the shape.
+    pub fn result(self) -> RunResult
+        requires over { self.over ≡ true }
+        requires well { self.failed ≡ false }
+        ensures { result ≡ run self.entry.script self.entry.rule self.entry.budget self.entry.shape }
+    {
+        let Machine {
+            alloc,
+            script: _,
+            rule: _,
+            budget: _,
+            begun: _,
+            control,
+            state,
+            leaks,
+            failed: _,
+        } = self;
+        state.finish(alloc, control.ending(), leaks)
+    }
+}
+
+/// A whole run.
+///
+/// An Ok is exactly what the definitions say of the script, the rule, the budget (in steps) and the shape
+/// (in bytes); a run that is cut is an outcome. `BadShape` comes exactly where the shape is none that a heap
+/// may have (source: this project's profile), and before `NoMemory`.
+pub fn run(
+    alloc: Global,
+    script: &Script,
+    rule: Rule,
+    budget: u32,
+    shape: Shape,
+) -> Result<RunResult, RunFault>
+    requires script { IsTrue (is_script script.now) }
+    requires least { 1 ≤ budget }
+    requires greatest { budget ≤ 1000000 }
+    ensures ran { IfOk result (λ told. told ≡ run script.now rule budget shape) }
+    ensures shape { (result ≡ Err RunFault.BadShape) ↔ (is_shape shape ≡ false) }
+{
+    let mut machine = Machine::new(alloc, script, rule, budget, shape)?;
+    while let Turn::GoesOn = machine.step()? {}
+    Ok(machine.result())
+}

@@ -1,0 +1,419 @@
+//! What all bodies of a script share, and the statements that run no other.
+
+ghost use Rattle.std.specs.Prelude.{◌≡◌, ◌≢◌, ◌+◌, ◌*◌, ◌^◌, ◌<◌, ◌≤◌, ◌↔◌, ◌++◌, ◌∷◌, [], ℕ, length, false, not, IfOk, IfErr, OnOk, OnErr, IsTrue, All};
+ghost use Rattle.wb_model.specs.Rules.{refusal_of, unless_refused};
+ghost use Rattle.wb_model.specs.Row.{headers, cell_length};
+ghost use Rattle.wb_model.specs.Heap.{is_cleanup};
+ghost use Rattle.wb_model.specs.Operands.{within};
+ghost use Rattle.wb_model.specs.Space.{is_shape, limit_under};
+ghost use Rattle.wb_model.specs.LimitedHeap.{IsCellLength, heap_with, place_in};
+ghost use Rattle.wb_model.specs.Sound.{is_statement};
+ghost use Rattle.wb_model.specs.Statements.{Meaning, statement};
+ghost use Rattle.wb_model.specs.Reading.{literal_of};
+ghost use Rattle.wb_model.specs.Rest.{Fits};
+ghost use Rattle.wb_model.specs.declared.heap.Rule.{Rule};
+ghost use Rattle.wb_model.specs.declared.script.Holder.TheVariants.{Local};
+ghost use Rattle.wb_model.specs.declared.script.Pointer.TheVariants.{Held};
+ghost use Rattle.wb_model.specs.declared.script.Number.TheVariants.{Constant};
+ghost use Rattle.wb_model.specs.declared.script.Readable.TheVariants.{Quoted};
+ghost use Rattle.wb_model.specs.declared.script.Statement.TheViews.{out-Statement};
+ghost use Rattle.wb_machine.specs.Plain.{names_local, is_constant, is_quoted};
+ghost use Rattle.wb_machine.specs.Flow.{in_main_frame, ended_by, is_stop, IsSameFlow, Stays};
+ghost use Rattle.wb_machine.specs.Told.{leaks_held, outcome_by, told_by};
+ghost use Rattle.wb_machine.specs.Held.{start_held, main_of, state_of, answer_for, gave_by, after_answer};
+ghost use Rattle.wb_machine.specs.Carried.{local_in, stored, stepped, entered, alloc_carried, free_carried, print_carried};
+
+use crate::control::Ending;
+use crate::print::{number_line, text_line};
+use std::alloc::{AllocError, Global};
+use std::marker::Model;
+use wb_model::heap::{Answer, Attempt, CEILING, Gave, Kind, Panic, Ptr, Rule, Shape};
+use wb_model::items::Items;
+use wb_model::line::Line;
+use wb_model::memory::NoMemory;
+use wb_model::run::{Leak, Leaks, Lines, Outcome, RunResult, Why};
+use wb_model::script::{Holder, Number, Pointer, Readable, Script, Statement};
+use wb_rheap::fault::HeapFault;
+use wb_rheap::heap::Heap;
+
+/// The greatest number of bytes that a statement may ask for.
+const GREATEST: i32 = 1_048_576;
+
+/// What a local that names no cell holds.
+const NULL: Ptr = Ptr {
+    place: 0,
+    number: 0,
+};
+
+/// What all bodies share.
+#[derive(Drop)]
+pub struct State {
+    heap: Heap,
+    cleanup: Ptr,
+    locals: Vec<Ptr>,
+    lines: Lines,
+    trace: Vec<Attempt>,
+    steps: u32,
+}
+
+impl Model for State {
+    ghost use Rattle.wb_machine.specs.Held.{Held};
+
+    ghost Value = { Held };
+
+    ghost use Rattle.wb_machine.specs.Inside.{held, IsKept};
+
+    ghost view = { held };
+
+    ghost invariant = { IsKept };
+}
+
+/// What a rule says of an attempt whose cell would end here.
+fn refusal(rule: Rule, number: u32, end: u32) -> Option<Answer>
+    ensures { result ≡ refusal_of rule number end }
+{
+    match rule {
+        Rule::Unlimited => None,
+        Rule::Limit(limit) => (limit < end).then_some(Answer::Refused),
+        Rule::Number(refused) => (refused == number).then_some(Answer::Simulated),
+    }
+}
+
+/// The answer to an attempt, or none where the ceiling cuts the run.
+fn answer(rule: Rule, number: u32, end: u32) -> Option<Answer>
+    ensures { result ≡ unless_refused (refusal_of rule number end) end }
+{
+    match refusal(rule, number, end) {
+        Some(answer) => Some(answer),
+        None => (end <= CEILING).then_some(Answer::Granted),
+    }
+}
+
+/// The length that a heap may reach under a rule.
+fn limit_under(rule: Rule) -> u32
+    ensures { result ≡ limit_under rule }
+{
+    match rule {
+        Rule::Limit(limit) => limit.min(CEILING),
+        Rule::Unlimited | Rule::Number(_) => CEILING,
+    }
+}
+
+/// The length of the cell for so many bytes.
+fn cell_length(bytes: u32) -> u32
+    requires { bytes ≤ 1048576 }
+    ensures exact { result ≡ cell_length bytes }
+    ensures fits { IsCellLength result }
+{
+    16 + 16 * ((bytes + 15) / 16)
+}
+
+/// A number of bytes that may be asked for.
+fn bytes_within(number: i32) -> Option<u32>
+    ensures { result ≡ within 1048576 number }
+{
+    if 0 <= number && number <= GREATEST {
+        Some(number as u32)
+    } else {
+        None
+    }
+}
+
+/// A cell that nothing refuses.
+fn grant(heap: &mut Heap, len: u32, kind: Kind, number: u32) -> Result<Ptr, NoMemory>
+    requires len { IsCellLength len }
+    requires numbered { 1 ≤ number }
+    requires unused { All (λ h. h.number ≢ number) (headers heap.old.row) }
+    requires room { place_in heap.old len + len ≤ heap.old.limit }
+    ensures ptr { IfOk result (λ ptr. ptr ≡ record { place = place_in heap.old len; number = number }) }
+    ensures heap { OnOk result (heap.new ≡ heap_with heap.old len kind number 0) }
+    ensures err { OnErr result (heap.new ≡ heap.old) }
+{
+    match heap.alloc(len, kind, number, 0) {
+        Ok(ptr) => Ok(ptr),
+        Err(HeapFault::NoMemory) => Err(NoMemory),
+        Err(_) => unreachable!(),
+    }
+}
+
+impl State {
+    /// The state before the first attempt.
+    pub fn new(alloc: Global, rule: Rule, shape: Shape) -> Result<State, HeapFault>
+        ensures ok { IfOk result (λ state. state ≡ start_held (limit_under rule) shape) }
+        ensures shape { (result ≡ Err HeapFault.BadShape) ↔ (is_shape shape ≡ false) }
+        ensures no_other { IfErr result (λ fault. fault ≢ HeapFault.BadShape → fault ≡ HeapFault.NoMemory) }
+    {
+        let heap = Heap::new(alloc, limit_under(rule), shape)?;
+        Ok(State {
+            heap,
+            cleanup: NULL,
+            locals: Vec::new(alloc),
+            lines: Items::new(alloc),
+            trace: Vec::new(alloc),
+            steps: 0,
+        })
+    }
+
+    /// How many steps were counted.
+    pub fn steps(&self) -> u32
+        ensures { result ≡ self.now.steps }
+    {
+        self.steps
+    }
+
+    /// Counts a step.
+    pub fn tick(&mut self)
+        requires { self.old.steps + 1 < 2 ^ 32 }
+        ensures { self.new ≡ stepped self.old }
+    {
+        self.steps += 1;
+    }
+
+    /// The pointer in a local.
+    fn local(&self, index: u8) -> Ptr
+        ensures { result ≡ local_in self.now index }
+    {
+        match self.locals.get(index as usize) {
+            Some(ptr) => *ptr,
+            None => NULL,
+        }
+    }
+
+    /// A local gets a pointer.
+    fn set_local(&mut self, index: u8, ptr: Ptr)
+        requires { index < length self.old.locals }
+        ensures { self.new ≡ stored self.old index ptr }
+    {
+        self.locals[index as usize] = ptr;
+    }
+
+    /// An attempt to get a cell of this length, in bytes.
+    pub fn attempt(&mut self, rule: Rule, len: u32, kind: Kind) -> Result<Gave, NoMemory>
+        requires len { IsCellLength len }
+        requires limit { self.old.heap.limit ≡ limit_under rule }
+        requires number { length self.old.trace + 1 < 2 ^ 32 }
+        ensures gave { IfOk result (λ gave. gave ≡ gave_by self.old len (answer_for rule self.old len)) }
+        ensures held { OnOk result (self.new ≡ after_answer self.old len kind (answer_for rule self.old len)) }
+        ensures err { OnErr result (self.new ≡ self.old) }
+    {
+        let number = self.trace.len() as u32 + 1;
+        let place = self.heap.place_for(len);
+        let Some(answer) = answer(rule, number, place + len) else {
+            return Ok(Gave::Ceiling);
+        };
+        push_line(
+            &mut self.trace,
+            Attempt {
+                number,
+                length: len,
+                place,
+                answer,
+            },
+        )?;
+        match answer {
+            Answer::Granted => match grant(&mut self.heap, len, kind, number) {
+                Ok(ptr) => Ok(Gave::Granted(ptr)),
+                Err(error) => {
+                    self.trace.pop();
+                    Err(error)
+                }
+            },
+            Answer::Simulated | Answer::Refused => Ok(Gave::Denied),
+        }
+    }
+
+    /// A local gets a cell for so many bytes, or null where it is refused.
+    fn alloc(&mut self, rule: Rule, target: u8, bytes: i32) -> Result<Ending, NoMemory>
+        requires limit { self.old.heap.limit ≡ limit_under rule }
+        requires number { length self.old.trace + 1 < 2 ^ 32 }
+        requires target { target < length self.old.locals }
+        ensures ending { IfOk result (λ ending. ending ≡ (alloc_carried rule self.old target (within 1048576 bytes)).ending) }
+        ensures held { OnOk result (self.new ≡ (alloc_carried rule self.old target (within 1048576 bytes)).held) }
+    {
+        let Some(bytes) = bytes_within(bytes) else {
+            return Ok(Ending::Panics(Panic::Workbench(9)));
+        };
+        match self.attempt(rule, cell_length(bytes), Kind::Raw)? {
+            Gave::Granted(ptr) => self.set_local(target, ptr),
+            Gave::Denied => self.set_local(target, NULL),
+            Gave::Ceiling => return Ok(Ending::Cut(Why::Ceiling)),
+        }
+        Ok(Ending::GoesOn)
+    }
+
+    /// Releases a pointer.
+    fn release(&mut self, ptr: Ptr) -> Ending
+        ensures ending { result ≡ (free_carried self.old ptr).ending }
+        ensures held { self.new ≡ (free_carried self.old ptr).held }
+    {
+        if ptr.number == 0 {
+            return Ending::GoesOn;
+        }
+        match self.heap.free(ptr) {
+            Ok(()) => Ending::GoesOn,
+            Err(_) => Ending::Panics(Panic::User(42)),
+        }
+    }
+
+    /// Prints a line.
+    fn print(&mut self, line: Line) -> Result<Ending, NoMemory>
+        ensures ending { IfOk result (λ ending. ending ≡ (print_carried self.old line).ending) }
+        ensures held { OnOk result (self.new ≡ (print_carried self.old line).held) }
+    {
+        self.lines.push(line)?;
+        Ok(Ending::GoesOn)
+    }
+
+    /// `main` begins, with so many locals, over the cleanup stack's cell.
+    pub fn enter(&mut self, cell: Ptr, count: usize) -> Result<(), NoMemory>
+        requires { self.old.locals ≡ [] }
+        ensures { OnOk result (self.new ≡ entered self.old cell count) }
+    {
+        self.cleanup = cell;
+        self.locals.resize(count, NULL)?;
+        Ok(())
+    }
+}
+
+/// One more line of the trace.
+fn push_line(trace: &mut Vec<Attempt>, line: Attempt) -> Result<(), AllocError>
+    ensures ok { OnOk result (trace.new.items ≡ trace.old.items ++ line ∷ []) }
+    ensures err { OnErr result (trace.new.items ≡ trace.old.items) }
+{
+    trace.push(line)?;
+    Ok(())
+}
+
+impl State {
+    /// Carries out a statement that runs no other: how it ends.
+    pub fn carry_out(
+        &mut self,
+        script: &Script,
+        rule: Rule,
+        first: &Statement,
+    ) -> Result<Ending, NoMemory>
+        requires statement { IsTrue (is_statement (length script.now.literals) (main_of script.now).locals (out-Statement first.now)) }
+        requires locals { length self.old.locals ≡ length (main_of script.now).locals }
+        requires limit { self.old.heap.limit ≡ limit_under rule }
+        requires number { length self.old.trace + 1 < 2 ^ 32 }
+        ensures kept { IfOk result (λ ending. (r : Rule) → Fits r rule (is_stop ending) (length self.new.trace) → (rec : Meaning) →
+            IsSameFlow r (ended_by ending (state_of script.now self.new)) self.new
+            (statement script.now rec in_main_frame (out-Statement first.now) (state_of script.now self.old)) self.old) }
+        ensures stays { OnOk result (Stays self.old self.new) }
+        ensures steps { OnOk result (self.new.steps ≡ self.old.steps) }
+        ensures locals { OnOk result (length self.new.locals ≡ length self.old.locals) }
+    {
+        match first {
+            Statement::Alloc(target, bytes, _) => {
+                self.alloc(rule, local_of(*target), constant_of(*bytes))
+            }
+            Statement::Free(pointer) => {
+                let ptr = self.local(local_of(*pointer));
+                Ok(self.release(ptr))
+            }
+            Statement::PrintText(text) => self.print(text_line(literal(script, *text))),
+            Statement::PrintNumber(number) => self.print(number_line(constant_of(*number))),
+            _ => unreachable!(),
+        }
+    }
+}
+
+impl State {
+    /// The live cells but the cleanup stack's, by place.
+    pub fn leaks(&self, alloc: Global) -> Result<Leaks, NoMemory>
+        ensures { IfOk result (λ leaks. leaks ≡ leaks_held self.now) }
+    {
+        let mut leaks = Items::new(alloc);
+        let mut from = 0;
+        while let Some(cell) = self.heap.next_live(from) {
+            if may_leak(cell.kind) {
+                leaks.push(Leak {
+                    number: cell.number,
+                    length: cell.length,
+                    place: cell.place,
+                })?;
+            }
+            from = cell.place + cell.length;
+        }
+        Ok(leaks)
+    }
+
+    /// What a run tells that ended so, with these leaks.
+    pub fn finish(self, alloc: Global, ending: Ending, leaks: Leaks) -> RunResult
+        ensures { result ≡ told_by ending leaks self }
+    {
+        let State {
+            heap: _,
+            cleanup: _,
+            locals: _,
+            lines,
+            trace,
+            steps,
+        } = self;
+        RunResult {
+            outcome: outcome_by(ending, leaks),
+            trace: Items::from_vec(trace),
+            lines,
+            notes: Items::new(alloc),
+            steps,
+        }
+    }
+}
+
+/// Whether a cell that is live at the end is a leak.
+fn may_leak(kind: Kind) -> bool
+    ensures { result ≡ not (is_cleanup kind) }
+{
+    match kind {
+        Kind::Cleanup => false,
+        Kind::Raw | Kind::Object(_) | Kind::Text => true,
+    }
+}
+
+/// How a run ended, with these leaks.
+fn outcome_by(ending: Ending, leaks: Leaks) -> Outcome
+    ensures { result ≡ outcome_by ending leaks }
+{
+    match ending {
+        Ending::GoesOn => Outcome::Ended { left: None, leaks },
+        Ending::Panics(panic) => Outcome::Panicked(panic),
+        Ending::Cut(why) => Outcome::Cut(why),
+        Ending::NoCleanup => Outcome::NoCleanup,
+    }
+}
+
+/// The local that a pointer operand names.
+fn local_of(pointer: Pointer) -> u8
+    requires { IsTrue (names_local pointer) }
+    ensures { pointer ≡ Held (Local result) }
+{
+    match pointer {
+        Pointer::Held(Holder::Local(index)) => index,
+        Pointer::Held(Holder::This) | Pointer::Field(..) => unreachable!(),
+    }
+}
+
+/// The number that a number operand is.
+fn constant_of(number: Number) -> i32
+    requires { IsTrue (is_constant number) }
+    ensures { number ≡ Constant result }
+{
+    match number {
+        Number::Constant(number) => number,
+        Number::Variable(_) => unreachable!(),
+    }
+}
+
+/// The units of a literal.
+fn literal(script: &Script, text: Readable) -> &[u8]
+    requires { IsTrue (is_quoted text) }
+    ensures { (i : ℕ) → text ≡ Quoted i → result.now ≡ literal_of script.now.literals i }
+{
+    match text {
+        Readable::Quoted(index) => match script.literals.get(index as usize) {
+            Some(chars) => chars.as_slice(),
+            None => &[],
+        },
+        Readable::Of(_) | Readable::ViewOf(_) => unreachable!(),
+    }
+}

@@ -1,0 +1,661 @@
+-- Worked cases, each by computing: the definitions give what the files of cases/ say. Written by tools/cases_to_theorems.py;
+-- edit nothing here.
+use Rattle.std.specs.Prelude.{◌≡◌, refl, ℕ, pos, negsuc, List, [], ◌∷◌, Some, None, map}
+use Rattle.wb_model.specs.declared.heap.Rule.TheVariants as R
+use Rattle.wb_model.specs.declared.heap.Panic.TheVariants as P
+use Rattle.wb_model.specs.declared.script.Holder.TheVariants as H
+use Rattle.wb_model.specs.declared.heap.Shape.{Shape}
+use Rattle.wb_model.specs.declared.heap.Answer.{Answer}
+use Rattle.wb_model.specs.declared.heap.Answer.TheVariants.{Granted, Simulated, Refused}
+use Rattle.wb_model.specs.declared.heap.Attempt.{Attempt}
+use Rattle.wb_model.specs.declared.run.Note.TheVariants.{Heap, Available, Compress}
+use Rattle.wb_model.specs.declared.run.Why.TheVariants.{Budget, Ceiling}
+use Rattle.wb_model.specs.declared.run.Outcome.TheVariants.{Ended, Panicked, NoCleanup, Cut}
+use Rattle.wb_model.specs.declared.script.Script.{Script}
+use Rattle.wb_model.specs.declared.script.Parameter.TheVariants as Par
+use Rattle.wb_model.specs.declared.script.Local.TheVariants.{OfPointer, OfNumber, OfBuffer, OfView}
+use Rattle.wb_model.specs.declared.script.Pointer.TheVariants.{Held, Field}
+use Rattle.wb_model.specs.declared.script.Number.TheVariants.{Constant, Variable}
+use Rattle.wb_model.specs.declared.script.Writable.TheVariants.{OwnBuffer, InCell}
+use Rattle.wb_model.specs.declared.script.Readable.TheVariants.{Of, ViewOf, Quoted}
+use Rattle.wb_model.specs.declared.script.Condition.TheVariants.{IsNull}
+use Rattle.wb_model.specs.declared.script.Argument.TheVariants.{Given}
+use Rattle.wb_model.specs.declared.script.Refusal.TheVariants.{GivesNull, Leaves}
+use Rattle.wb_model.specs.declared.script.Statement.{Statement}
+use Rattle.wb_model.specs.declared.script.Statement.TheOpen.{Statement-F}
+use Rattle.wb_model.specs.declared.script.Statement.TheViews.{out-Statement, roll-Statement}
+use Rattle.wb_model.specs.Run.{run, required, rises}
+use Rattle.std.specs.Fmt.{digits}
+
+-- what a run computes through
+unfoldable everything : Unit {0}
+unfolding out-Statement
+    denote.Hole.Carrier.out
+    roll-Statement
+    denote.Hole.Carrier.roll
+    denote.Hole.Carrier.shown
+    denote.Hole.Carrier.hidden
+    Rattle.wb_model.specs.declared.script.Statement.TheBlock.shown-the_row-Statement-0
+    digits
+    Rattle.wb_model.specs.Attempts.attempt
+    Rattle.wb_model.specs.Attempts.allocate
+    Rattle.wb_model.specs.Attempts.reallocate_longer
+    Rattle.wb_model.specs.Attempts.reallocate
+    Rattle.wb_model.specs.Attempts.after_growth
+    Rattle.wb_model.specs.Attempts.grow_if
+    Rattle.wb_model.specs.Attempts.push
+    Rattle.wb_model.specs.Meaning.begun_if
+    Rattle.wb_model.specs.Meaning.begun
+    Rattle.wb_model.specs.Meaning.piece
+    Rattle.wb_model.specs.Meaning.meaning_within
+    Rattle.wb_model.specs.Meaning.meaning_of
+    Rattle.wb_model.specs.Operands.with_cell
+    Rattle.wb_model.specs.Operands.with_fields
+    Rattle.wb_model.specs.Operands.with_pointer
+    Rattle.wb_model.specs.Reading.with_writable
+    Rattle.wb_model.specs.Reading.with_readable
+    Rattle.wb_model.specs.Reading.with_text_cell
+    Rattle.wb_model.specs.Reading.with_base
+    Rattle.wb_model.specs.Reading.with_units
+    Rattle.wb_model.specs.Reading.with_room
+    Rattle.wb_model.specs.Reading.write
+    Rattle.wb_model.specs.Reading.write_view
+    Rattle.wb_model.specs.Run.main_trapped
+    Rattle.wb_model.specs.Run.in_main
+    Rattle.wb_model.specs.Run.started
+    Rattle.wb_model.specs.Run.process
+    Rattle.wb_model.specs.State.and_then
+    Rattle.wb_model.specs.State.on_plain_end
+    Rattle.wb_model.specs.State.then_do
+    Rattle.wb_model.specs.State.require
+    Rattle.wb_model.specs.State.with_some
+    Rattle.wb_model.specs.State.unless
+    Rattle.wb_model.specs.Statements.given_to
+    Rattle.wb_model.specs.Statements.alloc_raw
+    Rattle.wb_model.specs.Statements.released
+    Rattle.wb_model.specs.Statements.release
+    Rattle.wb_model.specs.Statements.realloc_raw
+    Rattle.wb_model.specs.Statements.realloc_of
+    Rattle.wb_model.specs.Statements.with_words
+    Rattle.wb_model.specs.Statements.in_frame
+    Rattle.wb_model.specs.Statements.plain
+    Rattle.wb_model.specs.Statements.with_arguments
+    Rattle.wb_model.specs.Statements.with_class
+    Rattle.wb_model.specs.Statements.destroyed_object
+    Rattle.wb_model.specs.Statements.destroyed_item
+    Rattle.wb_model.specs.Statements.trapped
+    Rattle.wb_model.specs.Statements.with_condition
+    Rattle.wb_model.specs.Statements.leave_if
+    Rattle.wb_model.specs.Statements.new_object
+    Rattle.wb_model.specs.Statements.realloc_text
+    Rattle.wb_model.specs.Statements.statement
+everything = tt
+
+abbrev rolled : List (Statement-F Statement) → List Statement
+rolled ss = map roll-Statement ss
+
+abbrev shaped : ℕ → ℕ → Shape
+shaped min step = record { min = min; step = step }
+
+abbrev line : ℕ → ℕ → ℕ → Answer → Attempt
+line number length place answer = record { number = number; length = length; place = place; answer = answer }
+
+abbrev script_empty_main_run : Script
+script_empty_main_run = record { classes = []; procedures = (record { parameters = []; body = record { locals = []; statements = [] } }) ∷ []; operations = []; literals = []; main = 0 }
+
+empty_main_run : run script_empty_main_run R.Unlimited 10000 (shaped 4096 4096) ≡ record { outcome = Ended None []; trace = (line 1 144 0 Granted) ∷ []; lines = []; notes = []; steps = 0 }
+unfolding everything
+empty_main_run = refl
+
+abbrev script_first_fit_reuses_hole_run : Script
+script_first_fit_reuses_hole_run = record { classes = []; procedures = (record { parameters = []; body = record { locals = (OfPointer None) ∷ (OfPointer None) ∷ (OfPointer None) ∷ []; statements = rolled ((Statement-F.Alloc (Held (H.Local 0)) (Constant (pos 10)) GivesNull) ∷ (Statement-F.Alloc (Held (H.Local 1)) (Constant (pos 100)) GivesNull) ∷ (Statement-F.Free (Held (H.Local 0))) ∷ (Statement-F.Alloc (Held (H.Local 2)) (Constant (pos 16)) GivesNull) ∷ (Statement-F.Free (Held (H.Local 1))) ∷ (Statement-F.Free (Held (H.Local 2))) ∷ []) } }) ∷ []; operations = []; literals = []; main = 0 }
+
+first_fit_reuses_hole_run : run script_first_fit_reuses_hole_run R.Unlimited 10000 (shaped 4096 4096) ≡ record { outcome = Ended None []; trace = (line 1 144 0 Granted) ∷ (line 2 32 144 Granted) ∷ (line 3 128 176 Granted) ∷ (line 4 32 144 Granted) ∷ []; lines = []; notes = []; steps = 6 }
+unfolding everything
+first_fit_reuses_hole_run = refl
+
+abbrev script_forgotten_cell_leaks_run : Script
+script_forgotten_cell_leaks_run = record { classes = []; procedures = (record { parameters = []; body = record { locals = (OfPointer None) ∷ []; statements = rolled ((Statement-F.Alloc (Held (H.Local 0)) (Constant (pos 16)) GivesNull) ∷ []) } }) ∷ []; operations = []; literals = []; main = 0 }
+
+forgotten_cell_leaks_run : run script_forgotten_cell_leaks_run R.Unlimited 10000 (shaped 4096 4096) ≡ record { outcome = Ended None ((record { number = 2; length = 32; place = 144 }) ∷ []); trace = (line 1 144 0 Granted) ∷ (line 2 32 144 Granted) ∷ []; lines = []; notes = []; steps = 1 }
+unfolding everything
+forgotten_cell_leaks_run = refl
+
+abbrev script_freed_neighbours_merge_run : Script
+script_freed_neighbours_merge_run = record { classes = []; procedures = (record { parameters = []; body = record { locals = (OfPointer None) ∷ (OfPointer None) ∷ (OfPointer None) ∷ (OfPointer None) ∷ (OfPointer None) ∷ []; statements = rolled ((Statement-F.Alloc (Held (H.Local 0)) (Constant (pos 16)) GivesNull) ∷ (Statement-F.Alloc (Held (H.Local 1)) (Constant (pos 16)) GivesNull) ∷ (Statement-F.Alloc (Held (H.Local 2)) (Constant (pos 16)) GivesNull) ∷ (Statement-F.Alloc (Held (H.Local 3)) (Constant (pos 16)) GivesNull) ∷ (Statement-F.Free (Held (H.Local 1))) ∷ (Statement-F.Free (Held (H.Local 0))) ∷ (Statement-F.Free (Held (H.Local 2))) ∷ (Statement-F.Alloc (Held (H.Local 4)) (Constant (pos 80)) GivesNull) ∷ (Statement-F.Free (Held (H.Local 3))) ∷ (Statement-F.Free (Held (H.Local 4))) ∷ []) } }) ∷ []; operations = []; literals = []; main = 0 }
+
+freed_neighbours_merge_run : run script_freed_neighbours_merge_run R.Unlimited 10000 (shaped 4096 4096) ≡ record { outcome = Ended None []; trace = (line 1 144 0 Granted) ∷ (line 2 32 144 Granted) ∷ (line 3 32 176 Granted) ∷ (line 4 32 208 Granted) ∷ (line 5 32 240 Granted) ∷ (line 6 96 144 Granted) ∷ []; lines = []; notes = []; steps = 10 }
+unfolding everything
+freed_neighbours_merge_run = refl
+
+abbrev script_request_over_one_mebibyte_run : Script
+script_request_over_one_mebibyte_run = record { classes = []; procedures = (record { parameters = []; body = record { locals = (OfPointer None) ∷ []; statements = rolled ((Statement-F.Alloc (Held (H.Local 0)) (Constant (pos 1048577)) GivesNull) ∷ []) } }) ∷ []; operations = []; literals = []; main = 0 }
+
+request_over_one_mebibyte_run : run script_request_over_one_mebibyte_run R.Unlimited 10000 (shaped 4096 4096) ≡ record { outcome = Panicked (P.Workbench 9); trace = (line 1 144 0 Granted) ∷ []; lines = []; notes = []; steps = 1 }
+unfolding everything
+request_over_one_mebibyte_run = refl
+
+abbrev script_seventeenth_cell_passes_the_ceiling_run : Script
+script_seventeenth_cell_passes_the_ceiling_run = record { classes = []; procedures = (record { parameters = []; body = record { locals = (OfPointer None) ∷ []; statements = rolled ((Statement-F.Alloc (Held (H.Local 0)) (Constant (pos 1048576)) GivesNull) ∷ (Statement-F.Alloc (Held (H.Local 0)) (Constant (pos 1048576)) GivesNull) ∷ (Statement-F.Alloc (Held (H.Local 0)) (Constant (pos 1048576)) GivesNull) ∷ (Statement-F.Alloc (Held (H.Local 0)) (Constant (pos 1048576)) GivesNull) ∷ (Statement-F.Alloc (Held (H.Local 0)) (Constant (pos 1048576)) GivesNull) ∷ (Statement-F.Alloc (Held (H.Local 0)) (Constant (pos 1048576)) GivesNull) ∷ (Statement-F.Alloc (Held (H.Local 0)) (Constant (pos 1048576)) GivesNull) ∷ (Statement-F.Alloc (Held (H.Local 0)) (Constant (pos 1048576)) GivesNull) ∷ (Statement-F.Alloc (Held (H.Local 0)) (Constant (pos 1048576)) GivesNull) ∷ (Statement-F.Alloc (Held (H.Local 0)) (Constant (pos 1048576)) GivesNull) ∷ (Statement-F.Alloc (Held (H.Local 0)) (Constant (pos 1048576)) GivesNull) ∷ (Statement-F.Alloc (Held (H.Local 0)) (Constant (pos 1048576)) GivesNull) ∷ (Statement-F.Alloc (Held (H.Local 0)) (Constant (pos 1048576)) GivesNull) ∷ (Statement-F.Alloc (Held (H.Local 0)) (Constant (pos 1048576)) GivesNull) ∷ (Statement-F.Alloc (Held (H.Local 0)) (Constant (pos 1048576)) GivesNull) ∷ (Statement-F.Alloc (Held (H.Local 0)) (Constant (pos 1048576)) GivesNull) ∷ []) } }) ∷ []; operations = []; literals = []; main = 0 }
+
+seventeenth_cell_passes_the_ceiling_run : run script_seventeenth_cell_passes_the_ceiling_run R.Unlimited 10000 (shaped 4096 4096) ≡ record { outcome = Cut Ceiling; trace = (line 1 144 0 Granted) ∷ (line 2 1048592 144 Granted) ∷ (line 3 1048592 1048736 Granted) ∷ (line 4 1048592 2097328 Granted) ∷ (line 5 1048592 3145920 Granted) ∷ (line 6 1048592 4194512 Granted) ∷ (line 7 1048592 5243104 Granted) ∷ (line 8 1048592 6291696 Granted) ∷ (line 9 1048592 7340288 Granted) ∷ (line 10 1048592 8388880 Granted) ∷ (line 11 1048592 9437472 Granted) ∷ (line 12 1048592 10486064 Granted) ∷ (line 13 1048592 11534656 Granted) ∷ (line 14 1048592 12583248 Granted) ∷ (line 15 1048592 13631840 Granted) ∷ (line 16 1048592 14680432 Granted) ∷ []; lines = []; notes = []; steps = 16 }
+unfolding everything
+seventeenth_cell_passes_the_ceiling_run = refl
+
+abbrev script_stale_pointer_freed_after_reuse_run : Script
+script_stale_pointer_freed_after_reuse_run = record { classes = []; procedures = (record { parameters = []; body = record { locals = (OfPointer None) ∷ (OfPointer None) ∷ []; statements = rolled ((Statement-F.Alloc (Held (H.Local 0)) (Constant (pos 16)) GivesNull) ∷ (Statement-F.Free (Held (H.Local 0))) ∷ (Statement-F.Alloc (Held (H.Local 1)) (Constant (pos 16)) GivesNull) ∷ (Statement-F.Free (Held (H.Local 0))) ∷ []) } }) ∷ []; operations = []; literals = []; main = 0 }
+
+stale_pointer_freed_after_reuse_run : run script_stale_pointer_freed_after_reuse_run R.Unlimited 10000 (shaped 4096 4096) ≡ record { outcome = Panicked (P.User 42); trace = (line 1 144 0 Granted) ∷ (line 2 32 144 Granted) ∷ (line 3 32 144 Granted) ∷ []; lines = []; notes = []; steps = 4 }
+unfolding everything
+stale_pointer_freed_after_reuse_run = refl
+
+abbrev script_empty_main_json_run : Script
+script_empty_main_json_run = record { classes = []; procedures = (record { parameters = []; body = record { locals = []; statements = [] } }) ∷ []; operations = []; literals = []; main = 0 }
+
+empty_main_json_run : run script_empty_main_json_run R.Unlimited 10000 (shaped 4096 4096) ≡ record { outcome = Ended None []; trace = (line 1 144 0 Granted) ∷ []; lines = []; notes = []; steps = 0 }
+unfolding everything
+empty_main_json_run = refl
+
+abbrev script_leave_runs_a_cleanup_operation_run : Script
+script_leave_runs_a_cleanup_operation_run = record { classes = []; procedures = (record { parameters = []; body = record { locals = (OfPointer None) ∷ OfNumber ∷ []; statements = rolled ((Statement-F.Alloc (Held (H.Local 0)) (Constant (pos 4)) Leaves) ∷ (Statement-F.PushOperation (Held (H.Local 0)) 0) ∷ (Statement-F.Trap 1 (rolled ((Statement-F.Leave (Constant (negsuc 6))) ∷ []))) ∷ (Statement-F.PrintNumber (Variable 1)) ∷ (Statement-F.LeaveIfError (Variable 1)) ∷ []) } }) ∷ []; operations = (record { locals = []; statements = rolled ((Statement-F.PrintText (Quoted 0)) ∷ (Statement-F.Free (Held (H.Local 0))) ∷ []) }) ∷ []; literals = (111 ∷ 112 ∷ []) ∷ []; main = 0 }
+
+leave_runs_a_cleanup_operation_run : run script_leave_runs_a_cleanup_operation_run R.Unlimited 10000 (shaped 4096 4096) ≡ record { outcome = Ended (Some (negsuc 6)) []; trace = (line 1 144 0 Granted) ∷ (line 2 32 144 Granted) ∷ []; lines = (45 ∷ 55 ∷ []) ∷ (111 ∷ 112 ∷ []) ∷ []; notes = []; steps = 9 }
+unfolding everything
+leave_runs_a_cleanup_operation_run = refl
+
+abbrev script_newest_item_is_destroyed_first_run : Script
+script_newest_item_is_destroyed_first_run = record { classes = []; procedures = (record { parameters = []; body = record { locals = (OfPointer None) ∷ (OfPointer None) ∷ []; statements = rolled ((Statement-F.Alloc (Held (H.Local 0)) (Constant (pos 4)) GivesNull) ∷ (Statement-F.Alloc (Held (H.Local 1)) (Constant (pos 4)) GivesNull) ∷ (Statement-F.PushOperation (Held (H.Local 0)) 0) ∷ (Statement-F.PushOperation (Held (H.Local 1)) 1) ∷ (Statement-F.Leave (Constant (negsuc 0))) ∷ []) } }) ∷ []; operations = (record { locals = []; statements = rolled ((Statement-F.PrintText (Quoted 0)) ∷ (Statement-F.Free (Held (H.Local 0))) ∷ []) }) ∷ (record { locals = []; statements = rolled ((Statement-F.PrintText (Quoted 1)) ∷ (Statement-F.Free (Held (H.Local 0))) ∷ []) }) ∷ []; literals = (49 ∷ []) ∷ (50 ∷ []) ∷ []; main = 0 }
+
+newest_item_is_destroyed_first_run : run script_newest_item_is_destroyed_first_run R.Unlimited 10000 (shaped 4096 4096) ≡ record { outcome = Ended (Some (negsuc 0)) []; trace = (line 1 144 0 Granted) ∷ (line 2 32 144 Granted) ∷ (line 3 32 176 Granted) ∷ []; lines = (50 ∷ []) ∷ (49 ∷ []) ∷ []; notes = []; steps = 11 }
+unfolding everything
+newest_item_is_destroyed_first_run = refl
+
+abbrev script_object_made_and_deleted_run : Script
+script_object_made_and_deleted_run = record { classes = (record { extra = 16; fields = None ∷ []; construct = Some (record { locals = []; statements = rolled ((Statement-F.NewText (Field H.This 0 0) (Constant (pos 4)) Leaves) ∷ []) }); destroy = Some (record { locals = []; statements = rolled ((Statement-F.Free (Field H.This 0 0)) ∷ []) }) }) ∷ []; procedures = (record { parameters = []; body = record { locals = (OfPointer (Some 0)) ∷ []; statements = rolled ((Statement-F.New (Held (H.Local 0)) 0 Leaves) ∷ (Statement-F.Construct (Held (H.Local 0))) ∷ (Statement-F.Delete (Held (H.Local 0))) ∷ []) } }) ∷ []; operations = []; literals = []; main = 0 }
+
+object_made_and_deleted_run : run script_object_made_and_deleted_run R.Unlimited 10000 (shaped 4096 4096) ≡ record { outcome = Ended None []; trace = (line 1 144 0 Granted) ∷ (line 2 48 144 Granted) ∷ (line 3 32 192 Granted) ∷ []; lines = []; notes = []; steps = 6 }
+unfolding everything
+object_made_and_deleted_run = refl
+
+abbrev script_objects_that_delete_each_other_budget_just_enough_run : Script
+script_objects_that_delete_each_other_budget_just_enough_run = record { classes = (record { extra = 0; fields = (Some 0) ∷ []; construct = None; destroy = Some (record { locals = []; statements = rolled ((Statement-F.Delete (Field H.This 0 0)) ∷ []) }) }) ∷ []; procedures = (record { parameters = []; body = record { locals = (OfPointer (Some 0)) ∷ (OfPointer (Some 0)) ∷ []; statements = rolled ((Statement-F.New (Held (H.Local 0)) 0 Leaves) ∷ (Statement-F.New (Held (H.Local 1)) 0 Leaves) ∷ (Statement-F.Set (Field (H.Local 0) 0 0) (Held (H.Local 1))) ∷ (Statement-F.Set (Field (H.Local 1) 0 0) (Held (H.Local 0))) ∷ (Statement-F.Delete (Held (H.Local 0))) ∷ []) } }) ∷ []; operations = []; literals = []; main = 0 }
+
+objects_that_delete_each_other_budget_just_enough_run : run script_objects_that_delete_each_other_budget_just_enough_run R.Unlimited 260 (shaped 4096 4096) ≡ record { outcome = Panicked (P.Workbench 7); trace = (line 1 144 0 Granted) ∷ (line 2 32 144 Granted) ∷ (line 3 32 176 Granted) ∷ []; lines = []; notes = []; steps = 260 }
+unfolding everything
+objects_that_delete_each_other_budget_just_enough_run = refl
+
+abbrev script_objects_that_delete_each_other_one_step_short_run : Script
+script_objects_that_delete_each_other_one_step_short_run = record { classes = (record { extra = 0; fields = (Some 0) ∷ []; construct = None; destroy = Some (record { locals = []; statements = rolled ((Statement-F.Delete (Field H.This 0 0)) ∷ []) }) }) ∷ []; procedures = (record { parameters = []; body = record { locals = (OfPointer (Some 0)) ∷ (OfPointer (Some 0)) ∷ []; statements = rolled ((Statement-F.New (Held (H.Local 0)) 0 Leaves) ∷ (Statement-F.New (Held (H.Local 1)) 0 Leaves) ∷ (Statement-F.Set (Field (H.Local 0) 0 0) (Held (H.Local 1))) ∷ (Statement-F.Set (Field (H.Local 1) 0 0) (Held (H.Local 0))) ∷ (Statement-F.Delete (Held (H.Local 0))) ∷ []) } }) ∷ []; operations = []; literals = []; main = 0 }
+
+objects_that_delete_each_other_one_step_short_run : run script_objects_that_delete_each_other_one_step_short_run R.Unlimited 259 (shaped 4096 4096) ≡ record { outcome = Cut Budget; trace = (line 1 144 0 Granted) ∷ (line 2 32 144 Granted) ∷ (line 3 32 176 Granted) ∷ []; lines = []; notes = []; steps = 259 }
+unfolding everything
+objects_that_delete_each_other_one_step_short_run = refl
+
+abbrev script_objects_that_delete_each_other_small_budget_run : Script
+script_objects_that_delete_each_other_small_budget_run = record { classes = (record { extra = 0; fields = (Some 0) ∷ []; construct = None; destroy = Some (record { locals = []; statements = rolled ((Statement-F.Delete (Field H.This 0 0)) ∷ []) }) }) ∷ []; procedures = (record { parameters = []; body = record { locals = (OfPointer (Some 0)) ∷ (OfPointer (Some 0)) ∷ []; statements = rolled ((Statement-F.New (Held (H.Local 0)) 0 Leaves) ∷ (Statement-F.New (Held (H.Local 1)) 0 Leaves) ∷ (Statement-F.Set (Field (H.Local 0) 0 0) (Held (H.Local 1))) ∷ (Statement-F.Set (Field (H.Local 1) 0 0) (Held (H.Local 0))) ∷ (Statement-F.Delete (Held (H.Local 0))) ∷ []) } }) ∷ []; operations = []; literals = []; main = 0 }
+
+objects_that_delete_each_other_small_budget_run : run script_objects_that_delete_each_other_small_budget_run R.Unlimited 20 (shaped 4096 4096) ≡ record { outcome = Cut Budget; trace = (line 1 144 0 Granted) ∷ (line 2 32 144 Granted) ∷ (line 3 32 176 Granted) ∷ []; lines = []; notes = []; steps = 20 }
+unfolding everything
+objects_that_delete_each_other_small_budget_run = refl
+
+abbrev script_objects_that_delete_each_other_run : Script
+script_objects_that_delete_each_other_run = record { classes = (record { extra = 0; fields = (Some 0) ∷ []; construct = None; destroy = Some (record { locals = []; statements = rolled ((Statement-F.Delete (Field H.This 0 0)) ∷ []) }) }) ∷ []; procedures = (record { parameters = []; body = record { locals = (OfPointer (Some 0)) ∷ (OfPointer (Some 0)) ∷ []; statements = rolled ((Statement-F.New (Held (H.Local 0)) 0 Leaves) ∷ (Statement-F.New (Held (H.Local 1)) 0 Leaves) ∷ (Statement-F.Set (Field (H.Local 0) 0 0) (Held (H.Local 1))) ∷ (Statement-F.Set (Field (H.Local 1) 0 0) (Held (H.Local 0))) ∷ (Statement-F.Delete (Held (H.Local 0))) ∷ []) } }) ∷ []; operations = []; literals = []; main = 0 }
+
+objects_that_delete_each_other_run : run script_objects_that_delete_each_other_run R.Unlimited 10000 (shaped 4096 4096) ≡ record { outcome = Panicked (P.Workbench 7); trace = (line 1 144 0 Granted) ∷ (line 2 32 144 Granted) ∷ (line 3 32 176 Granted) ∷ []; lines = []; notes = []; steps = 260 }
+unfolding everything
+objects_that_delete_each_other_run = refl
+
+abbrev script_pushed_object_made_and_deleted_run : Script
+script_pushed_object_made_and_deleted_run = record { classes = (record { extra = 16; fields = None ∷ []; construct = Some (record { locals = []; statements = rolled ((Statement-F.NewText (Field H.This 0 0) (Constant (pos 4)) Leaves) ∷ []) }); destroy = Some (record { locals = []; statements = rolled ((Statement-F.Free (Field H.This 0 0)) ∷ []) }) }) ∷ []; procedures = (record { parameters = []; body = record { locals = (OfPointer (Some 0)) ∷ []; statements = rolled ((Statement-F.New (Held (H.Local 0)) 0 Leaves) ∷ (Statement-F.PushObject (Held (H.Local 0))) ∷ (Statement-F.Construct (Held (H.Local 0))) ∷ (Statement-F.Pop (Constant (pos 1))) ∷ (Statement-F.Delete (Held (H.Local 0))) ∷ []) } }) ∷ []; operations = []; literals = []; main = 0 }
+
+pushed_object_made_and_deleted_run : run script_pushed_object_made_and_deleted_run R.Unlimited 10000 (shaped 4096 4096) ≡ record { outcome = Ended None []; trace = (line 1 144 0 Granted) ∷ (line 2 48 144 Granted) ∷ (line 3 32 192 Granted) ∷ []; lines = []; notes = []; steps = 8 }
+unfolding everything
+pushed_object_made_and_deleted_run = refl
+
+abbrev script_unpushed_object_leaks_when_construction_fails_run : Script
+script_unpushed_object_leaks_when_construction_fails_run = record { classes = (record { extra = 16; fields = None ∷ []; construct = Some (record { locals = []; statements = rolled ((Statement-F.NewText (Field H.This 0 0) (Constant (pos 4)) Leaves) ∷ []) }); destroy = Some (record { locals = []; statements = rolled ((Statement-F.Free (Field H.This 0 0)) ∷ []) }) }) ∷ []; procedures = (record { parameters = []; body = record { locals = (OfPointer (Some 0)) ∷ []; statements = rolled ((Statement-F.New (Held (H.Local 0)) 0 Leaves) ∷ (Statement-F.Construct (Held (H.Local 0))) ∷ (Statement-F.Delete (Held (H.Local 0))) ∷ []) } }) ∷ []; operations = []; literals = []; main = 0 }
+
+unpushed_object_leaks_when_construction_fails_run : run script_unpushed_object_leaks_when_construction_fails_run (R.Number 3) 10000 (shaped 4096 4096) ≡ record { outcome = Ended (Some (negsuc 3)) ((record { number = 2; length = 48; place = 144 }) ∷ []); trace = (line 1 144 0 Granted) ∷ (line 2 48 144 Granted) ∷ (line 3 32 192 Simulated) ∷ []; lines = []; notes = []; steps = 3 }
+unfolding everything
+unpushed_object_leaks_when_construction_fails_run = refl
+
+abbrev script_check_names_a_cell_after_the_stack_moved_run : Script
+script_check_names_a_cell_after_the_stack_moved_run = record { classes = []; procedures = (record { parameters = []; body = record { locals = (OfPointer None) ∷ (OfPointer None) ∷ []; statements = rolled ((Statement-F.Alloc (Held (H.Local 0)) (Constant (pos 1)) GivesNull) ∷ (Statement-F.Push (Held (H.Local 0))) ∷ (Statement-F.Push (Held (H.Local 0))) ∷ (Statement-F.Push (Held (H.Local 0))) ∷ (Statement-F.Push (Held (H.Local 0))) ∷ (Statement-F.Push (Held (H.Local 0))) ∷ (Statement-F.Push (Held (H.Local 0))) ∷ (Statement-F.Push (Held (H.Local 0))) ∷ (Statement-F.Push (Held (H.Local 0))) ∷ (Statement-F.Alloc (Held (H.Local 1)) (Constant (pos 100)) GivesNull) ∷ (Statement-F.Pop (Constant (pos 8))) ∷ Statement-F.Mark ∷ (Statement-F.Alloc (Held (H.Local 1)) (Constant (pos 4)) GivesNull) ∷ (Statement-F.Check (Constant (pos 0))) ∷ []) } }) ∷ []; operations = []; literals = []; main = 0 }
+
+check_names_a_cell_after_the_stack_moved_run : run script_check_names_a_cell_after_the_stack_moved_run R.Unlimited 10000 (shaped 4096 4096) ≡ record { outcome = Panicked (P.Alloc 384); trace = (line 1 144 0 Granted) ∷ (line 2 32 144 Granted) ∷ (line 3 208 176 Granted) ∷ (line 4 128 0 Granted) ∷ (line 5 32 384 Granted) ∷ []; lines = []; notes = []; steps = 14 }
+unfolding everything
+check_names_a_cell_after_the_stack_moved_run = refl
+
+abbrev script_check_names_the_cell_at_place_zero_run : Script
+script_check_names_the_cell_at_place_zero_run = record { classes = []; procedures = (record { parameters = []; body = record { locals = (OfPointer None) ∷ (OfPointer None) ∷ []; statements = rolled ((Statement-F.Alloc (Held (H.Local 0)) (Constant (pos 1)) GivesNull) ∷ (Statement-F.Push (Held (H.Local 0))) ∷ (Statement-F.Push (Held (H.Local 0))) ∷ (Statement-F.Push (Held (H.Local 0))) ∷ (Statement-F.Push (Held (H.Local 0))) ∷ (Statement-F.Push (Held (H.Local 0))) ∷ (Statement-F.Push (Held (H.Local 0))) ∷ (Statement-F.Push (Held (H.Local 0))) ∷ (Statement-F.Push (Held (H.Local 0))) ∷ Statement-F.Mark ∷ (Statement-F.Alloc (Held (H.Local 1)) (Constant (pos 100)) GivesNull) ∷ (Statement-F.Check (Constant (pos 0))) ∷ []) } }) ∷ []; operations = []; literals = []; main = 0 }
+
+check_names_the_cell_at_place_zero_run : run script_check_names_the_cell_at_place_zero_run R.Unlimited 10000 (shaped 4096 4096) ≡ record { outcome = Panicked (P.Alloc 0); trace = (line 1 144 0 Granted) ∷ (line 2 32 144 Granted) ∷ (line 3 208 176 Granted) ∷ (line 4 128 0 Granted) ∷ []; lines = []; notes = []; steps = 12 }
+unfolding everything
+check_names_the_cell_at_place_zero_run = refl
+
+abbrev script_eighth_push_grows_the_cleanup_cell_run : Script
+script_eighth_push_grows_the_cleanup_cell_run = record { classes = []; procedures = (record { parameters = []; body = record { locals = (OfPointer None) ∷ []; statements = rolled ((Statement-F.Repeat (Constant (pos 8)) (rolled ((Statement-F.Alloc (Held (H.Local 0)) (Constant (pos 16)) Leaves) ∷ (Statement-F.Push (Held (H.Local 0))) ∷ []))) ∷ (Statement-F.PopDestroy (Constant (pos 8))) ∷ []) } }) ∷ []; operations = []; literals = []; main = 0 }
+
+eighth_push_grows_the_cleanup_cell_run : run script_eighth_push_grows_the_cleanup_cell_run R.Unlimited 10000 (shaped 4096 4096) ≡ record { outcome = Ended None []; trace = (line 1 144 0 Granted) ∷ (line 2 32 144 Granted) ∷ (line 3 32 176 Granted) ∷ (line 4 32 208 Granted) ∷ (line 5 32 240 Granted) ∷ (line 6 32 272 Granted) ∷ (line 7 32 304 Granted) ∷ (line 8 32 336 Granted) ∷ (line 9 32 368 Granted) ∷ (line 10 208 400 Granted) ∷ []; lines = []; notes = []; steps = 34 }
+unfolding everything
+eighth_push_grows_the_cleanup_cell_run = refl
+
+abbrev script_item_left_at_the_end_of_a_trap_run : Script
+script_item_left_at_the_end_of_a_trap_run = record { classes = []; procedures = (record { parameters = []; body = record { locals = (OfPointer None) ∷ OfNumber ∷ []; statements = rolled ((Statement-F.Trap 1 (rolled ((Statement-F.Push (Held (H.Local 0))) ∷ []))) ∷ []) } }) ∷ []; operations = []; literals = []; main = 0 }
+
+item_left_at_the_end_of_a_trap_run : run script_item_left_at_the_end_of_a_trap_run R.Unlimited 10000 (shaped 4096 4096) ≡ record { outcome = Panicked (P.Workbench 5); trace = (line 1 144 0 Granted) ∷ []; lines = []; notes = []; steps = 2 }
+unfolding everything
+item_left_at_the_end_of_a_trap_run = refl
+
+abbrev script_marks_never_count_the_cleanup_cell_run : Script
+script_marks_never_count_the_cleanup_cell_run = record { classes = []; procedures = (record { parameters = []; body = record { locals = (OfPointer None) ∷ []; statements = rolled (Statement-F.Mark ∷ (Statement-F.Repeat (Constant (pos 8)) (rolled ((Statement-F.Push (Held (H.Local 0))) ∷ []))) ∷ (Statement-F.Pop (Constant (pos 8))) ∷ (Statement-F.MarkEnd (Constant (pos 0))) ∷ []) } }) ∷ []; operations = []; literals = []; main = 0 }
+
+marks_never_count_the_cleanup_cell_run : run script_marks_never_count_the_cleanup_cell_run R.Unlimited 10000 (shaped 4096 4096) ≡ record { outcome = Ended None []; trace = (line 1 144 0 Granted) ∷ (line 2 208 0 Granted) ∷ []; lines = []; notes = []; steps = 20 }
+unfolding everything
+marks_never_count_the_cleanup_cell_run = refl
+
+abbrev script_pop_below_the_trap_run : Script
+script_pop_below_the_trap_run = record { classes = []; procedures = (record { parameters = []; body = record { locals = (OfPointer None) ∷ OfNumber ∷ []; statements = rolled ((Statement-F.Push (Held (H.Local 0))) ∷ (Statement-F.Trap 1 (rolled ((Statement-F.Pop (Constant (pos 1))) ∷ []))) ∷ []) } }) ∷ []; operations = []; literals = []; main = 0 }
+
+pop_below_the_trap_run : run script_pop_below_the_trap_run R.Unlimited 10000 (shaped 4096 4096) ≡ record { outcome = Panicked (P.Workbench 3); trace = (line 1 144 0 Granted) ∷ []; lines = []; notes = []; steps = 3 }
+unfolding everything
+pop_below_the_trap_run = refl
+
+abbrev script_pop_expects_another_item_run : Script
+script_pop_expects_another_item_run = record { classes = []; procedures = (record { parameters = []; body = record { locals = (OfPointer None) ∷ (OfPointer None) ∷ []; statements = rolled ((Statement-F.Alloc (Held (H.Local 0)) (Constant (pos 16)) Leaves) ∷ (Statement-F.Push (Held (H.Local 1))) ∷ (Statement-F.PopCheck (Held (H.Local 0))) ∷ []) } }) ∷ []; operations = []; literals = []; main = 0 }
+
+pop_expects_another_item_run : run script_pop_expects_another_item_run R.Unlimited 10000 (shaped 4096 4096) ≡ record { outcome = Panicked (P.Workbench 4); trace = (line 1 144 0 Granted) ∷ (line 2 32 144 Granted) ∷ []; lines = []; notes = []; steps = 3 }
+unfolding everything
+pop_expects_another_item_run = refl
+
+abbrev script_procedure_returns_a_pushed_cell_run : Script
+script_procedure_returns_a_pushed_cell_run = record { classes = []; procedures = (record { parameters = Par.OfNumber ∷ []; body = record { locals = (OfPointer None) ∷ []; statements = rolled ((Statement-F.Alloc (Held (H.Local 1)) (Variable 0) Leaves) ∷ (Statement-F.Push (Held (H.Local 1))) ∷ (Statement-F.ReturnPointer (Held (H.Local 1))) ∷ []) } }) ∷ (record { parameters = []; body = record { locals = (OfPointer None) ∷ []; statements = rolled ((Statement-F.CallTo 0 0 ((Given (Constant (pos 40))) ∷ [])) ∷ (Statement-F.PopDestroy (Constant (pos 1))) ∷ []) } }) ∷ []; operations = []; literals = []; main = 1 }
+
+procedure_returns_a_pushed_cell_run : run script_procedure_returns_a_pushed_cell_run R.Unlimited 10000 (shaped 4096 4096) ≡ record { outcome = Ended None []; trace = (line 1 144 0 Granted) ∷ (line 2 64 144 Granted) ∷ []; lines = []; notes = []; steps = 6 }
+unfolding everything
+procedure_returns_a_pushed_cell_run = refl
+
+abbrev script_push_that_cannot_grow_keeps_its_item_run : Script
+script_push_that_cannot_grow_keeps_its_item_run = record { classes = []; procedures = (record { parameters = []; body = record { locals = (OfPointer None) ∷ []; statements = rolled ((Statement-F.Repeat (Constant (pos 8)) (rolled ((Statement-F.Alloc (Held (H.Local 0)) (Constant (pos 16)) Leaves) ∷ (Statement-F.Push (Held (H.Local 0))) ∷ []))) ∷ (Statement-F.PopDestroy (Constant (pos 8))) ∷ []) } }) ∷ []; operations = []; literals = []; main = 0 }
+
+push_that_cannot_grow_keeps_its_item_run : run script_push_that_cannot_grow_keeps_its_item_run (R.Number 10) 10000 (shaped 4096 4096) ≡ record { outcome = Ended (Some (negsuc 3)) []; trace = (line 1 144 0 Granted) ∷ (line 2 32 144 Granted) ∷ (line 3 32 176 Granted) ∷ (line 4 32 208 Granted) ∷ (line 5 32 240 Granted) ∷ (line 6 32 272 Granted) ∷ (line 7 32 304 Granted) ∷ (line 8 32 336 Granted) ∷ (line 9 32 368 Granted) ∷ (line 10 208 400 Simulated) ∷ []; lines = []; notes = []; steps = 33 }
+unfolding everything
+push_that_cannot_grow_keeps_its_item_run = refl
+
+abbrev script_buffer_edits_one_after_another_run : Script
+script_buffer_edits_one_after_another_run = record { classes = []; procedures = (record { parameters = []; body = record { locals = (OfBuffer 8) ∷ OfView ∷ []; statements = rolled ((Statement-F.Copy (OwnBuffer 0) (Quoted 0)) ∷ (Statement-F.Insert (OwnBuffer 0) (Constant (pos 1)) (Quoted 1)) ∷ (Statement-F.DeleteText (OwnBuffer 0) (Constant (pos 4)) (Constant (pos 99))) ∷ (Statement-F.Right 1 (Of (OwnBuffer 0)) (Constant (pos 2))) ∷ (Statement-F.Append (OwnBuffer 0) (ViewOf 1)) ∷ (Statement-F.SetLength (OwnBuffer 0) (Constant (pos 8))) ∷ (Statement-F.PrintText (Of (OwnBuffer 0))) ∷ []) } }) ∷ []; operations = []; literals = (97 ∷ 98 ∷ 99 ∷ 100 ∷ []) ∷ (88 ∷ 89 ∷ []) ∷ []; main = 0 }
+
+buffer_edits_one_after_another_run : run script_buffer_edits_one_after_another_run R.Unlimited 10000 (shaped 4096 4096) ≡ record { outcome = Ended None []; trace = (line 1 144 0 Granted) ∷ []; lines = (97 ∷ 88 ∷ 89 ∷ 98 ∷ 89 ∷ 98 ∷ 46 ∷ 46 ∷ []) ∷ []; notes = []; steps = 7 }
+unfolding everything
+buffer_edits_one_after_another_run = refl
+
+abbrev script_refused_text_growth_keeps_the_text_run : Script
+script_refused_text_growth_keeps_the_text_run = record { classes = []; procedures = (record { parameters = []; body = record { locals = (OfPointer None) ∷ (OfPointer None) ∷ []; statements = rolled ((Statement-F.NewText (Held (H.Local 0)) (Constant (pos 4)) GivesNull) ∷ (Statement-F.Append (InCell (Held (H.Local 0))) (Quoted 0)) ∷ (Statement-F.FailNext (Constant (pos 1))) ∷ (Statement-F.ReallocText (Held (H.Local 1)) (Held (H.Local 0)) (Constant (pos 20))) ∷ (Statement-F.PrintText (Of (InCell (Held (H.Local 0))))) ∷ (Statement-F.Free (Held (H.Local 0))) ∷ []) } }) ∷ []; operations = []; literals = (97 ∷ 98 ∷ 99 ∷ []) ∷ []; main = 0 }
+
+refused_text_growth_keeps_the_text_run : run script_refused_text_growth_keeps_the_text_run R.Unlimited 10000 (shaped 4096 4096) ≡ record { outcome = Ended None []; trace = (line 1 144 0 Granted) ∷ (line 2 32 144 Granted) ∷ (line 3 64 144 Simulated) ∷ []; lines = (97 ∷ 98 ∷ 99 ∷ []) ∷ []; notes = []; steps = 6 }
+unfolding everything
+refused_text_growth_keeps_the_text_run = refl
+
+abbrev script_text_longer_than_its_maximum_run : Script
+script_text_longer_than_its_maximum_run = record { classes = []; procedures = (record { parameters = []; body = record { locals = (OfPointer None) ∷ OfNumber ∷ OfView ∷ []; statements = rolled ((Statement-F.NewText (Held (H.Local 0)) (Constant (pos 4)) GivesNull) ∷ (Statement-F.GetMaximum 1 (InCell (Held (H.Local 0)))) ∷ (Statement-F.PrintNumber (Variable 1)) ∷ (Statement-F.Append (InCell (Held (H.Local 0))) (Quoted 0)) ∷ (Statement-F.Append (InCell (Held (H.Local 0))) (Quoted 1)) ∷ []) } }) ∷ []; operations = []; literals = (97 ∷ 98 ∷ 99 ∷ 100 ∷ 101 ∷ 102 ∷ []) ∷ (103 ∷ []) ∷ []; main = 0 }
+
+text_longer_than_its_maximum_run : run script_text_longer_than_its_maximum_run R.Unlimited 10000 (shaped 4096 4096) ≡ record { outcome = Panicked (P.User 11); trace = (line 1 144 0 Granted) ∷ (line 2 32 144 Granted) ∷ []; lines = (54 ∷ []) ∷ []; notes = []; steps = 5 }
+unfolding everything
+text_longer_than_its_maximum_run = refl
+
+abbrev script_text_made_shorter_than_its_length_run : Script
+script_text_made_shorter_than_its_length_run = record { classes = []; procedures = (record { parameters = []; body = record { locals = (OfPointer None) ∷ (OfPointer None) ∷ []; statements = rolled ((Statement-F.NewText (Held (H.Local 0)) (Constant (pos 4)) GivesNull) ∷ (Statement-F.Append (InCell (Held (H.Local 0))) (Quoted 0)) ∷ (Statement-F.ReallocText (Held (H.Local 1)) (Held (H.Local 0)) (Constant (pos 2))) ∷ []) } }) ∷ []; operations = []; literals = (97 ∷ 98 ∷ 99 ∷ []) ∷ []; main = 0 }
+
+text_made_shorter_than_its_length_run : run script_text_made_shorter_than_its_length_run R.Unlimited 10000 (shaped 4096 4096) ≡ record { outcome = Panicked (P.Workbench 8); trace = (line 1 144 0 Granted) ∷ (line 2 32 144 Granted) ∷ []; lines = []; notes = []; steps = 3 }
+unfolding everything
+text_made_shorter_than_its_length_run = refl
+
+abbrev script_view_of_a_freed_text_run : Script
+script_view_of_a_freed_text_run = record { classes = []; procedures = (record { parameters = []; body = record { locals = (OfPointer None) ∷ OfView ∷ []; statements = rolled ((Statement-F.NewText (Held (H.Local 0)) (Constant (pos 4)) GivesNull) ∷ (Statement-F.Mid 1 (Of (InCell (Held (H.Local 0)))) (Constant (pos 0)) (Constant (pos 0))) ∷ (Statement-F.Free (Held (H.Local 0))) ∷ (Statement-F.PrintText (ViewOf 1)) ∷ []) } }) ∷ []; operations = []; literals = []; main = 0 }
+
+view_of_a_freed_text_run : run script_view_of_a_freed_text_run R.Unlimited 10000 (shaped 4096 4096) ≡ record { outcome = Panicked (P.Workbench 1); trace = (line 1 144 0 Granted) ∷ (line 2 32 144 Granted) ∷ []; lines = []; notes = []; steps = 4 }
+unfolding everything
+view_of_a_freed_text_run = refl
+
+abbrev script_view_of_an_empty_view_is_still_the_same_text_run : Script
+script_view_of_an_empty_view_is_still_the_same_text_run = record { classes = []; procedures = (record { parameters = []; body = record { locals = OfView ∷ OfView ∷ (OfBuffer 4) ∷ []; statements = rolled ((Statement-F.Copy (OwnBuffer 2) (Quoted 0)) ∷ (Statement-F.Left 0 (Of (OwnBuffer 2)) (Constant (pos 0))) ∷ (Statement-F.Left 1 (ViewOf 0) (Constant (pos 0))) ∷ (Statement-F.Insert (OwnBuffer 2) (Constant (pos 0)) (ViewOf 1)) ∷ []) } }) ∷ []; operations = []; literals = (97 ∷ 98 ∷ []) ∷ []; main = 0 }
+
+view_of_an_empty_view_is_still_the_same_text_run : run script_view_of_an_empty_view_is_still_the_same_text_run R.Unlimited 10000 (shaped 4096 4096) ≡ record { outcome = Panicked (P.Workbench 9); trace = (line 1 144 0 Granted) ∷ []; lines = []; notes = []; steps = 4 }
+unfolding everything
+view_of_an_empty_view_is_still_the_same_text_run = refl
+
+abbrev script_view_of_nothing_run : Script
+script_view_of_nothing_run = record { classes = []; procedures = (record { parameters = []; body = record { locals = OfView ∷ OfView ∷ (OfBuffer 4) ∷ []; statements = rolled ((Statement-F.Left 1 (ViewOf 0) (Constant (pos 0))) ∷ (Statement-F.Insert (OwnBuffer 2) (Constant (pos 0)) (ViewOf 1)) ∷ (Statement-F.PrintText (Of (OwnBuffer 2))) ∷ (Statement-F.Left 1 (ViewOf 0) (Constant (pos 1))) ∷ []) } }) ∷ []; operations = []; literals = []; main = 0 }
+
+view_of_nothing_run : run script_view_of_nothing_run R.Unlimited 10000 (shaped 4096 4096) ≡ record { outcome = Panicked (P.User 10); trace = (line 1 144 0 Granted) ∷ []; lines = [] ∷ []; notes = []; steps = 4 }
+unfolding everything
+view_of_nothing_run = refl
+
+abbrev script_view_position_past_the_text_run : Script
+script_view_position_past_the_text_run = record { classes = []; procedures = (record { parameters = []; body = record { locals = (OfPointer None) ∷ OfNumber ∷ OfView ∷ []; statements = rolled ((Statement-F.NewText (Held (H.Local 0)) (Constant (pos 4)) GivesNull) ∷ (Statement-F.GetMaximum 1 (InCell (Held (H.Local 0)))) ∷ (Statement-F.PrintNumber (Variable 1)) ∷ (Statement-F.Append (InCell (Held (H.Local 0))) (Quoted 0)) ∷ (Statement-F.Mid 2 (Of (InCell (Held (H.Local 0)))) (Constant (pos 7)) (Constant (pos 0))) ∷ []) } }) ∷ []; operations = []; literals = (97 ∷ 98 ∷ 99 ∷ 100 ∷ 101 ∷ 102 ∷ []) ∷ []; main = 0 }
+
+view_position_past_the_text_run : run script_view_position_past_the_text_run R.Unlimited 10000 (shaped 4096 4096) ≡ record { outcome = Panicked (P.User 10); trace = (line 1 144 0 Granted) ∷ (line 2 32 144 Granted) ∷ []; lines = (54 ∷ []) ∷ []; notes = []; steps = 5 }
+unfolding everything
+view_position_past_the_text_run = refl
+
+abbrev script_budget_ends_before_the_frames_do_run : Script
+script_budget_ends_before_the_frames_do_run = record { classes = []; procedures = (record { parameters = []; body = record { locals = []; statements = rolled ((Statement-F.Call 0 []) ∷ []) } }) ∷ (record { parameters = []; body = record { locals = []; statements = rolled ((Statement-F.Call 0 []) ∷ []) } }) ∷ []; operations = []; literals = []; main = 1 }
+
+budget_ends_before_the_frames_do_run : run script_budget_ends_before_the_frames_do_run R.Unlimited 127 (shaped 4096 4096) ≡ record { outcome = Cut Budget; trace = (line 1 144 0 Granted) ∷ []; lines = []; notes = []; steps = 127 }
+unfolding everything
+budget_ends_before_the_frames_do_run = refl
+
+abbrev script_budget_exactly_enough_run : Script
+script_budget_exactly_enough_run = record { classes = []; procedures = (record { parameters = []; body = record { locals = (OfPointer None) ∷ (OfPointer None) ∷ (OfPointer None) ∷ []; statements = rolled ((Statement-F.Alloc (Held (H.Local 0)) (Constant (pos 10)) GivesNull) ∷ (Statement-F.Alloc (Held (H.Local 1)) (Constant (pos 100)) GivesNull) ∷ (Statement-F.Free (Held (H.Local 0))) ∷ (Statement-F.Alloc (Held (H.Local 2)) (Constant (pos 16)) GivesNull) ∷ (Statement-F.Free (Held (H.Local 1))) ∷ (Statement-F.Free (Held (H.Local 2))) ∷ []) } }) ∷ []; operations = []; literals = []; main = 0 }
+
+budget_exactly_enough_run : run script_budget_exactly_enough_run R.Unlimited 6 (shaped 4096 4096) ≡ record { outcome = Ended None []; trace = (line 1 144 0 Granted) ∷ (line 2 32 144 Granted) ∷ (line 3 128 176 Granted) ∷ (line 4 32 144 Granted) ∷ []; lines = []; notes = []; steps = 6 }
+unfolding everything
+budget_exactly_enough_run = refl
+
+abbrev script_budget_one_step_short_run : Script
+script_budget_one_step_short_run = record { classes = []; procedures = (record { parameters = []; body = record { locals = (OfPointer None) ∷ (OfPointer None) ∷ (OfPointer None) ∷ []; statements = rolled ((Statement-F.Alloc (Held (H.Local 0)) (Constant (pos 10)) GivesNull) ∷ (Statement-F.Alloc (Held (H.Local 1)) (Constant (pos 100)) GivesNull) ∷ (Statement-F.Free (Held (H.Local 0))) ∷ (Statement-F.Alloc (Held (H.Local 2)) (Constant (pos 16)) GivesNull) ∷ (Statement-F.Free (Held (H.Local 1))) ∷ (Statement-F.Free (Held (H.Local 2))) ∷ []) } }) ∷ []; operations = []; literals = []; main = 0 }
+
+budget_one_step_short_run : run script_budget_one_step_short_run R.Unlimited 5 (shaped 4096 4096) ≡ record { outcome = Cut Budget; trace = (line 1 144 0 Granted) ∷ (line 2 32 144 Granted) ∷ (line 3 128 176 Granted) ∷ (line 4 32 144 Granted) ∷ []; lines = []; notes = []; steps = 5 }
+unfolding everything
+budget_one_step_short_run = refl
+
+abbrev script_endless_calls_run_out_of_frames_run : Script
+script_endless_calls_run_out_of_frames_run = record { classes = []; procedures = (record { parameters = []; body = record { locals = []; statements = rolled ((Statement-F.Call 0 []) ∷ []) } }) ∷ (record { parameters = []; body = record { locals = []; statements = rolled ((Statement-F.Call 0 []) ∷ []) } }) ∷ []; operations = []; literals = []; main = 1 }
+
+endless_calls_run_out_of_frames_run : run script_endless_calls_run_out_of_frames_run R.Unlimited 10000 (shaped 4096 4096) ≡ record { outcome = Panicked (P.Workbench 7); trace = (line 1 144 0 Granted) ∷ []; lines = []; notes = []; steps = 128 }
+unfolding everything
+endless_calls_run_out_of_frames_run = refl
+
+abbrev script_every_second_attempt_fails_run : Script
+script_every_second_attempt_fails_run = record { classes = []; procedures = (record { parameters = []; body = record { locals = (OfPointer None) ∷ []; statements = rolled ((Statement-F.FailEvery (Constant (pos 2))) ∷ (Statement-F.Repeat (Constant (pos 4)) (rolled ((Statement-F.Alloc (Held (H.Local 0)) (Constant (pos 16)) GivesNull) ∷ (Statement-F.Free (Held (H.Local 0))) ∷ []))) ∷ []) } }) ∷ []; operations = []; literals = []; main = 0 }
+
+every_second_attempt_fails_run : run script_every_second_attempt_fails_run R.Unlimited 10000 (shaped 4096 4096) ≡ record { outcome = Ended None []; trace = (line 1 144 0 Granted) ∷ (line 2 32 144 Granted) ∷ (line 3 32 144 Simulated) ∷ (line 4 32 144 Granted) ∷ (line 5 32 144 Simulated) ∷ []; lines = []; notes = []; steps = 14 }
+unfolding everything
+every_second_attempt_fails_run = refl
+
+abbrev script_last_cell_passes_the_ceiling_run : Script
+script_last_cell_passes_the_ceiling_run = record { classes = []; procedures = (record { parameters = []; body = record { locals = (OfPointer None) ∷ []; statements = rolled ((Statement-F.Repeat (Constant (pos 15)) (rolled ((Statement-F.Alloc (Held (H.Local 0)) (Constant (pos 1048560)) GivesNull) ∷ []))) ∷ (Statement-F.Alloc (Held (H.Local 0)) (Constant (pos 1048417)) GivesNull) ∷ []) } }) ∷ []; operations = []; literals = []; main = 0 }
+
+last_cell_passes_the_ceiling_run : run script_last_cell_passes_the_ceiling_run R.Unlimited 10000 (shaped 4096 4096) ≡ record { outcome = Cut Ceiling; trace = (line 1 144 0 Granted) ∷ (line 2 1048576 144 Granted) ∷ (line 3 1048576 1048720 Granted) ∷ (line 4 1048576 2097296 Granted) ∷ (line 5 1048576 3145872 Granted) ∷ (line 6 1048576 4194448 Granted) ∷ (line 7 1048576 5243024 Granted) ∷ (line 8 1048576 6291600 Granted) ∷ (line 9 1048576 7340176 Granted) ∷ (line 10 1048576 8388752 Granted) ∷ (line 11 1048576 9437328 Granted) ∷ (line 12 1048576 10485904 Granted) ∷ (line 13 1048576 11534480 Granted) ∷ (line 14 1048576 12583056 Granted) ∷ (line 15 1048576 13631632 Granted) ∷ (line 16 1048576 14680208 Granted) ∷ []; lines = []; notes = []; steps = 32 }
+unfolding everything
+last_cell_passes_the_ceiling_run = refl
+
+abbrev script_limit_at_the_ceiling_refuses_instead_of_cutting_run : Script
+script_limit_at_the_ceiling_refuses_instead_of_cutting_run = record { classes = []; procedures = (record { parameters = []; body = record { locals = (OfPointer None) ∷ []; statements = rolled ((Statement-F.Repeat (Constant (pos 15)) (rolled ((Statement-F.Alloc (Held (H.Local 0)) (Constant (pos 1048560)) GivesNull) ∷ []))) ∷ (Statement-F.Alloc (Held (H.Local 0)) (Constant (pos 1048417)) GivesNull) ∷ []) } }) ∷ []; operations = []; literals = []; main = 0 }
+
+limit_at_the_ceiling_refuses_instead_of_cutting_run : run script_limit_at_the_ceiling_refuses_instead_of_cutting_run (R.Limit 16777216) 10000 (shaped 4096 4096) ≡ record { outcome = Ended None ((record { number = 2; length = 1048576; place = 144 }) ∷ (record { number = 3; length = 1048576; place = 1048720 }) ∷ (record { number = 4; length = 1048576; place = 2097296 }) ∷ (record { number = 5; length = 1048576; place = 3145872 }) ∷ (record { number = 6; length = 1048576; place = 4194448 }) ∷ (record { number = 7; length = 1048576; place = 5243024 }) ∷ (record { number = 8; length = 1048576; place = 6291600 }) ∷ (record { number = 9; length = 1048576; place = 7340176 }) ∷ (record { number = 10; length = 1048576; place = 8388752 }) ∷ (record { number = 11; length = 1048576; place = 9437328 }) ∷ (record { number = 12; length = 1048576; place = 10485904 }) ∷ (record { number = 13; length = 1048576; place = 11534480 }) ∷ (record { number = 14; length = 1048576; place = 12583056 }) ∷ (record { number = 15; length = 1048576; place = 13631632 }) ∷ (record { number = 16; length = 1048576; place = 14680208 }) ∷ []); trace = (line 1 144 0 Granted) ∷ (line 2 1048576 144 Granted) ∷ (line 3 1048576 1048720 Granted) ∷ (line 4 1048576 2097296 Granted) ∷ (line 5 1048576 3145872 Granted) ∷ (line 6 1048576 4194448 Granted) ∷ (line 7 1048576 5243024 Granted) ∷ (line 8 1048576 6291600 Granted) ∷ (line 9 1048576 7340176 Granted) ∷ (line 10 1048576 8388752 Granted) ∷ (line 11 1048576 9437328 Granted) ∷ (line 12 1048576 10485904 Granted) ∷ (line 13 1048576 11534480 Granted) ∷ (line 14 1048576 12583056 Granted) ∷ (line 15 1048576 13631632 Granted) ∷ (line 16 1048576 14680208 Granted) ∷ (line 17 1048448 15728784 Refused) ∷ []; lines = []; notes = []; steps = 32 }
+unfolding everything
+limit_at_the_ceiling_refuses_instead_of_cutting_run = refl
+
+abbrev script_limit_just_enough_run : Script
+script_limit_just_enough_run = record { classes = []; procedures = (record { parameters = []; body = record { locals = (OfPointer None) ∷ (OfPointer None) ∷ (OfPointer None) ∷ []; statements = rolled ((Statement-F.Alloc (Held (H.Local 0)) (Constant (pos 48)) GivesNull) ∷ (Statement-F.Alloc (Held (H.Local 1)) (Constant (pos 16)) GivesNull) ∷ (Statement-F.Free (Held (H.Local 0))) ∷ (Statement-F.Realloc (Held (H.Local 2)) (Held (H.Local 1)) (Constant (pos 48)) GivesNull) ∷ (Statement-F.IfElse (IsNull (Held (H.Local 2))) (rolled ((Statement-F.Free (Held (H.Local 1))) ∷ [])) (rolled ((Statement-F.Free (Held (H.Local 2))) ∷ []))) ∷ []) } }) ∷ []; operations = []; literals = []; main = 0 }
+
+limit_just_enough_run : run script_limit_just_enough_run (R.Limit 272) 10000 (shaped 4096 4096) ≡ record { outcome = Ended None []; trace = (line 1 144 0 Granted) ∷ (line 2 64 144 Granted) ∷ (line 3 32 208 Granted) ∷ (line 4 64 208 Granted) ∷ []; lines = []; notes = []; steps = 6 }
+unfolding everything
+limit_just_enough_run = refl
+
+abbrev script_limit_one_byte_short_of_enough_run : Script
+script_limit_one_byte_short_of_enough_run = record { classes = []; procedures = (record { parameters = []; body = record { locals = (OfPointer None) ∷ (OfPointer None) ∷ (OfPointer None) ∷ []; statements = rolled ((Statement-F.Alloc (Held (H.Local 0)) (Constant (pos 48)) GivesNull) ∷ (Statement-F.Alloc (Held (H.Local 1)) (Constant (pos 16)) GivesNull) ∷ (Statement-F.Free (Held (H.Local 0))) ∷ (Statement-F.Realloc (Held (H.Local 2)) (Held (H.Local 1)) (Constant (pos 48)) GivesNull) ∷ (Statement-F.IfElse (IsNull (Held (H.Local 2))) (rolled ((Statement-F.Free (Held (H.Local 1))) ∷ [])) (rolled ((Statement-F.Free (Held (H.Local 2))) ∷ []))) ∷ []) } }) ∷ []; operations = []; literals = []; main = 0 }
+
+limit_one_byte_short_of_enough_run : run script_limit_one_byte_short_of_enough_run (R.Limit 271) 10000 (shaped 4096 4096) ≡ record { outcome = Ended None []; trace = (line 1 144 0 Granted) ∷ (line 2 64 144 Granted) ∷ (line 3 32 208 Granted) ∷ (line 4 64 208 Refused) ∷ []; lines = []; notes = []; steps = 6 }
+unfolding everything
+limit_one_byte_short_of_enough_run = refl
+
+abbrev script_limit_stops_top_cell_growth_run : Script
+script_limit_stops_top_cell_growth_run = record { classes = []; procedures = (record { parameters = []; body = record { locals = (OfPointer None) ∷ (OfPointer None) ∷ (OfPointer None) ∷ []; statements = rolled ((Statement-F.Alloc (Held (H.Local 0)) (Constant (pos 48)) GivesNull) ∷ (Statement-F.Alloc (Held (H.Local 1)) (Constant (pos 16)) GivesNull) ∷ (Statement-F.Free (Held (H.Local 0))) ∷ (Statement-F.Realloc (Held (H.Local 2)) (Held (H.Local 1)) (Constant (pos 48)) GivesNull) ∷ (Statement-F.IfElse (IsNull (Held (H.Local 2))) (rolled ((Statement-F.Free (Held (H.Local 1))) ∷ [])) (rolled ((Statement-F.Free (Held (H.Local 2))) ∷ []))) ∷ []) } }) ∷ []; operations = []; literals = []; main = 0 }
+
+limit_stops_top_cell_growth_run : run script_limit_stops_top_cell_growth_run (R.Limit 256) 10000 (shaped 4096 4096) ≡ record { outcome = Ended None []; trace = (line 1 144 0 Granted) ∷ (line 2 64 144 Granted) ∷ (line 3 32 208 Granted) ∷ (line 4 64 208 Refused) ∷ []; lines = []; notes = []; steps = 6 }
+unfolding everything
+limit_stops_top_cell_growth_run = refl
+
+abbrev script_refused_text_growth_after_leaving_allocation_run : Script
+script_refused_text_growth_after_leaving_allocation_run = record { classes = []; procedures = (record { parameters = []; body = record { locals = (OfPointer None) ∷ (OfPointer None) ∷ []; statements = rolled ((Statement-F.NewText (Held (H.Local 0)) (Constant (pos 4)) Leaves) ∷ (Statement-F.Append (InCell (Held (H.Local 0))) (Quoted 0)) ∷ (Statement-F.FailNext (Constant (pos 1))) ∷ (Statement-F.ReallocText (Held (H.Local 1)) (Held (H.Local 0)) (Constant (pos 20))) ∷ (Statement-F.PrintText (Of (InCell (Held (H.Local 0))))) ∷ (Statement-F.Free (Held (H.Local 0))) ∷ []) } }) ∷ []; operations = []; literals = (97 ∷ 98 ∷ 99 ∷ []) ∷ []; main = 0 }
+
+refused_text_growth_after_leaving_allocation_run : run script_refused_text_growth_after_leaving_allocation_run R.Unlimited 10000 (shaped 4096 4096) ≡ record { outcome = Ended None []; trace = (line 1 144 0 Granted) ∷ (line 2 32 144 Granted) ∷ (line 3 64 144 Simulated) ∷ []; lines = (97 ∷ 98 ∷ 99 ∷ []) ∷ []; notes = []; steps = 6 }
+unfolding everything
+refused_text_growth_after_leaving_allocation_run = refl
+
+abbrev script_sixteen_nested_blocks_run : Script
+script_sixteen_nested_blocks_run = record { classes = []; procedures = (record { parameters = []; body = record { locals = []; statements = rolled ((Statement-F.Repeat (Constant (pos 1)) (rolled ((Statement-F.Repeat (Constant (pos 1)) (rolled ((Statement-F.Repeat (Constant (pos 1)) (rolled ((Statement-F.Repeat (Constant (pos 1)) (rolled ((Statement-F.Repeat (Constant (pos 1)) (rolled ((Statement-F.Repeat (Constant (pos 1)) (rolled ((Statement-F.Repeat (Constant (pos 1)) (rolled ((Statement-F.Repeat (Constant (pos 1)) (rolled ((Statement-F.Repeat (Constant (pos 1)) (rolled ((Statement-F.Repeat (Constant (pos 1)) (rolled ((Statement-F.Repeat (Constant (pos 1)) (rolled ((Statement-F.Repeat (Constant (pos 1)) (rolled ((Statement-F.Repeat (Constant (pos 1)) (rolled ((Statement-F.Repeat (Constant (pos 1)) (rolled ((Statement-F.Repeat (Constant (pos 1)) (rolled ((Statement-F.Repeat (Constant (pos 1)) []) ∷ []))) ∷ []))) ∷ []))) ∷ []))) ∷ []))) ∷ []))) ∷ []))) ∷ []))) ∷ []))) ∷ []))) ∷ []))) ∷ []))) ∷ []))) ∷ []))) ∷ []))) ∷ []) } }) ∷ []; operations = []; literals = []; main = 0 }
+
+sixteen_nested_blocks_run : run script_sixteen_nested_blocks_run R.Unlimited 10000 (shaped 4096 4096) ≡ record { outcome = Ended None []; trace = (line 1 144 0 Granted) ∷ []; lines = []; notes = []; steps = 32 }
+unfolding everything
+sixteen_nested_blocks_run = refl
+
+abbrev script_text_from_leaving_allocation_too_long_run : Script
+script_text_from_leaving_allocation_too_long_run = record { classes = []; procedures = (record { parameters = []; body = record { locals = (OfPointer None) ∷ OfNumber ∷ OfView ∷ []; statements = rolled ((Statement-F.NewText (Held (H.Local 0)) (Constant (pos 4)) Leaves) ∷ (Statement-F.GetMaximum 1 (InCell (Held (H.Local 0)))) ∷ (Statement-F.PrintNumber (Variable 1)) ∷ (Statement-F.Append (InCell (Held (H.Local 0))) (Quoted 0)) ∷ (Statement-F.Append (InCell (Held (H.Local 0))) (Quoted 1)) ∷ []) } }) ∷ []; operations = []; literals = (97 ∷ 98 ∷ 99 ∷ 100 ∷ 101 ∷ 102 ∷ []) ∷ (103 ∷ []) ∷ []; main = 0 }
+
+text_from_leaving_allocation_too_long_run : run script_text_from_leaving_allocation_too_long_run R.Unlimited 10000 (shaped 4096 4096) ≡ record { outcome = Panicked (P.User 11); trace = (line 1 144 0 Granted) ∷ (line 2 32 144 Granted) ∷ []; lines = (54 ∷ []) ∷ []; notes = []; steps = 5 }
+unfolding everything
+text_from_leaving_allocation_too_long_run = refl
+
+abbrev script_top_cell_grows_in_place_run : Script
+script_top_cell_grows_in_place_run = record { classes = []; procedures = (record { parameters = []; body = record { locals = (OfPointer None) ∷ (OfPointer None) ∷ (OfPointer None) ∷ []; statements = rolled ((Statement-F.Alloc (Held (H.Local 0)) (Constant (pos 48)) GivesNull) ∷ (Statement-F.Alloc (Held (H.Local 1)) (Constant (pos 16)) GivesNull) ∷ (Statement-F.Free (Held (H.Local 0))) ∷ (Statement-F.Realloc (Held (H.Local 2)) (Held (H.Local 1)) (Constant (pos 48)) GivesNull) ∷ (Statement-F.IfElse (IsNull (Held (H.Local 2))) (rolled ((Statement-F.Free (Held (H.Local 1))) ∷ [])) (rolled ((Statement-F.Free (Held (H.Local 2))) ∷ []))) ∷ []) } }) ∷ []; operations = []; literals = []; main = 0 }
+
+top_cell_grows_in_place_run : run script_top_cell_grows_in_place_run R.Unlimited 10000 (shaped 4096 4096) ≡ record { outcome = Ended None []; trace = (line 1 144 0 Granted) ∷ (line 2 64 144 Granted) ∷ (line 3 32 208 Granted) ∷ (line 4 64 208 Granted) ∷ []; lines = []; notes = []; steps = 6 }
+unfolding everything
+top_cell_grows_in_place_run = refl
+
+abbrev script_trapped_leave_leaves_again_run : Script
+script_trapped_leave_leaves_again_run = record { classes = []; procedures = (record { parameters = []; body = record { locals = OfNumber ∷ []; statements = rolled ((Statement-F.Trap 0 (rolled ((Statement-F.Leave (Constant (negsuc 6))) ∷ []))) ∷ (Statement-F.PrintNumber (Variable 0)) ∷ (Statement-F.LeaveIfError (Variable 0)) ∷ []) } }) ∷ []; operations = []; literals = []; main = 0 }
+
+trapped_leave_leaves_again_run : run script_trapped_leave_leaves_again_run R.Unlimited 10000 (shaped 4096 4096) ≡ record { outcome = Ended (Some (negsuc 6)) []; trace = (line 1 144 0 Granted) ∷ []; lines = (45 ∷ 55 ∷ []) ∷ []; notes = []; steps = 4 }
+unfolding everything
+trapped_leave_leaves_again_run = refl
+
+abbrev script_view_past_text_from_leaving_allocation_run : Script
+script_view_past_text_from_leaving_allocation_run = record { classes = []; procedures = (record { parameters = []; body = record { locals = (OfPointer None) ∷ OfNumber ∷ OfView ∷ []; statements = rolled ((Statement-F.NewText (Held (H.Local 0)) (Constant (pos 4)) Leaves) ∷ (Statement-F.GetMaximum 1 (InCell (Held (H.Local 0)))) ∷ (Statement-F.PrintNumber (Variable 1)) ∷ (Statement-F.Append (InCell (Held (H.Local 0))) (Quoted 0)) ∷ (Statement-F.Mid 2 (Of (InCell (Held (H.Local 0)))) (Constant (pos 7)) (Constant (pos 0))) ∷ []) } }) ∷ []; operations = []; literals = (97 ∷ 98 ∷ 99 ∷ 100 ∷ 101 ∷ 102 ∷ []) ∷ []; main = 0 }
+
+view_past_text_from_leaving_allocation_run : run script_view_past_text_from_leaving_allocation_run R.Unlimited 10000 (shaped 4096 4096) ≡ record { outcome = Panicked (P.User 10); trace = (line 1 144 0 Granted) ∷ (line 2 32 144 Granted) ∷ []; lines = (54 ∷ []) ∷ []; notes = []; steps = 5 }
+unfolding everything
+view_past_text_from_leaving_allocation_run = refl
+
+abbrev script_committed_length_notes_run : Script
+script_committed_length_notes_run = record { classes = []; procedures = (record { parameters = []; body = record { locals = (OfPointer None) ∷ []; statements = rolled ((Statement-F.Alloc (Held (H.Local 0)) (Constant (pos 200)) GivesNull) ∷ Statement-F.NoteAvailable ∷ Statement-F.NoteHeap ∷ (Statement-F.Free (Held (H.Local 0))) ∷ Statement-F.NoteAvailable ∷ Statement-F.NoteCompress ∷ Statement-F.NoteHeap ∷ []) } }) ∷ []; operations = []; literals = []; main = 0 }
+
+committed_length_notes_run : run script_committed_length_notes_run R.Unlimited 10000 (shaped 256 64) ≡ record { outcome = Ended None []; trace = (line 1 144 0 Granted) ∷ (line 2 224 144 Granted) ∷ []; lines = []; notes = (Available 16 16) ∷ (Heap 2 368 384) ∷ (Available 240 240) ∷ (Compress 128) ∷ (Heap 1 144 256) ∷ []; steps = 7 }
+unfolding everything
+committed_length_notes_run = refl
+
+abbrev script_forged_header_in_a_payload_run : Script
+script_forged_header_in_a_payload_run = record { classes = []; procedures = (record { parameters = []; body = record { locals = (OfPointer None) ∷ (OfPointer None) ∷ (OfPointer None) ∷ []; statements = rolled ((Statement-F.Alloc (Held (H.Local 0)) (Constant (pos 16)) GivesNull) ∷ (Statement-F.Alloc (Held (H.Local 1)) (Constant (pos 16)) GivesNull) ∷ (Statement-F.Free (Held (H.Local 0))) ∷ (Statement-F.Free (Held (H.Local 1))) ∷ (Statement-F.Alloc (Held (H.Local 2)) (Constant (pos 64)) GivesNull) ∷ (Statement-F.Store (Held (H.Local 2)) (Constant (pos 4)) (Constant (pos 32))) ∷ (Statement-F.Store (Held (H.Local 2)) (Constant (pos 5)) (Constant (pos 1))) ∷ (Statement-F.Store (Held (H.Local 2)) (Constant (pos 6)) (Constant (pos 0))) ∷ (Statement-F.Store (Held (H.Local 2)) (Constant (pos 7)) (Constant (pos 3))) ∷ (Statement-F.Free (Held (H.Local 1))) ∷ []) } }) ∷ []; operations = []; literals = []; main = 0 }
+
+forged_header_in_a_payload_run : run script_forged_header_in_a_payload_run R.Unlimited 10000 (shaped 4096 4096) ≡ record { outcome = Panicked (P.User 42); trace = (line 1 144 0 Granted) ∷ (line 2 32 144 Granted) ∷ (line 3 32 176 Granted) ∷ (line 4 80 144 Granted) ∷ []; lines = []; notes = []; steps = 10 }
+unfolding everything
+forged_header_in_a_payload_run = refl
+
+abbrev script_limit_not_a_multiple_of_sixteen_run : Script
+script_limit_not_a_multiple_of_sixteen_run = record { classes = []; procedures = (record { parameters = []; body = record { locals = (OfPointer None) ∷ []; statements = rolled ((Statement-F.Alloc (Held (H.Local 0)) (Constant (pos 9)) GivesNull) ∷ Statement-F.NoteAvailable ∷ Statement-F.NoteHeap ∷ Statement-F.NoteCompress ∷ (Statement-F.Alloc (Held (H.Local 0)) (Constant (pos 1)) GivesNull) ∷ []) } }) ∷ []; operations = []; literals = []; main = 0 }
+
+limit_not_a_multiple_of_sixteen_run : run script_limit_not_a_multiple_of_sixteen_run (R.Limit 190) 10000 (shaped 176 16) ≡ record { outcome = Ended None ((record { number = 2; length = 32; place = 144 }) ∷ []); trace = (line 1 144 0 Granted) ∷ (line 2 32 144 Granted) ∷ (line 3 32 176 Refused) ∷ []; lines = []; notes = (Available 0 0) ∷ (Heap 2 176 176) ∷ (Compress 0) ∷ []; steps = 5 }
+unfolding everything
+limit_not_a_multiple_of_sixteen_run = refl
+
+abbrev script_limit_one_byte_below_the_cleanup_cell_run : Script
+script_limit_one_byte_below_the_cleanup_cell_run = record { classes = []; procedures = (record { parameters = []; body = record { locals = []; statements = [] } }) ∷ []; operations = []; literals = []; main = 0 }
+
+limit_one_byte_below_the_cleanup_cell_run : run script_limit_one_byte_below_the_cleanup_cell_run (R.Limit 143) 10000 (shaped 4096 4096) ≡ record { outcome = NoCleanup; trace = (line 1 144 0 Refused) ∷ []; lines = []; notes = []; steps = 0 }
+unfolding everything
+limit_one_byte_below_the_cleanup_cell_run = refl
+
+abbrev script_limit_refuses_one_cell_run : Script
+script_limit_refuses_one_cell_run = record { classes = []; procedures = (record { parameters = []; body = record { locals = (OfPointer None) ∷ (OfPointer None) ∷ (OfPointer None) ∷ []; statements = rolled ((Statement-F.Alloc (Held (H.Local 0)) (Constant (pos 10)) GivesNull) ∷ (Statement-F.Alloc (Held (H.Local 1)) (Constant (pos 100)) GivesNull) ∷ (Statement-F.Free (Held (H.Local 0))) ∷ (Statement-F.Alloc (Held (H.Local 2)) (Constant (pos 16)) GivesNull) ∷ (Statement-F.Free (Held (H.Local 1))) ∷ (Statement-F.Free (Held (H.Local 2))) ∷ []) } }) ∷ []; operations = []; literals = []; main = 0 }
+
+limit_refuses_one_cell_run : run script_limit_refuses_one_cell_run (R.Limit 303) 10000 (shaped 4096 4096) ≡ record { outcome = Ended None []; trace = (line 1 144 0 Granted) ∷ (line 2 32 144 Granted) ∷ (line 3 128 176 Refused) ∷ (line 4 32 144 Granted) ∷ []; lines = []; notes = []; steps = 6 }
+unfolding everything
+limit_refuses_one_cell_run = refl
+
+abbrev script_limit_zero_run : Script
+script_limit_zero_run = record { classes = []; procedures = (record { parameters = []; body = record { locals = (OfPointer None) ∷ (OfPointer None) ∷ (OfPointer None) ∷ []; statements = rolled ((Statement-F.Alloc (Held (H.Local 0)) (Constant (pos 10)) GivesNull) ∷ (Statement-F.Alloc (Held (H.Local 1)) (Constant (pos 100)) GivesNull) ∷ (Statement-F.Free (Held (H.Local 0))) ∷ (Statement-F.Alloc (Held (H.Local 2)) (Constant (pos 16)) GivesNull) ∷ (Statement-F.Free (Held (H.Local 1))) ∷ (Statement-F.Free (Held (H.Local 2))) ∷ []) } }) ∷ []; operations = []; literals = []; main = 0 }
+
+limit_zero_run : run script_limit_zero_run (R.Limit 0) 10000 (shaped 4096 4096) ≡ record { outcome = NoCleanup; trace = (line 1 144 0 Refused) ∷ []; lines = []; notes = []; steps = 0 }
+unfolding everything
+limit_zero_run = refl
+
+abbrev script_cell_for_zero_bytes_run : Script
+script_cell_for_zero_bytes_run = record { classes = []; procedures = (record { parameters = []; body = record { locals = (OfPointer None) ∷ OfNumber ∷ []; statements = rolled ((Statement-F.Alloc (Held (H.Local 0)) (Constant (pos 0)) GivesNull) ∷ (Statement-F.AllocLen 1 (Held (H.Local 0))) ∷ (Statement-F.PrintNumber (Variable 1)) ∷ (Statement-F.Free (Held (H.Local 0))) ∷ []) } }) ∷ []; operations = []; literals = []; main = 0 }
+
+cell_for_zero_bytes_run : run script_cell_for_zero_bytes_run R.Unlimited 10000 (shaped 4096 4096) ≡ record { outcome = Ended None []; trace = (line 1 144 0 Granted) ∷ (line 2 16 144 Granted) ∷ []; lines = (48 ∷ []) ∷ []; notes = []; steps = 4 }
+unfolding everything
+cell_for_zero_bytes_run = refl
+
+abbrev script_fail_next_fires_once_run : Script
+script_fail_next_fires_once_run = record { classes = []; procedures = (record { parameters = []; body = record { locals = (OfPointer None) ∷ []; statements = rolled ((Statement-F.FailNext (Constant (pos 1))) ∷ (Statement-F.Alloc (Held (H.Local 0)) (Constant (pos 16)) GivesNull) ∷ (Statement-F.Alloc (Held (H.Local 0)) (Constant (pos 16)) GivesNull) ∷ (Statement-F.Free (Held (H.Local 0))) ∷ []) } }) ∷ []; operations = []; literals = []; main = 0 }
+
+fail_next_fires_once_run : run script_fail_next_fires_once_run R.Unlimited 10000 (shaped 4096 4096) ≡ record { outcome = Ended None []; trace = (line 1 144 0 Granted) ∷ (line 2 32 144 Simulated) ∷ (line 3 32 144 Granted) ∷ []; lines = []; notes = []; steps = 4 }
+unfolding everything
+fail_next_fires_once_run = refl
+
+abbrev script_growth_past_the_hole_moves_run : Script
+script_growth_past_the_hole_moves_run = record { classes = []; procedures = (record { parameters = []; body = record { locals = (OfPointer None) ∷ (OfPointer None) ∷ (OfPointer None) ∷ []; statements = rolled ((Statement-F.Alloc (Held (H.Local 0)) (Constant (pos 16)) GivesNull) ∷ (Statement-F.Alloc (Held (H.Local 1)) (Constant (pos 16)) GivesNull) ∷ (Statement-F.Alloc (Held (H.Local 2)) (Constant (pos 16)) GivesNull) ∷ (Statement-F.Free (Held (H.Local 1))) ∷ (Statement-F.Realloc (Held (H.Local 0)) (Held (H.Local 0)) (Constant (pos 49)) GivesNull) ∷ Statement-F.NoteHeap ∷ []) } }) ∷ []; operations = []; literals = []; main = 0 }
+
+growth_past_the_hole_moves_run : run script_growth_past_the_hole_moves_run R.Unlimited 10000 (shaped 4096 4096) ≡ record { outcome = Ended None ((record { number = 4; length = 32; place = 208 }) ∷ (record { number = 5; length = 80; place = 240 }) ∷ []); trace = (line 1 144 0 Granted) ∷ (line 2 32 144 Granted) ∷ (line 3 32 176 Granted) ∷ (line 4 32 208 Granted) ∷ (line 5 80 240 Granted) ∷ []; lines = []; notes = (Heap 3 256 4096) ∷ []; steps = 6 }
+unfolding everything
+growth_past_the_hole_moves_run = refl
+
+abbrev script_growth_that_exactly_fills_the_hole_run : Script
+script_growth_that_exactly_fills_the_hole_run = record { classes = []; procedures = (record { parameters = []; body = record { locals = (OfPointer None) ∷ (OfPointer None) ∷ (OfPointer None) ∷ []; statements = rolled ((Statement-F.Alloc (Held (H.Local 0)) (Constant (pos 16)) GivesNull) ∷ (Statement-F.Alloc (Held (H.Local 1)) (Constant (pos 16)) GivesNull) ∷ (Statement-F.Alloc (Held (H.Local 2)) (Constant (pos 16)) GivesNull) ∷ (Statement-F.Free (Held (H.Local 1))) ∷ (Statement-F.Store (Held (H.Local 0)) (Constant (pos 3)) (Constant (pos 7))) ∷ (Statement-F.Realloc (Held (H.Local 0)) (Held (H.Local 0)) (Constant (pos 48)) GivesNull) ∷ Statement-F.NoteHeap ∷ []) } }) ∷ []; operations = []; literals = []; main = 0 }
+
+growth_that_exactly_fills_the_hole_run : run script_growth_that_exactly_fills_the_hole_run R.Unlimited 10000 (shaped 4096 4096) ≡ record { outcome = Ended None ((record { number = 2; length = 64; place = 144 }) ∷ (record { number = 4; length = 32; place = 208 }) ∷ []); trace = (line 1 144 0 Granted) ∷ (line 2 32 144 Granted) ∷ (line 3 32 176 Granted) ∷ (line 4 32 208 Granted) ∷ (line 5 64 144 Granted) ∷ []; lines = []; notes = (Heap 3 240 4096) ∷ []; steps = 7 }
+unfolding everything
+growth_that_exactly_fills_the_hole_run = refl
+
+abbrev script_mark_end_finds_live_cells_run : Script
+script_mark_end_finds_live_cells_run = record { classes = []; procedures = (record { parameters = []; body = record { locals = (OfPointer None) ∷ (OfPointer None) ∷ []; statements = rolled (Statement-F.Mark ∷ (Statement-F.Alloc (Held (H.Local 0)) (Constant (pos 16)) GivesNull) ∷ (Statement-F.Alloc (Held (H.Local 1)) (Constant (pos 16)) GivesNull) ∷ (Statement-F.MarkEnd (Constant (pos 0))) ∷ []) } }) ∷ []; operations = []; literals = []; main = 0 }
+
+mark_end_finds_live_cells_run : run script_mark_end_finds_live_cells_run R.Unlimited 10000 (shaped 4096 4096) ≡ record { outcome = Panicked (P.Alloc 144); trace = (line 1 144 0 Granted) ∷ (line 2 32 144 Granted) ∷ (line 3 32 176 Granted) ∷ []; lines = []; notes = []; steps = 4 }
+unfolding everything
+mark_end_finds_live_cells_run = refl
+
+abbrev script_mark_end_hands_cells_to_the_outer_level_run : Script
+script_mark_end_hands_cells_to_the_outer_level_run = record { classes = []; procedures = (record { parameters = []; body = record { locals = (OfPointer None) ∷ (OfPointer None) ∷ []; statements = rolled (Statement-F.Mark ∷ (Statement-F.Alloc (Held (H.Local 0)) (Constant (pos 16)) GivesNull) ∷ (Statement-F.Alloc (Held (H.Local 1)) (Constant (pos 16)) GivesNull) ∷ (Statement-F.MarkEnd (Constant (pos 2))) ∷ (Statement-F.Check (Constant (pos 2))) ∷ (Statement-F.Free (Held (H.Local 0))) ∷ (Statement-F.Free (Held (H.Local 1))) ∷ []) } }) ∷ []; operations = []; literals = []; main = 0 }
+
+mark_end_hands_cells_to_the_outer_level_run : run script_mark_end_hands_cells_to_the_outer_level_run R.Unlimited 10000 (shaped 4096 4096) ≡ record { outcome = Ended None []; trace = (line 1 144 0 Granted) ∷ (line 2 32 144 Granted) ∷ (line 3 32 176 Granted) ∷ []; lines = []; notes = []; steps = 7 }
+unfolding everything
+mark_end_hands_cells_to_the_outer_level_run = refl
+
+abbrev script_moved_cell_leaves_a_stale_pointer_run : Script
+script_moved_cell_leaves_a_stale_pointer_run = record { classes = []; procedures = (record { parameters = []; body = record { locals = (OfPointer None) ∷ (OfPointer None) ∷ (OfPointer None) ∷ OfNumber ∷ []; statements = rolled ((Statement-F.Alloc (Held (H.Local 0)) (Constant (pos 16)) GivesNull) ∷ (Statement-F.Store (Held (H.Local 0)) (Constant (pos 0)) (Constant (pos 77))) ∷ (Statement-F.Alloc (Held (H.Local 1)) (Constant (pos 16)) GivesNull) ∷ (Statement-F.Realloc (Held (H.Local 2)) (Held (H.Local 0)) (Constant (pos 32)) GivesNull) ∷ (Statement-F.Load 3 (Held (H.Local 2)) (Constant (pos 0))) ∷ (Statement-F.PrintNumber (Variable 3)) ∷ (Statement-F.Load 3 (Held (H.Local 0)) (Constant (pos 0))) ∷ []) } }) ∷ []; operations = []; literals = []; main = 0 }
+
+moved_cell_leaves_a_stale_pointer_run : run script_moved_cell_leaves_a_stale_pointer_run R.Unlimited 10000 (shaped 4096 4096) ≡ record { outcome = Panicked (P.Workbench 1); trace = (line 1 144 0 Granted) ∷ (line 2 32 144 Granted) ∷ (line 3 32 176 Granted) ∷ (line 4 48 208 Granted) ∷ []; lines = (55 ∷ 55 ∷ []) ∷ []; notes = []; steps = 7 }
+unfolding everything
+moved_cell_leaves_a_stale_pointer_run = refl
+
+abbrev script_nested_marks_hand_cells_outward_run : Script
+script_nested_marks_hand_cells_outward_run = record { classes = []; procedures = (record { parameters = []; body = record { locals = (OfPointer None) ∷ (OfPointer None) ∷ []; statements = rolled (Statement-F.Mark ∷ Statement-F.Mark ∷ (Statement-F.Alloc (Held (H.Local 0)) (Constant (pos 1)) GivesNull) ∷ (Statement-F.MarkEnd (Constant (pos 1))) ∷ (Statement-F.Check (Constant (pos 1))) ∷ (Statement-F.Alloc (Held (H.Local 1)) (Constant (pos 1)) GivesNull) ∷ (Statement-F.MarkEnd (Constant (pos 2))) ∷ (Statement-F.Check (Constant (pos 2))) ∷ []) } }) ∷ []; operations = []; literals = []; main = 0 }
+
+nested_marks_hand_cells_outward_run : run script_nested_marks_hand_cells_outward_run R.Unlimited 10000 (shaped 4096 4096) ≡ record { outcome = Ended None ((record { number = 2; length = 32; place = 144 }) ∷ (record { number = 3; length = 32; place = 176 }) ∷ []); trace = (line 1 144 0 Granted) ∷ (line 2 32 144 Granted) ∷ (line 3 32 176 Granted) ∷ []; lines = []; notes = []; steps = 8 }
+unfolding everything
+nested_marks_hand_cells_outward_run = refl
+
+abbrev script_refused_top_cell_stays_and_leaks_run : Script
+script_refused_top_cell_stays_and_leaks_run = record { classes = []; procedures = (record { parameters = []; body = record { locals = (OfPointer None) ∷ (OfPointer None) ∷ (OfPointer None) ∷ []; statements = rolled ((Statement-F.Alloc (Held (H.Local 0)) (Constant (pos 48)) GivesNull) ∷ (Statement-F.Alloc (Held (H.Local 1)) (Constant (pos 16)) GivesNull) ∷ (Statement-F.Free (Held (H.Local 0))) ∷ (Statement-F.Realloc (Held (H.Local 2)) (Held (H.Local 1)) (Constant (pos 48)) GivesNull) ∷ (Statement-F.Free (Held (H.Local 2))) ∷ []) } }) ∷ []; operations = []; literals = []; main = 0 }
+
+refused_top_cell_stays_and_leaks_run : run script_refused_top_cell_stays_and_leaks_run (R.Limit 256) 10000 (shaped 4096 4096) ≡ record { outcome = Ended None ((record { number = 3; length = 32; place = 208 }) ∷ []); trace = (line 1 144 0 Granted) ∷ (line 2 64 144 Granted) ∷ (line 3 32 208 Granted) ∷ (line 4 64 208 Refused) ∷ []; lines = []; notes = []; steps = 5 }
+unfolding everything
+refused_top_cell_stays_and_leaks_run = refl
+
+abbrev script_second_attempt_fails_run : Script
+script_second_attempt_fails_run = record { classes = []; procedures = (record { parameters = []; body = record { locals = (OfPointer None) ∷ (OfPointer None) ∷ (OfPointer None) ∷ []; statements = rolled ((Statement-F.Alloc (Held (H.Local 0)) (Constant (pos 10)) GivesNull) ∷ (Statement-F.Alloc (Held (H.Local 1)) (Constant (pos 100)) GivesNull) ∷ (Statement-F.Free (Held (H.Local 0))) ∷ (Statement-F.Alloc (Held (H.Local 2)) (Constant (pos 16)) GivesNull) ∷ (Statement-F.Free (Held (H.Local 1))) ∷ (Statement-F.Free (Held (H.Local 2))) ∷ []) } }) ∷ []; operations = []; literals = []; main = 0 }
+
+second_attempt_fails_run : run script_second_attempt_fails_run (R.Number 2) 10000 (shaped 4096 4096) ≡ record { outcome = Ended None []; trace = (line 1 144 0 Granted) ∷ (line 2 32 144 Simulated) ∷ (line 3 128 144 Granted) ∷ (line 4 32 272 Granted) ∷ []; lines = []; notes = []; steps = 6 }
+unfolding everything
+second_attempt_fails_run = refl
+
+abbrev script_cell_for_zero_bytes_size : Script
+script_cell_for_zero_bytes_size = record { classes = []; procedures = (record { parameters = []; body = record { locals = (OfPointer None) ∷ OfNumber ∷ []; statements = rolled ((Statement-F.Alloc (Held (H.Local 0)) (Constant (pos 0)) GivesNull) ∷ (Statement-F.AllocLen 1 (Held (H.Local 0))) ∷ (Statement-F.PrintNumber (Variable 1)) ∷ (Statement-F.Free (Held (H.Local 0))) ∷ []) } }) ∷ []; operations = []; literals = []; main = 0 }
+
+cell_for_zero_bytes_size : (required script_cell_for_zero_bytes_size 10000 (shaped 4096 4096) ≡ 160) × (rises script_cell_for_zero_bytes_size 10000 (shaped 4096 4096) ≡ ((1, 144)) ∷ ((2, 160)) ∷ [])
+unfolding everything
+cell_for_zero_bytes_size = (refl, refl)
+
+abbrev script_eighth_push_grows_the_cleanup_cell_size : Script
+script_eighth_push_grows_the_cleanup_cell_size = record { classes = []; procedures = (record { parameters = []; body = record { locals = (OfPointer None) ∷ []; statements = rolled ((Statement-F.Repeat (Constant (pos 8)) (rolled ((Statement-F.Alloc (Held (H.Local 0)) (Constant (pos 16)) Leaves) ∷ (Statement-F.Push (Held (H.Local 0))) ∷ []))) ∷ (Statement-F.PopDestroy (Constant (pos 8))) ∷ []) } }) ∷ []; operations = []; literals = []; main = 0 }
+
+eighth_push_grows_the_cleanup_cell_size : (required script_eighth_push_grows_the_cleanup_cell_size 10000 (shaped 4096 4096) ≡ 608) × (rises script_eighth_push_grows_the_cleanup_cell_size 10000 (shaped 4096 4096) ≡ ((1, 144)) ∷ ((2, 176)) ∷ ((3, 208)) ∷ ((4, 240)) ∷ ((5, 272)) ∷ ((6, 304)) ∷ ((7, 336)) ∷ ((8, 368)) ∷ ((9, 400)) ∷ ((10, 608)) ∷ [])
+unfolding everything
+eighth_push_grows_the_cleanup_cell_size = (refl, refl)
+
+abbrev script_empty_main_json_size : Script
+script_empty_main_json_size = record { classes = []; procedures = (record { parameters = []; body = record { locals = []; statements = [] } }) ∷ []; operations = []; literals = []; main = 0 }
+
+empty_main_json_size : (required script_empty_main_json_size 10000 (shaped 4096 4096) ≡ 144) × (rises script_empty_main_json_size 10000 (shaped 4096 4096) ≡ ((1, 144)) ∷ [])
+unfolding everything
+empty_main_json_size = (refl, refl)
+
+abbrev script_empty_main_size : Script
+script_empty_main_size = record { classes = []; procedures = (record { parameters = []; body = record { locals = []; statements = [] } }) ∷ []; operations = []; literals = []; main = 0 }
+
+empty_main_size : (required script_empty_main_size 10000 (shaped 4096 4096) ≡ 144) × (rises script_empty_main_size 10000 (shaped 4096 4096) ≡ ((1, 144)) ∷ [])
+unfolding everything
+empty_main_size = (refl, refl)
+
+abbrev script_first_fit_reuses_hole_size : Script
+script_first_fit_reuses_hole_size = record { classes = []; procedures = (record { parameters = []; body = record { locals = (OfPointer None) ∷ (OfPointer None) ∷ (OfPointer None) ∷ []; statements = rolled ((Statement-F.Alloc (Held (H.Local 0)) (Constant (pos 10)) GivesNull) ∷ (Statement-F.Alloc (Held (H.Local 1)) (Constant (pos 100)) GivesNull) ∷ (Statement-F.Free (Held (H.Local 0))) ∷ (Statement-F.Alloc (Held (H.Local 2)) (Constant (pos 16)) GivesNull) ∷ (Statement-F.Free (Held (H.Local 1))) ∷ (Statement-F.Free (Held (H.Local 2))) ∷ []) } }) ∷ []; operations = []; literals = []; main = 0 }
+
+first_fit_reuses_hole_size : (required script_first_fit_reuses_hole_size 10000 (shaped 4096 4096) ≡ 304) × (rises script_first_fit_reuses_hole_size 10000 (shaped 4096 4096) ≡ ((1, 144)) ∷ ((2, 176)) ∷ ((3, 304)) ∷ [])
+unfolding everything
+first_fit_reuses_hole_size = (refl, refl)
+
+abbrev script_freed_neighbours_merge_size : Script
+script_freed_neighbours_merge_size = record { classes = []; procedures = (record { parameters = []; body = record { locals = (OfPointer None) ∷ (OfPointer None) ∷ (OfPointer None) ∷ (OfPointer None) ∷ (OfPointer None) ∷ []; statements = rolled ((Statement-F.Alloc (Held (H.Local 0)) (Constant (pos 16)) GivesNull) ∷ (Statement-F.Alloc (Held (H.Local 1)) (Constant (pos 16)) GivesNull) ∷ (Statement-F.Alloc (Held (H.Local 2)) (Constant (pos 16)) GivesNull) ∷ (Statement-F.Alloc (Held (H.Local 3)) (Constant (pos 16)) GivesNull) ∷ (Statement-F.Free (Held (H.Local 1))) ∷ (Statement-F.Free (Held (H.Local 0))) ∷ (Statement-F.Free (Held (H.Local 2))) ∷ (Statement-F.Alloc (Held (H.Local 4)) (Constant (pos 80)) GivesNull) ∷ (Statement-F.Free (Held (H.Local 3))) ∷ (Statement-F.Free (Held (H.Local 4))) ∷ []) } }) ∷ []; operations = []; literals = []; main = 0 }
+
+freed_neighbours_merge_size : (required script_freed_neighbours_merge_size 10000 (shaped 4096 4096) ≡ 272) × (rises script_freed_neighbours_merge_size 10000 (shaped 4096 4096) ≡ ((1, 144)) ∷ ((2, 176)) ∷ ((3, 208)) ∷ ((4, 240)) ∷ ((5, 272)) ∷ [])
+unfolding everything
+freed_neighbours_merge_size = (refl, refl)
+
+abbrev script_last_cell_ends_at_the_ceiling_size : Script
+script_last_cell_ends_at_the_ceiling_size = record { classes = []; procedures = (record { parameters = []; body = record { locals = (OfPointer None) ∷ []; statements = rolled ((Statement-F.Repeat (Constant (pos 15)) (rolled ((Statement-F.Alloc (Held (H.Local 0)) (Constant (pos 1048560)) GivesNull) ∷ []))) ∷ (Statement-F.Alloc (Held (H.Local 0)) (Constant (pos 1048416)) GivesNull) ∷ []) } }) ∷ []; operations = []; literals = []; main = 0 }
+
+last_cell_ends_at_the_ceiling_size : (required script_last_cell_ends_at_the_ceiling_size 10000 (shaped 4096 4096) ≡ 16777216) × (rises script_last_cell_ends_at_the_ceiling_size 10000 (shaped 4096 4096) ≡ ((1, 144)) ∷ ((2, 1048720)) ∷ ((3, 2097296)) ∷ ((4, 3145872)) ∷ ((5, 4194448)) ∷ ((6, 5243024)) ∷ ((7, 6291600)) ∷ ((8, 7340176)) ∷ ((9, 8388752)) ∷ ((10, 9437328)) ∷ ((11, 10485904)) ∷ ((12, 11534480)) ∷ ((13, 12583056)) ∷ ((14, 13631632)) ∷ ((15, 14680208)) ∷ ((16, 15728784)) ∷ ((17, 16777216)) ∷ [])
+unfolding everything
+last_cell_ends_at_the_ceiling_size = (refl, refl)
+
+abbrev script_last_cell_passes_the_ceiling_size : Script
+script_last_cell_passes_the_ceiling_size = record { classes = []; procedures = (record { parameters = []; body = record { locals = (OfPointer None) ∷ []; statements = rolled ((Statement-F.Repeat (Constant (pos 15)) (rolled ((Statement-F.Alloc (Held (H.Local 0)) (Constant (pos 1048560)) GivesNull) ∷ []))) ∷ (Statement-F.Alloc (Held (H.Local 0)) (Constant (pos 1048417)) GivesNull) ∷ []) } }) ∷ []; operations = []; literals = []; main = 0 }
+
+last_cell_passes_the_ceiling_size : (run script_last_cell_passes_the_ceiling_size R.Unlimited 10000 (shaped 4096 4096)).outcome ≡ Cut Ceiling
+unfolding everything
+last_cell_passes_the_ceiling_size = refl
+
+abbrev script_marks_never_count_the_cleanup_cell_size : Script
+script_marks_never_count_the_cleanup_cell_size = record { classes = []; procedures = (record { parameters = []; body = record { locals = (OfPointer None) ∷ []; statements = rolled (Statement-F.Mark ∷ (Statement-F.Repeat (Constant (pos 8)) (rolled ((Statement-F.Push (Held (H.Local 0))) ∷ []))) ∷ (Statement-F.Pop (Constant (pos 8))) ∷ (Statement-F.MarkEnd (Constant (pos 0))) ∷ []) } }) ∷ []; operations = []; literals = []; main = 0 }
+
+marks_never_count_the_cleanup_cell_size : (required script_marks_never_count_the_cleanup_cell_size 10000 (shaped 4096 4096) ≡ 208) × (rises script_marks_never_count_the_cleanup_cell_size 10000 (shaped 4096 4096) ≡ ((1, 144)) ∷ ((2, 208)) ∷ [])
+unfolding everything
+marks_never_count_the_cleanup_cell_size = (refl, refl)
+
+abbrev script_objects_that_delete_each_other_small_budget_size : Script
+script_objects_that_delete_each_other_small_budget_size = record { classes = (record { extra = 0; fields = (Some 0) ∷ []; construct = None; destroy = Some (record { locals = []; statements = rolled ((Statement-F.Delete (Field H.This 0 0)) ∷ []) }) }) ∷ []; procedures = (record { parameters = []; body = record { locals = (OfPointer (Some 0)) ∷ (OfPointer (Some 0)) ∷ []; statements = rolled ((Statement-F.New (Held (H.Local 0)) 0 Leaves) ∷ (Statement-F.New (Held (H.Local 1)) 0 Leaves) ∷ (Statement-F.Set (Field (H.Local 0) 0 0) (Held (H.Local 1))) ∷ (Statement-F.Set (Field (H.Local 1) 0 0) (Held (H.Local 0))) ∷ (Statement-F.Delete (Held (H.Local 0))) ∷ []) } }) ∷ []; operations = []; literals = []; main = 0 }
+
+objects_that_delete_each_other_small_budget_size : (run script_objects_that_delete_each_other_small_budget_size R.Unlimited 20 (shaped 4096 4096)).outcome ≡ Cut Budget
+unfolding everything
+objects_that_delete_each_other_small_budget_size = refl
+
+abbrev script_procedure_returns_a_pushed_cell_size : Script
+script_procedure_returns_a_pushed_cell_size = record { classes = []; procedures = (record { parameters = Par.OfNumber ∷ []; body = record { locals = (OfPointer None) ∷ []; statements = rolled ((Statement-F.Alloc (Held (H.Local 1)) (Variable 0) Leaves) ∷ (Statement-F.Push (Held (H.Local 1))) ∷ (Statement-F.ReturnPointer (Held (H.Local 1))) ∷ []) } }) ∷ (record { parameters = []; body = record { locals = (OfPointer None) ∷ []; statements = rolled ((Statement-F.CallTo 0 0 ((Given (Constant (pos 40))) ∷ [])) ∷ (Statement-F.PopDestroy (Constant (pos 1))) ∷ []) } }) ∷ []; operations = []; literals = []; main = 1 }
+
+procedure_returns_a_pushed_cell_size : (required script_procedure_returns_a_pushed_cell_size 10000 (shaped 4096 4096) ≡ 208) × (rises script_procedure_returns_a_pushed_cell_size 10000 (shaped 4096 4096) ≡ ((1, 144)) ∷ ((2, 208)) ∷ [])
+unfolding everything
+procedure_returns_a_pushed_cell_size = (refl, refl)
+
+abbrev script_pushed_object_made_and_deleted_size : Script
+script_pushed_object_made_and_deleted_size = record { classes = (record { extra = 16; fields = None ∷ []; construct = Some (record { locals = []; statements = rolled ((Statement-F.NewText (Field H.This 0 0) (Constant (pos 4)) Leaves) ∷ []) }); destroy = Some (record { locals = []; statements = rolled ((Statement-F.Free (Field H.This 0 0)) ∷ []) }) }) ∷ []; procedures = (record { parameters = []; body = record { locals = (OfPointer (Some 0)) ∷ []; statements = rolled ((Statement-F.New (Held (H.Local 0)) 0 Leaves) ∷ (Statement-F.PushObject (Held (H.Local 0))) ∷ (Statement-F.Construct (Held (H.Local 0))) ∷ (Statement-F.Pop (Constant (pos 1))) ∷ (Statement-F.Delete (Held (H.Local 0))) ∷ []) } }) ∷ []; operations = []; literals = []; main = 0 }
+
+pushed_object_made_and_deleted_size : (required script_pushed_object_made_and_deleted_size 10000 (shaped 4096 4096) ≡ 224) × (rises script_pushed_object_made_and_deleted_size 10000 (shaped 4096 4096) ≡ ((1, 144)) ∷ ((2, 192)) ∷ ((3, 224)) ∷ [])
+unfolding everything
+pushed_object_made_and_deleted_size = (refl, refl)
+
+abbrev script_simulated_refusal_needs_no_room_size : Script
+script_simulated_refusal_needs_no_room_size = record { classes = []; procedures = (record { parameters = []; body = record { locals = (OfPointer None) ∷ (OfPointer None) ∷ []; statements = rolled ((Statement-F.NewText (Held (H.Local 0)) (Constant (pos 4)) Leaves) ∷ (Statement-F.Append (InCell (Held (H.Local 0))) (Quoted 0)) ∷ (Statement-F.FailNext (Constant (pos 1))) ∷ (Statement-F.ReallocText (Held (H.Local 1)) (Held (H.Local 0)) (Constant (pos 20))) ∷ (Statement-F.PrintText (Of (InCell (Held (H.Local 0))))) ∷ (Statement-F.Free (Held (H.Local 0))) ∷ []) } }) ∷ []; operations = []; literals = (97 ∷ 98 ∷ 99 ∷ []) ∷ []; main = 0 }
+
+simulated_refusal_needs_no_room_size : (required script_simulated_refusal_needs_no_room_size 10000 (shaped 4096 4096) ≡ 176) × (rises script_simulated_refusal_needs_no_room_size 10000 (shaped 4096 4096) ≡ ((1, 144)) ∷ ((2, 176)) ∷ [])
+unfolding everything
+simulated_refusal_needs_no_room_size = (refl, refl)
+
+abbrev script_top_cell_grows_in_place_size : Script
+script_top_cell_grows_in_place_size = record { classes = []; procedures = (record { parameters = []; body = record { locals = (OfPointer None) ∷ (OfPointer None) ∷ (OfPointer None) ∷ []; statements = rolled ((Statement-F.Alloc (Held (H.Local 0)) (Constant (pos 48)) GivesNull) ∷ (Statement-F.Alloc (Held (H.Local 1)) (Constant (pos 16)) GivesNull) ∷ (Statement-F.Free (Held (H.Local 0))) ∷ (Statement-F.Realloc (Held (H.Local 2)) (Held (H.Local 1)) (Constant (pos 48)) GivesNull) ∷ (Statement-F.IfElse (IsNull (Held (H.Local 2))) (rolled ((Statement-F.Free (Held (H.Local 1))) ∷ [])) (rolled ((Statement-F.Free (Held (H.Local 2))) ∷ []))) ∷ []) } }) ∷ []; operations = []; literals = []; main = 0 }
+
+top_cell_grows_in_place_size : (required script_top_cell_grows_in_place_size 10000 (shaped 4096 4096) ≡ 272) × (rises script_top_cell_grows_in_place_size 10000 (shaped 4096 4096) ≡ ((1, 144)) ∷ ((2, 208)) ∷ ((3, 240)) ∷ ((4, 272)) ∷ [])
+unfolding everything
+top_cell_grows_in_place_size = (refl, refl)

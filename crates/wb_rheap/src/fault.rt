@@ -1,0 +1,27 @@
+//! Why the heap refuses a call.
+
+use std::alloc::AllocError;
+
+/// Why a call of the heap was refused. A refused call leaves the heap as it was.
+#[derive(Clone, Copy, Debug, PartialEq, Eq)]
+pub enum HeapFault {
+    /// The workbench's own memory ran out. This is never a refusal of the simulated heap.
+    NoMemory = 1,
+    /// A minimum length or a growth step that no heap may have.
+    BadShape = 2,
+    /// The cell would end past the limit.
+    TooShort = 3,
+    /// The pointer names no live cell.
+    BadCell = 4,
+}
+
+impl From<AllocError> for HeapFault {
+    ghost use Rattle.std.specs.Prelude.{◌≡◌};
+    ghost use Rattle.wb_rheap.specs.declared.fault.HeapFault.TheVariants.{NoMemory};
+
+    ghost from_gives = { λ _ fault. fault ≡ NoMemory };
+
+    fn from(_error: AllocError) -> HeapFault {
+        HeapFault::NoMemory
+    }
+}

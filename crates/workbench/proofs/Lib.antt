@@ -1,0 +1,7 @@
+pub mod AnswerLemmas
+pub mod CommandLineLemmas
+pub mod FaultLemmas
+pub mod Hexadecimal
+pub mod KnownBytesLemmas
+pub mod RefusalLemmas
+pub mod WorkedReports

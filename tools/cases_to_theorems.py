@@ -1,0 +1,502 @@
+#!/usr/bin/env python3
+"""Worked cases of the workbench as theorems about the definitions.
+
+A case is the files STEM.oom (the script), STEM.args (the program's arguments,
+one a line), STEM.stdout and STEM.status, where STEM ends in `.run` or `.size`.
+Each accepted script becomes a tree of `wb_model/src/script.rt`, each report the
+value that the definitions must give for it, and each case one theorem, proved
+by computing. The result is one antt file for the crate's folder `proofs/`; with
+`--compare` that file is only compared with what would be written.
+
+The scripts are read by the small reader below, not by the workbench's own, so
+that the theorems speak of the definitions alone. A theorem that fails means
+that the case and the definitions differ.
+"""
+
+import argparse
+import json
+import re
+import sys
+from collections import Counter
+from dataclasses import dataclass, field
+from pathlib import Path
+
+# --- antt terms, as text -----------------------------------------------------
+
+
+def atom(term: str) -> str:
+    """The term as an argument."""
+    return f"({term})" if " " in term else term
+
+
+def apply(name: str, *arguments: str) -> str:
+    """A constructor or function with its arguments."""
+    return " ".join([name, *map(atom, arguments)])
+
+
+def listed(items: list[str]) -> str:
+    """A list."""
+    return " ∷ ".join([*map(atom, items), "[]"])
+
+
+def record(**fields: str) -> str:
+    """A record."""
+    return "record { " + "; ".join(f"{name} = {term}" for name, term in fields.items()) + " }"
+
+
+def integer(n: int) -> str:
+    """A whole number of either sign."""
+    return f"pos {n}" if n >= 0 else f"negsuc {-n - 1}"
+
+
+def option(term: str | None) -> str:
+    """A value that may be missing."""
+    return "None" if term is None else apply("Some", term)
+
+
+def text_term(text: str) -> str:
+    """A text as the list of its bytes."""
+    return listed([str(ord(c)) for c in text])
+
+
+def rolled(statements: list[str]) -> str:
+    """A list of statements from their layers."""
+    return apply("rolled", listed(statements)) if statements else "[]"
+
+
+# --- scripts ------------------------------------------------------------------
+
+# The lines that are a list of operands of fixed kinds: word, constructor, the
+# operands' letters, and what follows them. The others are in `Reader.statement`.
+# P and Q stand for pointers, V for numbers, X for int locals, D for texts that
+# can be changed, T for texts that can be read, W for views, C for classes, N for
+# procedures and O for operations.
+STATEMENTS: dict[str, list[str]] = {
+    entry.split()[0]: entry.split()[1:]
+    for entry in """
+    alloc Alloc PV GivesNull, allocl Alloc PV Leaves, realloc Realloc PPV GivesNull, reallocl Realloc PPV Leaves,
+    free Free P, alloclen AllocLen XP, store Store PVV, load Load XPV, new New PC GivesNull, newleave New PC Leaves,
+    construct Construct P, delete Delete P, null SetNull P, add Add XV, push Push P, pushobj PushObject P,
+    pushop PushOperation PO, pop Pop V, popdestroy PopDestroy V, popcheck PopCheck P, leave Leave V,
+    leaveiferror LeaveIfError V, leaveifnull LeaveIfNull P, mark Mark, markend MarkEnd V, check Check V,
+    checkall CheckAll V, failnext FailNext V, failevery FailEvery V, failnone FailNone, hnew NewText PV GivesNull,
+    hnewl NewText PV Leaves, hrealloc ReallocText PPV, copy Copy DT, append Append DT, insert Insert DVT,
+    deltext DeleteText DVV, setlength SetLength DV, left Left WTV, right Right WTV, mid Mid WTVV, getlen GetLength XT,
+    getmax GetMaximum XD, heap NoteHeap, available NoteAvailable, compress NoteCompress
+    """.split(",")
+}
+
+CONDITIONS = {"null": ("IsNull", "P"), "some": ("NotNull", "P"), "eq": ("Equal", "VV"), "less": ("Less", "VV")}
+
+# Lines that mean one thing where the first operand is a number, and another where not.
+OVERLOADED = {"set": (("SetNumber", "XV"), ("Set", "PP")), "print": (("PrintNumber", "V"), ("PrintText", "T"))}
+
+DECLARATIONS = ("ptr", "int", "buf", "view")
+
+NUMERAL = re.compile("-?[0-9]+")
+
+
+def words_of(line: str) -> list[str]:
+    """The words of a line; none for a comment or a line of blanks."""
+    words = re.findall(r'"[^"]*"|[^ \t\r]+', line)
+    return [] if words and words[0].startswith("#") else words
+
+
+@dataclass
+class Local:
+    """A local or parameter of a body: `ptr`, `int`, `buf` or `view`, and a pointer's class."""
+
+    sort: str
+    index: int
+    class_name: str | None = None
+
+
+def parameter(word: str, index: int) -> tuple[str, Local]:
+    """The name and the local of a PARAM."""
+    name, of = word.split(":")
+    return name, Local("int" if of == "int" else "ptr", index, None if of in ("int", "ptr") else of)
+
+
+@dataclass
+class ClassLines:
+    """What a `class` declares: its index, extra bytes, fields with their classes, and bodies."""
+
+    index: int
+    extra: int
+    fields: dict[str, str | None] = field(default_factory=dict)
+    bodies: dict[str, str] = field(default_factory=dict)
+
+
+class Reader:
+    """Reads an accepted script; faults were refused before, so none are looked for."""
+
+    def __init__(self, text: str) -> None:
+        # the lines still to read, the next one last
+        self.lines = [w for w in map(words_of, reversed(text.split("\n"))) if w]
+        self.classes: dict[str, ClassLines] = {}
+        self.procedures: dict[str, int] = {}
+        self.operations: dict[str, int] = {}
+        self.literals: list[str] = []
+        self.locals: dict[str, Local] = {}
+        self.this: str | None = None
+        self.declare()
+
+    def declare(self) -> None:
+        """Collects the names that bodies may use before their declaration."""
+        # A line's first word tells these from statements: no statement begins with such a word.
+        name = ""
+        for words in reversed(self.lines):
+            if words[0] == "class":
+                name = words[1]
+                self.classes[name] = ClassLines(len(self.classes), int(words[2]))
+            elif words[0] == "field":
+                self.classes[name].fields[words[1]] = words[2] if len(words) > 2 else None
+            elif words[0] == "proc":
+                self.procedures[words[1]] = len(self.procedures)
+            elif words[0] == "op":
+                self.operations[words[1]] = len(self.operations)
+
+    def script(self) -> str:
+        """The whole script."""
+        procedures: list[str] = []
+        operations: list[str] = []
+        while self.lines:
+            words = self.lines.pop()
+            if words[0] == "class":
+                self.class_body(words[1])
+            elif words[0] == "proc":
+                parameters = dict(map(parameter, words[2:], range(len(words))))
+                procedures.append(record(parameters=listed(list(map(self.parameter_term, parameters.values()))), body=self.body(parameters, None)))
+            else:
+                operations.append(self.body({words[2]: Local("ptr", 0)}, None))
+        return record(
+            classes=listed([self.class_term(c) for c in self.classes.values()]),
+            procedures=listed(procedures),
+            operations=listed(operations),
+            literals=listed(list(map(text_term, self.literals))),
+            main=str(self.procedures["main"]),
+        )
+
+    def class_body(self, name: str) -> None:
+        """The lines of a class after its first."""
+        while (words := self.lines.pop())[0] != "end":
+            if words[0] in ("construct", "destroy"):
+                self.classes[name].bodies[words[0]] = self.body({}, name)
+
+    def parameter_term(self, of: Local) -> str:
+        """A parameter."""
+        if of.sort == "int":
+            return "Par.OfNumber"
+        return apply("Par.OfPointer", option(None if of.class_name is None else str(self.classes[of.class_name].index)))
+
+    def class_term(self, c: ClassLines) -> str:
+        """A class."""
+        fields = [option(None if of is None else str(self.classes[of].index)) for of in c.fields.values()]
+        bodies = {name: option(c.bodies.get(name)) for name in ("construct", "destroy")}
+        return record(extra=str(c.extra), fields=listed(fields), **bodies)
+
+    def body(self, given: dict[str, Local], this: str | None) -> str:
+        """A body up to its `end`, with its parameters and the class of `self`."""
+        self.locals, self.this = dict(given), this
+        begun: list[str] = []
+        while self.lines[-1][0] in DECLARATIONS:
+            begun.append(self.declaration(self.lines.pop()))
+        return record(locals=listed(begun), statements=rolled(self.block()[0]))
+
+    def declaration(self, words: list[str]) -> str:
+        """A local."""
+        of = words[2] if words[0] == "ptr" and len(words) > 2 else None
+        self.locals[words[1]] = Local(words[0], len(self.locals), of)
+        if words[0] == "ptr":
+            return apply("OfPointer", option(None if of is None else str(self.classes[of].index)))
+        if words[0] == "buf":
+            return apply("OfBuffer", str(int(words[2])))
+        return "OfNumber" if words[0] == "int" else "OfView"
+
+    def block(self) -> tuple[list[str], str]:
+        """Statements up to an `end` or `else`, and which of these it was."""
+        statements: list[str] = []
+        while (words := self.lines.pop())[0] not in ("end", "else"):
+            statements.append("Statement-F." + self.statement(words))
+        return statements, words[0]
+
+    def statement(self, words: list[str]) -> str:
+        """One statement, with what stands inside it."""
+        key, operands = words[0], words[1:]
+        if key in STATEMENTS:
+            name, letters, rest = [*STATEMENTS[key], "", ""][:3]
+            return apply(name, *map(self.operand, letters, operands), *rest.split())
+        if key in OVERLOADED:
+            name, letters = OVERLOADED[key][self.sort_of(operands[0]) != "int"]
+            return apply(name, *map(self.operand, letters, operands))
+        if key == "call":
+            return apply("Call", *self.call(operands))
+        if key == "callto":
+            return apply("CallTo", self.local(operands[0]), *self.call(operands[1:]))
+        if key == "return":
+            return apply("ReturnPointer", self.pointer(operands[0])) if operands else "Return"
+        if key == "if":
+            return self.choice(operands)
+        name, letter = {"repeat": ("Repeat", "V"), "trap": ("Trap", "X")}[key]
+        return apply(name, self.operand(letter, operands[0]), rolled(self.block()[0]))
+
+    def call(self, words: list[str]) -> tuple[str, str]:
+        """A procedure and its arguments."""
+        arguments = [
+            apply("Given", self.number(w)) if self.sort_of(w) == "int" else apply("Passed", self.pointer(w)) for w in words[1:]
+        ]
+        return str(self.procedures[words[0]]), listed(arguments)
+
+    def choice(self, operands: list[str]) -> str:
+        """`if` with its condition and both parts."""
+        name, letters = CONDITIONS[operands[0]]
+        condition = apply(name, *map(self.operand, letters, operands[1:]))
+        first, closed_by = self.block()
+        if closed_by == "end":
+            return apply("If", condition, rolled(first))
+        return apply("IfElse", condition, rolled(first), rolled(self.block()[0]))
+
+    def operand(self, letter: str, word: str) -> str:
+        """An operand by its letter."""
+        readers = {"P": self.pointer, "V": self.number, "X": self.local, "W": self.local, "D": self.writable, "T": self.readable}
+        if letter in readers:
+            return readers[letter](word)
+        return str(self.classes[word].index if letter == "C" else self.operations[word])
+
+    def local(self, word: str) -> str:
+        """X and W, and other locals by their name."""
+        return str(self.locals[word].index)
+
+    def sort_of(self, word: str) -> str:
+        """What a word stands for: `ptr`, `int`, `buf`, `view` or `literal`."""
+        if word.startswith('"'):
+            return "literal"
+        if NUMERAL.fullmatch(word):
+            return "int"
+        return "ptr" if "." in word or word == "self" else self.locals[word].sort
+
+    def holder(self, name: str) -> str:
+        """A variable that holds a pointer."""
+        return "H.This" if name == "self" else apply("H.Local", self.local(name))
+
+    def pointer(self, word: str) -> str:
+        """P and Q."""
+        if "." not in word:
+            return apply("Held", self.holder(word))
+        base, name = word.split(".")
+        of = self.classes[(self.this if base == "self" else self.locals[base].class_name) or ""]
+        return apply("Field", self.holder(base), str(of.index), str(list(of.fields).index(name)))
+
+    def number(self, word: str) -> str:
+        """V."""
+        return apply("Constant", integer(int(word))) if NUMERAL.fullmatch(word) else apply("Variable", self.local(word))
+
+    def writable(self, word: str) -> str:
+        """D."""
+        return apply("OwnBuffer", self.local(word)) if self.sort_of(word) == "buf" else apply("InCell", self.pointer(word))
+
+    def readable(self, word: str) -> str:
+        """T."""
+        sort = self.sort_of(word)
+        if sort == "literal":
+            self.literals.append(word[1:-1])
+            return apply("Quoted", str(len(self.literals) - 1))
+        if sort == "view":
+            return apply("ViewOf", self.local(word))
+        return apply("Of", self.writable(word))
+
+
+# --- reports ------------------------------------------------------------------
+
+
+def outcome_term(told: dict[str, list[str]]) -> str:
+    """The outcome, from the report's lines by their first words."""
+    if "panic" in told:
+        name, value = told["panic"][0].split(" ")
+        return apply("Panicked", apply("P." + name.capitalize(), str(int(value, 16 if name == "ALLOC" else 10))))
+    if "cut" in told:
+        return apply("Cut", told["cut"][0].capitalize())
+    if "nocleanup" in told:
+        return "NoCleanup"
+    leaks = [record(number=w[0], length=w[2], place=w[4]) for w in map(str.split, told.get("leak", []))]
+    return apply("Ended", option(integer(int(told["left"][0])) if "left" in told else None), listed(leaks))
+
+
+def run_term(lines: list[str]) -> str:
+    """The result that a run text tells."""
+    told: dict[str, list[str]] = {}
+    for key, _, rest in (line.partition(" ") for line in lines):
+        told.setdefault(key, []).append(rest)
+    return record(
+        outcome=outcome_term(told),
+        trace=listed([apply("line", w[0], w[2], w[4], w[5].capitalize()) for w in map(str.split, told.get("attempt", []))]),
+        lines=listed(list(map(text_term, told.get("print", [])))),
+        notes=listed([apply(w[0].capitalize(), *w[1:]) for w in map(str.split, told.get("note", []))]),
+        steps=told["steps"][0],
+    )
+
+
+def rises_term(lines: list[str]) -> str:
+    """The rises that a size text tells: each with its number and its top, where the next line begins."""
+    rows = [line.split(" ") for line in lines[1:]]
+    tops = [row[1] for row in rows[1:-1]] + [rows[-1][2]]
+    return listed([f"({row[3]}, {top})" for row, top in zip(rows, tops)])
+
+
+# --- cases -------------------------------------------------------------------
+
+
+def arguments_of(words: list[str]) -> argparse.Namespace:
+    """The program's own arguments."""
+    parser = argparse.ArgumentParser(exit_on_error=False, add_help=False, allow_abbrev=False)
+    parser.add_argument("task")
+    defaults = {"limit": None, "fail": None, "budget": 10000, "min": 4096, "step": 4096}
+    for name, default in defaults.items():
+        parser.add_argument("--" + name, type=int, default=default)
+    parser.add_argument("--json", action="store_true")
+    return parser.parse_args(words)
+
+
+def rule_of(a: argparse.Namespace) -> str:
+    """The rule that the arguments ask for."""
+    given = [(a.limit, f"R.Limit {a.limit}"), (a.fail, f"R.Number {a.fail}")]
+    return next((rule for value, rule in given if value is not None), "R.Unlimited")
+
+
+def report_at(path: Path, most_steps: int) -> tuple[argparse.Namespace, list[str]] | str:
+    """The arguments and the text report of the case of a script's file, or why it is left out."""
+    given, told, status = (path.with_suffix(ending) for ending in (".args", ".stdout", ".status"))
+    if path.stem.split(".")[-1] not in ("run", "size"):
+        return "no run and no size"
+    if not told.exists():
+        return "its whole output isn't given"
+    if status.read_text().strip() not in ("0", "1", "3"):
+        return "not accepted"
+    a = arguments_of(given.read_text().split())
+    report = json.loads(told.read_text())["lines"] if a.json else told.read_text().removesuffix("\n").split("\n")
+    if a.task == "run" and int(report[-1].removeprefix("steps ")) > most_steps:
+        return f"more than {most_steps} steps"
+    return a, report
+
+
+def theorem(name: str, text: str, a: argparse.Namespace, report: list[str]) -> str:
+    """A case as antt text: its script, its claim and the proof."""
+    script, proof = "script_" + name, "refl"
+    given = f"{a.budget} (shaped {a.min} {a.step})"
+    if a.task == "run":
+        claim = f"{apply('run', script, rule_of(a))} {given} ≡ {run_term(report)}"
+    elif report[0].startswith("cut "):
+        claim = f"(run {script} R.Unlimited {given}).outcome ≡ {apply('Cut', report[0].split(' ')[2].capitalize())}"
+    else:
+        required = report[0].removeprefix("required ")
+        claim = f"(required {script} {given} ≡ {required}) × (rises {script} {given} ≡ {rises_term(report)})"
+        proof = "(refl, refl)"
+    return (
+        f"abbrev {script} : Script\n{script} = {Reader(text).script()}\n\n"
+        f"{name} : {claim}\nunfolding everything\n{name} = {proof}\n"
+    )
+
+
+# --- the file ----------------------------------------------------------------
+
+# What is named from the crate's declared types.
+DECLARED = """
+heap.Rule.TheVariants as R; heap.Panic.TheVariants as P; script.Holder.TheVariants as H; heap.Shape.{Shape}; heap.Answer.{Answer};
+heap.Answer.TheVariants.{Granted, Simulated, Refused}; heap.Attempt.{Attempt}; run.Note.TheVariants.{Heap, Available, Compress};
+run.Why.TheVariants.{Budget, Ceiling}; run.Outcome.TheVariants.{Ended, Panicked, NoCleanup, Cut}; script.Script.{Script};
+script.Body.{Body}; script.Parameter.TheVariants as Par; script.Local.TheVariants.{OfPointer, OfNumber, OfBuffer, OfView}; script.Pointer.TheVariants.{Held, Field};
+script.Number.TheVariants.{Constant, Variable}; script.Writable.TheVariants.{OwnBuffer, InCell};
+script.Readable.TheVariants.{Of, ViewOf, Quoted}; script.Condition.TheVariants.{IsNull, NotNull, Equal, Less};
+script.Argument.TheVariants.{Passed, Given}; script.Refusal.TheVariants.{GivesNull, Leaves}; script.Statement.{Statement};
+script.Statement.TheOpen.{Statement-F}; script.Statement.TheViews.{out-Statement, roll-Statement}
+"""
+
+# The files of specs/ whose definitions a run computes through, and what it computes through beside these.
+COMPUTED_IN = ("Attempts", "Meaning", "Operands", "Reading", "Run", "State", "Statements")
+COMPUTED_THROUGH = """out-Statement denote.Hole.Carrier.out roll-Statement denote.Hole.Carrier.roll
+denote.Hole.Carrier.shown denote.Hole.Carrier.hidden {declared}.script.Statement.TheBlock.shown-the_row-Statement-0 digits"""
+
+SHORTHANDS = """
+abbrev rolled : List (Statement-F Statement) → List Statement
+rolled ss = map roll-Statement ss
+
+abbrev shaped : ℕ → ℕ → Shape
+shaped min step = record { min = min; step = step }
+
+abbrev line : ℕ → ℕ → ℕ → Answer → Attempt
+line number length place answer = record { number = number; length = length; place = place; answer = answer }
+"""
+
+
+def head(crate: Path) -> str:
+    """What stands before the theorems; it opens each definition of those files that is declared as `unfoldable`."""
+    specs = f"Rattle.{crate.name}.specs"
+    shut = COMPUTED_THROUGH.format(declared=specs + ".declared").split()
+    for file in (crate / "specs" / f"{stem}.antt" for stem in COMPUTED_IN):
+        shut += [f"{specs}.{file.stem}.{name}" for name in re.findall(r"^unfoldable pub (\S+)", file.read_text(), re.M)]
+    uses = ["Rattle.std.specs.Prelude.{◌≡◌, refl, ℕ, pos, negsuc, List, [], ◌∷◌, Some, None, map}"]
+    uses += [f"{specs}.declared.{use.strip()}" for use in DECLARED.split(";")]
+    uses += [f"{specs}.Run.{{run, required, rises}}", "Rattle.std.specs.Fmt.{digits}"]
+    lines = ["-- Worked cases, each by computing: the definitions give what the files of cases/ say. Written by tools/cases_to_theorems.py;",
+             "-- edit nothing here.", *(f"use {use}" for use in uses)]
+    lines += ["", "-- what a run computes through", "unfoldable everything : Unit {0}"]
+    lines += ["unfolding " + "\n    ".join(shut), "everything = tt"]
+    return "\n".join(lines) + "\n" + SHORTHANDS
+
+
+def without_unused(text: str) -> str:
+    """The text of an antt file without the imported names that it doesn't use."""
+    lines = text.split("\n")
+    rest = "\n".join(line for line in lines if not line.startswith("use "))
+    used = set(re.findall(r"[^\s(){};]+", rest)) | {word.split(".")[0] for word in re.findall(r"[^\s(){};]+", rest)}
+    kept = []
+    for line in lines:
+        listed_names = re.fullmatch(r"use (\S+)\.\{(.*)\}", line)
+        renamed = re.fullmatch(r"use \S+ as (\S+)", line)
+        if listed_names:
+            names = [name for name in listed_names[2].split(", ") if name.strip("◌") in used]
+            kept += [f"use {listed_names[1]}.{{{', '.join(names)}}}"] if names else []
+        elif not renamed or renamed[1] in used:
+            kept.append(line)
+    return "\n".join(kept)
+
+
+def main() -> int:
+    """Reads the arguments, and writes the file."""
+    parser = argparse.ArgumentParser(
+        description="Write worked cases of single runs and sizes as theorems about the definitions, proved by computing.",
+        epilog="Put the result into the crate's folder proofs/, with its line in proofs/Lib.antt, and check the crate.",
+    )
+    parser.add_argument("crate", type=Path, help="the folder of the crate that holds the definitions")
+    parser.add_argument("out", type=Path, help="the antt file to write")
+    parser.add_argument("cases", type=Path, nargs="+", help="scripts (STEM.oom), or folders of cases")
+    parser.add_argument("--most-steps", type=int, default=100000, help="leave out longer runs, which may pass the checker's limits")
+    parser.add_argument("--compare", action="store_true", help="write nothing, and fail where the file holds something else")
+    parser.add_argument("--verbose", action="store_true", help="name each case that is left out")
+    chosen = parser.parse_args()
+    paths = [file for path in chosen.cases for file in ([path] if path.is_file() else sorted(path.rglob("*.oom")))]
+    theorems: dict[str, str] = {}
+    left_out: Counter[str] = Counter()
+    for path in paths:
+        name = re.sub(r"[^A-Za-z0-9]", "_", path.stem)
+        name = name if name[0].isalpha() else "case_" + name
+        case = report_at(path, chosen.most_steps)
+        if isinstance(case, str):
+            left_out[case] += 1
+            if chosen.verbose:
+                print(f"left out: {path.stem}: {case}", file=sys.stderr)
+        elif name in theorems:
+            sys.exit(f"two cases are called {name}")
+        else:
+            theorems[name] = theorem(name, path.read_bytes().decode(), *case)
+    written = without_unused(head(chosen.crate.resolve()) + "\n" + "\n".join(theorems.values()))
+    if not chosen.compare:
+        chosen.out.write_text(written)
+    elif chosen.out.read_text() != written:
+        sys.exit(f"{chosen.out} is not what these cases give: write it anew")
+    print("; ".join([f"{len(theorems)} theorems", *(f"left out {count}: {why}" for why, count in left_out.items())]))
+    return 0
+
+
+if __name__ == "__main__":
+    sys.exit(main())
