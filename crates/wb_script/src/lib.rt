@@ -7,6 +7,7 @@
 mod bytes;
 mod forms;
 mod keys;
+pub mod laws;
 #[cfg(test)]
 mod line_tests;
 mod lines;
