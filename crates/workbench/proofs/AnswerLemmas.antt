@@ -1,11 +1,12 @@
 -- What an answer is by its status, whatever failed.
-use Rattle.std.proofs.Common.{◌≡◌, ◌≤◌, ℕ, List, [], ◌∷◌, Bool, true, false, Option, inl, inr, arith, length, take_all, le_refl, lit≤, sym, subst}
+use Rattle.std.proofs.Common.{◌≡◌, ◌<◌, ◌≤◌, ℕ, List, [], ◌∷◌, Bool, true, false, Option, inl, inr, arith, length, take_all, le_refl, lit≤, sym, subst}
 use Rattle.std.specs.Io.KnownBytes.{Appends}
 use Rattle.wb_model.specs.declared.run.Outcome.{Outcome}
 use Rattle.wb_model.specs.declared.run.Outcome.TheVariants.{Ended, Panicked, NoCleanup, Cut}
 use Rattle.wb_model.specs.declared.heap.Shape.{Shape}
 use Rattle.wb_model.specs.declared.script.Script.{Script}
 use Rattle.wb_model.specs.Run.{run}
+use Rattle.workbench.specs.declared.answer.TheConstants.{READ_OR_WRITE_FAULT, WANT_OF_MEMORY}
 use Rattle.workbench.specs.declared.command.Command.{Command}
 use Rattle.workbench.specs.declared.command.Task.{Task}
 use Rattle.workbench.specs.declared.command.Task.TheVariants as T
@@ -34,7 +35,7 @@ report_status_le command bytes text status (inr r) = omega (arith, r.status_is)
 
 module _ (command : Command) (told held held' : Option (List ℕ)) where
   by_status : (read write : Bool) (text : List ℕ) (own status : ℕ) → IsMessage command told read text own → IsSaid held held' write text own status
-      → (status ≤ 5) × (status ≤ 3 → IsReportWritten command told held held' status) × (status ≡ 4 → Appends held held' no_memory)
+      → (status ≤ READ_OR_WRITE_FAULT) × (status < WANT_OF_MEMORY → IsReportWritten command told held held' status) × (status ≡ WANT_OF_MEMORY → Appends held held' no_memory)
   by_status read true text own status m s = (omega (arith, s.1), λ low. absurd (omega (arith, s.1, low)), λ four. absurd (omega (arith, s.1, four)))
   by_status true false text own status m s =
       (omega (arith, s.1, m.1), λ low. absurd (omega (arith, s.1, m.1, low)), λ four. absurd (omega (arith, s.1, m.1, four)))
@@ -57,7 +58,7 @@ module _ (command : Command) (told held held' : Option (List ℕ)) where
   said_is_first false text own status s = (length text, subst (Appends held held') (sym (take_all (length text) text (le_refl _))) s.0)
 
   pub answer_by_status : (failures : Failures) (status : ℕ) → IsAnswer command told held held' failures status
-      → (status ≤ 5) × (status ≤ 3 → IsReportWritten command told held held' status) × (status ≡ 4 → Appends held held' no_memory)
+      → (status ≤ READ_OR_WRITE_FAULT) × (status < WANT_OF_MEMORY → IsReportWritten command told held held' status) × (status ≡ WANT_OF_MEMORY → Appends held held' no_memory)
   answer_by_status failures status a = by_status failures.reads failures.writes a.text a.own status a.message a.said
 
   pub answer_is_part : (failures : Failures) (status : ℕ) → IsAnswer command told held held' failures status → IsPartWritten command told held held'

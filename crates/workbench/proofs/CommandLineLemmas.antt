@@ -1,5 +1,5 @@
 -- What clap makes of words on this command line.
-use Rattle.std.proofs.Common.{◌≡◌, ◌∙◌, ◌<◌, ℕ, Bool, true, false, suc, refl, sym, ap, subst, arith, List, [], ◌∷◌, ◌++◌, length, Option, Some, None, codes, option_map, true≢false, eqb-true}
+use Rattle.std.proofs.Common.{◌≡◌, ◌∙◌, ◌<◌, ℕ, Bool, true, false, suc, refl, sym, ap, subst, arith, List, [], ◌∷◌, ◌++◌, length, Option, Some, None, codes, true≢false, eqb-true}
 use Rattle.std.specs.Prelude.{◌==◌, encode_utf8, slice_get}
 use Rattle.std.specs.Str.{IsUtf8, bytes_eq, chars, encode_utf8_all}
 use Rattle.std.proofs.lemmas.Str.{IsUtf8-past_char, encode_ascii, encodes-chars}
@@ -12,15 +12,8 @@ use Rattle.clap.specs.Simple.{App, Shape, built_leaf, built, entered, names_of, 
 use Rattle.clap.specs.Kinds.{Kinds, or_else}
 use Rattle.clap.specs.Faults.{fault_of, defaults_fault, level_fault, turn_fault, walk_fault}
 use Rattle.clap.specs.Takes.{level_passes, takes, turn_passes, walk_passes}
-use Rattle.clap.proofs.WalkLemmas.{first_value-rows, walk_stopped}
+use Rattle.clap.proofs.WalkLemmas.{walk_stopped}
 use Rattle.clap.proofs.FaultLemmas.{stopped_fault}
-use Rattle.std.specs.Prelude.{Box, IfSome}
-use Rattle.std.specs.Borrow.{Bor}
-use Rattle.std.specs.Box.{box_value}
-use Rattle.clap.specs.Words.{first_value, found_of, rows_of, subcommand_name_of, subcommand_rows, subcommand_rows_of}
-use Rattle.clap.specs.declared.parser.matches.ArgMatches.{ArgMatches}
-use Rattle.clap.specs.declared.parser.matches.SubCommand.{SubCommand}
-use Rattle.clap.specs.declared.parser.matches.ArgMatches.TheViews.{out-ArgMatches, out-SubCommand}
 use Rattle.workbench.specs.CommandLine.{command_line, run_line}
 use Rattle.workbench.specs.Spelled.{spelled}
 use Rattle.workbench.specs.WordByWord.{AreRead, AreRefused, AreTaken, file_named, is_flag, is_separator, run_of}
@@ -57,6 +50,7 @@ run_walk : (word : Text) (rest : List Text) → subcommand_met names idle word �
 unfolding walked
 run_walk word rest met = rw met (sym (walk_stopped top.rules names (walk_from nothing_held) (codes "run") [] rest))
 
+-- `run` itself has no fault, and neither have the words after it at this level
 run_word : (word : Text) → subcommand_met names idle word ≡ Some (codes "run")
     → (walked top.rules names (walk_from nothing_held) word ≡ record (walk_from nothing_held) { stopped = Some (codes "run", []) })
     × (turn_fault top names (walk_from nothing_held) word ≡ []) × (turn_passes top names (walk_from nothing_held) word ≡ true)
@@ -74,6 +68,7 @@ run_words word rest met =
 abbrev below : Shape
 below = built_leaf run_line.top
 
+-- after `run` it decides alone
 or_else_none : (a : Kinds) → or_else a [] ≡ a
 or_else_none [] = refl
 or_else_none (k ∷ ks) = refl
@@ -288,7 +283,7 @@ below_reads (f ∷ g ∷ k ∷ rest) texts = go (is_separator f) refl (is_flag f
 
 -- ---- all words
 
-spelled_run : (words : List Text) (rows : List Row) (file : Option Text) → subcommand_of command_line words ≡ Some (codes "run", rows) → first_of (codes "file") rows ≡ file
+pub spelled_run : (words : List Text) (rows : List Row) (file : Option Text) → subcommand_of command_line words ≡ Some (codes "run", rows) → first_of (codes "file") rows ≡ file
     → spelled words ≡ Some (run_of file)
 spelled_run words rows file met named = rw (met, named) refl
 
@@ -312,8 +307,9 @@ words_are_read (name ∷ word ∷ rest) texts = go (bytes_eq (codes "run") word)
     go true is = rw is (lift (rw is refl) (file_named rest) (below_reads rest (λ k d lt. texts (suc (suc k)) d (omega arith))))
     go false isnt = let f = not_run_fails name word rest isnt in rw isnt (record { refused = f.test; faulty = f.fault })
 
--- ---- what a parse without fault has met
+-- ---- words without fault
 
+-- they name `run`, since `help` has a fault
 pub run_is_met : (words : List Text) → fault_of command_line words ≡ [] → (rest : List Text) × (subcommand_of command_line words ≡ Some (codes "run", rows_after below.rules [] rest))
 run_is_met [] e = absurd (no_words_fail.fault e)
 run_is_met (name ∷ []) e = absurd ((name_fails name).fault e)
@@ -322,26 +318,3 @@ run_is_met (name ∷ word ∷ rest) e = elim (named_by word) [
   | help_command is met ↦ absurd ((not_run_fails name word rest is).fault e)
   | other is met ↦ absurd ((not_run_fails name word rest is).fault e)
 ]
-
--- ---- the matches of a parse
-
-named_rows : {Z : Type 0} (o : Option (Box SubCommand Z)) → option_map (λ b. (out-SubCommand (box_value b)).name.now) o ≡ option_map (λ (p : Text × List Row). p.0) (subcommand_rows o)
-named_rows None = refl
-named_rows (Some b) = refl
-
--- a parse whose subcommand is `run`
-pub is_named_run : (m : ArgMatches) (rows : List Row) → subcommand_rows_of m ≡ Some (codes "run", rows) → subcommand_name_of m ≡ Some (codes "run")
-is_named_run m rows e = named_rows (out-ArgMatches m).subcommand ∙ ap (option_map (λ p. p.0)) e
-
--- what is read of the matches of `run` is what the words spell
-pub spelled_by : (words : List Text) (m : ArgMatches) (rows : List Row) (o : Option (Bor ArgMatches)) (r : Bor ArgMatches) (text : Option (Bor Text)) (file : Option Text)
-    → subcommand_of command_line words ≡ Some (codes "run", rows) → subcommand_rows_of m ≡ Some (codes "run", rows)
-    → IfSome o (λ x. option_map (λ (p : Text × List Row). p.1) (subcommand_rows_of m) ≡ Some (rows_of (found_of x.now))) → o ≡ Some r
-    → option_map (λ s. s.now) text ≡ first_value (found_of r.now) (codes "file") → option_map (λ s. s.now) text ≡ file
-    → spelled words ≡ Some (run_of file)
-spelled_by words m rows o r text file met here found is text_is_first named =
-    let at : option_map (λ (p : Text × List Row). p.1) (subcommand_rows_of m) ≡ Some (rows_of (found_of r.now)) = rw is at found in
-    let same : Some rows ≡ Some (rows_of (found_of r.now)) = ap (option_map (λ (p : Text × List Row). p.1)) (sym here) ∙ at in
-    let rows_are : rows ≡ rows_of (found_of r.now) = cc in
-    let first : first_of (codes "file") rows ≡ file = ap (first_of (codes "file")) rows_are ∙ sym (first_value-rows (found_of r.now) (codes "file")) ∙ sym text_is_first ∙ named in
-    spelled_run words rows file met first

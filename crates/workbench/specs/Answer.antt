@@ -3,7 +3,7 @@ use Rattle.std.specs.Prelude.{◌≡◌, ◌≤◌, ◌⊎◌, ℕ, List, Bool, 
 use Rattle.std.specs.Io.KnownBytes.{Appends}
 use Rattle.workbench.specs.declared.answer.ReportFault.{ReportFault}
 use Rattle.workbench.specs.declared.answer.ReportFault.TheVariants.{Read}
-use Rattle.workbench.specs.declared.answer.TheConstants.{MOST_READ}
+use Rattle.workbench.specs.declared.answer.TheConstants.{MOST_READ, READ_OR_WRITE_FAULT, WANT_OF_MEMORY}
 use Rattle.workbench.specs.declared.command.Command.{Command}
 use Rattle.workbench.specs.declared.streams.Failures.{Failures}
 use Rattle.workbench.specs.Report.{IsReport, no_memory, read_fault}
@@ -29,12 +29,12 @@ is_read_fault _ = false
 
 -- what is to be written, and the status that goes with it, where a read failed and where none did
 abbrev pub IsMessage : Command → Option (List ℕ) → Bool → List ℕ → ℕ → Type 0
-IsMessage command told true text status = (text ≡ read_fault) × (status ≡ 5)
-IsMessage command told false text status = IsReported command told text status ⊎ ((text ≡ no_memory) × (status ≡ 4))
+IsMessage command told true text status = (text ≡ read_fault) × (status ≡ READ_OR_WRITE_FAULT)
+IsMessage command told false text status = IsReported command told text status ⊎ ((text ≡ no_memory) × (status ≡ WANT_OF_MEMORY))
 
 -- a write failed, so that only the first of the text went out; or none did, and the text's own status stands
 abbrev pub IsSaid : Option (List ℕ) → Option (List ℕ) → Bool → List ℕ → ℕ → ℕ → Type 0
-IsSaid held held' true text own status = AppendsFirst held held' text × (status ≡ 5)
+IsSaid held held' true text own status = AppendsFirst held held' text × (status ≡ READ_OR_WRITE_FAULT)
 IsSaid held held' false text own status = Appends held held' text × (status ≡ own)
 
 -- the answer to a command: what the reader tells, what the writer held and holds, and which reads and writes failed

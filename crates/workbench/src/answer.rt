@@ -1,7 +1,7 @@
 //! The answer to a command: what is read, what is written, and the exit status. What a report says stands in
 //! `report`.
 
-ghost use Rattle.std.specs.Prelude.{◌≡◌, ◌≤◌, false, length, take, IfOk, IfSome, IsTrue, OnOk, OnErr, is_err};
+ghost use Rattle.std.specs.Prelude.{◌≡◌, ◌<◌, ◌≤◌, false, length, take, IfOk, IfSome, IsTrue, OnOk, OnErr, is_err};
 ghost use Rattle.std.specs.Io.{ReadsAtMost};
 ghost use Rattle.std.specs.Io.KnownBytes.{Appends};
 ghost use Rattle.workbench.specs.declared.answer.ReportFault.TheVariants.{Read, NoMemory};
@@ -19,6 +19,12 @@ use wb_model::memory;
 
 /// The most that is read of a script, in bytes: one more than a script may have, so that a longer one shows.
 pub const MOST_READ: usize = 65_537;
+
+/// The exit status where the workbench's own memory ran out.
+pub const WANT_OF_MEMORY: u8 = 4;
+
+/// The exit status where a read or a write failed.
+pub const READ_OR_WRITE_FAULT: u8 = 5;
 
 /// Why there is no report.
 #[derive(Clone, Copy, Debug, PartialEq, Eq)]
@@ -53,13 +59,13 @@ impl From<memory::NoMemory> for ReportFault {
     }
 }
 
-/// Answers a command: reads the script, at most `MOST_READ` bytes of it, writes the report, and gives the exit
-/// status.
+/// Answers a command whose numbers are in their ranges: reads the script, at most `MOST_READ` bytes of it,
+/// writes the report, and gives the exit status.
 ///
-/// Statuses 0 to 3 are those of a report, and the whole of it went out. At 4 the workbench's own memory ran
-/// out, and the line `no memory` went out alone. At 5 a read or a write failed: after a read that failed, an
-/// interrupted one too, the line `read fault` is written; after a write that failed or took no byte, what
-/// went out is the first of what was being written. Nothing is written before the whole text is there.
+/// Statuses 0 to 3 are those of a report, and the whole of it went out. At `WANT_OF_MEMORY` the line
+/// `no memory` went out alone. At `READ_OR_WRITE_FAULT` a read failed, an interrupted one too, and the line
+/// `read fault` is written; or a write failed, or took no byte, and what went out is the first of what was
+/// being written. Nothing is written before the whole text is there.
 pub fn answer<R: Read, W: Write>(
     alloc: Global,
     command: &Command,
@@ -67,10 +73,11 @@ pub fn answer<R: Read, W: Write>(
     writer: &mut W,
 ) -> u8
     requires { IsTrue (is_answerable command.now) }
-    ensures status { result ≤ 5 }
-    ensures report { result ≤ 3 → IsReportWritten command.now (R.remaining reader.old)
+    ensures status { result ≤ READ_OR_WRITE_FAULT }
+    ensures report { result < WANT_OF_MEMORY → IsReportWritten command.now (R.remaining reader.old)
         (W.contents writer.old) (W.contents writer.new) result }
-    ensures no_memory { result ≡ 4 → Appends (W.contents writer.old) (W.contents writer.new) no_memory }
+    ensures no_memory { result ≡ WANT_OF_MEMORY →
+        Appends (W.contents writer.old) (W.contents writer.new) no_memory }
     ensures nothing_else { IsPartWritten command.now (R.remaining reader.old)
         (W.contents writer.old) (W.contents writer.new) }
     ensures taken { TakesAtMost MOST_READ (R.remaining reader.old) (R.remaining reader.new) }
@@ -79,7 +86,7 @@ pub fn answer<R: Read, W: Write>(
     answer_noting(alloc, command, reader, writer, &mut failures)
 }
 
-/// The same, and enters which reads and writes failed. So 5 is the status exactly where one did.
+/// The same, and enters which reads and writes failed: `READ_OR_WRITE_FAULT` comes exactly where one did.
 fn answer_noting<R: Read, W: Write>(
     alloc: Global,
     command: &Command,
@@ -95,12 +102,12 @@ fn answer_noting<R: Read, W: Write>(
 {
     match reported(alloc, command, reader, failures) {
         Ok(report) => say(writer, report.text.as_slice(), report.status, failures),
-        Err(ReportFault::NoMemory) => say(writer, b"no memory\n", 4, failures),
-        Err(ReportFault::Read) => say(writer, b"read fault\n", 5, failures),
+        Err(ReportFault::NoMemory) => say(writer, b"no memory\n", WANT_OF_MEMORY, failures),
+        Err(ReportFault::Read) => say(writer, b"read fault\n", READ_OR_WRITE_FAULT, failures),
     }
 }
 
-/// Writes a text and gives its status, or 5 where a write failed.
+/// Writes a text and gives its status, or `READ_OR_WRITE_FAULT` where a write failed.
 fn say<W: Write>(writer: &mut W, text: &[u8], status: u8, failures: &mut Failures) -> u8
     requires { failures.old.writes ≡ false }
     ensures said { IsSaid (W.contents writer.old) (W.contents writer.new)
@@ -109,7 +116,7 @@ fn say<W: Write>(writer: &mut W, text: &[u8], status: u8, failures: &mut Failure
 {
     match write_whole(writer, text, failures) {
         Ok(()) => status,
-        Err(StreamFault) => 5,
+        Err(StreamFault) => READ_OR_WRITE_FAULT,
     }
 }
 

@@ -10,7 +10,7 @@ use crate::command::{Command, Task};
 use crate::run_text::put_run;
 use std::alloc::Global;
 use std::io::Write;
-use wb_machine::machine::RunFault;
+use wb_machine::machine::{self, RunFault};
 use wb_model::fault::ScriptFault;
 use wb_model::memory::NoMemory;
 use wb_model::run::Outcome;
@@ -46,7 +46,7 @@ fn carried_out(alloc: Global, command: &Command, script: &Script) -> Result<Repo
         task_status command.now.task command.now.budget command.now.shape script.now) }
 {
     let Task::Run(rule) = command.task;
-    match wb_machine::machine::run(alloc, script, rule, command.budget, command.shape) {
+    match machine::run(alloc, script, rule, command.budget, command.shape) {
         Ok(run) => {
             let mut text = Vec::new(alloc);
             put_run(&mut text, &run)?;
