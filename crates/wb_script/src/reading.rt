@@ -162,12 +162,17 @@ fn read_text(alloc: Global, bytes: &[u8]) -> Result<Result<Script, ScriptFault>,
     read_forms(alloc, &forms)
 }
 
-/// The script that bytes spell, or their first fault in the order of `ScriptFault`. `NoMemory` is
-/// answered only where a growth was refused, and says nothing of the bytes.
+/// The script that bytes spell, or their first fault. The language and its limits are this project's own.
+///
+/// The checks are made in the order of `ScriptFault`'s variants, each over the whole script, and the first
+/// that finds a fault names the first line where it stands; lines count from 1. `NoMemory` is answered only
+/// where a growth of the reader's own memory was refused, at which point the bytes were found to be neither
+/// too long nor foreign; it says nothing else of them.
 pub fn read(alloc: Global, bytes: &[u8]) -> Result<Script, ScriptFault>
     ensures script { IfOk result (IsScriptOf bytes.now) }
     ensures sound { IfOk result (λ s. IsTrue (is_script s)) }
     ensures fault { IfErr result (λ fault. fault ≢ ScriptFault.NoMemory → IsFaultOf bytes.now fault) }
+    ensures memory { IfErr result (λ fault. fault ≡ ScriptFault.NoMemory → IsText bytes.now) }
 {
     if is_too_long(bytes) {
         return Err(ScriptFault::TooLong);
