@@ -5,3 +5,5 @@ mod control;
 pub mod machine;
 mod print;
 mod state;
+#[cfg(test)]
+mod tests;
