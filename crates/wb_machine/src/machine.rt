@@ -108,7 +108,7 @@ impl<'a> Machine<'a> {
         let state = match State::new(alloc, rule, shape) {
             Ok(state) => state,
             Err(HeapFault::BadShape) => return Err(RunFault::BadShape),
-            Err(_) => return Err(RunFault::NoMemory),
+            Err(_) => return Err(NoMemory.into()),
         };
         Ok(Machine {
             alloc,
