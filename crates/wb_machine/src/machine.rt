@@ -1,4 +1,4 @@
-//! The machine, and a whole run.
+//! The machine that callers see, and a whole run. What a turn does stands in `control`.
 
 ghost use Rattle.std.specs.Prelude.{◌≡◌, ◌+◌, ◌≤◌, ◌↔◌, true, false, min, is_err, IsTrue, IfOk, OnOk, OnErr};
 ghost use Rattle.wb_model.specs.Sound.{is_script};
