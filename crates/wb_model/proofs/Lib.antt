@@ -1,8 +1,11 @@
 pub mod AgreementLemmas
 pub mod AlikeLemmas
+pub mod LineExamples
 pub mod Places
 pub mod LimitedHeaps
 pub mod Rows
 pub mod ResumeLemmas
 pub mod WorkedCases
 pub mod MeaningLemmas
+pub mod WordLemmas
+pub mod WritingLemmas

@@ -10,6 +10,7 @@ pub mod heap;
 pub mod items;
 pub mod laws;
 pub mod line;
+pub mod line_laws;
 pub mod lines;
 pub mod memory;
 pub mod run;

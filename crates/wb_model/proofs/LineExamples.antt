@@ -1,0 +1,165 @@
+-- What the definitions make of bytes where a reader might doubt: each example is proved by computing.
+use Rattle.std.specs.Prelude.{◌≡◌, pos, negsuc, [], ◌∷◌, ◌++◌, Some, None, codes, map, replicate}
+use Rattle.std.proofs.Common.{refl}
+use Rattle.wb_model.specs.declared.lines.Key.TheVariants.{Proc, Ptr, Alloc, Free, Print, End}
+use Rattle.wb_model.specs.declared.lines.Operand.TheVariants.{Name, Number, Literal}
+use Rattle.wb_model.specs.declared.lines.Form.TheVariants.{Skip, Unknown, Line}
+use Rattle.wb_model.specs.Lines.{lines_of, words_of, first_foreign_line}
+use Rattle.wb_model.specs.Words.{declared_name, number_of}
+use Rattle.wb_model.specs.Keys.{keys}
+use Rattle.wb_model.specs.Forms.{line_form}
+
+-- Lines.
+
+no_lines : lines_of [] ≡ []
+no_lines = refl
+
+line_without_feed : lines_of (codes "a") ≡ codes "a" ∷ []
+line_without_feed = refl
+
+line_with_feed : lines_of (codes "a\n") ≡ codes "a" ∷ []
+line_with_feed = refl
+
+empty_lines : lines_of (codes "\n\na\r\n") ≡ [] ∷ [] ∷ codes "a\r" ∷ []
+empty_lines = refl
+
+-- a quote that nothing closes reaches no further than its line
+open_quote_ends_with_line : lines_of (codes "\"a\nb c") ≡ codes "\"a" ∷ codes "b c" ∷ []
+open_quote_ends_with_line = refl
+
+-- Foreign bytes.
+
+foreign_in_comment : first_foreign_line (codes "proc main\n# \u{7f}\nend\0") ≡ Some 2
+foreign_in_comment = refl
+
+foreign_form_feed : first_foreign_line (12 ∷ []) ≡ Some 1
+foreign_form_feed = refl
+
+foreign_behind_feed : first_foreign_line (codes "\n\n" ++ 255 ∷ []) ≡ Some 3
+foreign_behind_feed = refl
+
+nothing_foreign : first_foreign_line (codes "\t print \"~\"\r\n") ≡ None
+nothing_foreign = refl
+
+-- Words.
+
+blanks_of_three_kinds : words_of (codes "\t alloc\r p\t\t 4 ") ≡ codes "alloc" ∷ codes "p" ∷ codes "4" ∷ []
+blanks_of_three_kinds = refl
+
+blank_between_quotes : words_of (codes "print \"a  b\" c") ≡ codes "print" ∷ codes "\"a  b\"" ∷ codes "c" ∷ []
+blank_between_quotes = refl
+
+-- Lines that say nothing, and lines that no script has.
+
+skipped : map line_form ([] ∷ codes " \t\r" ∷ codes "#" ∷ codes "\t # \"proc" ∷ []) ≡ replicate 4 Skip
+unfolding keys
+skipped = refl
+
+no_comment_behind_a_word : line_form (codes "end # done") ≡ Unknown
+unfolding keys
+no_comment_behind_a_word = refl
+
+words_that_are_no_key : map line_form (codes "End" ∷ codes "ends" ∷ codes "en" ∷ codes "\"end\"" ∷ codes "end\" \"" ∷ []) ≡ replicate 5 Unknown
+unfolding keys
+words_that_are_no_key = refl
+
+too_many_words_or_too_few : map line_form (codes "end end" ∷ codes "free p q" ∷ codes "alloc p" ∷ codes "free" ∷ []) ≡ replicate 4 Unknown
+unfolding keys
+too_many_words_or_too_few = refl
+
+-- Keys.
+
+procedure : line_form (codes "proc main") ≡ Line Proc (Name (codes "main") ∷ [])
+unfolding keys
+procedure = refl
+
+end_before_carriage_return : line_form (codes "end\r") ≡ Line End []
+unfolding keys
+end_before_carriage_return = refl
+
+-- Names.
+
+name_of_every_kind_of_byte : line_form (codes "ptr zA_9_") ≡ Line Ptr (Name (codes "zA_9_") ∷ [])
+unfolding keys
+name_of_every_kind_of_byte = refl
+
+name_like_a_key : line_form (codes "ptr end") ≡ Line Ptr (Name (codes "end") ∷ [])
+unfolding keys
+name_like_a_key = refl
+
+no_names : map line_form (codes "ptr 1a" ∷ codes "ptr _a" ∷ codes "ptr a.b" ∷ codes "ptr a-b" ∷ codes "ptr 4" ∷ []) ≡ replicate 5 Unknown
+unfolding keys
+no_names = refl
+
+the_reserved : map declared_name (codes "self" ∷ codes "ptr" ∷ codes "int" ∷ codes "null" ∷ codes "some" ∷ codes "eq" ∷ codes "less" ∷ []) ≡ replicate 7 None
+the_reserved = refl
+
+null_is_not_declared : map line_form (codes "ptr null" ∷ codes "proc less" ∷ []) ≡ replicate 2 Unknown
+unfolding keys
+null_is_not_declared = refl
+
+null_is_used : line_form (codes "free null") ≡ Line Free (Name (codes "null") ∷ [])
+unfolding keys
+null_is_used = refl
+
+self_is_not_used : line_form (codes "free self") ≡ Unknown
+unfolding keys
+self_is_not_used = refl
+
+name_that_begins_with_self : line_form (codes "free selfish") ≡ Line Free (Name (codes "selfish") ∷ [])
+unfolding keys
+name_that_begins_with_self = refl
+
+-- Numbers.
+
+negative : line_form (codes "alloc p -007") ≡ Line Alloc (Name (codes "p") ∷ Number (negsuc 6) ∷ [])
+unfolding keys
+negative = refl
+
+no_negative_zero : number_of (codes "-0") ≡ Some (pos 0)
+no_negative_zero = refl
+
+nine_digits : number_of (codes "999999999") ≡ Some (pos 999999999)
+nine_digits = refl
+
+nine_digits_below_zero : number_of (codes "-999999999") ≡ Some (negsuc 999999998)
+nine_digits_below_zero = refl
+
+no_numbers : map number_of (codes "0000000001" ∷ codes "+5" ∷ codes "-" ∷ codes "--5" ∷ codes "5-" ∷ codes "1a" ∷ []) ≡ replicate 6 None
+no_numbers = refl
+
+no_numbers_of_bytes : map line_form (codes "alloc p n" ∷ codes "alloc p \"4\"" ∷ []) ≡ replicate 2 Unknown
+unfolding keys
+no_numbers_of_bytes = refl
+
+-- Literals.
+
+literal : line_form (codes "print \"# a\"") ≡ Line Print (Literal (codes "# a") ∷ [])
+unfolding keys
+literal = refl
+
+empty_literal : line_form (codes "print \"\"") ≡ Line Print (Literal [] ∷ [])
+unfolding keys
+empty_literal = refl
+
+literal_before_carriage_return : line_form (codes "print \" \"\r") ≡ Line Print (Literal (codes " ") ∷ [])
+unfolding keys
+literal_before_carriage_return = refl
+
+number_is_printed : line_form (codes "print 12") ≡ Line Print (Number (pos 12) ∷ [])
+unfolding keys
+number_is_printed = refl
+
+-- open; with a tab or a carriage return; with something right behind; two at once; behind another byte
+no_literals : map line_form (codes "print \"a b" ∷ codes "print \"" ∷ codes "print \"a\tb\"" ∷ codes "print \"\r\"" ∷ codes "print \"a\"b" ∷ codes "print \"a\"\"b\"" ∷ codes "print a\"b\"" ∷ []) ≡ replicate 7 Unknown
+unfolding keys
+no_literals = refl
+
+-- a quote within a word opens none that makes a line of what stands behind it
+quotes_within_words : map line_form (codes "alloc a\" 4" ∷ codes "print \"a\" \"b" ∷ codes "free p\" #\"" ∷ []) ≡ replicate 3 Unknown
+unfolding keys
+quotes_within_words = refl
+
+name_is_not_printed : line_form (codes "print p") ≡ Unknown
+unfolding keys
+name_is_not_printed = refl

@@ -1,0 +1,157 @@
+-- A line that says something is made of words.
+use Rattle.std.proofs.Common.{◌≡◌, ◌≢◌, inl, inr, ℕ, ℤ, pos, neg_ℤ, nat_le, length, fold, ◌≤◌, List, [], ◌∷◌, Bool, true, false, not, ◌&&◌, nat_eq, Option, Some, None, if◌then◌else◌, arith, refl, sym, ap, subst, ◌∙◌}
+use Rattle.std.specs.Prelude.{codes}
+use Rattle.std.specs.List.{list_all}
+use Rattle.std.specs.Option.{option_map}
+use Rattle.std.specs.Str.{bytes_eq}
+use Rattle.std.specs.Cmp.Lexicographic.{same_text}
+use Rattle.std.proofs.lemmas.Bool.Decides.{nat_tests}
+use borrow.Author.Tests.{ne_eqb, eqb-true}
+use Rattle.wb_model.specs.declared.lines.Key.{Key}
+use Rattle.wb_model.specs.declared.lines.Letter.{Letter}
+use Rattle.wb_model.specs.declared.lines.Letter.TheVariants.{Declared, Pointer, Value, Printed}
+use Rattle.wb_model.specs.declared.lines.Operand.{Operand}
+use Rattle.wb_model.specs.declared.lines.Operand.TheVariants.{Name, Number, Literal}
+use Rattle.wb_model.specs.declared.lines.Form.{Form}
+use Rattle.wb_model.specs.declared.lines.Form.TheVariants.{Line}
+use Rattle.wb_model.specs.Lines.{is_blank, words_of}
+use Rattle.wb_model.specs.Words.{is_reserved, with_digit, is_digit, is_name_byte, is_name, is_letter, declared_name, used_name, digits_of, number_of, literal_of}
+use Rattle.wb_model.specs.Keys.{keys, text_of, letters_of}
+use Rattle.wb_model.specs.Forms.{operand_of, operands_of, operands_if, number_or_literal, onto, line_or, form_in, begins_comment, skipped_or, form_of}
+use Rattle.wb_model.specs.Writing.{is_plain, IsWord, AreWords, IsMadeOfWords}
+use Rattle.wb_model.proofs.WritingLemmas.{both, quoted_of_literal}
+
+-- bytes of names and numbers are neither blanks nor quotes
+
+plain_byte : (byte : ℕ) → byte ≢ 32 → byte ≢ 9 → byte ≢ 13 → byte ≢ 34 → not (is_blank byte) && not (nat_eq byte 34) ≡ true
+plain_byte byte a b c d = rw (ne_eqb byte 32 a, ne_eqb byte 9 b, ne_eqb byte 13 c, ne_eqb byte 34 d) refl
+
+high_byte : (byte : ℕ) → 45 ≤ byte → not (is_blank byte) && not (nat_eq byte 34) ≡ true
+high_byte byte high = plain_byte byte (λ e. omega arith) (λ e. omega arith) (λ e. omega arith) (λ e. omega arith)
+
+high_of_name : (byte : ℕ) → is_name_byte byte ≡ true → 45 ≤ byte
+high_of_name byte h = grind (arith, nat_tests)
+
+high_of_digit : (byte : ℕ) → is_digit byte ≡ true → 45 ≤ byte
+high_of_digit byte h = grind (arith, nat_tests)
+
+high_of_letter : (byte : ℕ) → is_letter byte ≡ true → 45 ≤ byte
+high_of_letter byte h = grind (arith, nat_tests)
+
+both_hold : (a b : Bool) → a ≡ true → b ≡ true → a && b ≡ true
+both_hold a b is_a is_b = rw (is_a, is_b) refl
+
+plain_all : (test : ℕ → Bool) → ((byte : ℕ) → test byte ≡ true → 45 ≤ byte) → (bytes : List ℕ) → list_all test bytes ≡ true → is_plain bytes ≡ true
+plain_all test high [] h = refl
+plain_all test high (byte ∷ bytes) h =
+    let (here, there) = both (test byte) (list_all test bytes) h in
+    both_hold _ (is_plain bytes) (high_byte byte (high byte here)) (plain_all test high bytes there)
+
+not_empty : (byte : ℕ) (bytes : List ℕ) → (byte ∷ bytes) ≢ []
+not_empty byte bytes e = let clash : ⊥ = cc in clash
+
+-- what a chosen value says
+
+chosen_back : {T : Type 0} (b : Bool) (one other : T) → (if b then Some one else None) ≡ Some other → b ≡ true
+chosen_back true one other h = refl
+chosen_back false one other h = cc
+
+mapped_back : {S T : Type 0} (f : S → T) (o : Option S) (one : T) → option_map f o ≡ Some one → (x : S) × (o ≡ Some x)
+mapped_back f None one h = cc
+mapped_back f (Some x) one h = (x, refl)
+
+-- names, numbers, literals
+
+word_of_name : (word : List ℕ) → is_name word ≡ true → IsWord word
+word_of_name [] h = cc
+word_of_name (byte ∷ bytes) h =
+    let (here, there) = both (is_letter byte) (list_all is_name_byte bytes) h in
+    inl (not_empty byte bytes, both_hold _ (is_plain bytes) (high_byte byte (high_of_letter byte here)) (plain_all is_name_byte high_of_name bytes there))
+
+word_of_declared : (word name : List ℕ) → declared_name word ≡ Some name → IsWord word
+word_of_declared word name h =
+    let (is, _) = both (is_name word) (not (is_reserved word)) (chosen_back (is_name word && not (is_reserved word)) word name h) in
+    word_of_name word is
+
+word_of_used : (word name : List ℕ) → used_name word ≡ Some name → IsWord word
+word_of_used word name h =
+    let (is, _) = both (is_name word) _ (chosen_back (is_name word && not (bytes_eq word (codes "self"))) word name h) in
+    word_of_name word is
+
+plain_of_digits : (word : List ℕ) (n : ℕ) → digits_of word ≡ Some n → is_plain word ≡ true
+plain_of_digits word n h =
+    let (_, are_digits) = both _ (list_all is_digit word) (chosen_back (nat_le 1 (length word) && nat_le (length word) 9 && list_all is_digit word) (fold with_digit 0 word) n h) in
+    plain_all is_digit high_of_digit word are_digits
+
+word_of_number : (word : List ℕ) (z : ℤ) → number_of word ≡ Some z → IsWord word
+word_of_number [] z h = cc
+word_of_number (byte ∷ bytes) z h = inl (not_empty byte bytes, signed (nat_eq byte 45) refl h)
+  where
+    signed : (minus : Bool) → nat_eq byte 45 ≡ minus → (if minus then option_map (λ n. neg_ℤ (pos n)) (digits_of bytes) else option_map pos (digits_of (byte ∷ bytes))) ≡ Some z → is_plain (byte ∷ bytes) ≡ true
+    signed true is h =
+        let (n, digits) = mapped_back (λ n. neg_ℤ (pos n)) (digits_of bytes) z h in
+        let minus : byte ≡ 45 = eqb-true byte 45 is in
+        both_hold _ (is_plain bytes) (high_byte byte (omega arith)) (plain_of_digits bytes n digits)
+    signed false is h = let (n, digits) = mapped_back pos (digits_of (byte ∷ bytes)) z h in plain_of_digits (byte ∷ bytes) n digits
+
+word_of_literal : (word text : List ℕ) → literal_of word ≡ Some text → IsWord word
+word_of_literal word text h = let (printable, is) = quoted_of_literal word text h in inr (text, printable, is)
+
+word_of_operand : (letter : Letter) (word : List ℕ) (operand : Operand (List ℕ)) → operand_of letter word ≡ Some operand → IsWord word
+word_of_operand Declared word operand h = let (name, is) = mapped_back Name (declared_name word) operand h in word_of_declared word name is
+word_of_operand Pointer word operand h = let (name, is) = mapped_back Name (used_name word) operand h in word_of_used word name is
+word_of_operand Value word operand h = let (z, is) = mapped_back Number (number_of word) operand h in word_of_number word z is
+word_of_operand Printed word operand h = either (number_of word) refl
+  where
+    either : (number : Option ℤ) → number_of word ≡ number → IsWord word
+    either (Some z) is = word_of_number word z is
+    either None is =
+        let (text, is_literal) = mapped_back Literal (literal_of word) operand (sym (ap (λ (o : Option ℤ). number_or_literal (option_map Number o) word) is) ∙ h) in
+        word_of_literal word text is_literal
+
+onto_back : (first : Option (Operand (List ℕ))) (rest : Option (List (Operand (List ℕ)))) (operands : List (Operand (List ℕ))) → onto first rest ≡ Some operands → ((o : Operand (List ℕ)) × (first ≡ Some o)) × ((os : List (Operand (List ℕ))) × (rest ≡ Some os))
+onto_back None rest operands h = cc
+onto_back (Some o) None operands h = cc
+onto_back (Some o) (Some os) operands h = ((o, refl), (os, refl))
+
+words_of_operands : (letters : List Letter) (words : List (List ℕ)) (operands : List (Operand (List ℕ))) → operands_of letters words ≡ Some operands → AreWords words
+words_of_operands [] [] operands h = tt
+words_of_operands [] (word ∷ words) operands h = cc
+words_of_operands (letter ∷ letters) [] operands h = cc
+words_of_operands (letter ∷ letters) (word ∷ words) operands h =
+    let ((o, is_first), (os, are_rest)) = onto_back (operand_of letter word) (operands_of letters words) operands h in
+    (word_of_operand letter word o is_first, words_of_operands letters words os are_rest)
+
+-- lines
+
+module _ (first : List ℕ) (words : List (List ℕ)) (key : Key) (operands : List (Operand (List ℕ))) where
+  fitting : (k : Key) (found : Option (List (Operand (List ℕ)))) (rest : Form (List ℕ)) → operands_of (letters_of k) words ≡ found → IsWord first → (rest ≡ Line key operands → AreWords (first ∷ words)) → line_or k found rest ≡ Line key operands → AreWords (first ∷ words)
+  fitting k (Some found) rest is word otherwise h = (word, words_of_operands (letters_of k) words found is)
+  fitting k None rest is word otherwise h = otherwise h
+
+  one_key : (k : Key) (same : Bool) (rest : Form (List ℕ)) → is_name (text_of k) ≡ true → bytes_eq (text_of k) first ≡ same → (rest ≡ Line key operands → AreWords (first ∷ words)) → line_or k (operands_if same k words) rest ≡ Line key operands → AreWords (first ∷ words)
+  one_key k true rest named same otherwise h =
+      fitting k (operands_of (letters_of k) words) rest refl (subst IsWord (same_text (text_of k) first (sym same)) (word_of_name (text_of k) named)) otherwise h
+  one_key k false rest named same otherwise h = otherwise h
+
+  words_of_form : (ks : List Key) → list_all (λ k. is_name (text_of k)) ks ≡ true → form_in ks first words ≡ Line key operands → AreWords (first ∷ words)
+  words_of_form [] named h = cc
+  words_of_form (k ∷ ks) named h =
+      let (here, there) = both (is_name (text_of k)) (list_all (λ k. is_name (text_of k)) ks) named in
+      one_key k (bytes_eq (text_of k) first) (form_in ks first words) here refl (words_of_form ks there) h
+
+  not_skipped : (skipped : Bool) (form : Form (List ℕ)) → skipped_or skipped form ≡ Line key operands → form ≡ Line key operands
+  not_skipped true form h = cc
+  not_skipped false form h = h
+
+keys_are_named : list_all (λ k. is_name (text_of k)) keys ≡ true
+unfolding keys
+keys_are_named = refl
+
+words_of_line : (words : List (List ℕ)) (key : Key) (operands : List (Operand (List ℕ))) → form_of words ≡ Line key operands → AreWords words
+words_of_line [] key operands h = tt
+words_of_line (first ∷ words) key operands h =
+    words_of_form first words key operands keys keys_are_named (not_skipped first words key operands (begins_comment first) (form_in keys first words) h)
+
+pub made_of_words : (line : List ℕ) → IsMadeOfWords line
+made_of_words line = λ key operands h. words_of_line (words_of line) key operands h

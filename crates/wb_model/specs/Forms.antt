@@ -1,0 +1,85 @@
+-- The form of a line: the first key whose text and letters fit its words.
+use Rattle.std.specs.Prelude.{ℕ, List, [], ◌∷◌, Option, Some, None, Bool, true, false, ◌==◌, map}
+use Rattle.std.specs.Option.{option_map}
+use Rattle.std.specs.Str.{bytes_eq}
+use Rattle.wb_model.specs.declared.lines.Key.{Key}
+use Rattle.wb_model.specs.declared.lines.Letter.{Letter}
+use Rattle.wb_model.specs.declared.lines.Letter.TheVariants.{Declared, Pointer, Value, Printed}
+use Rattle.wb_model.specs.declared.lines.Operand.{Operand}
+use Rattle.wb_model.specs.declared.lines.Operand.TheVariants.{Name, Number, Literal}
+use Rattle.wb_model.specs.declared.lines.Form.{Form}
+use Rattle.wb_model.specs.declared.lines.Form.TheVariants.{Skip, Unknown, Line}
+use Rattle.wb_model.specs.declared.lines.Role.{Role}
+use Rattle.wb_model.specs.declared.lines.Role.TheVariants as role
+use Rattle.wb_model.specs.Lines.{words_of}
+use Rattle.wb_model.specs.Words.{declared_name, used_name, number_of, literal_of}
+use Rattle.wb_model.specs.Keys.{keys, text_of, letters_of, role_of}
+
+-- the same with other names
+abbrev pub renamed_operand : {N M : Type 0} → (N → M) → Operand N → Operand M
+renamed_operand f (Name n) = Name (f n)
+renamed_operand f (Number z) = Number z
+renamed_operand f (Literal n) = Literal (f n)
+
+abbrev pub renamed : {N M : Type 0} → (N → M) → Form N → Form M
+renamed f Skip = Skip
+renamed f Unknown = Unknown
+renamed f (Line key operands) = Line key (map (renamed_operand f) operands)
+
+abbrev pub role_of_form : {N : Type 0} → Form N → Role
+role_of_form Skip = role.Skip
+role_of_form Unknown = role.Unknown
+role_of_form (Line key operands) = role_of key
+
+abbrev pub number_or_literal : Option (Operand (List ℕ)) → List ℕ → Option (Operand (List ℕ))
+number_or_literal (Some number) word = Some number
+number_or_literal None word = option_map Literal (literal_of word)
+
+-- what a word is where a letter stands
+abbrev pub operand_of : Letter → List ℕ → Option (Operand (List ℕ))
+operand_of Declared word = option_map Name (declared_name word)
+operand_of Pointer word = option_map Name (used_name word)
+operand_of Value word = option_map Number (number_of word)
+operand_of Printed word = number_or_literal (option_map Number (number_of word)) word
+
+abbrev pub onto : Option (Operand (List ℕ)) → Option (List (Operand (List ℕ))) → Option (List (Operand (List ℕ)))
+onto None rest = None
+onto (Some operand) rest = option_map (λ operands. operand ∷ operands) rest
+
+-- what the words are, one for each letter
+abbrev pub operands_of : List Letter → List (List ℕ) → Option (List (Operand (List ℕ)))
+operands_of [] [] = Some []
+operands_of (letter ∷ letters) (word ∷ words) = onto (operand_of letter word) (operands_of letters words)
+operands_of _ _ = None
+
+abbrev pub operands_if : Bool → Key → List (List ℕ) → Option (List (Operand (List ℕ)))
+operands_if true key words = operands_of (letters_of key) words
+operands_if false key words = None
+
+abbrev pub line_or : Key → Option (List (Operand (List ℕ))) → Form (List ℕ) → Form (List ℕ)
+line_or key (Some operands) form = Line key operands
+line_or key None form = form
+
+-- the first key that fits a first word and the words behind it
+abbrev pub form_in : List Key → List ℕ → List (List ℕ) → Form (List ℕ)
+form_in [] first words = Unknown
+form_in (key ∷ rest) first words = line_or key (operands_if (bytes_eq (text_of key) first) key words) (form_in rest first words)
+
+abbrev pub begins_comment : List ℕ → Bool
+begins_comment [] = false
+begins_comment (byte ∷ bytes) = byte == 35
+
+abbrev pub skipped_or : Bool → Form (List ℕ) → Form (List ℕ)
+skipped_or true form = Skip
+skipped_or false form = form
+
+-- the form of the words of a line
+abbrev pub form_of : List (List ℕ) → Form (List ℕ)
+form_of [] = Skip
+form_of (first ∷ words) = skipped_or (begins_comment first) (form_in keys first words)
+
+abbrev pub line_form : List ℕ → Form (List ℕ)
+line_form line = form_of (words_of line)
+
+abbrev pub forms_of : List (List ℕ) → List (Form (List ℕ))
+forms_of lines = map line_form lines

@@ -1,0 +1,83 @@
+-- Which bytes spell which script, and which fault is the first of bytes that spell none.
+use Rattle.std.specs.Prelude.{◌≡◌, ℕ, suc, ◌+◌, ◌-◌, ◌<◌, ◌≤◌, List, [], ◌++◌, Option, Some, None, Bool, false, true, codes, map, length, take}
+use Rattle.std.specs.Option.{option_map}
+use Rattle.std.specs.List.{flat_map}
+use Rattle.wb_model.specs.declared.fault.ScriptFault.{ScriptFault}
+use Rattle.wb_model.specs.declared.fault.ScriptFault.TheVariants.{TooLong, NotAscii, Grammar, UnknownName, DoubleName, WrongKind, MayLeave, NoMain, TooMany, NoMemory}
+use Rattle.wb_model.specs.declared.lines.Form.{Form}
+use Rattle.wb_model.specs.declared.script.Script.{Script}
+use Rattle.wb_model.specs.Forms.{forms_of, role_of_form}
+use Rattle.wb_model.specs.Grammar.{IsGrammatical}
+use Rattle.wb_model.specs.Lines.{lines_of, first_foreign_line, is_too_long}
+use Rattle.wb_model.specs.Names.{Text, first_refused, uses_unknown, declares_again, passes_limit, known_of, place_of}
+use Rattle.wb_model.specs.Resolved.{resolved}
+use Rattle.wb_model.specs.Trees.{counted, script_lines}
+
+-- the lines are those of a script, whatever their names
+abbrev pub AreLines : List Text → Type 0
+AreLines lines = IsGrammatical (map role_of_form (forms_of lines))
+
+-- the lines are the first lines of a script
+abbrev pub AreFirstLines : List Text → Type 0
+AreFirstLines lines = (more : List Text) × AreLines (lines ++ more)
+
+-- n is the first line such that the lines up to it are the first lines of no script,
+-- and the number of lines plus 1 where all are, but they are no script
+pub record IsGrammarLine (lines : List Text) (n : ℕ) : Type 0 where
+  pub counted : 0 < n
+  pub within : n ≤ length lines + 1
+  pub before : AreFirstLines (take (n - 1) lines)
+  pub here : n ≤ length lines → AreFirstLines (take n lines) → ⊥
+  pub unfinished : n ≡ length lines + 1 → AreLines lines → ⊥
+
+-- the index of `main` among the procedures
+abbrev pub main_of : List (Form Text) → Option ℕ
+main_of forms = place_of (known_of forms).procedures (codes "main")
+
+-- not too long, and of lines alone
+pub record IsText (bytes : List ℕ) : Type 0 where
+  pub short : is_too_long bytes ≡ false
+  pub printable : first_foreign_line bytes ≡ None
+
+-- a text whose lines are those of a script, whatever their names
+pub record IsWellFormed (bytes : List ℕ) : Type 0 where
+  pub text : IsText bytes
+  pub grammar : AreLines (lines_of bytes)
+
+-- the tree that lines without a fault in their names and limits have
+pub record IsTreeOf (forms : List (Form Text)) (script : Script) : Type 0 where
+  pub known : first_refused uses_unknown forms ≡ None
+  pub once : first_refused declares_again forms ≡ None
+  pub main : main_of forms ≡ Some script.main
+  pub within : first_refused passes_limit forms ≡ None
+  pub classes : script.classes ≡ []
+  pub operations : script.operations ≡ []
+  pub literals : script.literals ≡ (known_of forms).literals
+  pub tree : script_lines script ≡ flat_map counted (resolved forms)
+
+-- the bytes spell this script
+pub record IsScriptOf (bytes : List ℕ) (script : Script) : Type 0 where
+  pub well_formed : IsWellFormed bytes
+  pub tree : IsTreeOf (forms_of (lines_of bytes)) script
+
+-- the number of the first line that a test refuses, from 1
+abbrev pub line_of : Option ℕ → Option ℕ
+line_of index = option_map suc index
+
+-- the first fault of lines that are grammatical
+abbrev pub IsLinesFault : List (Form Text) → ScriptFault → Type 0
+IsLinesFault forms (UnknownName n) = line_of (first_refused uses_unknown forms) ≡ Some n
+IsLinesFault forms (DoubleName n) = (first_refused uses_unknown forms ≡ None) × (line_of (first_refused declares_again forms) ≡ Some n)
+IsLinesFault forms NoMain = (first_refused uses_unknown forms ≡ None) × (first_refused declares_again forms ≡ None) × (main_of forms ≡ None)
+IsLinesFault forms (TooMany n) = (first_refused uses_unknown forms ≡ None) × (first_refused declares_again forms ≡ None) × (main_of forms ≡ None → ⊥) × (line_of (first_refused passes_limit forms) ≡ Some n)
+IsLinesFault forms _ = ⊥
+
+-- The first fault of bytes, with its line. No line that has come has an operand of a wrong kind, or may leave where it must not.
+abbrev pub IsFaultOf : List ℕ → ScriptFault → Type 0
+IsFaultOf bytes TooLong = is_too_long bytes ≡ true
+IsFaultOf bytes (NotAscii n) = (is_too_long bytes ≡ false) × (first_foreign_line bytes ≡ Some n)
+IsFaultOf bytes (Grammar n) = IsText bytes × IsGrammarLine (lines_of bytes) n
+IsFaultOf bytes (WrongKind n) = ⊥
+IsFaultOf bytes (MayLeave n) = ⊥
+IsFaultOf bytes NoMemory = ⊥
+IsFaultOf bytes fault = IsWellFormed bytes × IsLinesFault (forms_of (lines_of bytes)) fault

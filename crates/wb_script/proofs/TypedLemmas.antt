@@ -1,0 +1,134 @@
+-- The form of a line has operands of the letters of its key.
+use Rattle.std.proofs.Common.{◌≡◌, refl, subst, ℕ, ℤ, zero, suc, pos, neg_ℤ, ◌+◌, ◌-◌, ◌^◌, ◌<◌, ◌≤◌, List, [], ◌∷◌, Bool, true, false, ◌&&◌, nat_eq, nat_lt, nat_le, length, Option, Some, None, fold, arith}
+use Rattle.std.specs.Prelude.{if◌then◌else◌}
+use Rattle.std.specs.Option.{option_map}
+use Rattle.std.specs.List.{list_all}
+use Rattle.std.specs.Str.{bytes_eq}
+use Rattle.std.proofs.lemmas.Bool.Decides.{nat_tests}
+use Rattle.wb_model.specs.declared.lines.Key.{Key}
+use Rattle.wb_model.specs.declared.lines.Letter.{Letter}
+use Rattle.wb_model.specs.declared.lines.Letter.TheVariants as letter
+use Rattle.wb_model.specs.declared.lines.Operand.{Operand}
+use Rattle.wb_model.specs.declared.lines.Operand.TheVariants.{Name, Number, Literal}
+use Rattle.wb_model.specs.declared.lines.Form.{Form}
+use Rattle.wb_model.specs.declared.script.Number.TheVariants.{Constant}
+use Rattle.wb_model.specs.Forms.{operand_of, operands_of, onto, operands_if, line_or, form_in, form_of, skipped_or, begins_comment, forms_of, number_or_literal}
+use Rattle.wb_model.specs.Keys.{keys, letters_of, text_of}
+use Rattle.wb_model.specs.Lines.{words_of}
+use Rattle.wb_model.specs.Names.{Text}
+use Rattle.wb_model.specs.Sound.{is_number, is_quotable}
+use Rattle.wb_model.specs.Words.{is_digit, with_digit, digits_of, number_of, declared_name, used_name, literal_of, is_literal, inside}
+use Rattle.wb_script.specs.Typed.{is_operand, are_operands, is_typed, AreTyped}
+use Rattle.wb_script.proofs.Digits.{digit_at_most_nine, one_more_digit, nine_digits}
+
+pub both : (a b : Bool) → (a && b) ≡ true → (a ≡ true) × (b ≡ true)
+both true b e = (refl, e)
+both false b e = let clash : ⊥ = cc in absurd clash
+
+-- what a test that holds gives
+given : {X : Type 0} (b : Bool) (x y : X) → (if b then Some x else None) ≡ Some y → (b ≡ true) × (x ≡ y)
+given true x y e = (refl, cc)
+given false x y e = let clash : ⊥ = cc in absurd clash
+
+digits_below : (word : List ℕ) (value i : ℕ) → i + length word ≤ 9 → value < 10 ^ i → list_all is_digit word ≡ true → fold with_digit value word < 10 ^ 9
+digits_below [] value i few below digits = nine_digits i value (omega arith) below
+digits_below (byte ∷ bytes) value i few below digits =
+    let (first, rest) = both (is_digit byte) (list_all is_digit bytes) digits in
+    let one_digit : byte - 48 ≤ 9 = digit_at_most_nine byte first in
+    digits_below bytes (with_digit value byte) (i + 1) (omega arith) (one_more_digit i value (byte - 48) (omega arith) below one_digit) rest
+
+digits_bounded : (word : List ℕ) (n : ℕ) → digits_of word ≡ Some n → n ≤ 999999999
+digits_bounded word n is =
+    let (tested, value) = given (nat_le 1 (length word) && nat_le (length word) 9 && list_all is_digit word) (fold with_digit 0 word) n is in
+    let (sizes, digits) = both (nat_le 1 (length word) && nat_le (length word) 9) (list_all is_digit word) tested in
+    let (some, few) = both (nat_le 1 (length word)) (nat_le (length word) 9) sizes in
+    let short : length word ≤ 9 = grind (arith, nat_tests) in
+    let below : fold with_digit 0 word < 10 ^ 9 = digits_below word 0 0 (omega arith) (omega arith) digits in
+    omega arith
+
+positive : (o : Option ℕ) (z : ℤ) → ((n : ℕ) → o ≡ Some n → n ≤ 999999999) → option_map pos o ≡ Some z → is_number (Constant z) ≡ true
+positive None z bound is = let clash : ⊥ = cc in absurd clash
+positive (Some n) z bound is =
+    let small : n ≤ 999999999 = bound n refl in
+    let passes : nat_le n 999999999 ≡ true = grind (arith, nat_tests) in
+    let same : pos n ≡ z = cc in
+    subst (λ v. is_number (Constant v) ≡ true) same passes
+
+negated : (n : ℕ) → n ≤ 999999999 → is_number (Constant (neg_ℤ (pos n))) ≡ true
+negated zero small = refl
+negated (suc n) small = let passes : nat_lt n 999999999 ≡ true = grind (arith, nat_tests) in passes
+
+negative : (o : Option ℕ) (z : ℤ) → ((n : ℕ) → o ≡ Some n → n ≤ 999999999) → option_map (λ n. neg_ℤ (pos n)) o ≡ Some z → is_number (Constant z) ≡ true
+negative None z bound is = let clash : ⊥ = cc in absurd clash
+negative (Some n) z bound is =
+    let same : neg_ℤ (pos n) ≡ z = cc in
+    subst (λ v. is_number (Constant v) ≡ true) same (negated n (bound n refl))
+
+number_bounded : (word : List ℕ) (z : ℤ) → number_of word ≡ Some z → is_number (Constant z) ≡ true
+number_bounded [] z is = let clash : ⊥ = cc in absurd clash
+number_bounded (byte ∷ bytes) z is = go (nat_eq byte 45) is
+  where
+    go : (b : Bool) → (if b then option_map (λ n. neg_ℤ (pos n)) (digits_of bytes) else option_map pos (digits_of (byte ∷ bytes))) ≡ Some z → is_number (Constant z) ≡ true
+    go true e = negative (digits_of bytes) z (digits_bounded bytes) e
+    go false e = positive (digits_of (byte ∷ bytes)) z (digits_bounded (byte ∷ bytes)) e
+
+-- what a map of an option made stands for what the option holds
+mapped : {X Y : Type 0} (P : Y → Type 0) (f : X → Y) (o : Option X) (y : Y) → ((x : X) → o ≡ Some x → P (f x)) → option_map f o ≡ Some y → P y
+mapped P f None y each is = let clash : ⊥ = cc in absurd clash
+mapped P f (Some x) y each is = let same : f x ≡ y = cc in subst P same (each x refl)
+
+literal_quotable : (word text : Text) → literal_of word ≡ Some text → list_all is_quotable text ≡ true
+literal_quotable word text is =
+    let (tested, same) = given (is_literal word) (inside word) text is in
+    subst (λ t. list_all is_quotable t ≡ true) same (both _ (list_all is_quotable (inside word)) tested).1
+
+printed_typed : (number : Option (Operand Text)) (word : Text) (operand : Operand Text) → ((o : Operand Text) → number ≡ Some o → is_operand letter.Printed o ≡ true) → number_or_literal number word ≡ Some operand → is_operand letter.Printed operand ≡ true
+printed_typed (Some o) word operand each is = each operand is
+printed_typed None word operand each is = mapped (λ o. is_operand letter.Printed o ≡ true) Literal (literal_of word) operand (literal_quotable word) is
+
+operand_typed : (letter : Letter) (word : Text) (operand : Operand Text) → operand_of letter word ≡ Some operand → is_operand letter operand ≡ true
+operand_typed letter.Declared word operand is = mapped (λ o. is_operand letter.Declared o ≡ true) Name (declared_name word) operand (λ n e. refl) is
+operand_typed letter.Pointer word operand is = mapped (λ o. is_operand letter.Pointer o ≡ true) Name (used_name word) operand (λ n e. refl) is
+operand_typed letter.Value word operand is = mapped (λ o. is_operand letter.Value o ≡ true) Number (number_of word) operand (number_bounded word) is
+operand_typed letter.Printed word operand is =
+    printed_typed (option_map Number (number_of word)) word operand (λ o e. mapped (λ p. is_operand letter.Printed p ≡ true) Number (number_of word) o (number_bounded word) e) is
+
+operands_typed : (letters : List Letter) (words : List Text) (operands : List (Operand Text)) → operands_of letters words ≡ Some operands → are_operands letters operands ≡ true
+operands_typed [] [] operands is = let same : [] ≡ operands = cc in subst (λ o. are_operands [] o ≡ true) same refl
+operands_typed [] (word ∷ words) operands is = let clash : ⊥ = cc in absurd clash
+operands_typed (letter ∷ letters) [] operands is = let clash : ⊥ = cc in absurd clash
+operands_typed (letter ∷ letters) (word ∷ words) operands is = go (operand_of letter word) (operands_of letters words) (operand_typed letter word) (operands_typed letters words) is
+  where
+    go : (o : Option (Operand Text)) (rest : Option (List (Operand Text))) → ((p : Operand Text) → o ≡ Some p → is_operand letter p ≡ true) → ((ps : List (Operand Text)) → rest ≡ Some ps → are_operands letters ps ≡ true) → onto o rest ≡ Some operands → are_operands (letter ∷ letters) operands ≡ true
+    go None rest one more e = let clash : ⊥ = cc in absurd clash
+    go (Some p) None one more e = let clash : ⊥ = cc in absurd clash
+    go (Some p) (Some ps) one more e =
+        let same : p ∷ ps ≡ operands = cc in
+        subst (λ o. are_operands (letter ∷ letters) o ≡ true) same (rw (one p refl) (more ps refl))
+
+chosen_typed : (key : Key) (o : Option (List (Operand Text))) (other : Form Text) → ((ps : List (Operand Text)) → o ≡ Some ps → are_operands (letters_of key) ps ≡ true) → is_typed other ≡ true → is_typed (line_or key o other) ≡ true
+chosen_typed key (Some ps) other typed rest = typed ps refl
+chosen_typed key None other typed rest = rest
+
+-- none of a key whose text differs
+if_typed : (b : Bool) (key : Key) (words : List Text) (ps : List (Operand Text)) → operands_if b key words ≡ Some ps → are_operands (letters_of key) ps ≡ true
+if_typed true key words ps is = operands_typed (letters_of key) words ps is
+if_typed false key words ps is = let clash : ⊥ = cc in absurd clash
+
+form_typed : (ks : List Key) (first : Text) (words : List Text) → is_typed (form_in ks first words) ≡ true
+form_typed [] first words = refl
+form_typed (key ∷ ks) first words =
+    let same = bytes_eq (text_of key) first in
+    chosen_typed key (operands_if same key words) (form_in ks first words) (if_typed same key words) (form_typed ks first words)
+
+words_typed : (words : List Text) → is_typed (form_of words) ≡ true
+words_typed [] = refl
+words_typed (first ∷ words) = go (begins_comment first)
+  where
+    go : (b : Bool) → is_typed (skipped_or b (form_in keys first words)) ≡ true
+    go true = refl
+    go false = form_typed keys first words
+
+pub lines_typed : (lines : List Text) → AreTyped (forms_of lines)
+lines_typed [] = refl
+lines_typed (line ∷ lines) = rw (words_typed (words_of line)) (lines_typed lines)

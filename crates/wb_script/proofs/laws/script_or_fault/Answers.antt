@@ -1,0 +1,5 @@
+use Rattle.wb_script.proofs.FaultLaws.{no_fault}
+use Rattle.wb_script.proofs.laws.script_or_fault.Goals as goal
+
+pub returns : goal.returns
+returns c = no_fault

@@ -1,0 +1,29 @@
+-- What the code's names of picks and checks mean.
+use Rattle.std.specs.Prelude.{Bool, map}
+use Rattle.wb_model.specs.declared.lines.Form.{Form}
+use Rattle.wb_model.specs.Names.{Text, Pick, name_declared, name_used, name_in, literal_in, uses_unknown, declares_again, passes_limit}
+use Rattle.wb_model.specs.Names as model
+use Rattle.wb_script.specs.declared.names.Wanted.{Wanted}
+use Rattle.wb_script.specs.declared.names.Wanted.TheVariants.{Declared, Used, Names, Literals}
+use Rattle.wb_script.specs.declared.names.Known.{Known}
+use Rattle.wb_script.specs.declared.names.Check.{Check}
+use Rattle.wb_script.specs.declared.names.Check.TheVariants as check
+
+abbrev pub pick_of : Wanted → Pick
+pick_of Declared = name_declared
+pick_of Used = name_used
+pick_of Names = name_in
+pick_of Literals = literal_in
+
+-- what is known, without the references
+abbrev pub known_in : Known → model.Known
+known_in known = record {
+  procedures = map (λ n. n.now) known.procedures.items;
+  locals = map (λ n. n.now) known.locals.items;
+  literals = map (λ n. n.now) known.literals.items;
+}
+
+abbrev pub test_of : Check → model.Known → Form Text → Bool
+test_of check.UnknownName = uses_unknown
+test_of check.DoubleName = declares_again
+test_of check.TooMany = passes_limit

@@ -1,0 +1,6 @@
+pub mod Building
+pub mod Checks
+pub mod Machine
+pub mod Pieces
+pub mod Reads
+pub mod Typed

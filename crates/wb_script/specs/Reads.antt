@@ -1,0 +1,25 @@
+-- What the forms of all lines tell of a script: no fault, or the first.
+use Rattle.std.specs.Prelude.{◌≡◌, ℕ, ◌+◌, List, Some, None, map}
+use Rattle.wb_model.specs.declared.fault.ScriptFault.{ScriptFault}
+use Rattle.wb_model.specs.declared.fault.ScriptFault.TheVariants.{Grammar}
+use Rattle.wb_model.specs.declared.lines.Form.{Form}
+use Rattle.wb_model.specs.declared.lines.Role.{Role}
+use Rattle.wb_model.specs.Forms.{role_of_form}
+use Rattle.wb_model.specs.Grammar.{IsGrammatical, IsFirstMisfit}
+use Rattle.wb_model.specs.Names.{Text, first_refused, uses_unknown, declares_again, passes_limit}
+use Rattle.wb_model.specs.Scripts.{main_of, IsLinesFault}
+
+abbrev pub roles_of : List (Form Text) → List Role
+roles_of forms = map role_of_form forms
+
+-- the checks of names and limits find nothing, and `main` is the procedure with this index
+pub record IsFaultless (forms : List (Form Text)) (main : ℕ) : Type 0 where
+  pub known : first_refused uses_unknown forms ≡ None
+  pub once : first_refused declares_again forms ≡ None
+  pub main_is : main_of forms ≡ Some main
+  pub within : first_refused passes_limit forms ≡ None
+
+-- the first fault, the line of a grammar fault as an index behind which it stands
+abbrev pub IsFormsFault : List (Form Text) → ScriptFault → Type 0
+IsFormsFault forms (Grammar n) = (k : ℕ) × (n ≡ k + 1) × IsFirstMisfit (roles_of forms) k
+IsFormsFault forms fault = IsGrammatical (roles_of forms) × IsLinesFault forms fault

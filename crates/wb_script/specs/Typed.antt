@@ -1,0 +1,33 @@
+-- Forms whose operands are of the letters of their keys, as each line's is.
+use Rattle.std.specs.Prelude.{List, [], ◌∷◌, Bool, true, false, ◌&&◌, IsTrue}
+use Rattle.std.specs.List.{list_all}
+use Rattle.wb_model.specs.declared.lines.Letter.{Letter}
+use Rattle.wb_model.specs.declared.lines.Letter.TheVariants as letter
+use Rattle.wb_model.specs.declared.lines.Operand.{Operand}
+use Rattle.wb_model.specs.declared.lines.Operand.TheVariants.{Name, Number, Literal}
+use Rattle.wb_model.specs.declared.lines.Form.{Form}
+use Rattle.wb_model.specs.declared.lines.Form.TheVariants.{Line}
+use Rattle.wb_model.specs.declared.script.Number.TheVariants.{Constant}
+use Rattle.wb_model.specs.Keys.{letters_of}
+use Rattle.wb_model.specs.Names.{Text}
+use Rattle.wb_model.specs.Sound.{is_number, is_quotable}
+
+abbrev pub is_operand : Letter → Operand Text → Bool
+is_operand letter.Declared (Name name) = true
+is_operand letter.Pointer (Name name) = true
+is_operand letter.Value (Number z) = is_number (Constant z)
+is_operand letter.Printed (Number z) = is_number (Constant z)
+is_operand letter.Printed (Literal text) = list_all is_quotable text
+is_operand _ _ = false
+
+abbrev pub are_operands : List Letter → List (Operand Text) → Bool
+are_operands [] [] = true
+are_operands (letter ∷ letters) (operand ∷ operands) = is_operand letter operand && are_operands letters operands
+are_operands _ _ = false
+
+abbrev pub is_typed : Form Text → Bool
+is_typed (Line key operands) = are_operands (letters_of key) operands
+is_typed _ = true
+
+abbrev pub AreTyped : List (Form Text) → Type 0
+AreTyped forms = IsTrue (list_all is_typed forms)

@@ -1,0 +1,135 @@
+//! What a line says: the first key whose text and letters fit its words, and its operands.
+
+ghost use Rattle.std.specs.Prelude.{◌≡◌, map, IfOk};
+ghost use Rattle.std.specs.Option.{option_map};
+ghost use Rattle.wb_model.specs.Forms.{operand_of, operands_of, form_in, form_of, forms_of, line_form, begins_comment, renamed, renamed_operand, role_of_form};
+ghost use Rattle.wb_model.specs.Keys.{keys};
+
+use crate::keys::{ALL, letters_of, role_of, text_of};
+use crate::lines::words;
+use crate::words::{declared_name, literal_of, number_of, used_name};
+use std::alloc::{AllocError, Global};
+use wb_model::items::Items;
+use wb_model::lines::{Form, Key, Letter, Operand, Role};
+
+/// What a word is where a letter stands.
+fn operand_of<'a>(letter: Letter, word: &'a [u8]) -> Option<Operand<&'a [u8]>>
+    ensures { option_map (renamed_operand (λ n. n.now)) result ≡ operand_of letter word.now }
+{
+    match letter {
+        Letter::Declared => Some(Operand::Name(declared_name(word)?)),
+        Letter::Pointer => Some(Operand::Name(used_name(word)?)),
+        Letter::Value => Some(Operand::Number(number_of(word)?)),
+        Letter::Printed => match number_of(word) {
+            Some(number) => Some(Operand::Number(number)),
+            None => Some(Operand::Literal(literal_of(word)?)),
+        },
+    }
+}
+
+/// What the words are, one for each letter; none where they do not fit.
+fn operands_of<'a>(
+    alloc: Global,
+    letters: &[Letter],
+    words: &[&'a [u8]],
+) -> Result<Option<Vec<Operand<&'a [u8]>>>, AllocError>
+    ensures { IfOk result (λ found.
+        option_map (λ o. map (renamed_operand (λ n. n.now)) o.items) found ≡ operands_of letters.now (map (λ w. w.now) words.now)) }
+{
+    if letters.len() != words.len() {
+        return Ok(None);
+    }
+    let mut found = Vec::new(alloc);
+    for (index, letter) in letters.iter().enumerate() {
+        match operand_of(*letter, words[index]) {
+            None => return Ok(None),
+            Some(operand) => found.push(operand)?,
+        }
+    }
+    Ok(Some(found))
+}
+
+/// The line of the first of the keys that fits a first word and the words behind it.
+fn form_in<'a>(
+    alloc: Global,
+    keys: &[Key],
+    first: &[u8],
+    words: &[&'a [u8]],
+) -> Result<Form<&'a [u8]>, AllocError>
+    ensures { IfOk result (λ form. renamed (λ n. n.now) form ≡ form_in keys.now first.now (map (λ w. w.now) words.now)) }
+{
+    for key in keys {
+        if text_of(*key) == first {
+            match operands_of(alloc, letters_of(*key), words)? {
+                Some(operands) => return Ok(Form::Line(*key, Items::from_vec(operands))),
+                None => {}
+            }
+        }
+    }
+    Ok(Form::Unknown)
+}
+
+/// The form of words that are no comment, by the tables.
+fn keyed_form<'a>(
+    alloc: Global,
+    first: &[u8],
+    words: &[&'a [u8]],
+) -> Result<Form<&'a [u8]>, AllocError>
+    ensures { IfOk result (λ form. renamed (λ n. n.now) form ≡ form_in keys first.now (map (λ w. w.now) words.now)) }
+{
+    form_in(alloc, &ALL, first, words)
+}
+
+fn begins_comment(word: &[u8]) -> bool
+    ensures { result ≡ begins_comment word.now }
+{
+    matches!(word, [b'#', ..])
+}
+
+/// The form of the words of a line.
+fn form_of<'a>(alloc: Global, words: &[&'a [u8]]) -> Result<Form<&'a [u8]>, AllocError>
+    ensures { IfOk result (λ form. renamed (λ n. n.now) form ≡ form_of (map (λ w. w.now) words.now)) }
+{
+    match words {
+        [] => Ok(Form::Skip),
+        [first, rest @ ..] => {
+            if begins_comment(first) {
+                return Ok(Form::Skip);
+            }
+            keyed_form(alloc, first, rest)
+        }
+    }
+}
+
+/// The form of a line, without its line feed.
+pub(crate) fn line_form<'a>(alloc: Global, line: &'a [u8]) -> Result<Form<&'a [u8]>, AllocError>
+    ensures { IfOk result (λ form. renamed (λ n. n.now) form ≡ line_form line.now) }
+{
+    let words = words(alloc, line)?;
+    form_of(alloc, &words)
+}
+
+/// The forms of lines, one for each.
+pub(crate) fn forms<'a>(
+    alloc: Global,
+    lines: &[&'a [u8]],
+) -> Result<Vec<Form<&'a [u8]>>, AllocError>
+    ensures { IfOk result (λ found. map (renamed (λ n. n.now)) found.items ≡ forms_of (map (λ l. l.now) lines.now)) }
+{
+    let mut found = Vec::new(alloc);
+    for line in lines {
+        found.push(line_form(alloc, *line)?)?;
+    }
+    Ok(found)
+}
+
+/// What a line is to the grammar of blocks.
+pub(crate) fn role<N>(form: &Form<N>) -> Role
+    ensures { result ≡ role_of_form form.now }
+{
+    match form {
+        Form::Skip => Role::Skip,
+        Form::Unknown => Role::Unknown,
+        Form::Line(key, _) => role_of(*key),
+    }
+}

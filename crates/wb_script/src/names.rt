@@ -1,0 +1,256 @@
+//! What the lines of a script declare, and the checks of their names and limits. Each check is one pass over all lines.
+
+ghost use Rattle.std.specs.Prelude.{◌≡◌, ◌<◌, ◌||◌, [], length, map, nat_lt, is_none, is_some, IfOk, IfSome, OnOk};
+ghost use Rattle.std.specs.Option.{option_map};
+ghost use Rattle.std.specs.List.{list_any};
+ghost use Rattle.wb_model.specs.Forms.{renamed, renamed_operand};
+ghost use Rattle.wb_model.specs.Names.{picked_of, picked, known_after, place_of, space_of, is_one_more, first_refused, nothing_known, known_of};
+ghost use Rattle.wb_script.specs.Checks.{pick_of, known_in, test_of};
+
+use crate::forms::role;
+use crate::keys::letters_of;
+use std::alloc::{AllocError, Global};
+use wb_model::lines::{Form, Letter, Operand, Role};
+
+/// Which texts of a line are meant.
+#[derive(Clone, Copy)]
+pub(crate) enum Wanted {
+    /// The names that it declares.
+    Declared,
+    /// The names that it uses.
+    Used,
+    /// All its names.
+    Names,
+    Literals,
+}
+
+fn picked_text<'a>(wanted: Wanted, letter: Letter, operand: &Operand<&'a [u8]>) -> Option<&'a [u8]>
+    ensures { option_map (λ n. n.now) result ≡ pick_of wanted letter (renamed_operand (λ n. n.now) operand.now) }
+{
+    match operand {
+        Operand::Name(name) => match wanted {
+            Wanted::Declared => match letter {
+                Letter::Declared => Some(*name),
+                _ => None,
+            },
+            Wanted::Used => match letter {
+                Letter::Pointer => Some(*name),
+                _ => None,
+            },
+            Wanted::Names => Some(*name),
+            Wanted::Literals => None,
+        },
+        Operand::Number(_) => None,
+        Operand::Literal(text) => match wanted {
+            Wanted::Literals => Some(*text),
+            _ => None,
+        },
+    }
+}
+
+fn picked_of<'a>(
+    alloc: Global,
+    wanted: Wanted,
+    letters: &[Letter],
+    operands: &[Operand<&'a [u8]>],
+) -> Result<Vec<&'a [u8]>, AllocError>
+    ensures { IfOk result (λ found. map (λ n. n.now) found.items ≡ picked_of (pick_of wanted) letters.now (map (renamed_operand (λ n. n.now)) operands.now)) }
+{
+    let mut found = Vec::new(alloc);
+    for (index, letter) in letters.iter().enumerate() {
+        if index >= operands.len() {
+            return Ok(found);
+        }
+        match picked_text(wanted, *letter, &operands[index]) {
+            Some(text) => found.push(text)?,
+            None => {}
+        }
+    }
+    Ok(found)
+}
+
+/// The texts of a line that are meant, in order.
+fn picked<'a>(
+    alloc: Global,
+    wanted: Wanted,
+    form: &Form<&'a [u8]>,
+) -> Result<Vec<&'a [u8]>, AllocError>
+    ensures { IfOk result (λ found. map (λ n. n.now) found.items ≡ picked (pick_of wanted) (renamed (λ n. n.now) form.now)) }
+{
+    match form {
+        Form::Line(key, operands) => {
+            picked_of(alloc, wanted, letters_of(*key), operands.as_slice())
+        }
+        _ => Ok(Vec::new(alloc)),
+    }
+}
+
+/// What the lines so far declare: the procedures, the locals of the body that stands open or was the last, and the
+/// literals.
+#[derive(Drop)]
+pub(crate) struct Known<'a> {
+    pub procedures: Vec<&'a [u8]>,
+    pub locals: Vec<&'a [u8]>,
+    pub literals: Vec<&'a [u8]>,
+}
+
+/// Takes in one more line.
+pub(crate) fn add_line<'a>(
+    alloc: Global,
+    known: &mut Known<'a>,
+    form: &Form<&'a [u8]>,
+) -> Result<(), AllocError>
+    ensures { OnOk result (known_in known.new ≡ known_after (known_in known.old) (renamed (λ n. n.now) form.now)) }
+{
+    let names = picked(alloc, Wanted::Declared, form)?;
+    let literals = picked(alloc, Wanted::Literals, form)?;
+    known.literals.extend_from_slice(&literals)?;
+    match role(form) {
+        Role::Procedure => {
+            known.procedures.extend_from_slice(&names)?;
+            known.locals.clear();
+        }
+        Role::Declaration => known.locals.extend_from_slice(&names)?,
+        _ => {}
+    }
+    Ok(())
+}
+
+/// The index of the first declaration of a name.
+pub(crate) fn place_of(names: &[&[u8]], name: &[u8]) -> Option<usize>
+    ensures { result ≡ place_of (map (λ n. n.now) names.now) name.now }
+{
+    for (index, known) in names.iter().enumerate() {
+        if *known == name {
+            return Some(index);
+        }
+    }
+    None
+}
+
+fn any_unknown(known: &[&[u8]], names: &[&[u8]]) -> bool
+    ensures { result ≡ list_any (λ n. is_none (place_of (map (λ k. k.now) known.now) n)) (map (λ n. n.now) names.now) }
+{
+    for name in names {
+        if place_of(known, name).is_none() {
+            return true;
+        }
+    }
+    false
+}
+
+fn any_known(known: &[&[u8]], names: &[&[u8]]) -> bool
+    ensures { result ≡ list_any (λ n. is_some (place_of (map (λ k. k.now) known.now) n)) (map (λ n. n.now) names.now) }
+{
+    for name in names {
+        if place_of(known, name).is_some() {
+            return true;
+        }
+    }
+    false
+}
+
+/// The greatest length of a name, in bytes.
+const NAME_LENGTH: usize = 32;
+/// The greatest number of procedures.
+pub(crate) const PROCEDURES: usize = 256;
+/// The greatest number of locals of a body.
+pub(crate) const LOCALS: usize = 32;
+
+fn any_long(names: &[&[u8]]) -> bool
+    ensures { result ≡ list_any (λ n. nat_lt 32 (length n)) (map (λ n. n.now) names.now) }
+{
+    for name in names {
+        if name.len() > NAME_LENGTH {
+            return true;
+        }
+    }
+    false
+}
+
+fn is_one_more(role: Role, known: &Known) -> bool
+    ensures { result ≡ is_one_more role (known_in known.now) }
+{
+    match role {
+        Role::Procedure => known.procedures.len() >= PROCEDURES,
+        Role::Declaration => known.locals.len() >= LOCALS,
+        _ => false,
+    }
+}
+
+/// What a line is looked at for.
+#[derive(Clone, Copy)]
+pub(crate) enum Check {
+    UnknownName,
+    DoubleName,
+    TooMany,
+}
+
+fn is_refused(
+    alloc: Global,
+    check: Check,
+    known: &Known,
+    form: &Form<&[u8]>,
+) -> Result<bool, AllocError>
+    ensures { IfOk result (λ bad. bad ≡ test_of check (known_in known.now) (renamed (λ n. n.now) form.now)) }
+{
+    match check {
+        Check::UnknownName => {
+            let names = picked(alloc, Wanted::Used, form)?;
+            Ok(any_unknown(&known.locals, &names))
+        }
+        Check::DoubleName => {
+            let names = picked(alloc, Wanted::Declared, form)?;
+            match role(form) {
+                Role::Procedure => Ok(any_known(&known.procedures, &names)),
+                _ => Ok(any_known(&known.locals, &names)),
+            }
+        }
+        Check::TooMany => {
+            let names = picked(alloc, Wanted::Names, form)?;
+            Ok(any_long(&names) || is_one_more(role(form), known))
+        }
+    }
+}
+
+impl<'a> Known<'a> {
+    pub(crate) fn nothing(alloc: Global) -> Known<'a>
+        ensures { known_in result ≡ nothing_known }
+    {
+        Known {
+            procedures: Vec::new(alloc),
+            locals: Vec::new(alloc),
+            literals: Vec::new(alloc),
+        }
+    }
+}
+
+/// The index of the first line that a check refuses.
+pub(crate) fn first_refused(
+    alloc: Global,
+    check: Check,
+    forms: &[Form<&[u8]>],
+) -> Result<Option<usize>, AllocError>
+    ensures found { IfOk result (λ found. found ≡ first_refused (test_of check) (map (renamed (λ n. n.now)) forms.now)) }
+    ensures within { IfOk result (λ found. IfSome found (λ n. n < length forms.now)) }
+{
+    let mut known = Known::nothing(alloc);
+    for (index, form) in forms.iter().enumerate() {
+        if is_refused(alloc, check, &known, form)? {
+            return Ok(Some(index));
+        }
+        add_line(alloc, &mut known, form)?;
+    }
+    Ok(None)
+}
+
+/// What all lines declare.
+pub(crate) fn known_of<'a>(alloc: Global, forms: &[Form<&'a [u8]>]) -> Result<Known<'a>, AllocError>
+    ensures { IfOk result (λ known. known_in known ≡ known_of (map (renamed (λ n. n.now)) forms.now)) }
+{
+    let mut known = Known::nothing(alloc);
+    for form in forms {
+        add_line(alloc, &mut known, form)?;
+    }
+    Ok(known)
+}

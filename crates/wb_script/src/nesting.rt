@@ -1,0 +1,117 @@
+//! The nesting of blocks.
+
+ghost use Rattle.std.specs.Prelude.{◌≡◌, IfOk, MatchOption, MatchBool, reverse};
+ghost use Rattle.wb_model.specs.Grammar.{IsGrammatical, IsFirstMisfit};
+ghost use Rattle.wb_script.specs.Machine.{move_of, step, after_line};
+
+use std::alloc::{AllocError, Global};
+use wb_model::lines::Role;
+
+/// A place in an open block: what may stand next in it.
+#[derive(Clone, Copy)]
+pub enum Open {
+    /// A class: fields, bodies or the end.
+    Fields,
+    /// A class after its `construct`.
+    Made,
+    /// A class after its `destroy`.
+    Destroyed,
+    /// A body before its first statement.
+    Declarations,
+    Statements,
+    /// The first part of an `if`.
+    Branch,
+    /// A `repeat`, or the second part of an `if`.
+    Block,
+}
+
+/// What a line does to the innermost open block.
+#[derive(Clone, Copy)]
+pub enum Move {
+    Close,
+    Stay(Open),
+    /// Opens the second inside the first.
+    Enter(Open, Open),
+}
+
+fn statement_in(place: Open, role: Role) -> Option<Move>
+    ensures { result ≡ Rattle.wb_script.specs.Machine.statement place role }
+{
+    match role {
+        Role::Plain => Some(Move::Stay(place)),
+        Role::Loop => Some(Move::Enter(place, Open::Block)),
+        Role::If => Some(Move::Enter(place, Open::Branch)),
+        Role::End => Some(Move::Close),
+        _ => None,
+    }
+}
+
+fn move_of(place: Option<Open>, role: Role) -> Option<Move>
+    ensures { result ≡ move_of place role }
+{
+    match (place, role) {
+        (None, Role::Class) => Some(Move::Stay(Open::Fields)),
+        (None, Role::Procedure) => Some(Move::Stay(Open::Declarations)),
+        (Some(Open::Fields), Role::Field) => Some(Move::Stay(Open::Fields)),
+        (Some(Open::Fields), Role::Construct) => Some(Move::Enter(Open::Made, Open::Declarations)),
+        (Some(Open::Fields | Open::Made), Role::Destroy) => Some(Move::Enter(
+            Open::Destroyed,
+            Open::Declarations,
+        )),
+        (Some(Open::Fields | Open::Made | Open::Destroyed), Role::End) => Some(Move::Close),
+        (Some(Open::Declarations), Role::Declaration) => Some(Move::Stay(Open::Declarations)),
+        (Some(Open::Branch), Role::Else) => Some(Move::Stay(Open::Block)),
+        (Some(Open::Declarations | Open::Statements), _) => statement_in(Open::Statements, role),
+        (Some(Open::Branch), _) => statement_in(Open::Branch, role),
+        (Some(Open::Block), _) => statement_in(Open::Block, role),
+        _ => None,
+    }
+}
+
+/// Reads a line that counts, with these open blocks, the innermost last. False where it has no place.
+fn read_content(stack: &mut Vec<Open>, role: Role) -> Result<bool, AllocError>
+    ensures fits { IfOk result (λ fits. MatchBool fits
+        (step (reverse stack.old.items) role ≡ Some (reverse stack.new.items))
+        (step (reverse stack.old.items) role ≡ None)) }
+{
+    match move_of(stack.pop(), role) {
+        None => return Ok(false),
+        Some(Move::Close) => {}
+        Some(Move::Stay(place)) => stack.push(place)?,
+        Some(Move::Enter(outer, inner)) => {
+            stack.push(outer)?;
+            stack.push(inner)?;
+        }
+    }
+    Ok(true)
+}
+
+/// Reads any line.
+fn read_line(stack: &mut Vec<Open>, role: Role) -> Result<bool, AllocError>
+    ensures fits { IfOk result (λ fits. MatchBool fits
+        (after_line (reverse stack.old.items) role ≡ Some (reverse stack.new.items))
+        (after_line (reverse stack.old.items) role ≡ None)) }
+{
+    match role {
+        Role::Skip => Ok(true),
+        _ => read_content(stack, role),
+    }
+}
+
+/// The index of the first line that no script has in its place, or the number of lines where only
+/// an `end` is missing.
+pub fn first_misfit(alloc: Global, roles: &[Role]) -> Result<Option<usize>, AllocError>
+    ensures { IfOk result (λ found. MatchOption found (IsGrammatical roles.now) (IsFirstMisfit roles.now)) }
+{
+    let mut stack = Vec::new(alloc);
+    for (index, role) in roles.iter().enumerate() {
+        if !read_line(&mut stack, *role)? {
+            return Ok(Some(index));
+        }
+    }
+    if stack.is_empty() {
+        Ok(None)
+    } else {
+        Ok(Some(roles.len()))
+    }
+}

@@ -1,0 +1,122 @@
+-- The definitions of the report, computed on worked runs. Each text is written out by hand, line by line.
+use Rattle.std.proofs.Common.{◌≡◌, [], ◌∷◌, Some, None, pos, negsuc, codes, refl}
+use Rattle.std.specs.Fmt.{digits}
+use Rattle.wb_model.specs.declared.fault.ScriptFault.TheVariants as F
+use Rattle.wb_model.specs.declared.heap.Answer.TheVariants.{Granted, Simulated, Refused}
+use Rattle.wb_model.specs.declared.heap.Panic.TheVariants.{User, Alloc, Workbench}
+use Rattle.wb_model.specs.declared.run.Note.TheVariants.{Heap, Available, Compress}
+use Rattle.wb_model.specs.declared.run.Outcome.TheVariants.{Ended, Panicked, NoCleanup, Cut}
+use Rattle.wb_model.specs.declared.run.RunResult.{RunResult}
+use Rattle.wb_model.specs.declared.run.Why.TheVariants.{Budget, Ceiling}
+use Rattle.workbench.specs.Report.{run_text, run_status, outcome_text, outcome_status, fault_line}
+
+-- a cell that is never freed
+abbrev forgotten_cell : RunResult
+forgotten_cell = record {
+  outcome = Ended None (record { number = 2; length = 32; place = 144 } ∷ []);
+  trace = record { number = 1; length = 144; place = 0; answer = Granted } ∷ record { number = 2; length = 32; place = 144; answer = Granted } ∷ [];
+  lines = [];
+  notes = [];
+  steps = 1;
+}
+
+forgotten_cell-text : run_text forgotten_cell ≡ codes "attempt 1 length 144 place 0 granted\nattempt 2 length 32 place 144 granted\nended\nleaks 1\nleak 2 length 32 place 144\nsteps 1\n"
+unfolding digits
+forgotten_cell-text = refl
+
+forgotten_cell-status : run_status forgotten_cell ≡ 1
+forgotten_cell-status = refl
+
+-- a check that finds a live cell, after prints and notes of every kind
+abbrev failed_check : RunResult
+failed_check = record {
+  outcome = Panicked (Alloc 144);
+  trace = record { number = 1; length = 144; place = 0; answer = Granted } ∷ record { number = 2; length = 32; place = 144; answer = Granted } ∷ record { number = 3; length = 1048592; place = 176; answer = Refused } ∷ record { number = 4; length = 48; place = 176; answer = Simulated } ∷ [];
+  lines = codes "hello" ∷ [] ∷ codes "-7" ∷ [];
+  notes = Heap 2 176 4096 ∷ Available 3920 3920 ∷ Compress 0 ∷ [];
+  steps = 10;
+}
+
+failed_check-text : run_text failed_check ≡ codes "print hello\nprint \nprint -7\nnote heap 2 176 4096\nnote available 3920 3920\nnote compress 0\nattempt 1 length 144 place 0 granted\nattempt 2 length 32 place 144 granted\nattempt 3 length 1048592 place 176 refused\nattempt 4 length 48 place 176 simulated\npanic ALLOC 00000090\nsteps 10\n"
+unfolding digits
+failed_check-text = refl
+
+failed_check-status : run_status failed_check ≡ 1
+failed_check-status = refl
+
+-- ---- the other ends of a run
+
+left-text : outcome_text (Ended (Some (negsuc 3)) []) ≡ codes "left -4\nleaks 0\n"
+unfolding digits
+left-text = refl
+
+left_by_zero-text : outcome_text (Ended (Some (pos 0)) []) ≡ codes "left 0\nleaks 0\n"
+unfolding digits
+left_by_zero-text = refl
+
+user-text : outcome_text (Panicked (User 42)) ≡ codes "panic USER 42\n"
+unfolding digits
+user-text = refl
+
+workbench-text : outcome_text (Panicked (Workbench 7)) ≡ codes "panic WORKBENCH 7\n"
+unfolding digits
+workbench-text = refl
+
+lowest_place-text : outcome_text (Panicked (Alloc 0)) ≡ codes "panic ALLOC 00000000\n"
+unfolding digits
+lowest_place-text = refl
+
+highest_place-text : outcome_text (Panicked (Alloc 4294967295)) ≡ codes "panic ALLOC ffffffff\n"
+unfolding digits
+highest_place-text = refl
+
+no_cleanup-text : outcome_text NoCleanup ≡ codes "nocleanup\n"
+no_cleanup-text = refl
+
+budget-text : outcome_text (Cut Budget) ≡ codes "cut budget\n"
+budget-text = refl
+
+ceiling-text : outcome_text (Cut Ceiling) ≡ codes "cut ceiling\n"
+ceiling-text = refl
+
+-- a leave is no fault, nor is a run without a cleanup stack; a cut is neither fault nor success
+statuses : (outcome_status (Ended (Some (negsuc 3)) []) ≡ 0) × (outcome_status NoCleanup ≡ 0) × (outcome_status (Cut Budget) ≡ 3) × (outcome_status (Cut Ceiling) ≡ 3)
+statuses = (refl, refl, refl, refl)
+
+-- ---- refused scripts
+
+too_long-line : fault_line F.TooLong ≡ codes "refused 1\n"
+unfolding digits
+too_long-line = refl
+
+not_ascii-line : fault_line (F.NotAscii 2) ≡ codes "refused 2 line 2\n"
+unfolding digits
+not_ascii-line = refl
+
+grammar-line : fault_line (F.Grammar 11) ≡ codes "refused 3 line 11\n"
+unfolding digits
+grammar-line = refl
+
+unknown_name-line : fault_line (F.UnknownName 65536) ≡ codes "refused 4 line 65536\n"
+unfolding digits
+unknown_name-line = refl
+
+double_name-line : fault_line (F.DoubleName 1) ≡ codes "refused 5 line 1\n"
+unfolding digits
+double_name-line = refl
+
+wrong_kind-line : fault_line (F.WrongKind 1) ≡ codes "refused 6 line 1\n"
+unfolding digits
+wrong_kind-line = refl
+
+may_leave-line : fault_line (F.MayLeave 1) ≡ codes "refused 7 line 1\n"
+unfolding digits
+may_leave-line = refl
+
+no_main-line : fault_line F.NoMain ≡ codes "refused 8\n"
+unfolding digits
+no_main-line = refl
+
+too_many-line : fault_line (F.TooMany 1) ≡ codes "refused 9 line 1\n"
+unfolding digits
+too_many-line = refl

@@ -1,0 +1,24 @@
+-- Proof: filled. Each read puts its bytes behind those that came before.
+use Rattle.std.proofs.Common.{rules}
+use Rattle.workbench.proofs.KnownBytesLemmas.{Consumes-more, taken_before_end, taken_before_fault, taken_front}
+use Rattle.workbench.proofs.answer.filled.Goals as goal
+
+pub loop-filled-preserved : goal.loop-filled-preserved
+loop-filled-preserved g c =
+    let read = c.in_ok-count.ensures in
+    let before = c.loop-filled.invariant in
+    record {
+      within = search rules;
+      gave = Consumes-more _ _ _ c.loop-filled.buffer c.read_some.new.buffer _ _ _ before.within read.bound.0 before.gave read.bytes.0;
+      unfailed = search rules;
+    }
+
+pub returns-in_err-count-clause-taken : goal.returns-in_err-count-clause-taken
+returns-in_err-count-clause-taken g c = taken_before_fault _ _ _ _ c.loop-filled.buffer _ (search rules) c.loop-filled.invariant.gave c.in_err-count.ensures.bytes
+
+pub returns-then-count-eq0-clause-taken : goal.returns-then-count-eq0-clause-taken
+returns-then-count-eq0-clause-taken g c =
+    taken_before_end _ _ _ _ c.loop-filled.buffer _ _ _ (search rules) c.if-count-eq0.true c.loop-filled.invariant.gave c.in_ok-count.ensures.bytes.0
+
+pub returns-clause-taken : goal.returns-clause-taken
+returns-clause-taken g c = taken_front _ _ _ c.loop-filled.buffer _ (search rules) c.loop-filled.invariant.gave

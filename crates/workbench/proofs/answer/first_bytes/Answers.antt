@@ -1,0 +1,6 @@
+-- Proof: first_bytes. Without a buffer nothing is read.
+use Rattle.workbench.proofs.KnownBytesLemmas.{taken_none}
+use Rattle.workbench.proofs.answer.first_bytes.Goals as goal
+
+pub returns-in_err-bytes-clause-taken : goal.returns-in_err-bytes-clause-taken
+returns-in_err-bytes-clause-taken g c = taken_none _ _

@@ -1,0 +1,63 @@
+-- What is read, what is written, and the exit status, whatever the reader and the writer do.
+use Rattle.std.specs.Prelude.{◌≡◌, ◌≤◌, ◌⊎◌, ℕ, List, Bool, true, false, Option, Result, Err, length, take, IfSome}
+use Rattle.std.specs.Io.KnownBytes.{Appends}
+use Rattle.workbench.specs.declared.answer.ReportFault.{ReportFault}
+use Rattle.workbench.specs.declared.answer.ReportFault.TheVariants.{Read}
+use Rattle.workbench.specs.declared.answer.TheConstants.{MOST_READ, READ_OR_WRITE_FAULT, WANT_OF_MEMORY}
+use Rattle.workbench.specs.declared.command.Command.{Command}
+use Rattle.workbench.specs.declared.streams.Failures.{Failures}
+use Rattle.workbench.specs.Report.{IsReport, no_memory, read_fault}
+use Rattle.workbench.specs.Streams.{AppendsFirst}
+
+-- the bytes are the first of those that a reader tells, where it does, and never more than this
+pub record AreFirst (most : ℕ) (told : Option (List ℕ)) (bytes : List ℕ) : Type 0 where
+  pub within : length bytes ≤ most
+  pub first : IfSome told (λ all. bytes ≡ take most all)
+
+-- the report of the command on the first bytes that the reader tells
+pub record IsReported (command : Command) (told : Option (List ℕ)) (text : List ℕ) (status : ℕ) : Type 0 where
+  pub bytes : List ℕ
+  pub read : AreFirst MOST_READ told bytes
+  pub report : IsReport command bytes text status
+
+-- a read failed; the workbench's memory may have run out in its place
+abbrev pub is_read_fault : {A : Type 0} → Result A ReportFault → Bool
+is_read_fault (Err Read) = true
+is_read_fault _ = false
+
+-- ---- the answer, by what failed
+
+-- what is to be written, and the status that goes with it, where a read failed and where none did
+abbrev pub IsMessage : Command → Option (List ℕ) → Bool → List ℕ → ℕ → Type 0
+IsMessage command told true text status = (text ≡ read_fault) × (status ≡ READ_OR_WRITE_FAULT)
+IsMessage command told false text status = IsReported command told text status ⊎ ((text ≡ no_memory) × (status ≡ WANT_OF_MEMORY))
+
+-- a write failed, so that only the first of the text went out; or none did, and the text's own status stands
+abbrev pub IsSaid : Option (List ℕ) → Option (List ℕ) → Bool → List ℕ → ℕ → ℕ → Type 0
+IsSaid held held' true text own status = AppendsFirst held held' text × (status ≡ READ_OR_WRITE_FAULT)
+IsSaid held held' false text own status = Appends held held' text × (status ≡ own)
+
+-- the answer to a command: what the reader tells, what the writer held and holds, and which reads and writes failed
+pub record IsAnswer (command : Command) (told held held' : Option (List ℕ)) (failures : Failures) (status : ℕ) : Type 0 where
+  pub text : List ℕ
+  pub own : ℕ
+  pub message : IsMessage command told failures.reads text own
+  pub said : IsSaid held held' failures.writes text own status
+
+-- ---- the answer, by its status
+
+-- the whole report went out
+pub record IsReportWritten (command : Command) (told held held' : Option (List ℕ)) (status : ℕ) : Type 0 where
+  pub text : List ℕ
+  pub reported : IsReported command told text status
+  pub written : Appends held held' text
+
+-- a text that the command may be answered with
+abbrev pub IsAnyMessage : Command → Option (List ℕ) → List ℕ → Type 0
+IsAnyMessage command told text = (text ≡ read_fault) ⊎ (text ≡ no_memory) ⊎ ((status : ℕ) × IsReported command told text status)
+
+-- the first of such a text went out, or all of it
+pub record IsPartWritten (command : Command) (told held held' : Option (List ℕ)) : Type 0 where
+  pub text : List ℕ
+  pub message : IsAnyMessage command told text
+  pub written : AppendsFirst held held' text

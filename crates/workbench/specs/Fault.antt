@@ -1,0 +1,27 @@
+-- What becomes of an error of clap, and of a fault of the command line.
+use Rattle.std.specs.Prelude.{◌≢◌, ⊤, ℕ, List, Bool, true, false, if◌then◌else◌}
+use Rattle.clap.specs.Words.{IsAmong, Text, fault_of, kind_of}
+use Rattle.clap.specs.declared.error.Error.{Error}
+use Rattle.clap.specs.declared.error.kind.ErrorKind.{ErrorKind}
+use Rattle.clap.specs.declared.error.kind.ErrorKind.TheVariants.{OutOfMemory}
+use Rattle.workbench.specs.CommandLine.{command_line}
+use Rattle.workbench.specs.declared.command.CommandFault.{CommandFault}
+use Rattle.workbench.specs.declared.command.CommandFault.TheVariants.{Usage, NoMemory}
+
+abbrev pub is_want_of_memory : ErrorKind → Bool
+is_want_of_memory OutOfMemory = true
+is_want_of_memory _ = false
+
+-- clap's own want of memory is the workbench's, and every other error is a fault of the words
+abbrev pub fault_of_error : Error → CommandFault
+fault_of_error e = if is_want_of_memory (kind_of e) then NoMemory else Usage e
+
+-- the fault is one that clap's meaning finds in the words; want of memory says nothing of them
+abbrev pub IsFaultOf : List Text → CommandFault → Type 0
+IsFaultOf words (Usage e) = (kind_of e ≢ OutOfMemory) × IsAmong (kind_of e) (fault_of command_line words)
+IsFaultOf words NoMemory = ⊤
+
+-- the exit status of a program that got no command
+abbrev pub refusal_status : CommandFault → ℕ
+refusal_status (Usage e) = 6
+refusal_status NoMemory = 4

@@ -1,0 +1,47 @@
+-- Which words clap takes on the command line, and what they spell, said without clap.
+use Rattle.std.specs.Prelude.{◌≡◌, ◌≢◌, ◌==◌, ◌&&◌, Bool, true, false, not, List, [], ◌∷◌, Option, Some, None, MatchOption, codes, if◌then◌else◌}
+use Rattle.std.specs.Str.{bytes_eq}
+use Rattle.clap.specs.Words.{Text, fault_of, takes}
+use Rattle.wb_model.specs.declared.heap.Rule.TheVariants.{Unlimited}
+use Rattle.workbench.specs.CommandLine.{command_line}
+use Rattle.workbench.specs.Spelled.{IsSpelledBy, default_budget, default_shape}
+use Rattle.workbench.specs.declared.command.Command.{Command}
+use Rattle.workbench.specs.declared.command.Task.TheVariants.{Run}
+
+-- `--`, after which no word is a flag
+abbrev pub is_separator : Text → Bool
+is_separator word = bytes_eq word (codes "--")
+
+-- a hyphen (45) with something after it
+abbrev pub is_flag : Text → Bool
+is_flag (x ∷ y ∷ rest) = x == 45
+is_flag _ = false
+
+-- what the words after `run` name: FILE, or nothing (`Some None`); `None` where they are not taken. One `--` may stand
+-- before FILE, which may then be any word, or after it, or alone
+abbrev pub file_named : List Text → Option (Option Text)
+file_named [] = Some None
+file_named (f ∷ []) = if is_separator f then Some None else if is_flag f then None else Some (Some f)
+file_named (f ∷ g ∷ []) =
+    if is_separator f then Some (Some g) else if not (is_flag f) && is_separator g then Some (Some f) else None
+file_named _ = None
+
+-- the same of all the words: any name of the program, then `run`
+abbrev pub file_in : List Text → Option (Option Text)
+file_in (name ∷ word ∷ rest) = if bytes_eq (codes "run") word then file_named rest else None
+file_in _ = None
+
+abbrev pub run_of : Option Text → Command
+run_of file = record { task = Run Unlimited; file = file; budget = default_budget; shape = default_shape; json = false }
+
+pub record AreTaken (words : List Text) (file : Option Text) : Type 0 where
+  pub taken : takes command_line words ≡ true
+  pub spell : IsSpelledBy words (run_of file)
+
+pub record AreRefused (words : List Text) : Type 0 where
+  pub refused : takes command_line words ≡ false
+  pub faulty : fault_of command_line words ≢ []
+
+-- clap takes just these words, and they spell a run of the file that they name
+abbrev pub AreRead : List Text → Type 0
+AreRead words = MatchOption (file_in words) (AreRefused words) (AreTaken words)

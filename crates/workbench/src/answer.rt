@@ -1,0 +1,199 @@
+//! The answer to a command: what is read, what is written, and the exit status. What a report says stands in
+//! `report`.
+
+ghost use Rattle.std.specs.Prelude.{◌≡◌, ◌<◌, ◌≤◌, false, length, take, IfOk, IfSome, IsTrue, OnOk, OnErr, is_err};
+ghost use Rattle.std.specs.Io.{ReadsAtMost};
+ghost use Rattle.std.specs.Io.KnownBytes.{Appends};
+ghost use Rattle.workbench.specs.declared.answer.ReportFault.TheVariants.{Read, NoMemory};
+ghost use Rattle.workbench.specs.Answer.{AreFirst, IsAnswer, IsPartWritten, IsReported, IsReportWritten, IsSaid, is_read_fault};
+ghost use Rattle.workbench.specs.Command.{is_answerable};
+ghost use Rattle.workbench.specs.Report.{no_memory};
+ghost use Rattle.workbench.specs.Streams.{AppendsFirst, TakesAtMost, no_failures, with_read, with_write};
+
+use crate::command::Command;
+use crate::report::{Report, report_on};
+use crate::streams::{Failures, StreamFault, read_some, write_some};
+use std::alloc::{AllocError, Global};
+use std::io::{Read, Write};
+use wb_model::memory;
+
+/// The most that is read of a script, in bytes: one more than a script may have, so that a longer one shows.
+pub const MOST_READ: usize = 65_537;
+
+/// The exit status where the workbench's own memory ran out.
+pub const WANT_OF_MEMORY: u8 = 4;
+
+/// The exit status where a read or a write failed.
+pub const READ_OR_WRITE_FAULT: u8 = 5;
+
+/// Why there is no report.
+#[derive(Clone, Copy, Debug, PartialEq, Eq)]
+pub enum ReportFault {
+    /// A read failed.
+    Read,
+    /// The workbench's own memory ran out.
+    NoMemory,
+}
+
+impl From<StreamFault> for ReportFault {
+    ghost from_gives = { λ _ fault. fault ≡ Read };
+
+    fn from(_fault: StreamFault) -> ReportFault {
+        ReportFault::Read
+    }
+}
+
+impl From<AllocError> for ReportFault {
+    ghost from_gives = { λ _ fault. fault ≡ NoMemory };
+
+    fn from(_error: AllocError) -> ReportFault {
+        ReportFault::NoMemory
+    }
+}
+
+impl From<memory::NoMemory> for ReportFault {
+    ghost from_gives = { λ _ fault. fault ≡ NoMemory };
+
+    fn from(_fault: memory::NoMemory) -> ReportFault {
+        ReportFault::NoMemory
+    }
+}
+
+/// Answers a command whose numbers are in their ranges: reads the script, at most `MOST_READ` bytes of it,
+/// writes the report, and gives the exit status.
+///
+/// Statuses 0 to 3 are those of a report, and the whole of it went out. At `WANT_OF_MEMORY` the line
+/// `no memory` went out alone. At `READ_OR_WRITE_FAULT` a read failed, an interrupted one too, and the line
+/// `read fault` is written; or a write failed, or took no byte, and what went out is the first of what was
+/// being written. Nothing is written before the whole text is there.
+pub fn answer<R: Read, W: Write>(
+    alloc: Global,
+    command: &Command,
+    reader: &mut R,
+    writer: &mut W,
+) -> u8
+    requires { IsTrue (is_answerable command.now) }
+    ensures status { result ≤ READ_OR_WRITE_FAULT }
+    ensures report { result < WANT_OF_MEMORY → IsReportWritten command.now (R.remaining reader.old)
+        (W.contents writer.old) (W.contents writer.new) result }
+    ensures no_memory { result ≡ WANT_OF_MEMORY →
+        Appends (W.contents writer.old) (W.contents writer.new) no_memory }
+    ensures nothing_else { IsPartWritten command.now (R.remaining reader.old)
+        (W.contents writer.old) (W.contents writer.new) }
+    ensures taken { TakesAtMost MOST_READ (R.remaining reader.old) (R.remaining reader.new) }
+{
+    let mut failures = Failures::none();
+    answer_noting(alloc, command, reader, writer, &mut failures)
+}
+
+/// The same, and enters which reads and writes failed: `READ_OR_WRITE_FAULT` comes exactly where one did.
+fn answer_noting<R: Read, W: Write>(
+    alloc: Global,
+    command: &Command,
+    reader: &mut R,
+    writer: &mut W,
+    failures: &mut Failures,
+) -> u8
+    requires answerable { IsTrue (is_answerable command.now) }
+    requires unfailed { failures.old ≡ no_failures }
+    ensures answer { IsAnswer command.now (R.remaining reader.old)
+        (W.contents writer.old) (W.contents writer.new) failures.new result }
+    ensures taken { TakesAtMost MOST_READ (R.remaining reader.old) (R.remaining reader.new) }
+{
+    match reported(alloc, command, reader, failures) {
+        Ok(report) => say(writer, report.text.as_slice(), report.status, failures),
+        Err(ReportFault::NoMemory) => say(writer, b"no memory\n", WANT_OF_MEMORY, failures),
+        Err(ReportFault::Read) => say(writer, b"read fault\n", READ_OR_WRITE_FAULT, failures),
+    }
+}
+
+/// Writes a text and gives its status, or `READ_OR_WRITE_FAULT` where a write failed.
+fn say<W: Write>(writer: &mut W, text: &[u8], status: u8, failures: &mut Failures) -> u8
+    requires { failures.old.writes ≡ false }
+    ensures said { IsSaid (W.contents writer.old) (W.contents writer.new)
+        failures.new.writes text.now status result }
+    ensures reads { failures.new.reads ≡ failures.old.reads }
+{
+    match write_whole(writer, text, failures) {
+        Ok(()) => status,
+        Err(StreamFault) => READ_OR_WRITE_FAULT,
+    }
+}
+
+/// The report of the command on the first bytes that the reader gives.
+fn reported<R: Read>(
+    alloc: Global,
+    command: &Command,
+    reader: &mut R,
+    failures: &mut Failures,
+) -> Result<Report, ReportFault>
+    requires { IsTrue (is_answerable command.now) }
+    ensures report { IfOk result (λ r.
+        IsReported command.now (R.remaining reader.old) r.text.items r.status) }
+    ensures taken { TakesAtMost MOST_READ (R.remaining reader.old) (R.remaining reader.new) }
+    ensures entered { failures.new ≡ with_read failures.old (is_read_fault result) }
+{
+    let bytes = first_bytes(alloc, reader, MOST_READ, failures)?;
+    Ok(report_on(alloc, command, bytes.as_slice())?)
+}
+
+/// The first bytes that the reader gives, up to its end or to the most that are wanted.
+fn first_bytes<R: Read>(
+    alloc: Global,
+    reader: &mut R,
+    most: usize,
+    failures: &mut Failures,
+) -> Result<Vec<u8>, ReportFault>
+    ensures bytes { IfOk result (λ bytes. AreFirst most (R.remaining reader.old) bytes.items) }
+    ensures taken { TakesAtMost most (R.remaining reader.old) (R.remaining reader.new) }
+    ensures entered { failures.new ≡ with_read failures.old (is_read_fault result) }
+{
+    let mut bytes = vec![in alloc; 0; most]?;
+    let count = filled(reader, bytes.as_mut_slice(), failures)?;
+    bytes.truncate(count);
+    Ok(bytes)
+}
+
+/// Reads until the buffer is full or the reader has no more, and gives how many bytes came. Each read but
+/// the last brings a byte, so there are no more reads than the buffer has bytes, and one.
+fn filled<R: Read>(
+    reader: &mut R,
+    buffer: &mut [u8],
+    failures: &mut Failures,
+) -> Result<usize, StreamFault>
+    ensures bound { ReadsAtMost result buffer.new }
+    ensures bytes { IfOk result (λ n. IfSome (R.remaining reader.old)
+        (λ all. take n buffer.new ≡ take (length buffer.old) all)) }
+    ensures taken { TakesAtMost (length buffer.old) (R.remaining reader.old) (R.remaining reader.new) }
+    ensures entered { failures.new ≡ with_read failures.old (is_err result) }
+{
+    let mut filled = 0;
+    while filled < buffer.len() {
+        let count = read_some(reader, &mut buffer[filled..], failures)?;
+        if count == 0 {
+            return Ok(filled);
+        }
+        filled += count;
+    }
+    Ok(filled)
+}
+
+/// Writes the whole text, or the first of it up to a write that fails.
+fn write_whole<W: Write>(
+    writer: &mut W,
+    text: &[u8],
+    failures: &mut Failures,
+) -> Result<(), StreamFault>
+    ensures ok { OnOk result (Appends (W.contents writer.old) (W.contents writer.new) text.now) }
+    ensures err { OnErr result (AppendsFirst (W.contents writer.old) (W.contents writer.new) text.now) }
+    ensures entered { failures.new ≡ with_write failures.old (is_err result) }
+{
+    let mut written = 0;
+    while written < text.len() {
+        written += write_some(writer, &text[written..], failures)?;
+    }
+    Ok(())
+}
+
+#[cfg(test)]
+mod tests;

@@ -1,0 +1,191 @@
+//! Answers over readers and writers in memory, some of which fail. The scripts' texts are worked by hand.
+
+ghost use Rattle.std.specs.Prelude.{IsTrue};
+ghost use Rattle.workbench.specs.Command.{is_answerable};
+
+use super::*;
+use crate::command::Task;
+use std::io;
+use std::io::ErrorKind;
+use std::process::Abort;
+use std::test::Fail;
+use wb_model::heap::{Rule, Shape};
+
+/// Gives its bytes, so many at once, and then fails or is at its end.
+#[derive(Drop)]
+struct Source<'a> {
+    bytes: &'a [u8],
+    at_once: usize,
+    then: Option<ErrorKind>,
+    reads: usize,
+}
+
+impl Read for Source<'_> {
+    fn read(&mut self, buffer: &mut [u8]) -> io::Result<usize> {
+        self.reads = self.reads.wrapping_add(1);
+        let count = self.bytes.len().min(buffer.len()).min(self.at_once);
+        if count == 0 {
+            return match self.then {
+                Some(kind) => Err(io::Error::from(kind)),
+                None => Ok(0),
+            };
+        }
+        let (given, rest) = self.bytes.split_at(count);
+        buffer[..count].copy_from_slice(given);
+        self.bytes = rest;
+        Ok(count)
+    }
+}
+
+/// Takes so many bytes, so many at once, and then fails or takes none.
+#[derive(Drop)]
+struct Sink {
+    taken: Vec<u8>,
+    room: usize,
+    at_once: usize,
+    then: Option<ErrorKind>,
+    writes: usize,
+}
+
+impl Write for Sink {
+    fn write(&mut self, bytes: &[u8]) -> io::Result<usize> {
+        self.writes = self.writes.wrapping_add(1);
+        let count = bytes.len().min(self.room).min(self.at_once);
+        if count == 0 {
+            return match self.then {
+                Some(kind) => Err(io::Error::from(kind)),
+                None => Ok(0),
+            };
+        }
+        self.taken.extend_from_slice(&bytes[..count])?;
+        self.room -= count;
+        Ok(count)
+    }
+
+    fn flush(&mut self) -> io::Result<()> {
+        Ok(())
+    }
+}
+
+fn run_command() -> Command
+    ensures { IsTrue (is_answerable result) }
+{
+    Command {
+        task: Task::Run(Rule::Unlimited),
+        file: None,
+        budget: 10_000,
+        shape: Shape {
+            min: 4096,
+            step: 4096,
+        },
+        json: false,
+    }
+}
+
+fn giving(bytes: &[u8], then: Option<ErrorKind>) -> Source<'_> {
+    Source {
+        bytes,
+        at_once: 7,
+        then,
+        reads: 0,
+    }
+}
+
+fn taking(alloc: Global, room: usize, then: Option<ErrorKind>) -> Sink {
+    Sink {
+        taken: Vec::new(alloc),
+        room,
+        at_once: 5,
+        then,
+        writes: 0,
+    }
+}
+
+const LEAKING: &[u8] = b"proc main\nptr a\nalloc a 16\nend\n";
+
+const LEAKING_REPORT: &[u8] = b"attempt 1 length 144 place 0 granted
+attempt 2 length 32 place 144 granted
+ended
+leaks 1
+leak 2 length 32 place 144
+steps 1
+";
+
+#[test]
+fn reports_what_the_bytes_come_to(rt: HostRuntime) {
+    let cases: [(&[u8], &[u8], u8); 6] = [
+        (LEAKING, LEAKING_REPORT, 1),
+        (
+            b"proc main\nprint \"hi\"\nprint -7\nend",
+            b"print hi\nprint -7\nattempt 1 length 144 place 0 granted\nended\nleaks 0\nsteps 2\n",
+            0,
+        ),
+        (
+            b"proc main\nptr a\nalloc a 1048577\nend\n",
+            b"attempt 1 length 144 place 0 granted\npanic WORKBENCH 9\nsteps 1\n",
+            1,
+        ),
+        (b"", b"refused 8\n", 2),
+        (b"proc main\nprint \x80\nend\n", b"refused 2 line 2\n", 2),
+        (b"proc main\n", b"refused 3 line 2\n", 2),
+    ];
+    for (script, text, status) in cases {
+        let mut reader = script;
+        let mut writer = Vec::new(rt.alloc());
+        let got = answer(rt.alloc(), &run_command(), &mut reader, &mut writer);
+        assert_eq!(rt; writer.as_slice(), text);
+        assert_eq!(rt; got, status);
+    }
+}
+
+#[test]
+fn says_that_a_read_failed(rt: HostRuntime) {
+    for kind in [ErrorKind::Other, ErrorKind::Interrupted] {
+        let mut reader = giving(LEAKING, Some(kind));
+        let mut writer = Vec::new(rt.alloc());
+        let status = answer(rt.alloc(), &run_command(), &mut reader, &mut writer);
+        assert_eq!(rt; writer.as_slice(), b"read fault\n".as_slice());
+        assert_eq!(rt; status, 5);
+    }
+}
+
+#[test]
+fn stops_at_a_write_that_fails(rt: HostRuntime) {
+    for kind in [Some(ErrorKind::Other), Some(ErrorKind::Interrupted), None] {
+        check_stop(
+            &rt,
+            &mut giving(b"", Some(ErrorKind::Other)),
+            b"read fault\n",
+            kind,
+        );
+        check_stop(&rt, &mut giving(LEAKING, None), LEAKING_REPORT, kind);
+    }
+}
+
+/// Whatever room the writer has, it holds the first of the text, and the status is 5.
+fn check_stop(
+    rt: &(impl Abort + AllocGlobal),
+    reader: &mut Source<'_>,
+    text: &[u8],
+    then: Option<ErrorKind>,
+) {
+    let mut writer = taking(rt.alloc(), 6, then);
+    let status = answer(rt.alloc(), &run_command(), reader, &mut writer);
+    assert_eq!(rt; Some(writer.taken.as_slice()), text.get(..6));
+    assert_eq!(rt; status, 5);
+}
+
+#[test]
+fn reads_and_writes_no_oftener_than_there_are_bytes(rt: HostRuntime) -> Result<(), Fail> {
+    let long = vec![in rt.alloc(); b' '; 70_000]?;
+    let mut reader = giving(long.as_slice(), None);
+    reader.at_once = 1;
+    let mut writer = taking(rt.alloc(), 100, None);
+    writer.at_once = 1;
+    let status = answer(rt.alloc(), &run_command(), &mut reader, &mut writer);
+    assert_eq!(rt; reader.reads, 65_537);
+    assert_eq!(rt; writer.taken.as_slice(), b"refused 1\n".as_slice());
+    assert_eq!(rt; writer.writes, 10);
+    assert_eq!(rt; status, 2);
+    Ok(())
+}

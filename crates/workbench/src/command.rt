@@ -1,0 +1,63 @@
+//! What the words of a command line ask for, and why they may ask for nothing. How they are read stands in
+//! `command_line`.
+ghost use Rattle.std.specs.Prelude.{◌≡◌};
+ghost use Rattle.workbench.specs.declared.command.CommandFault.TheVariants.{NoMemory};
+ghost use Rattle.workbench.specs.Fault.{fault_of_error};
+
+use crate::file_name::FileName;
+use clap::error::ErrorKind;
+use std::alloc::AllocError;
+use thiserror::Error;
+use wb_model::heap::{Rule, Shape};
+
+/// What is to be done with the script.
+#[derive(Clone, Copy, Debug, PartialEq, Eq)]
+pub enum Task {
+    /// One run under this rule, and its report.
+    Run(Rule),
+}
+
+/// A command: what is to be done, and with what.
+#[derive(Debug, Drop)]
+pub struct Command {
+    pub task: Task,
+    /// The script's file; without one the script is standard input.
+    pub file: Option<FileName>,
+    /// The greatest number of steps of a run, from 1 to 1,000,000.
+    pub budget: u32,
+    /// The heap's minimum length and step, in bytes, in the ranges that `Shape` states.
+    pub shape: Shape,
+    /// The report is one JSON object, and not lines.
+    pub json: bool,
+}
+
+/// Why words are no command.
+#[derive(Debug, Drop, Error)]
+pub enum CommandFault {
+    /// `clap` refuses the words, or they call for help; its text is for the user.
+    #[error("{0}")]
+    Usage(clap::Error),
+    /// The workbench's own memory ran out, or `clap` found none; it says nothing of the words.
+    #[error("error: no memory\n")]
+    NoMemory,
+}
+
+impl From<AllocError> for CommandFault {
+    ghost from_gives = { λ _ fault. fault ≡ NoMemory };
+
+    fn from(_error: AllocError) -> CommandFault {
+        CommandFault::NoMemory
+    }
+}
+
+impl From<clap::Error> for CommandFault {
+    ghost from_gives = { λ error fault. fault ≡ fault_of_error error };
+
+    fn from(error: clap::Error) -> CommandFault {
+        if error.kind() == ErrorKind::OutOfMemory {
+            CommandFault::NoMemory
+        } else {
+            CommandFault::Usage(error)
+        }
+    }
+}

@@ -1,0 +1,37 @@
+//! The name of a script's file, as the command line gave it.
+ghost use Rattle.std.specs.Prelude.{◌≡◌, IfOk};
+
+use std::alloc::{AllocError, Global};
+use std::marker::Model;
+
+/// A file's name, which contracts see as the list of its bytes. Any text is one, the empty one and `-`
+/// too; whether such a file is there shows only where it is opened.
+#[derive(Debug, Drop)]
+pub struct FileName {
+    text: String,
+}
+
+impl Model for FileName {
+    ghost use Rattle.std.specs.Prelude.{List, ℕ, string_bytes};
+
+    ghost Value = { List ℕ };
+
+    ghost view = { λ name. string_bytes name.text };
+}
+
+impl FileName {
+    /// A name of its own with the bytes of `text`. The only error is want of memory.
+    pub fn copy_of(alloc: Global, text: &str) -> Result<FileName, AllocError>
+        ensures { IfOk result (λ name. name ≡ text.now) }
+    {
+        Ok(FileName {
+            text: String::from_str(alloc, text)?,
+        })
+    }
+
+    pub fn as_str(&self) -> &str
+        ensures { result.now ≡ self.now }
+    {
+        self.text.as_str()
+    }
+}

@@ -1,0 +1,181 @@
+//! The text of a run, line by line. What a line says is said here alone; when a run is reported, and what the
+//! program answers where none is, stand elsewhere.
+
+ghost use Rattle.std.specs.Prelude.{◌≡◌, ◌++◌, OnOk};
+ghost use Rattle.std.specs.List.{flat_map};
+ghost use Rattle.workbench.specs.Report.{print_line, note_line, attempt_line, leak_line, leaks_text, end_line, panic_line, cut_line, outcome_text, run_text};
+
+use std::io::Write;
+use wb_model::heap::{Answer, Attempt, Panic};
+use wb_model::memory::NoMemory;
+use wb_model::run::{Leak, Leaks, Lines, Note, Notes, Outcome, RunResult, Trace, Why};
+
+/// Appends the text of a run.
+pub fn put_run(text: &mut Vec<u8>, run: &RunResult) -> Result<(), NoMemory>
+    ensures { OnOk result (text.new.items ≡ text.old.items ++ run_text run.now) }
+{
+    put_lines(text, &run.lines)?;
+    put_notes(text, &run.notes)?;
+    put_trace(text, &run.trace)?;
+    put_outcome(text, &run.outcome)?;
+    let steps = run.steps;
+    writeln!(text, "steps {steps}").map_err(|_| NoMemory)
+}
+
+fn put_lines(text: &mut Vec<u8>, lines: &Lines) -> Result<(), NoMemory>
+    ensures { OnOk result (text.new.items ≡ text.old.items ++ flat_map print_line lines.now) }
+{
+    for line in lines.as_slice() {
+        put_print(text, line.as_slice())?;
+    }
+    Ok(())
+}
+
+fn put_print(text: &mut Vec<u8>, line: &[u8]) -> Result<(), NoMemory>
+    ensures { OnOk result (text.new.items ≡ text.old.items ++ print_line line.now) }
+{
+    text.extend_from_slice(b"print ")?;
+    text.extend_from_slice(line)?;
+    text.extend_from_slice(b"\n")?;
+    Ok(())
+}
+
+fn put_notes(text: &mut Vec<u8>, notes: &Notes) -> Result<(), NoMemory>
+    ensures { OnOk result (text.new.items ≡ text.old.items ++ flat_map note_line notes.now) }
+{
+    for note in notes.as_slice() {
+        put_note(text, *note)?;
+    }
+    Ok(())
+}
+
+fn put_note(text: &mut Vec<u8>, note: Note) -> Result<(), NoMemory>
+    ensures { OnOk result (text.new.items ≡ text.old.items ++ note_line note) }
+{
+    let put = match note {
+        Note::Heap(count, total, committed) => {
+            writeln!(text, "note heap {count} {total} {committed}")
+        }
+        Note::Available(total, longest) => writeln!(text, "note available {total} {longest}"),
+        Note::Compress(reclaimed) => writeln!(text, "note compress {reclaimed}"),
+    };
+    put.map_err(|_| NoMemory)
+}
+
+fn put_trace(text: &mut Vec<u8>, trace: &Trace) -> Result<(), NoMemory>
+    ensures { OnOk result (text.new.items ≡ text.old.items ++ flat_map attempt_line trace.now) }
+{
+    for attempt in trace.as_slice() {
+        put_attempt(text, *attempt)?;
+    }
+    Ok(())
+}
+
+fn put_attempt(text: &mut Vec<u8>, attempt: Attempt) -> Result<(), NoMemory>
+    ensures { OnOk result (text.new.items ≡ text.old.items ++ attempt_line attempt) }
+{
+    let Attempt {
+        number,
+        length,
+        place,
+        answer,
+    } = attempt;
+    let put = match answer {
+        Answer::Granted => {
+            writeln!(
+                text,
+                "attempt {number} length {length} place {place} granted"
+            )
+        }
+        Answer::Simulated => {
+            writeln!(
+                text,
+                "attempt {number} length {length} place {place} simulated"
+            )
+        }
+        Answer::Refused => {
+            writeln!(
+                text,
+                "attempt {number} length {length} place {place} refused"
+            )
+        }
+    };
+    put.map_err(|_| NoMemory)
+}
+
+fn put_outcome(text: &mut Vec<u8>, outcome: &Outcome) -> Result<(), NoMemory>
+    ensures { OnOk result (text.new.items ≡ text.old.items ++ outcome_text outcome.now) }
+{
+    match outcome {
+        Outcome::Ended { left, leaks } => {
+            put_end(text, *left)?;
+            put_leaks(text, leaks)
+        }
+        Outcome::Panicked(panic) => put_panic(text, *panic),
+        Outcome::NoCleanup => writeln!(text, "nocleanup").map_err(|_| NoMemory),
+        Outcome::Cut(why) => put_cut(text, *why),
+    }
+}
+
+fn put_end(text: &mut Vec<u8>, left: Option<i32>) -> Result<(), NoMemory>
+    ensures { OnOk result (text.new.items ≡ text.old.items ++ end_line left) }
+{
+    let put = match left {
+        None => writeln!(text, "ended"),
+        Some(code) => writeln!(text, "left {code}"),
+    };
+    put.map_err(|_| NoMemory)
+}
+
+fn put_leaks(text: &mut Vec<u8>, leaks: &Leaks) -> Result<(), NoMemory>
+    ensures { OnOk result (text.new.items ≡ text.old.items ++ leaks_text leaks.now) }
+{
+    let count = leaks.len();
+    writeln!(text, "leaks {count}").map_err(|_| NoMemory)?;
+    for leak in leaks.as_slice() {
+        put_leak(text, *leak)?;
+    }
+    Ok(())
+}
+
+fn put_leak(text: &mut Vec<u8>, leak: Leak) -> Result<(), NoMemory>
+    ensures { OnOk result (text.new.items ≡ text.old.items ++ leak_line leak) }
+{
+    let Leak {
+        number,
+        length,
+        place,
+    } = leak;
+    writeln!(text, "leak {number} length {length} place {place}").map_err(|_| NoMemory)
+}
+
+fn put_panic(text: &mut Vec<u8>, panic: Panic) -> Result<(), NoMemory>
+    ensures { OnOk result (text.new.items ≡ text.old.items ++ panic_line panic) }
+{
+    match panic {
+        Panic::User(number) => writeln!(text, "panic USER {number}").map_err(|_| NoMemory),
+        Panic::Alloc(place) => put_failed_check(text, place),
+        Panic::Workbench(number) => {
+            writeln!(text, "panic WORKBENCH {number}").map_err(|_| NoMemory)
+        }
+    }
+}
+
+fn put_failed_check(text: &mut Vec<u8>, place: u32) -> Result<(), NoMemory>
+    ensures { OnOk result (text.new.items ≡ text.old.items ++ panic_line (Panic.Alloc place)) }
+{
+    writeln!(text, "panic ALLOC {place:08x}").map_err(|_| NoMemory)
+}
+
+fn put_cut(text: &mut Vec<u8>, why: Why) -> Result<(), NoMemory>
+    ensures { OnOk result (text.new.items ≡ text.old.items ++ cut_line why) }
+{
+    let put = match why {
+        Why::Budget => writeln!(text, "cut budget"),
+        Why::Ceiling => writeln!(text, "cut ceiling"),
+    };
+    put.map_err(|_| NoMemory)
+}
+
+#[cfg(test)]
+mod tests;
