@@ -1,10 +1,10 @@
 pub mod Begins
+pub mod Ends
 pub mod Fitting
 pub mod Flows
 pub mod Kept
-pub mod Rows
-pub mod Steps
-pub mod Outcomes
 pub mod Leaks
+pub mod Outcomes
+pub mod Rows
 pub mod Scripts
-pub mod Ends
+pub mod Steps

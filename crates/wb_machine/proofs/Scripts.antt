@@ -71,12 +71,10 @@ main_statements script ok =
     and_right (list_all is_local (main_of script).locals && nat_le (length (main_of script).locals) 32)
     (are_statements (length script.literals) (main_of script).locals (main_of script).statements) (main_body script ok)
 
--- one more piece of the script's own
-pub sound_pushed : (script : Script) (below pieces : List Piece) (p : Piece) → pieces ≡ below ++ p ∷ [] → are_sound script below ≡ true → is_sound_piece script p ≡ true →
-    are_sound script pieces ≡ true
-sound_pushed script below pieces p is a b =
-    ap (are_sound script) is ∙ list_all-append (is_sound_piece script) below (p ∷ []) ∙ and_both (are_sound script below) (is_sound_piece script p && true) a
-    (and_both (is_sound_piece script p) true b refl)
+-- one more that passes
+pub all_pushed : {X : Type 0} (p : X → Bool) (below all : List X) (x : X) → all ≡ below ++ x ∷ [] → list_all p below ≡ true → p x ≡ true → list_all p all ≡ true
+all_pushed p below all x is a b =
+    ap (list_all p) is ∙ list_all-append p below (x ∷ []) ∙ and_both (list_all p below) (p x && true) a (and_both (p x) true b refl)
 
 pub sound_below : (script : Script) (below pieces : List Piece) (p : Piece) → pieces ≡ below ++ p ∷ [] → are_sound script pieces ≡ true → are_sound script below ≡ true
 sound_below script below pieces p is a =
@@ -91,4 +89,4 @@ sound_top script below pieces p is a =
 pub sound_begun : (script : Script) (none one two : List Piece) (code : Piece) → none ≡ [] → one ≡ none ++ MainTrap ∷ [] → two ≡ one ++ code ∷ [] →
     is_sound_piece script code ≡ true → are_sound script two ≡ true
 sound_begun script none one two code e f g ok =
-    sound_pushed script one two code g (sound_pushed script none one MainTrap f (ap (are_sound script) e) refl) ok
+    all_pushed (is_sound_piece script) one two code g (all_pushed (is_sound_piece script) none one MainTrap f (ap (are_sound script) e) refl) ok

@@ -90,7 +90,7 @@ abbrev pub rest_from : Script → ℕ → Rule → Ending → List Piece → Hel
 rest_from script budget r ending pieces h =
     rest script budget h.heap.shape r (progress_by ending (pending_in pieces) (state_of script h)) (account_of h)
 
--- what no turn changes, how many attempts it makes, and that each live cell keeps a number of an attempt
+-- what no turn changes, and that it makes at most one attempt
 pub record Stays (before after : Held) : Type 0 where
   pub limit : after.heap.limit ≡ before.heap.limit
   pub shape : after.heap.shape ≡ before.heap.shape

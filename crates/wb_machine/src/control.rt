@@ -1,4 +1,4 @@
-//! What is still to do, as explicit pieces.
+//! What is still to do, as explicit pieces. What the pieces act on stands in `state`.
 
 ghost use Rattle.std.specs.Prelude.{◌≡◌, ◌+◌, ◌^◌, ◌<◌, ◌≤◌, ◌⊎◌, ◌++◌, ◌∷◌, [], ℕ, List, true, false, length, vec_len, min, IsTrue, OnOk};
 ghost use Rattle.wb_model.specs.Sound.{is_script, is_statement};

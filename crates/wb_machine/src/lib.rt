@@ -3,5 +3,9 @@
 
 mod control;
 pub mod machine;
+mod operands;
 mod print;
+mod rules;
 mod state;
+#[cfg(test)]
+mod tests;

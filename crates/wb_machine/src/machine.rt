@@ -1,4 +1,4 @@
-//! The machine, and a whole run.
+//! The machine that callers see, and a whole run. What a turn does stands in `control`.
 
 ghost use Rattle.std.specs.Prelude.{◌≡◌, ◌+◌, ◌≤◌, ◌↔◌, true, false, min, is_err, IsTrue, IfOk, OnOk, OnErr};
 ghost use Rattle.wb_model.specs.Sound.{is_script};
@@ -108,7 +108,7 @@ impl<'a> Machine<'a> {
         let state = match State::new(alloc, rule, shape) {
             Ok(state) => state,
             Err(HeapFault::BadShape) => return Err(RunFault::BadShape),
-            Err(_) => return Err(RunFault::NoMemory),
+            Err(_) => return Err(NoMemory.into()),
         };
         Ok(Machine {
             alloc,

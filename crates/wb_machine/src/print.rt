@@ -1,4 +1,4 @@
-//! Printed lines, of texts and of numbers.
+//! The printed lines of texts and of numbers.
 
 ghost use Rattle.std.specs.Prelude.{◌≡◌, ◌<◌, ◌≤◌, length};
 ghost use Rattle.std.specs.Fmt.{signed_decimal};

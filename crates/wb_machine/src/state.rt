@@ -1,43 +1,36 @@
-//! What all bodies of a script share, and the statements that run no other.
+//! What all bodies of a script share, and the statements that run no other. What is still to do stands in
+//! `control`.
 
 ghost use Rattle.std.specs.Prelude.{◌≡◌, ◌≢◌, ◌+◌, ◌*◌, ◌^◌, ◌<◌, ◌≤◌, ◌↔◌, ◌++◌, ◌∷◌, [], ℕ, length, false, not, IfOk, IfErr, OnOk, OnErr, IsTrue, All};
-ghost use Rattle.wb_model.specs.Rules.{refusal_of, unless_refused};
-ghost use Rattle.wb_model.specs.Row.{headers, cell_length};
+ghost use Rattle.wb_model.specs.Row.{headers};
 ghost use Rattle.wb_model.specs.Heap.{is_cleanup};
 ghost use Rattle.wb_model.specs.Operands.{within};
 ghost use Rattle.wb_model.specs.Space.{is_shape, limit_under};
 ghost use Rattle.wb_model.specs.LimitedHeap.{IsCellLength, heap_with, place_in};
 ghost use Rattle.wb_model.specs.Sound.{is_statement};
 ghost use Rattle.wb_model.specs.Statements.{Meaning, statement};
-ghost use Rattle.wb_model.specs.Reading.{literal_of};
 ghost use Rattle.wb_model.specs.Rest.{Fits};
 ghost use Rattle.wb_model.specs.declared.heap.Rule.{Rule};
-ghost use Rattle.wb_model.specs.declared.script.Holder.TheVariants.{Local};
-ghost use Rattle.wb_model.specs.declared.script.Pointer.TheVariants.{Held};
-ghost use Rattle.wb_model.specs.declared.script.Number.TheVariants.{Constant};
-ghost use Rattle.wb_model.specs.declared.script.Readable.TheVariants.{Quoted};
 ghost use Rattle.wb_model.specs.declared.script.Statement.TheViews.{out-Statement};
-ghost use Rattle.wb_machine.specs.Plain.{names_local, is_constant, is_quoted};
 ghost use Rattle.wb_machine.specs.Flow.{in_main_frame, ended_by, is_stop, IsSameFlow, Stays};
 ghost use Rattle.wb_machine.specs.Told.{leaks_held, outcome_by, told_by};
 ghost use Rattle.wb_machine.specs.Held.{start_held, main_of, state_of, answer_for, gave_by, after_answer};
 ghost use Rattle.wb_machine.specs.Carried.{local_in, stored, stepped, entered, alloc_carried, free_carried, print_carried};
 
 use crate::control::Ending;
+use crate::operands::{bytes_within, constant_of, literal, local_of};
 use crate::print::{number_line, text_line};
+use crate::rules::{answer, cell_length, limit_under};
 use std::alloc::{AllocError, Global};
 use std::marker::Model;
-use wb_model::heap::{Answer, Attempt, CEILING, Gave, Kind, Panic, Ptr, Rule, Shape};
+use wb_model::heap::{Answer, Attempt, Gave, Kind, Panic, Ptr, Rule, Shape};
 use wb_model::items::Items;
 use wb_model::line::Line;
 use wb_model::memory::NoMemory;
 use wb_model::run::{Leak, Leaks, Lines, Outcome, RunResult, Why};
-use wb_model::script::{Holder, Number, Pointer, Readable, Script, Statement};
+use wb_model::script::{Script, Statement};
 use wb_rheap::fault::HeapFault;
 use wb_rheap::heap::Heap;
-
-/// The greatest number of bytes that a statement may ask for.
-const GREATEST: i32 = 1_048_576;
 
 /// What a local that names no cell holds.
 const NULL: Ptr = Ptr {
@@ -66,57 +59,6 @@ impl Model for State {
     ghost view = { held };
 
     ghost invariant = { IsKept };
-}
-
-/// What a rule says of an attempt whose cell would end here.
-fn refusal(rule: Rule, number: u32, end: u32) -> Option<Answer>
-    ensures { result ≡ refusal_of rule number end }
-{
-    match rule {
-        Rule::Unlimited => None,
-        Rule::Limit(limit) => (limit < end).then_some(Answer::Refused),
-        Rule::Number(refused) => (refused == number).then_some(Answer::Simulated),
-    }
-}
-
-/// The answer to an attempt, or none where the ceiling cuts the run.
-fn answer(rule: Rule, number: u32, end: u32) -> Option<Answer>
-    ensures { result ≡ unless_refused (refusal_of rule number end) end }
-{
-    match refusal(rule, number, end) {
-        Some(answer) => Some(answer),
-        None => (end <= CEILING).then_some(Answer::Granted),
-    }
-}
-
-/// The length that a heap may reach under a rule.
-fn limit_under(rule: Rule) -> u32
-    ensures { result ≡ limit_under rule }
-{
-    match rule {
-        Rule::Limit(limit) => limit.min(CEILING),
-        Rule::Unlimited | Rule::Number(_) => CEILING,
-    }
-}
-
-/// The length of the cell for so many bytes.
-fn cell_length(bytes: u32) -> u32
-    requires { bytes ≤ 1048576 }
-    ensures exact { result ≡ cell_length bytes }
-    ensures fits { IsCellLength result }
-{
-    16 + 16 * ((bytes + 15) / 16)
-}
-
-/// A number of bytes that may be asked for.
-fn bytes_within(number: i32) -> Option<u32>
-    ensures { result ≡ within 1048576 number }
-{
-    if 0 <= number && number <= GREATEST {
-        Some(number as u32)
-    } else {
-        None
-    }
 }
 
 /// A cell that nothing refuses.
@@ -188,6 +130,9 @@ impl State {
     }
 
     /// An attempt to get a cell of this length, in bytes.
+    ///
+    /// The heap is asked for the place first, then the rule, then the ceiling. Past the ceiling nothing is
+    /// counted; nor is it where memory is wanting.
     pub fn attempt(&mut self, rule: Rule, len: u32, kind: Kind) -> Result<Gave, NoMemory>
         requires len { IsCellLength len }
         requires limit { self.old.heap.limit ≡ limit_under rule }
@@ -379,41 +324,5 @@ fn outcome_by(ending: Ending, leaks: Leaks) -> Outcome
         Ending::Panics(panic) => Outcome::Panicked(panic),
         Ending::Cut(why) => Outcome::Cut(why),
         Ending::NoCleanup => Outcome::NoCleanup,
-    }
-}
-
-/// The local that a pointer operand names.
-fn local_of(pointer: Pointer) -> u8
-    requires { IsTrue (names_local pointer) }
-    ensures { pointer ≡ Held (Local result) }
-{
-    match pointer {
-        Pointer::Held(Holder::Local(index)) => index,
-        Pointer::Held(Holder::This) | Pointer::Field(..) => unreachable!(),
-    }
-}
-
-/// The number that a number operand is.
-fn constant_of(number: Number) -> i32
-    requires { IsTrue (is_constant number) }
-    ensures { number ≡ Constant result }
-{
-    match number {
-        Number::Constant(number) => number,
-        Number::Variable(_) => unreachable!(),
-    }
-}
-
-/// The units of a literal.
-fn literal(script: &Script, text: Readable) -> &[u8]
-    requires { IsTrue (is_quoted text) }
-    ensures { (i : ℕ) → text ≡ Quoted i → result.now ≡ literal_of script.now.literals i }
-{
-    match text {
-        Readable::Quoted(index) => match script.literals.get(index as usize) {
-            Some(chars) => chars.as_slice(),
-            None => &[],
-        },
-        Readable::Of(_) | Readable::ViewOf(_) => unreachable!(),
     }
 }

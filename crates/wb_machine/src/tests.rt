@@ -1,0 +1,287 @@
+//! Whole runs of small scripts, with the results that they must have.
+
+ghost use Rattle.std.specs.Prelude.{IsTrue, IfSome, IfOk, None, replicate};
+ghost use Rattle.wb_model.specs.Sound.{are_statements, is_pointer, is_script, is_statement};
+ghost use Rattle.wb_model.specs.declared.script.Local.TheVariants.{OfPointer};
+ghost use Rattle.wb_model.specs.declared.script.Statement.TheViews.{out-Statement};
+
+use crate::machine::{Machine, RunFault, Turn, run};
+use std::alloc::{AllocError, Global};
+use std::test::Fail;
+use wb_model::heap::{Answer, Attempt, Panic, Rule, Shape};
+use wb_model::items::Items;
+use wb_model::run::{Leak, Outcome, Why};
+use wb_model::script::{
+    Body, Holder, Local, Number, Pointer, Procedure, Readable, Refusal, Script, Statement,
+};
+
+const SHAPE: Shape = Shape {
+    min: 4096,
+    step: 4096,
+};
+
+/// A line of `main`, over three pointers and one literal.
+#[derive(Clone, Copy)]
+enum Order {
+    Alloc(u8, i32),
+    Free(u8),
+    Number(i32),
+    Text,
+}
+
+/// The local with this index, where there is one.
+fn local(index: u8) -> Option<Pointer>
+    ensures { IfSome result (λ p. IsTrue (is_pointer (replicate 3 (OfPointer None)) p)) }
+{
+    (index < 3).then_some(Pointer::Held(Holder::Local(index)))
+}
+
+/// The statement that a line says, where its operands are in range.
+fn statement(order: Order) -> Option<Statement>
+    ensures { IfSome result (λ s. IsTrue (is_statement 1 (replicate 3 (OfPointer None)) (out-Statement s))) }
+{
+    match order {
+        Order::Alloc(index, bytes) if 0 <= bytes && bytes <= 999_999_999 => {
+            let target = local(index)?;
+            Some(Statement::Alloc(target, Number::Constant(bytes), Refusal::GivesNull))
+        }
+        Order::Alloc(..) => None,
+        Order::Free(index) => Some(Statement::Free(local(index)?)),
+        Order::Number(number) if -999_999_999 <= number && number <= 999_999_999 => {
+            Some(Statement::PrintNumber(Number::Constant(number)))
+        }
+        Order::Number(_) => None,
+        Order::Text => Some(Statement::PrintText(Readable::Quoted(0))),
+    }
+}
+
+/// Why a fixture can't be made.
+#[derive(Debug, Drop)]
+enum FixtureFault {
+    BadOrder,
+    NoMemory,
+}
+
+impl From<AllocError> for FixtureFault {
+    ghost from_gives = { λ _ _. Unit {0} };
+
+    fn from(_error: AllocError) -> FixtureFault {
+        FixtureFault::NoMemory
+    }
+}
+
+/// The statements that lines say.
+fn statements(alloc: Global, orders: &[Order]) -> Result<Items<Statement>, FixtureFault>
+    ensures { IfOk result (λ ss. IsTrue (are_statements 1 (replicate 3 (OfPointer None)) ss)) }
+{
+    let mut statements = Items::new(alloc);
+    for order in orders {
+        match statement(*order) {
+            Some(statement) => statements.push(statement)?,
+            None => return Err(FixtureFault::BadOrder),
+        }
+    }
+    Ok(statements)
+}
+
+/// The script with this `main`.
+fn script(alloc: Global, orders: &[Order]) -> Result<Script, FixtureFault>
+    ensures { IfOk result (λ s. IsTrue (is_script s)) }
+{
+    let mut procedures = Items::new(alloc);
+    procedures.push(Procedure {
+        parameters: Items::new(alloc),
+        body: Body {
+            locals: Items::from_vec(Vec::from_slice(alloc, &[Local::OfPointer(None); 3])?),
+            statements: statements(alloc, orders)?,
+        },
+    })?;
+    let mut literals = Items::new(alloc);
+    literals.push(Items::from_vec(Vec::from_slice(alloc, b"out of memory")?))?;
+    Ok(Script {
+        classes: Items::new(alloc),
+        procedures,
+        operations: Items::new(alloc),
+        literals,
+        main: 0,
+    })
+}
+
+/// The trace's line of an attempt.
+fn attempt(number: u32, length: u32, place: u32, answer: Answer) -> Attempt {
+    Attempt {
+        number,
+        length,
+        place,
+        answer,
+    }
+}
+
+/// Three cells, of which the third fits the hole that the first leaves.
+const REUSES: [Order; 6] = [
+    Order::Alloc(0, 10),
+    Order::Alloc(1, 100),
+    Order::Free(0),
+    Order::Alloc(2, 16),
+    Order::Free(1),
+    Order::Free(2),
+];
+
+/// End a run ended, with as many leaks.
+#[derive(Clone, Copy, Debug, PartialEq, Eq)]
+enum End {
+    Plainly(usize),
+    Left,
+    Panicked(Panic),
+    NoCleanup,
+    Cut(Why),
+}
+
+/// End a run ended.
+fn end_of(outcome: &Outcome) -> End {
+    match outcome {
+        Outcome::Ended { left: None, leaks } => End::Plainly(leaks.len()),
+        Outcome::Ended { left: Some(_), .. } => End::Left,
+        Outcome::Panicked(panic) => End::Panicked(*panic),
+        Outcome::NoCleanup => End::NoCleanup,
+        Outcome::Cut(why) => End::Cut(*why),
+    }
+}
+
+#[test]
+fn each_rule_has_its_trace(rt: HostRuntime) -> Result<(), Fail> {
+    let script = script(rt.alloc(), &REUSES)?;
+    let first = attempt(1, 144, 0, Answer::Granted);
+    let cases = [
+        (
+            Rule::Unlimited,
+            [
+                first,
+                attempt(2, 32, 144, Answer::Granted),
+                attempt(3, 128, 176, Answer::Granted),
+                attempt(4, 32, 144, Answer::Granted),
+            ],
+        ),
+        (
+            Rule::Number(2),
+            [
+                first,
+                attempt(2, 32, 144, Answer::Simulated),
+                attempt(3, 128, 144, Answer::Granted),
+                attempt(4, 32, 272, Answer::Granted),
+            ],
+        ),
+        (
+            Rule::Limit(160),
+            [
+                first,
+                attempt(2, 32, 144, Answer::Refused),
+                attempt(3, 128, 144, Answer::Refused),
+                attempt(4, 32, 144, Answer::Refused),
+            ],
+        ),
+    ];
+    for (rule, trace) in &cases {
+        let told = run(rt.alloc(), &script, *rule, 6, SHAPE)?;
+        assert_eq!(rt; told.trace.as_slice(), trace.as_slice());
+        assert_eq!(rt; end_of(&told.outcome), End::Plainly(0));
+        assert_eq!(rt; told.steps, 6);
+    }
+    Ok(())
+}
+
+#[test]
+fn runs_that_stop(rt: HostRuntime) -> Result<(), Fail> {
+    let over = Order::Alloc(0, 1_048_577);
+    let most = Order::Alloc(0, 1_048_576);
+    let cases: [(&[Order], Rule, u32, End, u32, usize); 8] = [
+        (&REUSES, Rule::Unlimited, 5, End::Cut(Why::Budget), 5, 4),
+        (&REUSES, Rule::Number(1), 9, End::NoCleanup, 0, 1),
+        (&REUSES, Rule::Limit(143), 9, End::NoCleanup, 0, 1),
+        (&[], Rule::Unlimited, 1, End::Plainly(0), 0, 1),
+        (
+            &[over],
+            Rule::Unlimited,
+            9,
+            End::Panicked(Panic::Workbench(9)),
+            1,
+            1,
+        ),
+        (
+            &[most, Order::Free(0), Order::Free(0)],
+            Rule::Unlimited,
+            9,
+            End::Panicked(Panic::User(42)),
+            3,
+            2,
+        ),
+        (&[most; 15], Rule::Unlimited, 99, End::Plainly(15), 15, 16),
+        (
+            &[most; 16],
+            Rule::Unlimited,
+            99,
+            End::Cut(Why::Ceiling),
+            16,
+            16,
+        ),
+    ];
+    for (orders, rule, budget, outcome, steps, attempts) in &cases {
+        let script = script(rt.alloc(), orders)?;
+        assert!(rt; 1 <= *budget && *budget <= 1_000_000);
+        let told = run(rt.alloc(), &script, *rule, *budget, SHAPE)?;
+        assert_eq!(rt; end_of(&told.outcome), *outcome);
+        assert_eq!(rt; told.steps, *steps);
+        assert_eq!(rt; told.trace.len(), *attempts);
+    }
+    Ok(())
+}
+
+#[test]
+fn a_run_prints_and_leaks(rt: HostRuntime) -> Result<(), Fail> {
+    let orders = [
+        Order::Number(-70),
+        Order::Alloc(0, 16),
+        Order::Text,
+        Order::Number(0),
+    ];
+    let script = script(rt.alloc(), &orders)?;
+    let told = run(rt.alloc(), &script, Rule::Unlimited, 4, SHAPE)?;
+    let lines = told.lines.as_slice();
+    assert_eq!(rt; lines.len(), 3);
+    assert_eq!(rt; lines[0].as_slice(), b"-70".as_slice());
+    assert_eq!(rt; lines[1].as_slice(), b"out of memory".as_slice());
+    assert_eq!(rt; lines[2].as_slice(), b"0".as_slice());
+    match &told.outcome {
+        Outcome::Ended { left: None, leaks } => {
+            let leak = Leak {
+                number: 2,
+                length: 32,
+                place: 144,
+            };
+            assert_eq!(rt; leaks.as_slice(), [leak].as_slice());
+        }
+        _ => assert!(rt; false),
+    }
+    Ok(())
+}
+
+#[test]
+fn turns_of_a_machine(rt: HostRuntime) -> Result<(), Fail> {
+    let script = script(rt.alloc(), &[Order::Number(1), Order::Number(2)])?;
+    let mut machine = Machine::new(rt.alloc(), &script, Rule::Unlimited, 9, SHAPE)?;
+    assert_eq!(rt; machine.step()?, Turn::GoesOn);
+    assert_eq!(rt; machine.step()?, Turn::GoesOn);
+    assert_eq!(rt; machine.step()?, Turn::Ended);
+    assert_eq!(rt; machine.step()?, Turn::Ended);
+    assert_eq!(rt; machine.result().steps, 2);
+    Ok(())
+}
+
+#[test]
+fn a_shape_that_no_heap_has(rt: HostRuntime) -> Result<(), Fail> {
+    let script = script(rt.alloc(), &[])?;
+    let shape = Shape { min: 8, step: 4096 };
+    let told = run(rt.alloc(), &script, Rule::Unlimited, 9, shape);
+    assert_eq!(rt; told.err(), Some(RunFault::BadShape));
+    Ok(())
+}
