@@ -132,6 +132,7 @@ impl<'a> Control<'a> {
         ensures sound { OnOk result (are_sound script.now self.new.pieces.items ≡ true) }
         ensures locals { OnOk result (is_stop self.new.ending ≡ false → length state.new.locals ≡ length (main_of script.now).locals) }
         ensures stays { OnOk result (Stays state.old state.new) }
+        ensures shape { state.new.heap.shape ≡ state.old.heap.shape }
         ensures steps { OnOk result (state.new.steps ≡ 0) }
     {
         match state.attempt(rule, FIRST_LENGTH, Kind::Cleanup)? {
@@ -169,6 +170,7 @@ impl<'a> Control<'a> {
         ensures pieces { OnOk result ((q : Piece) × (pending_of q ≡ doing in_main_frame (all rest.now)) × (self.new.pieces.items ≡ self.old.pieces.items ++ q ∷ [])) }
         ensures locals { OnOk result (length state.new.locals ≡ length state.old.locals) }
         ensures stays { OnOk result (Stays state.old state.new) }
+        ensures shape { state.new.heap.shape ≡ state.old.heap.shape }
         ensures steps { OnOk result (state.new.steps ≡ state.old.steps + 1) }
     {
         state.tick();
@@ -198,6 +200,7 @@ impl<'a> Control<'a> {
         ensures sound { OnOk result (are_sound script.now self.new.pieces.items ≡ true) }
         ensures locals { OnOk result (length state.new.locals ≡ length state.old.locals) }
         ensures stays { OnOk result (Stays state.old state.new) }
+        ensures shape { state.new.heap.shape ≡ state.old.heap.shape }
         ensures steps { OnOk result (state.new.steps ≡ state.old.steps + 1) }
     {
         match self.pieces.pop() {
@@ -268,6 +271,7 @@ impl<'a> Control<'a> {
         ensures sound { OnOk result (are_sound script.now self.new.pieces.items ≡ true) }
         ensures locals { OnOk result (is_stop self.new.ending ≡ false → length state.new.locals ≡ length (main_of script.now).locals) }
         ensures stays { OnOk result (Stays state.old state.new) }
+        ensures shape { state.new.heap.shape ≡ state.old.heap.shape }
         ensures within { OnOk result (state.new.steps ≤ budget) }
         ensures counted { OnOk result (length state.new.trace ≤ state.new.steps + 1) }
         ensures first { OnOk result (begun ≡ false → state.new.steps ≡ 0) }

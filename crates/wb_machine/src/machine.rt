@@ -133,7 +133,7 @@ impl<'a> Machine<'a> {
         ensures script { self.new.script ≡ self.old.script }
         ensures rule { self.new.rule ≡ self.old.rule }
         ensures budget { self.new.budget ≡ self.old.budget }
-        ensures shape { OnOk result (self.new.shape ≡ self.old.shape) }
+        ensures shape { self.new.shape ≡ self.old.shape }
         ensures begun { OnOk result (self.new.begun ≡ true) }
         ensures first { OnOk result (self.old.begun ≡ false → self.new.steps ≡ 0) }
         ensures later { OnOk result (self.old.begun ≡ true → self.old.over ≡ false → self.new.steps ≡ min (self.old.steps + 1) self.old.budget) }
