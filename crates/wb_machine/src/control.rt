@@ -131,7 +131,7 @@ impl<'a> Control<'a> {
             rest_from script.now budget r self.new.ending self.new.pieces.items state.new ≡ run script.now r budget state.old.heap.shape) }
         ensures sound { OnOk result (are_sound script.now self.new.pieces.items ≡ true) }
         ensures locals { OnOk result (is_stop self.new.ending ≡ false → length state.new.locals ≡ length (main_of script.now).locals) }
-        ensures stays { OnOk result (Stays state.old state.new) }
+        ensures stays { Stays state.old state.new }
         ensures steps { OnOk result (state.new.steps ≡ 0) }
     {
         match state.attempt(rule, FIRST_LENGTH, Kind::Cleanup)? {
@@ -168,7 +168,7 @@ impl<'a> Control<'a> {
             ≡ rest_from script.now budget r GoesOn (self.old.pieces.items ++ p ∷ []) state.old) }
         ensures pieces { OnOk result ((q : Piece) × (pending_of q ≡ doing in_main_frame (all rest.now)) × (self.new.pieces.items ≡ self.old.pieces.items ++ q ∷ [])) }
         ensures locals { OnOk result (length state.new.locals ≡ length state.old.locals) }
-        ensures stays { OnOk result (Stays state.old state.new) }
+        ensures stays { Stays state.old state.new }
         ensures steps { OnOk result (state.new.steps ≡ state.old.steps + 1) }
     {
         state.tick();
@@ -197,7 +197,7 @@ impl<'a> Control<'a> {
             ≡ rest_from script.now budget r self.old.ending self.old.pieces.items state.old) }
         ensures sound { OnOk result (are_sound script.now self.new.pieces.items ≡ true) }
         ensures locals { OnOk result (length state.new.locals ≡ length state.old.locals) }
-        ensures stays { OnOk result (Stays state.old state.new) }
+        ensures stays { Stays state.old state.new }
         ensures steps { OnOk result (state.new.steps ≡ state.old.steps + 1) }
     {
         match self.pieces.pop() {
@@ -267,7 +267,7 @@ impl<'a> Control<'a> {
         ensures settled { OnOk result ((is_over self.new.ending self.new.pieces.items ≡ true) ⊎ IsReady self.new.ending self.new.pieces.items) }
         ensures sound { OnOk result (are_sound script.now self.new.pieces.items ≡ true) }
         ensures locals { OnOk result (is_stop self.new.ending ≡ false → length state.new.locals ≡ length (main_of script.now).locals) }
-        ensures stays { OnOk result (Stays state.old state.new) }
+        ensures stays { Stays state.old state.new }
         ensures within { OnOk result (state.new.steps ≤ budget) }
         ensures counted { OnOk result (length state.new.trace ≤ state.new.steps + 1) }
         ensures first { OnOk result (begun ≡ false → state.new.steps ≡ 0) }

@@ -133,7 +133,7 @@ impl<'a> Machine<'a> {
         ensures script { self.new.script ≡ self.old.script }
         ensures rule { self.new.rule ≡ self.old.rule }
         ensures budget { self.new.budget ≡ self.old.budget }
-        ensures shape { OnOk result (self.new.shape ≡ self.old.shape) }
+        ensures shape { self.new.shape ≡ self.old.shape }
         ensures begun { OnOk result (self.new.begun ≡ true) }
         ensures first { OnOk result (self.old.begun ≡ false → self.new.steps ≡ 0) }
         ensures later { OnOk result (self.old.begun ≡ true → self.old.over ≡ false → self.new.steps ≡ min (self.old.steps + 1) self.old.budget) }
@@ -141,8 +141,8 @@ impl<'a> Machine<'a> {
         ensures within { OnOk result (self.new.steps ≤ self.new.budget) }
         ensures ended { IfOk result (λ turn. (turn ≡ Turn.Ended) ↔ (self.new.over ≡ true)) }
         ensures over { self.old.failed ≡ false → self.old.over ≡ true → (result ≡ Ok Turn.Ended) × (self.new ≡ self.old) }
-        ensures fewer { OnOk result (self.old.attempts ≤ self.new.attempts) }
-        ensures more { OnOk result (self.new.attempts ≤ self.old.attempts + 1) }
+        ensures fewer { self.old.attempts ≤ self.new.attempts }
+        ensures more { self.new.attempts ≤ self.old.attempts + 1 }
         ensures well { OnOk result (self.new.failed ≡ false) }
         ensures failed { OnErr result (self.new.failed ≡ true) }
         ensures for_good { self.old.failed ≡ true → (is_err result ≡ true) × (self.new ≡ self.old) }

@@ -140,6 +140,7 @@ impl State {
         ensures gave { IfOk result (λ gave. gave ≡ gave_by self.old len (answer_for rule self.old len)) }
         ensures held { OnOk result (self.new ≡ after_answer self.old len kind (answer_for rule self.old len)) }
         ensures err { OnErr result (self.new ≡ self.old) }
+        ensures stays { Stays self.old self.new }
     {
         let number = self.trace.len() as u32 + 1;
         let place = self.heap.place_for(len);
@@ -174,6 +175,7 @@ impl State {
         requires target { target < length self.old.locals }
         ensures ending { IfOk result (λ ending. ending ≡ (alloc_carried rule self.old target (within 1048576 bytes)).ending) }
         ensures held { OnOk result (self.new ≡ (alloc_carried rule self.old target (within 1048576 bytes)).held) }
+        ensures stays { Stays self.old self.new }
     {
         let Some(bytes) = bytes_within(bytes) else {
             return Ok(Ending::Panics(Panic::Workbench(9)));
@@ -204,6 +206,7 @@ impl State {
     fn print(&mut self, line: Line) -> Result<Ending, NoMemory>
         ensures ending { IfOk result (λ ending. ending ≡ (print_carried self.old line).ending) }
         ensures held { OnOk result (self.new ≡ (print_carried self.old line).held) }
+        ensures stays { Stays self.old self.new }
     {
         self.lines.push(line)?;
         Ok(Ending::GoesOn)
@@ -212,7 +215,9 @@ impl State {
     /// `main` begins, with so many locals, over the cleanup stack's cell.
     pub fn enter(&mut self, cell: Ptr, count: usize) -> Result<(), NoMemory>
         requires { self.old.locals ≡ [] }
-        ensures { OnOk result (self.new ≡ entered self.old cell count) }
+        ensures entered { OnOk result (self.new ≡ entered self.old cell count) }
+        ensures heap { self.new.heap ≡ self.old.heap }
+        ensures trace { self.new.trace ≡ self.old.trace }
     {
         self.cleanup = cell;
         self.locals.resize(count, NULL)?;
@@ -244,9 +249,9 @@ impl State {
         ensures kept { IfOk result (λ ending. (r : Rule) → Fits r rule (is_stop ending) (length self.new.trace) → (rec : Meaning) →
             IsSameFlow r (ended_by ending (state_of script.now self.new)) self.new
             (statement script.now rec in_main_frame (out-Statement first.now) (state_of script.now self.old)) self.old) }
-        ensures stays { OnOk result (Stays self.old self.new) }
         ensures steps { OnOk result (self.new.steps ≡ self.old.steps) }
         ensures locals { OnOk result (length self.new.locals ≡ length self.old.locals) }
+        ensures stays { Stays self.old self.new }
     {
         match first {
             Statement::Alloc(target, bytes, _) => {

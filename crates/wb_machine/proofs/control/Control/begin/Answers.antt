@@ -20,7 +20,7 @@ returns-in_ok-push-in-Granted-2-clause-kept c r budget f =
     run_begun r c.args.rule script budget h.heap.shape h c.enter.new.self c.push-in-Granted.new.self.ending c.as_slice.result.now c.push-in-Granted.new.self.pieces.items
     c.requires.start
     (c.in_ok-push-in-Granted-2.ensures.ending ∙ c.in_ok-push-in-Granted.ensures.ending ∙ c.requires.ending ∙ sym (ap (λ x. x.ending) is))
-    (c.in_ok-enter-in-Granted.ensures ∙ ap (λ x. entered x cell c.len.result) c.in_ok-cell.ensures.held
+    (c.in_ok-enter-in-Granted.ensures.entered ∙ ap (λ x. entered x cell c.len.result) c.in_ok-cell.ensures.held
     ∙ ap (entered (after_answer h first_length Cleanup o) cell) (c.len.ensures ∙ ap (λ b. length b.locals) c.main_of-main.ensures) ∙ sym (ap (λ x. x.held) is))
     f (main_locals script c.requires.script) (c.as_slice.ensures ∙ ap (λ b. b.statements) c.main_of-main.ensures)
     (λ e. begun_pieces script c.args.self.now.pieces.items c.push.new.self.pieces.items c.push-in-Granted.new.self.pieces.items (Code c.as_slice.result) c.requires.pieces
