@@ -17,7 +17,7 @@ mod report;
 mod run_text;
 mod streams;
 
-use answer::answer;
+use answer::{READ_OR_WRITE_FAULT, WANT_OF_MEMORY, answer};
 use command::{Command, CommandFault};
 use command_line::command;
 use std::fs::File;
@@ -25,10 +25,6 @@ use std::io::ErrorKind;
 use std::process::ExitCode;
 use std::{env, io};
 
-/// The exit status of a want of memory.
-const NO_MEMORY: u8 = 4;
-/// The exit status of a fault in reading or writing.
-const READ_OR_WRITE_FAULT: u8 = 5;
 /// The exit status of a fault in the command line.
 const COMMAND_LINE_FAULT: u8 = 6;
 
@@ -84,7 +80,7 @@ fn refuse(rt: &HostRuntime, fault: &CommandFault) -> u8
     let _ = eprint!(rt; "{fault}");
     match fault {
         CommandFault::Usage(_) => COMMAND_LINE_FAULT,
-        CommandFault::NoMemory => NO_MEMORY,
+        CommandFault::NoMemory => WANT_OF_MEMORY,
     }
 }
 
@@ -95,7 +91,7 @@ fn refuse_words(rt: &HostRuntime, error: &io::Error) -> u8
 {
     if error.kind() == ErrorKind::OutOfMemory {
         let _ = eprint!(rt; "{}", CommandFault::NoMemory);
-        return NO_MEMORY;
+        return WANT_OF_MEMORY;
     }
     let _ = eprintln!(rt; "error: a word of the command line is not UTF-8");
     COMMAND_LINE_FAULT
