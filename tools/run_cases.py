@@ -37,18 +37,28 @@ def first_missing(wanted: list[str], given: bytes) -> str | None:
     return None
 
 
-def fault_of(program: Path, arguments: Path) -> str | None:
-    """What is wrong with the program's answer to a case, or None."""
-    words = arguments.read_text().splitlines()
-    with arguments.with_suffix(".oom").open("rb") as script:
-        done = subprocess.run([program, *words], stdin=script, capture_output=True, timeout=SECONDS)
-    status = int(arguments.with_suffix(".status").read_text())
+def fault_of(program: Path, script: Path, folder: Path) -> str | None:
+    """What is wrong with the program's answer to a case, or None. File names in arguments start at the folder."""
+    words = script.with_suffix(".args").read_text().splitlines()
+    with script.open("rb") as given:
+        done = subprocess.run([program, *words], stdin=given, capture_output=True, timeout=SECONDS, cwd=folder)
+    status = int(script.with_suffix(".status").read_text())
     if done.returncode != status:
         return f"wanted status {status}, got {done.returncode}"
-    contains = arguments.with_suffix(".contains")
+    contains = script.with_suffix(".contains")
     if contains.exists():
         return first_missing(contains.read_text().splitlines(), done.stdout)
-    return first_difference(arguments.with_suffix(".stdout").read_bytes(), done.stdout)
+    return first_difference(script.with_suffix(".stdout").read_bytes(), done.stdout)
+
+
+def file_left_alone(cases: Path) -> Path | None:
+    """A file of a case that has no script, or a script without the files that a case needs, or None."""
+    for file in sorted(cases.rglob("*.*")):
+        told = [file.with_suffix(ending).exists() for ending in (".oom", ".args", ".status")]
+        answer = file.with_suffix(".stdout").exists() or file.with_suffix(".contains").exists()
+        if file.suffix != ".md" and not (all(told) and answer):
+            return file
+    return None
 
 
 def main() -> int:
@@ -57,8 +67,11 @@ def main() -> int:
     parser.add_argument("program", type=Path)
     parser.add_argument("cases", type=Path)
     chosen = parser.parse_args()
-    cases = [file for file in sorted(chosen.cases.rglob("*.args")) if "later" not in file.relative_to(chosen.cases).parts]
-    faults = {case: fault for case in cases if (fault := fault_of(chosen.program.resolve(), case)) is not None}
+    if (alone := file_left_alone(chosen.cases)) is not None:
+        sys.exit(f"{alone} belongs to no whole case")
+    cases = [file for file in sorted(chosen.cases.rglob("*.oom")) if "later" not in file.relative_to(chosen.cases).parts]
+    program, folder = chosen.program.resolve(), chosen.cases.resolve().parent
+    faults = {case: fault for case in cases if (fault := fault_of(program, case, folder)) is not None}
     for case, fault in faults.items():
         print(f"{case.relative_to(chosen.cases).with_suffix('')}: {fault}")
     print(f"{len(cases) - len(faults)} passed, {len(faults)} failed")

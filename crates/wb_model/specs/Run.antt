@@ -53,7 +53,7 @@ unfoldable pub started : Meaning → Script → Option Ptr → State → Process
 started rec script (Some p) st = in_main rec script (record st { cleanup = p })
 started rec script None st = stops no_cleanup st
 
--- the meaning_of run, up to what the rule says
+-- a run, up to what the rule says
 unfoldable pub process : Script → ℕ → Process
 process script budget = allocate 128 Cleanup none start (started (meaning_of script budget) script)
 

@@ -66,13 +66,20 @@ impl From<memory::NoMemory> for ReportFault {
 /// `no memory` went out alone. At `READ_OR_WRITE_FAULT` a read failed, an interrupted one too, and the line
 /// `read fault` is written; or a write failed, or took no byte, and what went out is the first of what was
 /// being written. Nothing is written before the whole text is there.
+///
+/// `failures` is the log of what failed, empty at first. Only the one call that reads and the one that
+/// writes enter a failure there, so that `READ_OR_WRITE_FAULT` comes exactly where one failed.
 pub fn answer<R: Read, W: Write>(
     alloc: Global,
     command: &Command,
     reader: &mut R,
     writer: &mut W,
+    failures: &mut Failures,
 ) -> u8
-    requires { IsTrue (is_answerable command.now) }
+    requires answerable { IsTrue (is_answerable command.now) }
+    requires unfailed { failures.old ≡ no_failures }
+    ensures answer { IsAnswer command.now (R.remaining reader.old)
+        (W.contents writer.old) (W.contents writer.new) failures.new result }
     ensures status { result ≤ READ_OR_WRITE_FAULT }
     ensures report { result < WANT_OF_MEMORY → IsReportWritten command.now (R.remaining reader.old)
         (W.contents writer.old) (W.contents writer.new) result }
@@ -82,12 +89,11 @@ pub fn answer<R: Read, W: Write>(
         (W.contents writer.old) (W.contents writer.new) }
     ensures taken { TakesAtMost MOST_READ (R.remaining reader.old) (R.remaining reader.new) }
 {
-    let mut failures = Failures::none();
-    answer_noting(alloc, command, reader, writer, &mut failures)
+    read_and_say(alloc, command, reader, writer, failures)
 }
 
-/// The same, and enters which reads and writes failed: `READ_OR_WRITE_FAULT` comes exactly where one did.
-fn answer_noting<R: Read, W: Write>(
+/// The answer, by what failed.
+fn read_and_say<R: Read, W: Write>(
     alloc: Global,
     command: &Command,
     reader: &mut R,

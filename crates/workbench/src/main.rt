@@ -24,6 +24,7 @@ use std::fs::File;
 use std::io::ErrorKind;
 use std::process::ExitCode;
 use std::{env, io};
+use streams::Failures;
 
 /// The exit status of a fault in the command line.
 const COMMAND_LINE_FAULT: u8 = 6;
@@ -56,11 +57,18 @@ fn carry_out(rt: &HostRuntime, command: &Command) -> u8
     ensures { result ≤ 5 }
 {
     let mut writer = io::writer(rt);
+    let mut failures = Failures::none();
     let Some(name) = &command.file else {
-        return answer(rt.alloc(), command, &mut rt.reader(), &mut writer);
+        return answer(
+            rt.alloc(),
+            command,
+            &mut rt.reader(),
+            &mut writer,
+            &mut failures,
+        );
     };
     match File::open(rt, name.as_str()) {
-        Ok(mut file) => answer(rt.alloc(), command, &mut file, &mut writer),
+        Ok(mut file) => answer(rt.alloc(), command, &mut file, &mut writer, &mut failures),
         Err(_) => read_fault(rt),
     }
 }

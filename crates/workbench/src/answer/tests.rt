@@ -132,7 +132,13 @@ fn reports_what_the_bytes_come_to(rt: HostRuntime) {
     for (script, text, status) in cases {
         let mut reader = script;
         let mut writer = Vec::new(rt.alloc());
-        let got = answer(rt.alloc(), &run_command(), &mut reader, &mut writer);
+        let got = answer(
+            rt.alloc(),
+            &run_command(),
+            &mut reader,
+            &mut writer,
+            &mut Failures::none(),
+        );
         assert_eq!(rt; writer.as_slice(), text);
         assert_eq!(rt; got, status);
     }
@@ -143,7 +149,13 @@ fn says_that_a_read_failed(rt: HostRuntime) {
     for kind in [ErrorKind::Other, ErrorKind::Interrupted] {
         let mut reader = giving(LEAKING, Some(kind));
         let mut writer = Vec::new(rt.alloc());
-        let status = answer(rt.alloc(), &run_command(), &mut reader, &mut writer);
+        let status = answer(
+            rt.alloc(),
+            &run_command(),
+            &mut reader,
+            &mut writer,
+            &mut Failures::none(),
+        );
         assert_eq!(rt; writer.as_slice(), b"read fault\n".as_slice());
         assert_eq!(rt; status, 5);
     }
@@ -170,7 +182,13 @@ fn check_stop(
     then: Option<ErrorKind>,
 ) {
     let mut writer = taking(rt.alloc(), 6, then);
-    let status = answer(rt.alloc(), &run_command(), reader, &mut writer);
+    let status = answer(
+        rt.alloc(),
+        &run_command(),
+        reader,
+        &mut writer,
+        &mut Failures::none(),
+    );
     assert_eq!(rt; Some(writer.taken.as_slice()), text.get(..6));
     assert_eq!(rt; status, 5);
 }
@@ -182,7 +200,13 @@ fn reads_and_writes_no_oftener_than_there_are_bytes(rt: HostRuntime) -> Result<(
     reader.at_once = 1;
     let mut writer = taking(rt.alloc(), 100, None);
     writer.at_once = 1;
-    let status = answer(rt.alloc(), &run_command(), &mut reader, &mut writer);
+    let status = answer(
+        rt.alloc(),
+        &run_command(),
+        &mut reader,
+        &mut writer,
+        &mut Failures::none(),
+    );
     assert_eq!(rt; reader.reads, 65_537);
     assert_eq!(rt; writer.taken.as_slice(), b"refused 1\n".as_slice());
     assert_eq!(rt; writer.writes, 10);
