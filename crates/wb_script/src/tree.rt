@@ -1,11 +1,12 @@
 //! The tree of a script, from its lines with indexes.
 
-ghost use Rattle.std.specs.Prelude.{◌≡◌, ℕ, ◌+◌, ◌<◌, ◌≤◌, ◌^◌, [], ◌∷◌, ◌++◌, length, map, is_some, IsTrue, IfOk, IfSome, Some, None, ◌↔◌};
+ghost use Rattle.std.specs.Prelude.{◌≡◌, ℕ, List, ◌+◌, ◌<◌, ◌≤◌, ◌^◌, [], ◌∷◌, ◌++◌, length, map, is_some, IsTrue, IfOk, IfSome, Some, None, ◌↔◌};
 ghost use Rattle.std.specs.Option.{option_map};
 ghost use Rattle.std.specs.List.{list_all, flat_map};
 ghost use Rattle.wb_model.specs.declared.lines.Role.TheVariants.{Plain};
 ghost use Rattle.wb_model.specs.declared.lines.Form.TheVariants.{Line};
 ghost use Rattle.wb_model.specs.declared.lines.Key.TheVariants.{Print};
+ghost use Rattle.wb_model.specs.declared.script.Local as model;
 ghost use Rattle.wb_model.specs.declared.script.Local.TheVariants.{OfPointer};
 ghost use Rattle.wb_model.specs.declared.script.Statement.TheViews.{out-Statement};
 ghost use Rattle.wb_model.specs.Keys.{letters_of, role_of};
@@ -71,10 +72,10 @@ fn number_of(operand: &Operand<usize>) -> Option<Number>
     }
 }
 
-fn printed(literals: usize, locals: &[Local], operand: &Operand<usize>) -> Option<Statement>
+fn printed(literals: usize, operand: &Operand<usize>) -> Option<Statement>
     requires { literals < 2 ^ 32 }
     ensures line { IfSome result (λ s. statement_line (out-Statement s) ≡ Line Print (operand.now ∷ [])) }
-    ensures sound { IfSome result (λ s. IsTrue (is_statement literals locals.now (out-Statement s))) }
+    ensures sound { IfSome result (λ s. (locals : List model.Local) → IsTrue (is_statement literals locals (out-Statement s))) }
     ensures found { is_some result ≡ is_printable literals operand.now }
 {
     match operand {
@@ -117,7 +118,7 @@ fn statement_of(
             _ => None,
         },
         Key::Print => match operands {
-            [operand] => printed(literals, locals, operand),
+            [operand] => printed(literals, operand),
             _ => None,
         },
         Key::Proc | Key::Ptr | Key::End => None,
