@@ -346,15 +346,15 @@ def rises_term(lines: list[str]) -> str:
 # --- cases -------------------------------------------------------------------
 
 
-def arguments_of(words: list[str]) -> argparse.Namespace:
-    """The program's own arguments."""
+def arguments_of(words: list[str]) -> tuple[argparse.Namespace, list[str]]:
+    """The program's own arguments, and those that name files."""
     parser = argparse.ArgumentParser(exit_on_error=False, add_help=False, allow_abbrev=False)
     parser.add_argument("task")
     defaults = {"limit": None, "fail": None, "budget": 10000, "min": 4096, "step": 4096}
     for name, default in defaults.items():
         parser.add_argument("--" + name, type=int, default=default)
     parser.add_argument("--json", action="store_true")
-    return parser.parse_args(words)
+    return parser.parse_known_args(words)
 
 
 def rule_of(a: argparse.Namespace) -> str:
@@ -372,7 +372,9 @@ def report_at(path: Path, most_steps: int) -> tuple[argparse.Namespace, list[str
         return "its whole output isn't given"
     if status.read_text().strip() not in ("0", "1", "3"):
         return "not accepted"
-    a = arguments_of(given.read_text().split())
+    a, files = arguments_of(given.read_text().split())
+    if files:
+        return "its script is in another file"
     report = json.loads(told.read_text())["lines"] if a.json else told.read_text().removesuffix("\n").split("\n")
     if a.task == "run" and int(report[-1].removeprefix("steps ")) > most_steps:
         return f"more than {most_steps} steps"

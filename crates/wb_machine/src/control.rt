@@ -243,8 +243,8 @@ impl<'a> Control<'a> {
         }
     }
 
-    /// A turn: the first begins the run; each later one takes a step, or cuts the run at the budget. All
-    /// ends that follow belong to the turn.
+    /// A turn. The first begins the run, and any other takes a step, or cuts the run where the budget is used
+    /// up. Pieces that are done after it are taken off at once.
     pub fn turn(
         &mut self,
         script: &'a Script,

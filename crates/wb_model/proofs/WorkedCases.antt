@@ -450,6 +450,20 @@ view_past_text_from_leaving_allocation_run : run script_view_past_text_from_leav
 unfolding everything
 view_past_text_from_leaving_allocation_run = refl
 
+abbrev script_compress_never_grows_run : Script
+script_compress_never_grows_run = record { classes = []; procedures = (record { parameters = []; body = record { locals = (OfPointer None) ∷ []; statements = rolled ((Statement-F.Alloc (Held (H.Local 0)) (Constant (pos 3900)) GivesNull) ∷ Statement-F.NoteCompress ∷ Statement-F.NoteHeap ∷ (Statement-F.Free (Held (H.Local 0))) ∷ []) } }) ∷ []; operations = []; literals = []; main = 0 }
+
+compress_never_grows_run : run script_compress_never_grows_run R.Unlimited 10000 (shaped 4096 4112) ≡ record { outcome = Ended None []; trace = (line 1 144 0 Granted) ∷ (line 2 3920 144 Granted) ∷ []; lines = []; notes = (Compress 0) ∷ (Heap 2 4064 4096) ∷ []; steps = 4 }
+unfolding everything
+compress_never_grows_run = refl
+
+abbrev script_items_left_at_the_plain_end_of_a_trap_run : Script
+script_items_left_at_the_plain_end_of_a_trap_run = record { classes = []; procedures = (record { parameters = []; body = record { locals = (OfPointer None) ∷ OfNumber ∷ []; statements = rolled ((Statement-F.Alloc (Held (H.Local 0)) (Constant (pos 10)) GivesNull) ∷ (Statement-F.Trap 1 (rolled ((Statement-F.Push (Held (H.Local 0))) ∷ []))) ∷ []) } }) ∷ []; operations = []; literals = []; main = 0 }
+
+items_left_at_the_plain_end_of_a_trap_run : run script_items_left_at_the_plain_end_of_a_trap_run R.Unlimited 10000 (shaped 4096 4096) ≡ record { outcome = Panicked (P.Workbench 5); trace = (line 1 144 0 Granted) ∷ (line 2 32 144 Granted) ∷ []; lines = []; notes = []; steps = 3 }
+unfolding everything
+items_left_at_the_plain_end_of_a_trap_run = refl
+
 abbrev script_committed_length_notes_run : Script
 script_committed_length_notes_run = record { classes = []; procedures = (record { parameters = []; body = record { locals = (OfPointer None) ∷ []; statements = rolled ((Statement-F.Alloc (Held (H.Local 0)) (Constant (pos 200)) GivesNull) ∷ Statement-F.NoteAvailable ∷ Statement-F.NoteHeap ∷ (Statement-F.Free (Held (H.Local 0))) ∷ Statement-F.NoteAvailable ∷ Statement-F.NoteCompress ∷ Statement-F.NoteHeap ∷ []) } }) ∷ []; operations = []; literals = []; main = 0 }
 

@@ -92,7 +92,7 @@ abbrev pub run : Script → Rule → ℕ → Shape → RunResult
 run script rule budget shape =
     result_of (settled rule (space_of rule shape) (process script budget) (before (space_of rule shape)))
 
--- a run is bad where it panicked, or ended with at least one leak
+-- what a sweep looks for: a panic, or a leak at the end; a leave alone is fine, and so is a run without its cleanup stack
 abbrev pub is_bad_outcome : Outcome → Bool
 is_bad_outcome (Ended left []) = false
 is_bad_outcome (Ended left (l ∷ ls)) = true
@@ -118,7 +118,7 @@ highest_end (t ∷ ts) = max (end_of_line t) (highest_end ts)
 abbrev pub required : Script → ℕ → Shape → ℕ
 required script budget shape = highest_end (run script Unlimited budget shape).trace
 
--- the granted lines, in order, whose end passes every earlier granted end: their numbers and ends
+-- the grants that made the heap longer than all before them: their numbers and ends
 abbrev pub rises_above : ℕ → List Attempt → List (ℕ × ℕ)
 rises_above top [] = []
 rises_above top (t ∷ ts) = if nat_lt top (end_of_line t) then (t.number, end_of_line t) ∷ rises_above (end_of_line t) ts else rises_above top ts

@@ -21,8 +21,8 @@ AreLines lines = IsGrammatical (map role_of_form (forms_of lines))
 abbrev pub AreFirstLines : List Text → Type 0
 AreFirstLines lines = (more : List Text) × AreLines (lines ++ more)
 
--- n is the first line such that the lines up to it are the first lines of no script,
--- and the number of lines plus 1 where all are, but they are no script
+-- The line where a text stops being the beginning of any script. Where it never does and yet is none, it is the line behind
+-- the last.
 pub record IsGrammarLine (lines : List Text) (n : ℕ) : Type 0 where
   pub counted : 0 < n
   pub within : n ≤ length lines + 1

@@ -1,9 +1,11 @@
 -- Which row a list of words spells, and how a cell's words read as its content.
-use Rattle.std.specs.Prelude.{ℕ, ℤ, pos, negsuc, zero, suc, ◌+◌, ◌-◌, ◌/◌, ◌%◌, ◌^◌, List, [], ◌∷◌, Bool, true, false, nat_eq, nat_lt, if◌then◌else◌, slice_index, length, take, drop, map}
+use Rattle.std.specs.Prelude.{◌≡◌, ℕ, ℤ, pos, negsuc, zero, suc, ◌+◌, ◌-◌, ◌/◌, ◌%◌, ◌^◌, List, [], ◌∷◌, Bool, true, false, Option, Some, None, nat_eq, nat_lt, if◌then◌else◌, slice_index, length, take, drop, map}
 use Rattle.wb_model.specs.declared.heap.Ptr.{Ptr}
 use Rattle.wb_model.specs.declared.heap.Header.{Header}
 use Rattle.wb_model.specs.declared.heap.Kind.{Kind}
 use Rattle.wb_model.specs.declared.heap.Kind.TheVariants.{Raw, Object, Text, Cleanup}
+use Rattle.wb_model.specs.declared.heap.Item.{Item}
+use Rattle.wb_model.specs.declared.heap.Item.TheVariants.{Free, Delete, Call}
 use Rattle.wb_model.specs.Row.{Cell}
 use Rattle.wb_model.specs.State.{Content, words, fields, units, none}
 
@@ -52,6 +54,20 @@ pointers _ = []
 abbrev pub halves : List ℕ → List ℕ
 halves [] = []
 halves (w ∷ ws) = w % 2 ^ 16 ∷ w / 2 ^ 16 ∷ halves ws
+
+-- the item in a slot of the cleanup stack, whose first word says what is done with it
+abbrev pub item_of : ℕ → Ptr → ℕ → Option Item
+item_of what p op =
+    if nat_eq what 1 then Some (Free p) else (if nat_eq what 2 then Some (Delete p) else (if nat_eq what 3 then Some (Call p op) else None))
+
+-- the slots in order, oldest first; slots that are not in use may hold anything
+abbrev pub slots : List ℕ → List (Option Item)
+slots (what ∷ place ∷ number ∷ op ∷ ws) = item_of what (record { place = place; number = number }) op ∷ slots ws
+slots _ = []
+
+-- the words spell these items in the first slots
+abbrev pub SpellItems : List ℕ → List Item → Type 0
+SpellItems ws items = take (length items) (slots ws) ≡ map Some items
 
 -- a cell's content, where a class has so many fields
 abbrev pub read_as : (ℕ → ℕ) → Kind → List ℕ → Content

@@ -8,7 +8,8 @@ pub enum ScriptFault {
     TooLong,
     /// A byte that is neither tab, line feed, carriage return nor printable ASCII.
     NotAscii { line: u32 },
-    /// The lines up to this one begin no script. The number of lines plus 1 where only an `end` is missing.
+    /// No script has this line here, whatever were to follow. Where the file ends too early, the line behind its
+    /// last.
     Grammar { line: u32 },
     /// A name that is not declared.
     UnknownName { line: u32 },

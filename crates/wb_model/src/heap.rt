@@ -1,5 +1,5 @@
-//! What a heap is made of, what is asked of it, and what it answers. Places and lengths are bytes from the
-//! start of the chunk; attempt numbers count from 1.
+//! What a heap is made of, what is asked of it, and what it answers. All places and lengths are in bytes, a
+//! place from where the chunk begins; the first attempt has number 1.
 
 /// The greatest length that a simulated heap may reach, in bytes. A cell that would end past it cuts the
 /// run. Source: this project's profile.

@@ -61,7 +61,7 @@ fn carried_out(alloc: Global, command: &Command, script: &Script) -> Result<Repo
     }
 }
 
-/// The exit status of a run: 1 for a panic or at least one leak, 3 for a cut, else 0.
+/// With which status a run is reported: 1 where it found something, 3 where it didn't come to its end.
 fn status_of(outcome: &Outcome) -> u8
     ensures { result ≡ outcome_status outcome.now }
 {
