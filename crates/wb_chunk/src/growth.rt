@@ -1,0 +1,42 @@
+//! How a region is filled, and by how much it grows: plain code over a region's own calls.
+
+ghost use Rattle.std.specs.Prelude.{◌≡◌, ◌+◌, ◌*◌, ◌≤◌, ◌++◌, length, min, replicate};
+
+use crate::MOST_WORDS;
+use crate::region::Region;
+use std::alloc::Global;
+
+/// Writes words behind the `count` that are there.
+pub(crate) fn append_words(region: &mut Region<Global>, count: u32, words: &[u32])
+    requires fits { (count ≡ length region.old.words) × (count + length words.now ≤ region.old.capacity) }
+    requires bound { region.old.capacity ≤ MOST_WORDS }
+    ensures words { region.new.words ≡ region.old.words ++ words.now }
+    ensures room { (region.new.capacity ≡ region.old.capacity) × (region.new.alloc ≡ region.old.alloc) }
+{
+    let mut next = count;
+    for word in words {
+        region.append(next, *word);
+        next += 1;
+    }
+}
+
+/// Writes `n` words that are 0 behind the `count` that are there.
+pub(crate) fn append_zeros(region: &mut Region<Global>, count: u32, n: u32)
+    requires fits { (count ≡ length region.old.words) × (count + n ≤ region.old.capacity) }
+    requires bound { region.old.capacity ≤ MOST_WORDS }
+    ensures words { region.new.words ≡ region.old.words ++ replicate n 0 }
+    ensures room { (region.new.capacity ≡ region.old.capacity) × (region.new.alloc ≡ region.old.alloc) }
+{
+    for i in 0..n {
+        region.append(count + i, 0);
+    }
+}
+
+/// For how many words the next region has room: for those wanted, and for twice as many as before as far as the bound
+/// allows.
+pub(crate) fn larger(capacity: u32, wanted: u32) -> u32
+    requires { (capacity ≤ MOST_WORDS) × (wanted ≤ MOST_WORDS) }
+    ensures { (wanted ≤ result) × (min (2 * capacity) MOST_WORDS ≤ result) × (result ≤ MOST_WORDS) }
+{
+    (2 * capacity).max(wanted).min(MOST_WORDS)
+}

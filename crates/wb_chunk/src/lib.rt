@@ -1,0 +1,183 @@
+//! A list of 32-bit words in one region of memory, which the list owns and frees once.
+//!
+//! This file has the list, in plain code over the region; `region.rt` has the region, and no other file follows a raw
+//! pointer. What words mean stands in the crates above.
+#![tactic(auto)]
+
+ghost use Rattle.std.specs.Prelude.{◌≡◌, ◌+◌, ◌*◌, ◌^◌, ◌<◌, ◌≤◌, [], ◌++◌, length, replicate, slice_index, slice_set, slice_range, OnOk, OnErr};
+ghost use Rattle.std.specs.List.{All, replace_range};
+ghost use Rattle.wb_chunk.specs.Halves.{half_of, with_half};
+
+use growth::{append_words, append_zeros, larger};
+use region::Region;
+use std::alloc::{AllocError, Global};
+use std::marker::Model;
+
+mod growth;
+mod region;
+#[cfg(test)]
+mod tests;
+
+/// The most words that a chunk can have: 16,777,216 bytes, the ceiling of a simulated heap in this project's profile.
+pub const MOST_WORDS: u32 = 4_194_304;
+
+/// A list of words, which grows at its end and never shrinks. Contracts see it as that list; each word is below 2^32,
+/// and there are at most [`MOST_WORDS`]. Words are counted from 0.
+pub struct Chunk {
+    region: Option<Region<Global>>,
+    count: u32,
+    capacity: u32,
+    alloc: Global,
+}
+
+impl Model for Chunk {
+    ghost use Rattle.std.specs.Prelude.{ℕ, List};
+    ghost use Rattle.wb_chunk.specs.Holding.{words_of, IsHeld};
+
+    ghost Value = { List ℕ };
+
+    ghost view = { λ c. words_of c.region };
+
+    ghost invariant = { λ c. IsHeld c.region c.count c.capacity c.alloc };
+}
+
+impl Drop for Chunk {
+    fn drop(self) {
+        let Chunk {
+            region,
+            count: _,
+            capacity,
+            alloc,
+        } = self;
+        if let Some(region) = region {
+            region.free(&alloc, capacity);
+        }
+    }
+}
+
+impl Chunk {
+    /// The chunk of no words, which takes no memory.
+    pub fn new(alloc: Global) -> Chunk
+        ensures { result ≡ [] }
+    {
+        Chunk {
+            region: None,
+            count: 0,
+            capacity: 0,
+            alloc,
+        }
+    }
+
+    /// How many words there are. A caller's proof learns here that they are at most [`MOST_WORDS`], and that each fits 32
+    /// bits.
+    pub fn words(&self) -> u32
+        ensures count { result ≡ length self.now }
+        ensures most { length self.now ≤ MOST_WORDS }
+        ensures fit { All (λ w. w < 2 ^ 32) self.now }
+    {
+        let words = self.as_slice();
+        words.len() as u32
+    }
+
+    /// Appends `n` words that are 0. On `Err` memory was refused, and the chunk is as it was. The region at least
+    /// doubles where it has to grow, so that many small growths cost no more than the words that they append.
+    pub fn grow(&mut self, n: u32) -> Result<(), AllocError>
+        requires { length self.old + n ≤ MOST_WORDS }
+        ensures grown { OnOk result (self.new ≡ self.old ++ replicate n 0) }
+        ensures refused { OnErr result (self.new ≡ self.old) }
+    {
+        let count = self.count + n;
+        if self.capacity < count {
+            let capacity = larger(self.capacity, count);
+            let mut region = Region::allocate(&self.alloc, capacity)?;
+            append_words(&mut region, 0, self.as_slice());
+            append_zeros(&mut region, self.count, n);
+            if let Some(old) = self.region.replace(region) {
+                old.free(&self.alloc, self.capacity);
+            }
+            self.capacity = capacity;
+        } else if let Some(region) = &mut self.region {
+            append_zeros(region, self.count, n);
+        }
+        self.count = count;
+        Ok(())
+    }
+
+    /// The word at an index.
+    pub fn word(&self, i: u32) -> u32
+        requires { i < length self.now }
+        ensures { result ≡ slice_index self.now i }
+    {
+        self.as_slice()[i as usize]
+    }
+
+    /// Puts another word at an index.
+    pub fn set_word(&mut self, i: u32, v: u32)
+        requires { i < length self.old }
+        ensures { self.new ≡ slice_set self.old i v }
+    {
+        if let Some(region) = &mut self.region {
+            region.as_mut_slice(self.count)[i as usize] = v;
+        }
+    }
+
+    /// The 16 bits at an index of halves: half 2k is the low half of word k, and half 2k + 1 the high one.
+    pub fn half(&self, i: u32) -> u16
+        requires { i < 2 * length self.now }
+        ensures { result ≡ half_of self.now i }
+    {
+        let word = self.word(i / 2);
+        if i % 2 == 0 {
+            (word % 0x1_0000) as u16
+        } else {
+            (word / 0x1_0000) as u16
+        }
+    }
+
+    /// Puts other 16 bits at an index of halves, and leaves the word's other half.
+    pub fn set_half(&mut self, i: u32, v: u16)
+        requires { i < 2 * length self.old }
+        ensures { self.new ≡ with_half self.old i v }
+    {
+        let word = self.word(i / 2);
+        let mixed = if i % 2 == 0 {
+            word / 0x1_0000 * 0x1_0000 + v as u32
+        } else {
+            v as u32 * 0x1_0000 + word % 0x1_0000
+        };
+        self.set_word(i / 2, mixed);
+    }
+
+    /// Makes the `n` words from `i` on 0.
+    pub fn zero(&mut self, i: u32, n: u32)
+        requires { i + n ≤ length self.old }
+        ensures { self.new ≡ replace_range self.old i (i + n) (replicate n 0) }
+    {
+        if let Some(region) = &mut self.region {
+            region.as_mut_slice(self.count)[i as usize..(i + n) as usize].fill(0);
+        }
+    }
+
+    /// Puts the `n` words from `from` on at `to`, as if all had been read before any was written: the two ranges may
+    /// overlap.
+    pub fn copy(&mut self, from: u32, to: u32, n: u32)
+        requires source { from + n ≤ length self.old }
+        requires target { to + n ≤ length self.old }
+        ensures { self.new ≡ replace_range self.old to (to + n) (slice_range self.old from (from + n)) }
+    {
+        if let Some(region) = &mut self.region {
+            let words = region.as_mut_slice(self.count);
+            words.copy_within(from as usize..(from + n) as usize, to as usize);
+        }
+    }
+
+    fn as_slice(&self) -> &[u32]
+        ensures words { result.now ≡ self.now }
+        ensures most { length self.now ≤ MOST_WORDS }
+    {
+        match &self.region {
+            Some(region) => region.as_slice(self.count),
+            None => &[],
+        }
+    }
+}

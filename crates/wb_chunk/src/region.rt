@@ -1,0 +1,80 @@
+//! The memory of a chunk: a block with words in it, and the right to free it.
+//!
+//! Only the functions here follow a raw pointer, and each is proved by hand. A region does not keep how many words it
+//! has, nor for how many it has room: its owner does, and passes them in.
+
+ghost use Rattle.std.specs.Prelude.{◌≡◌, ℕ, ◌<◌, ◌≤◌, List, [], ◌∷◌, ◌++◌, length, IfOk};
+ghost use Rattle.std.specs.Borrow.{u32, Array, sem};
+ghost use Rattle.std.specs.Allocator.{block_with_items};
+ghost use denote.Struct.Lending.{lent_at};
+
+use std::alloc::{AllocError, Allocator};
+use std::marker::{Model, PhantomData};
+use std::slice;
+
+/// Words at the start of a block of memory, which has room for `capacity` of them. No region is dropped: `free` alone
+/// ends one, so that its block goes back to the allocator exactly once.
+pub(crate) struct Region<A: Allocator> {
+    start: *mut u32,
+    mark: PhantomData<A>,
+    ghost words: { List ℕ },
+    ghost capacity: { ℕ },
+    ghost alloc: { A },
+}
+
+impl<A: Allocator> Model for Region<A> {
+    ghost also_owns = { λ r. block_with_items (A.dealloc_token r.alloc) u32 r.start (length r.words) r.capacity r.words };
+
+    ghost also_shares = { λ r _ κ. lent_at (Array u32 (length r.words)) r.start r.words κ };
+}
+
+impl<A: Allocator> Region<A> {
+    ghost use Rattle.wb_chunk.specs.Lending.{lends_words};
+
+    /// A block with room for so many words, none of which is written.
+    pub(crate) fn allocate(alloc: &A, capacity: u32) -> Result<Region<A>, AllocError>
+        ensures { IfOk result (λ r. (r.words ≡ []) × (r.capacity ≡ capacity) × (r.alloc ≡ alloc.now)) }
+    {
+        match alloc.allocate(capacity as usize * 4, 4) {
+            Ok(block) => Ok(Region {
+                start: block as *mut u32,
+                mark: PhantomData,
+            }),
+            Err(error) => Err(error),
+        }
+    }
+
+    /// Gives the block back.
+    pub(crate) fn free(self, alloc: &A, capacity: u32)
+        requires alloc { self.alloc ≡ alloc.now }
+        requires capacity { (self.capacity ≡ capacity) × (length self.words ≤ capacity) }
+    {
+        let Region { start, mark: _ } = self;
+        unsafe { alloc.deallocate(start as *mut u8, capacity as usize * 4, 4) }
+    }
+
+    /// Writes a word behind the others.
+    pub(crate) fn append(&mut self, count: u32, word: u32)
+        requires { (count ≡ length self.old.words) × (count < self.old.capacity) }
+        ensures { (self.new.words ≡ self.old.words ++ word ∷ []) × (self.new.capacity ≡ self.old.capacity) × (self.new.alloc ≡ self.old.alloc) }
+    {
+        unsafe { self.start.add(count as usize).write(word) }
+    }
+
+    /// The words, to be read.
+    pub(crate) fn as_slice(&self, count: u32) -> &[u32]
+        requires { count ≡ length self.now.words }
+        ensures { result.now ≡ self.now.words }
+    {
+        unsafe { slice::from_raw_parts(self.start, count as usize) }
+    }
+
+    /// The words, to be changed in place.
+    pub(crate) fn as_mut_slice(&mut self, count: u32) -> &mut [u32]
+        requires { count ≡ length self.old.words }
+        ensures* writes_back { sem 𝓛 (lends_words A.row A.Allocator self.entry result) }
+        ensures value { result.now ≡ self.old.words }
+    {
+        unsafe { slice::from_raw_parts_mut(self.start, count as usize) }
+    }
+}
