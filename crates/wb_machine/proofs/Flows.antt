@@ -1,5 +1,5 @@
 -- What attempts and statements come to, over what is held.
-use Rattle.std.proofs.Common.{◌≡◌, ℕ, ◌+◌, false, List, [], length, refl, ap, ◌∙◌, sym, Option, Some, None}
+use Rattle.std.proofs.Common.{◌≡◌, ℕ, ◌+◌, false, List, length, refl, ap, ◌∙◌, sym, Option, Some, None}
 use Rattle.wb_model.specs.declared.heap.Ptr.{Ptr}
 use Rattle.wb_model.specs.declared.heap.Kind.{Kind}
 use Rattle.wb_model.specs.declared.heap.Rule.{Rule}
@@ -77,6 +77,6 @@ allocated r script h bytes kind fresh go k o answer limit is =
         ap (λ (row : List (Cell Content)). settled r space (and_then (go (Some ptr) (set_heap (state_of script h) (record { row = row; level = 0; setting = never }))) k)
         (recorded space n (request_for h len) Granted (account_of h))) (granted_row script h len n kind fresh is)
         ∙ ap (λ b. settled r space (and_then (go (Some ptr) (state_of script (after_answer h len kind (Some Granted)))) k)
-        (record { trace = (after_answer h len kind (Some Granted)).trace; notes = []; committed = committed_by (space_below (bound_below b) h.heap.shape) h.heap.committed (place_in h.heap len + len) })) (sym limit)
+        (record { trace = (after_answer h len kind (Some Granted)).trace; notes = h.notes; committed = committed_by (space_below (bound_below b) h.heap.shape) h.heap.committed (place_in h.heap len + len) })) (sym limit)
     by (Some Simulated) = refl
     by (Some Refused) = refl

@@ -147,7 +147,7 @@ unfolding statement flow with_readable with_units with_base
 print_text_kept r script rec at h i k = refl
 
 -- what was carried out is what the statement makes
-carried_same : (r : Rule) (script : Script) (rec : Meaning) (h g : Held) (c : Carried) (ending : Ending) (layer was : Layer) →
+pub carried_same : (r : Rule) (script : Script) (rec : Meaning) (h g : Held) (c : Carried) (ending : Ending) (layer was : Layer) →
     ending ≡ c.ending → g ≡ c.held → layer ≡ was →
     IsSameFlow r (ended_by c.ending (state_of script c.held)) c.held (statement script rec in_main_frame was (state_of script h)) h →
     IsSameFlow r (ended_by ending (state_of script g)) g (statement script rec in_main_frame layer (state_of script h)) h

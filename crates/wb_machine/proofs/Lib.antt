@@ -4,7 +4,9 @@ pub mod Fitting
 pub mod Flows
 pub mod Kept
 pub mod Leaks
+pub mod Noted
 pub mod Outcomes
 pub mod Rows
 pub mod Scripts
 pub mod Steps
+pub mod Stores

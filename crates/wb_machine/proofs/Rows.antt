@@ -1,18 +1,21 @@
 -- Reading the words of a row's cells as content goes along with what is done to rows.
-use Rattle.std.proofs.Common.{◌≡◌, ◌≢◌, ℕ, ◌+◌, ◌-◌, ◌*◌, ◌/◌, ◌<◌, ◌≤◌, ◌++◌, get_or, subst, length-append, zero, suc, pos, Bool, true, false, not, List, [], ◌∷◌, length, map, refl, ap, ◌∙◌, sym, arith, cond, All, Some, replicate}
+use Rattle.std.proofs.Common.{◌≡◌, ◌≢◌, ℕ, ◌+◌, ◌-◌, ◌*◌, ◌/◌, ◌<◌, ◌≤◌, ◌++◌, ◌^◌, get_or, subst, length-append, zero, suc, ℤ, pos, negsuc, w32, FitsSigned, Bool, true, false, not, List, [], ◌∷◌, length, map, refl, ap, ◌∙◌, sym, arith, cond, All, Some, replicate}
 use Rattle.std.specs.Prelude.{nat_lt, option_map}
+use Rattle.std.specs.Int.{cast_unsigned}
+use Rattle.std.proofs.lemmas.Int.{to_z-of_z}
 use Rattle.wb_model.specs.declared.heap.Ptr.{Ptr}
 use Rattle.wb_model.specs.declared.heap.Attempt.{Attempt}
 use Rattle.wb_model.specs.declared.heap.Header.{Header}
 use Rattle.wb_model.specs.declared.heap.Kind.{Kind}
 use Rattle.wb_model.specs.declared.heap.Kind.TheVariants.{Raw}
 use Rattle.wb_model.specs.declared.script.Script.{Script}
-use Rattle.wb_model.specs.Row.{Cell, headers, is_at, cell_at, without, inserted, cell_length}
+use Rattle.wb_model.specs.Row.{Cell, headers, is_at, cell_at, without, inserted, changed, cell_length}
+use Rattle.wb_model.specs.CellRow.{with_payload}
 use Rattle.wb_model.specs.State.{words}
 use Rattle.wb_model.specs.Statements.{fresh_words}
 use Rattle.wb_model.specs.Spelling.{signed, read_as}
 use Rattle.wb_model.specs.LimitedHeap.{LimitedHeap, zero_words, heap_with}
-use Rattle.wb_machine.specs.Held.{read_cell, read_row, AreNumbered}
+use Rattle.wb_machine.specs.Held.{field_count, read_cell, read_row, AreNumbered}
 
 pub headers_read : (script : Script) (row : List (Cell (List ℕ))) → headers (read_row script row) ≡ headers row
 headers_read script [] = refl
@@ -59,6 +62,34 @@ read_fresh count bytes =
     let n : cell_length bytes / 4 - 4 ≡ 4 * ((bytes + 15) / 16) = omega arith in
     ap (λ k. words (map signed (replicate k 0))) n ∙ ap words (signed_zeros (4 * ((bytes + 15) / 16)))
 
+pub length_read : (script : Script) (row : List (Cell (List ℕ))) → length (read_row script row) ≡ length row
+length_read script [] = refl
+length_read script (c ∷ cs) = ap suc (length_read script cs)
+
+-- another payload of a Raw cell
+pub read_changed : (script : Script) (p : Ptr) (ws : List ℕ) (row : List (Cell (List ℕ))) (c : Cell (List ℕ)) → cell_at p row ≡ Some c → c.head.kind ≡ Raw →
+    read_row script (with_payload p ws row) ≡ changed p (λ _. words (map signed ws)) (read_row script row)
+read_changed script p ws [] c e raw = cc
+read_changed script p ws (d ∷ ds) c e raw = go (is_at p d.head) e (λ e. read_changed script p ws ds c e raw)
+  where
+    go : (b : Bool) → cond b (Some d) (cell_at p ds) ≡ Some c →
+        (cell_at p ds ≡ Some c → read_row script (with_payload p ws ds) ≡ changed p (λ _. words (map signed ws)) (read_row script ds)) →
+        read_row script (cond b (record d { content = ws } ∷ ds) (d ∷ with_payload p ws ds))
+        ≡ cond b (record (read_cell script d) { content = words (map signed ws) } ∷ read_row script ds)
+        (read_cell script d ∷ changed p (λ _. words (map signed ws)) (read_row script ds))
+    go true e rest =
+        let same : d ≡ c = cc in
+        ap (λ k. record { head = d.head; content = read_as (field_count script) k ws } ∷ read_row script ds) (ap (λ (x : Cell (List ℕ)). x.head.kind) same ∙ raw)
+    go false e rest = ap (λ r. read_cell script d ∷ r) (rest e)
+
+-- the word of a number reads as that number
+pub signed_word : (z : ℤ) → FitsSigned w32 z → signed (cast_unsigned w32 z) ≡ z
+signed_word z fits = same (cast_unsigned w32 z) (nat_lt (cast_unsigned w32 z) (2 ^ 31)) ∙ to_z-of_z w32 z fits
+  where
+    same : (w : ℕ) (b : Bool) → cond b (pos w) (negsuc (2 ^ 32 - 1 - w)) ≡ cond b (pos w) (negsuc (2 ^ 32 - suc w))
+    same w true = refl
+    same w false = ap negsuc (omega arith)
+
 pub numbered_more : (row : List (Cell (List ℕ))) (n m : ℕ) → n ≤ m → AreNumbered row n → AreNumbered row m
 numbered_more [] n m le a = tt
 numbered_more (c ∷ cs) n m le a = (omega (arith, a.0, le), numbered_more cs n m le a.1)
@@ -78,6 +109,14 @@ numbered_without p (c ∷ cs) n a = go (numbered_without p cs n a.1) (not (is_at
     go : AreNumbered (without p cs) n → (b : Bool) → AreNumbered (cond b (c ∷ without p cs) (without p cs)) n
     go h true = (a.0, h)
     go h false = h
+
+pub numbered_changed : (p : Ptr) (ws : List ℕ) (row : List (Cell (List ℕ))) (n : ℕ) → AreNumbered row n → AreNumbered (with_payload p ws row) n
+numbered_changed p ws [] n a = tt
+numbered_changed p ws (c ∷ cs) n a = go (numbered_changed p ws cs n a.1) (is_at p c.head)
+  where
+    go : AreNumbered (with_payload p ws cs) n → (b : Bool) → AreNumbered (cond b (record c { content = ws } ∷ cs) (c ∷ with_payload p ws cs)) n
+    go h true = a
+    go h false = (a.0, h)
 
 -- the next attempt's number is no live cell's
 pub numbered_unused : (row : List (Cell (List ℕ))) (n m : ℕ) → AreNumbered row n → m ≡ n + 1 → All (λ h. h.number ≢ m) (headers row)

@@ -1,16 +1,21 @@
 -- What carrying out a statement makes of what is held, and how it ends.
-use Rattle.std.specs.Prelude.{ℕ, ◌+◌, List, [], ◌∷◌, ◌++◌, length, if◌then◌else◌, Option, Some, None, slice_get, slice_set, unwrap_or, replicate}
+use Rattle.std.specs.Prelude.{ℕ, ℤ, ◌+◌, List, [], ◌∷◌, ◌++◌, length, if◌then◌else◌, Option, Some, None, slice_get, slice_set, unwrap_or, replicate, sum}
+use Rattle.std.specs.Int.{w32, cast_unsigned}
 use Rattle.wb_model.specs.declared.heap.Ptr.{Ptr}
 use Rattle.wb_model.specs.declared.heap.Rule.{Rule}
 use Rattle.wb_model.specs.declared.heap.Kind.TheVariants.{Raw, Cleanup}
 use Rattle.wb_model.specs.declared.heap.Answer.{Answer}
 use Rattle.wb_model.specs.declared.heap.Answer.TheVariants.{Granted, Simulated, Refused}
 use Rattle.wb_model.specs.declared.heap.Panic.TheVariants.{User, Workbench}
+use Rattle.wb_model.specs.declared.run.Note.{Note}
+use Rattle.wb_model.specs.declared.run.Note.TheVariants.{Heap, Available, Compress}
 use Rattle.wb_model.specs.declared.run.Why.TheVariants.{Ceiling}
-use Rattle.wb_model.specs.Row.{Cell, cell_at, cell_length}
+use Rattle.wb_model.specs.Row.{Cell, headers, cell_at, cell_length, usable_of, total_length}
+use Rattle.wb_model.specs.CellRow.{payload_of}
+use Rattle.wb_model.specs.Space.{longest}
 use Rattle.wb_model.specs.State.{null}
-use Rattle.wb_model.specs.Statements.{is_null}
-use Rattle.wb_model.specs.LimitedHeap.{place_in, heap_without}
+use Rattle.wb_model.specs.Statements.{is_null, is_raw, index_in}
+use Rattle.wb_model.specs.LimitedHeap.{place_in, heap_without, heap_changed, heap_compressed, reclaimed_from, runs_in}
 use Rattle.wb_machine.specs.declared.control.Ending.{Ending}
 use Rattle.wb_machine.specs.declared.control.Ending.TheVariants.{GoesOn, Panics, Cut, NoCleanup}
 use Rattle.wb_machine.specs.Held.{Held, answer_for, after_answer}
@@ -48,6 +53,37 @@ free_found h p (Some c) = record { ending = GoesOn; held = record h { heap = hea
 -- a release
 abbrev pub free_carried : Held → Ptr → Carried
 free_carried h p = if is_null p then record { ending = GoesOn; held = h } else free_found h p (cell_at p h.heap.row)
+
+-- a word of a payload gets another
+abbrev pub word_stored : Held → Ptr → Option ℕ → ℕ → Carried
+word_stored h p None word = record { ending = Panics (Workbench 9); held = h }
+word_stored h p (Some k) word =
+    record { ending = GoesOn; held = record h { heap = heap_changed h.heap p (slice_set (payload_of p h.heap.row) k word) } }
+
+abbrev pub store_found : Held → Ptr → ℤ → ℕ → Option (Cell (List ℕ)) → Carried
+store_found h p index word None = record { ending = Panics (Workbench 1); held = h }
+store_found h p index word (Some c) =
+    if is_raw c.head.kind then word_stored h p (index_in (usable_of c.head) index) word else record { ending = Panics (Workbench 2); held = h }
+
+-- a number stored, as its word in two's complement
+abbrev pub store_carried : Held → Ptr → ℤ → ℤ → Carried
+store_carried h p index value = store_found h p index (cast_unsigned w32 value) (cell_at p h.heap.row)
+
+-- one more note
+abbrev pub with_note : Held → Note → Held
+with_note h note = record h { notes = h.notes ++ note ∷ [] }
+
+-- a note of the live cells
+abbrev pub heap_noted : Held → Held
+heap_noted h = with_note h (Heap (length h.heap.row) (total_length (headers h.heap.row)) h.heap.committed)
+
+-- a note of the free bytes
+abbrev pub available_noted : Held → Held
+available_noted h = with_note h (Available (sum (runs_in h.heap)) (longest (runs_in h.heap)))
+
+-- a compression, with a note of what it reclaimed
+abbrev pub compress_noted : Held → Held
+compress_noted h = with_note (record h { heap = heap_compressed h.heap }) (Compress (reclaimed_from h.heap))
 
 -- a printed line
 abbrev pub print_carried : Held → List ℕ → Carried

@@ -9,6 +9,7 @@ use Rattle.wb_model.specs.declared.heap.Answer.TheVariants.{Granted, Simulated, 
 use Rattle.wb_model.specs.declared.heap.Attempt.{Attempt}
 use Rattle.wb_model.specs.declared.heap.Gave.{Gave}
 use Rattle.wb_model.specs.declared.heap.Gave.TheVariants as G
+use Rattle.wb_model.specs.declared.run.Note.{Note}
 use Rattle.wb_model.specs.declared.script.Body.{Body}
 use Rattle.wb_model.specs.declared.script.Script.{Script}
 use Rattle.wb_model.specs.Row.{Cell}
@@ -19,18 +20,19 @@ use Rattle.wb_model.specs.Account.{Account}
 use Rattle.wb_model.specs.LimitedHeap.{LimitedHeap, empty_heap, place_in, heap_with}
 use Rattle.wb_model.specs.Spelling.{read_as}
 
--- the heap with its cells as words, the cleanup stack's cell, the locals, what was printed, the attempts, and the steps
+-- the heap with its cells as words, the cleanup stack's cell, the locals, what was printed, the notes, the attempts, and the steps
 pub record Held : Type 0 where
   pub heap : LimitedHeap
   pub cleanup : Ptr
   pub locals : List Ptr
   pub lines : List (List ℕ)
+  pub notes : List Note
   pub trace : List Attempt
   pub steps : ℕ
 
 -- nothing is done yet
 abbrev pub start_held : ℕ → Shape → Held
-start_held limit shape = record { heap = empty_heap limit shape; cleanup = null; locals = []; lines = []; trace = []; steps = 0 }
+start_held limit shape = record { heap = empty_heap limit shape; cleanup = null; locals = []; lines = []; notes = []; trace = []; steps = 0 }
 
 -- the body of `main`
 abbrev pub main_of : Script → Body
@@ -61,7 +63,7 @@ state_of script h = record {
 
 -- and the account
 abbrev pub account_of : Held → Account
-account_of h = record { trace = h.trace; notes = []; committed = h.heap.committed }
+account_of h = record { trace = h.trace; notes = h.notes; committed = h.heap.committed }
 
 -- what an attempt for a cell of this length asks
 abbrev pub request_for : Held → ℕ → Request

@@ -1,5 +1,5 @@
 -- What a run that is over tells, of what is held.
-use Rattle.std.specs.Prelude.{List, [], None, map}
+use Rattle.std.specs.Prelude.{List, None, map}
 use Rattle.wb_model.specs.declared.run.Leak.{Leak}
 use Rattle.wb_model.specs.declared.run.Outcome.{Outcome}
 use Rattle.wb_model.specs.declared.run.Outcome.TheVariants as outcomes
@@ -22,4 +22,4 @@ outcome_by (Cut why) leaks = outcomes.Cut why
 outcome_by NoCleanup leaks = outcomes.NoCleanup
 
 abbrev pub told_by : Ending → List Leak → Held → RunResult
-told_by ending leaks h = record { outcome = outcome_by ending leaks; trace = h.trace; lines = h.lines; notes = []; steps = h.steps }
+told_by ending leaks h = record { outcome = outcome_by ending leaks; trace = h.trace; lines = h.lines; notes = h.notes; steps = h.steps }

@@ -179,7 +179,7 @@ impl<'a> Machine<'a> {
         ensures { result ≡ run self.entry.script self.entry.rule self.entry.budget self.entry.shape }
     {
         let Machine {
-            alloc,
+            alloc: _,
             script: _,
             rule: _,
             budget: _,
@@ -189,7 +189,7 @@ impl<'a> Machine<'a> {
             leaks,
             failed: _,
         } = self;
-        state.finish(alloc, control.ending(), leaks)
+        state.finish(control.ending(), leaks)
     }
 }
 

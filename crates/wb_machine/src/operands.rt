@@ -2,6 +2,7 @@
 
 ghost use Rattle.std.specs.Prelude.{◌≡◌, ℕ, IsTrue};
 ghost use Rattle.wb_model.specs.Operands.{within};
+ghost use Rattle.wb_model.specs.Statements.{index_in};
 ghost use Rattle.wb_model.specs.Reading.{literal_of};
 ghost use Rattle.wb_model.specs.declared.script.Holder.TheVariants.{Local};
 ghost use Rattle.wb_model.specs.declared.script.Pointer.TheVariants.{Held};
@@ -20,6 +21,17 @@ pub fn bytes_within(number: i32) -> Option<u32>
 {
     if 0 <= number && number <= GREATEST {
         Some(number as u32)
+    } else {
+        None
+    }
+}
+
+/// The word that an index names, in a payload of so many bytes.
+pub fn word_within(usable: u32, index: i32) -> Option<u32>
+    ensures { result ≡ index_in usable index }
+{
+    if 0 <= index && (index as u32) < usable / 4 {
+        Some(index as u32)
     } else {
         None
     }

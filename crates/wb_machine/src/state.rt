@@ -8,17 +8,18 @@ ghost use Rattle.wb_model.specs.Operands.{within};
 ghost use Rattle.wb_model.specs.Space.{is_shape, limit_under};
 ghost use Rattle.wb_model.specs.LimitedHeap.{IsCellLength, heap_with, place_in};
 ghost use Rattle.wb_model.specs.Sound.{is_statement};
-ghost use Rattle.wb_model.specs.Statements.{Meaning, statement};
+ghost use Rattle.wb_model.specs.Statements.{Meaning, is_raw, statement};
 ghost use Rattle.wb_model.specs.Rest.{Fits};
 ghost use Rattle.wb_model.specs.declared.heap.Rule.{Rule};
 ghost use Rattle.wb_model.specs.declared.script.Statement.TheViews.{out-Statement};
 ghost use Rattle.wb_machine.specs.Flow.{in_main_frame, ended_by, is_stop, IsSameFlow, Stays};
 ghost use Rattle.wb_machine.specs.Told.{leaks_held, outcome_by, told_by};
 ghost use Rattle.wb_machine.specs.Held.{start_held, main_of, state_of, answer_for, gave_by, after_answer};
-ghost use Rattle.wb_machine.specs.Carried.{local_in, stored, stepped, entered, alloc_carried, free_carried, print_carried};
+ghost use Rattle.wb_machine.specs.declared.control.Ending.TheVariants.{GoesOn};
+ghost use Rattle.wb_machine.specs.Carried.{local_in, stored, stepped, entered, alloc_carried, free_carried, store_carried, print_carried, with_note, heap_noted, available_noted, compress_noted};
 
 use crate::control::Ending;
-use crate::operands::{bytes_within, constant_of, literal, local_of};
+use crate::operands::{bytes_within, constant_of, literal, local_of, word_within};
 use crate::print::{number_line, text_line};
 use crate::rules::{answer, cell_length, limit_under};
 use std::alloc::{AllocError, Global};
@@ -27,7 +28,7 @@ use wb_model::heap::{Answer, Attempt, Gave, Kind, Panic, Ptr, Rule, Shape};
 use wb_model::items::Items;
 use wb_model::line::Line;
 use wb_model::memory::NoMemory;
-use wb_model::run::{Leak, Leaks, Lines, Outcome, RunResult, Why};
+use wb_model::run::{Leak, Leaks, Lines, Note, Notes, Outcome, RunResult, Why};
 use wb_model::script::{Script, Statement};
 use wb_rheap::fault::HeapFault;
 use wb_rheap::heap::Heap;
@@ -45,6 +46,7 @@ pub struct State {
     cleanup: Ptr,
     locals: Vec<Ptr>,
     lines: Lines,
+    notes: Notes,
     trace: Vec<Attempt>,
     steps: u32,
 }
@@ -91,6 +93,7 @@ impl State {
             cleanup: NULL,
             locals: Vec::new(alloc),
             lines: Items::new(alloc),
+            notes: Items::new(alloc),
             trace: Vec::new(alloc),
             steps: 0,
         })
@@ -202,6 +205,66 @@ impl State {
         }
     }
 
+    /// Stores a number in a word of the cell that a pointer names.
+    fn store(&mut self, ptr: Ptr, index: i32, value: i32) -> Ending
+        ensures ending { result ≡ (store_carried self.old ptr index value).ending }
+        ensures held { self.new ≡ (store_carried self.old ptr index value).held }
+        ensures stays { Stays self.old self.new }
+    {
+        let Some(header) = self.heap.header(ptr) else {
+            return Ending::Panics(Panic::Workbench(1));
+        };
+        if !is_raw(header.kind) {
+            return Ending::Panics(Panic::Workbench(2));
+        }
+        let Some(word) = word_within(header.length - 16, index) else {
+            return Ending::Panics(Panic::Workbench(9));
+        };
+        self.heap.set_payload(ptr, word, value.cast_unsigned());
+        Ending::GoesOn
+    }
+
+    /// Makes a note.
+    fn note(&mut self, note: Note) -> Result<Ending, NoMemory>
+        ensures ending { IfOk result (λ ending. ending ≡ GoesOn) }
+        ensures held { OnOk result (self.new ≡ with_note self.old note) }
+        ensures stays { Stays self.old self.new }
+    {
+        self.notes.push(note)?;
+        Ok(Ending::GoesOn)
+    }
+
+    /// Notes how many cells are live, their total length, and the committed length.
+    fn note_heap(&mut self) -> Result<Ending, NoMemory>
+        ensures ending { IfOk result (λ ending. ending ≡ GoesOn) }
+        ensures held { OnOk result (self.new ≡ heap_noted self.old) }
+        ensures stays { Stays self.old self.new }
+    {
+        let (count, total) = self.heap.alloc_size();
+        let committed = self.heap.committed();
+        self.note(Note::Heap(count, total, committed))
+    }
+
+    /// Notes the total and the longest of the free runs.
+    fn note_available(&mut self) -> Result<Ending, NoMemory>
+        ensures ending { IfOk result (λ ending. ending ≡ GoesOn) }
+        ensures held { OnOk result (self.new ≡ available_noted self.old) }
+        ensures stays { Stays self.old self.new }
+    {
+        let (total, longest) = self.heap.available();
+        self.note(Note::Available(total, longest))
+    }
+
+    /// Compresses the heap, and notes what that reclaims.
+    fn note_compress(&mut self) -> Result<Ending, NoMemory>
+        ensures ending { IfOk result (λ ending. ending ≡ GoesOn) }
+        ensures held { OnOk result (self.new ≡ compress_noted self.old) }
+        ensures stays { Stays self.old self.new }
+    {
+        let reclaimed = self.heap.compress();
+        self.note(Note::Compress(reclaimed))
+    }
+
     /// Prints a line.
     fn print(&mut self, line: Line) -> Result<Ending, NoMemory>
         ensures ending { IfOk result (λ ending. ending ≡ (print_carried self.old line).ending) }
@@ -263,6 +326,13 @@ impl State {
             }
             Statement::PrintText(text) => self.print(text_line(literal(script, *text))),
             Statement::PrintNumber(number) => self.print(number_line(constant_of(*number))),
+            Statement::Store(pointer, index, value) => {
+                let ptr = self.local(local_of(*pointer));
+                Ok(self.store(ptr, constant_of(*index), constant_of(*value)))
+            }
+            Statement::NoteHeap => self.note_heap(),
+            Statement::NoteAvailable => self.note_available(),
+            Statement::NoteCompress => self.note_compress(),
             _ => unreachable!(),
         }
     }
@@ -289,7 +359,7 @@ impl State {
     }
 
     /// What a run tells that ended so, with these leaks.
-    pub fn finish(self, alloc: Global, ending: Ending, leaks: Leaks) -> RunResult
+    pub fn finish(self, ending: Ending, leaks: Leaks) -> RunResult
         ensures { result ≡ told_by ending leaks self }
     {
         let State {
@@ -297,6 +367,7 @@ impl State {
             cleanup: _,
             locals: _,
             lines,
+            notes,
             trace,
             steps,
         } = self;
@@ -304,9 +375,19 @@ impl State {
             outcome: outcome_by(ending, leaks),
             trace: Items::from_vec(trace),
             lines,
-            notes: Items::new(alloc),
+            notes,
             steps,
         }
+    }
+}
+
+/// Whether a cell holds words that the script stores itself.
+fn is_raw(kind: Kind) -> bool
+    ensures { result ≡ is_raw kind }
+{
+    match kind {
+        Kind::Raw => true,
+        Kind::Object(_) | Kind::Cleanup | Kind::Text => false,
     }
 }
 

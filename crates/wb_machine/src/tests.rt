@@ -1,7 +1,7 @@
 //! Whole runs of small scripts, with the results that they must have.
 
 ghost use Rattle.std.specs.Prelude.{IsTrue, IfSome, IfOk, None, replicate};
-ghost use Rattle.wb_model.specs.Sound.{are_statements, is_pointer, is_script, is_statement};
+ghost use Rattle.wb_model.specs.Sound.{are_statements, is_number, is_pointer, is_script, is_statement};
 ghost use Rattle.wb_model.specs.declared.script.Local.TheVariants.{OfPointer};
 ghost use Rattle.wb_model.specs.declared.script.Statement.TheViews.{out-Statement};
 
@@ -10,7 +10,7 @@ use std::alloc::{AllocError, Global};
 use std::test::Fail;
 use wb_model::heap::{Answer, Attempt, Panic, Rule, Shape};
 use wb_model::items::Items;
-use wb_model::run::{Leak, Outcome, Why};
+use wb_model::run::{Leak, Note, Outcome, Why};
 use wb_model::script::{
     Body, Holder, Local, Number, Pointer, Procedure, Readable, Refusal, Script, Statement,
 };
@@ -25,8 +25,19 @@ const SHAPE: Shape = Shape {
 enum Order {
     Alloc(u8, i32),
     Free(u8),
+    Store(u8, i32, i32),
     Number(i32),
     Text,
+    Heap,
+    Available,
+    Compress,
+}
+
+/// A number of at most nine digits.
+fn constant(number: i32) -> Option<Number>
+    ensures { IfSome result (λ v. IsTrue (is_number v)) }
+{
+    (-999_999_999 <= number && number <= 999_999_999).then_some(Number::Constant(number))
 }
 
 /// The local with this index, where there is one.
@@ -41,17 +52,20 @@ fn statement(order: Order) -> Option<Statement>
     ensures { IfSome result (λ s. IsTrue (is_statement 1 (replicate 3 (OfPointer None)) (out-Statement s))) }
 {
     match order {
-        Order::Alloc(index, bytes) if 0 <= bytes && bytes <= 999_999_999 => {
+        Order::Alloc(index, bytes) => {
             let target = local(index)?;
-            Some(Statement::Alloc(target, Number::Constant(bytes), Refusal::GivesNull))
+            Some(Statement::Alloc(target, constant(bytes)?, Refusal::GivesNull))
         }
-        Order::Alloc(..) => None,
         Order::Free(index) => Some(Statement::Free(local(index)?)),
-        Order::Number(number) if -999_999_999 <= number && number <= 999_999_999 => {
-            Some(Statement::PrintNumber(Number::Constant(number)))
+        Order::Store(index, word, value) => {
+            let target = local(index)?;
+            Some(Statement::Store(target, constant(word)?, constant(value)?))
         }
-        Order::Number(_) => None,
+        Order::Number(number) => Some(Statement::PrintNumber(constant(number)?)),
         Order::Text => Some(Statement::PrintText(Readable::Quoted(0))),
+        Order::Heap => Some(Statement::NoteHeap),
+        Order::Available => Some(Statement::NoteAvailable),
+        Order::Compress => Some(Statement::NoteCompress),
     }
 }
 
@@ -154,6 +168,15 @@ fn each_rule_has_its_trace(rt: HostRuntime) -> Result<(), Fail> {
     let first = attempt(1, 144, 0, Answer::Granted);
     let cases = [
         (
+            Rule::Limit(303),
+            [
+                first,
+                attempt(2, 32, 144, Answer::Granted),
+                attempt(3, 128, 176, Answer::Refused),
+                attempt(4, 32, 144, Answer::Granted),
+            ],
+        ),
+        (
             Rule::Unlimited,
             [
                 first,
@@ -194,10 +217,11 @@ fn each_rule_has_its_trace(rt: HostRuntime) -> Result<(), Fail> {
 fn runs_that_stop(rt: HostRuntime) -> Result<(), Fail> {
     let over = Order::Alloc(0, 1_048_577);
     let most = Order::Alloc(0, 1_048_576);
-    let cases: [(&[Order], Rule, u32, End, u32, usize); 8] = [
+    let cases: [(&[Order], Rule, u32, End, u32, usize); 9] = [
         (&REUSES, Rule::Unlimited, 5, End::Cut(Why::Budget), 5, 4),
         (&REUSES, Rule::Number(1), 9, End::NoCleanup, 0, 1),
         (&REUSES, Rule::Limit(143), 9, End::NoCleanup, 0, 1),
+        (&REUSES, Rule::Limit(0), 9, End::NoCleanup, 0, 1),
         (&[], Rule::Unlimited, 1, End::Plainly(0), 0, 1),
         (
             &[over],
@@ -233,6 +257,135 @@ fn runs_that_stop(rt: HostRuntime) -> Result<(), Fail> {
         assert_eq!(rt; told.steps, *steps);
         assert_eq!(rt; told.trace.len(), *attempts);
     }
+    Ok(())
+}
+
+#[test]
+fn stores_that_stop_a_run(rt: HostRuntime) -> Result<(), Fail> {
+    let get = Order::Alloc(0, 16);
+    let cases: [(&[Order], End, u32); 6] = [
+        (
+            &[get, Order::Store(0, 3, -1), Order::Store(0, 0, 7)],
+            End::Plainly(1),
+            3,
+        ),
+        (
+            &[Order::Store(0, 0, 1)],
+            End::Panicked(Panic::Workbench(1)),
+            1,
+        ),
+        (
+            &[get, Order::Free(0), Order::Store(0, 4, 1)],
+            End::Panicked(Panic::Workbench(1)),
+            3,
+        ),
+        (
+            &[get, Order::Store(0, 4, 1)],
+            End::Panicked(Panic::Workbench(9)),
+            2,
+        ),
+        (
+            &[get, Order::Store(0, -1, 1), get],
+            End::Panicked(Panic::Workbench(9)),
+            2,
+        ),
+        (
+            &[get, Order::Store(1, 0, 1)],
+            End::Panicked(Panic::Workbench(1)),
+            2,
+        ),
+    ];
+    for (orders, outcome, steps) in &cases {
+        let script = script(rt.alloc(), orders)?;
+        let told = run(rt.alloc(), &script, Rule::Unlimited, 9, SHAPE)?;
+        assert_eq!(rt; end_of(&told.outcome), *outcome);
+        assert_eq!(rt; told.steps, *steps);
+    }
+    Ok(())
+}
+
+#[test]
+fn words_that_look_like_a_header_are_no_cell(rt: HostRuntime) -> Result<(), Fail> {
+    let orders = [
+        Order::Alloc(0, 16),
+        Order::Alloc(1, 16),
+        Order::Free(0),
+        Order::Free(1),
+        Order::Alloc(2, 64),
+        Order::Store(2, 4, 32),
+        Order::Store(2, 5, 1),
+        Order::Store(2, 6, 0),
+        Order::Store(2, 7, 3),
+        Order::Free(1),
+    ];
+    let script = script(rt.alloc(), &orders)?;
+    let told = run(rt.alloc(), &script, Rule::Unlimited, 100, SHAPE)?;
+    let trace = [
+        attempt(1, 144, 0, Answer::Granted),
+        attempt(2, 32, 144, Answer::Granted),
+        attempt(3, 32, 176, Answer::Granted),
+        attempt(4, 80, 144, Answer::Granted),
+    ];
+    assert_eq!(rt; told.trace.as_slice(), trace.as_slice());
+    assert_eq!(rt; end_of(&told.outcome), End::Panicked(Panic::User(42)));
+    assert_eq!(rt; told.steps, 10);
+    Ok(())
+}
+
+#[test]
+fn notes_of_the_committed_length(rt: HostRuntime) -> Result<(), Fail> {
+    let orders = [
+        Order::Alloc(0, 200),
+        Order::Available,
+        Order::Heap,
+        Order::Free(0),
+        Order::Available,
+        Order::Compress,
+        Order::Heap,
+    ];
+    let script = script(rt.alloc(), &orders)?;
+    let shape = Shape { min: 256, step: 64 };
+    let told = run(rt.alloc(), &script, Rule::Unlimited, 100, shape)?;
+    let notes = [
+        Note::Available(16, 16),
+        Note::Heap(2, 368, 384),
+        Note::Available(240, 240),
+        Note::Compress(128),
+        Note::Heap(1, 144, 256),
+    ];
+    assert_eq!(rt; told.notes.as_slice(), notes.as_slice());
+    assert_eq!(rt; told.trace.len(), 2);
+    assert_eq!(rt; end_of(&told.outcome), End::Plainly(0));
+    assert_eq!(rt; told.steps, 7);
+    Ok(())
+}
+
+#[test]
+fn notes_below_a_limit_that_is_no_multiple_of_sixteen(rt: HostRuntime) -> Result<(), Fail> {
+    let orders = [
+        Order::Alloc(0, 9),
+        Order::Available,
+        Order::Heap,
+        Order::Compress,
+        Order::Alloc(0, 1),
+    ];
+    let script = script(rt.alloc(), &orders)?;
+    let shape = Shape { min: 176, step: 16 };
+    let told = run(rt.alloc(), &script, Rule::Limit(190), 100, shape)?;
+    let notes = [
+        Note::Available(0, 0),
+        Note::Heap(2, 176, 176),
+        Note::Compress(0),
+    ];
+    let trace = [
+        attempt(1, 144, 0, Answer::Granted),
+        attempt(2, 32, 144, Answer::Granted),
+        attempt(3, 32, 176, Answer::Refused),
+    ];
+    assert_eq!(rt; told.notes.as_slice(), notes.as_slice());
+    assert_eq!(rt; told.trace.as_slice(), trace.as_slice());
+    assert_eq!(rt; end_of(&told.outcome), End::Plainly(1));
+    assert_eq!(rt; told.steps, 5);
     Ok(())
 }
 

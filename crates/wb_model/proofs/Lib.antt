@@ -2,7 +2,10 @@ pub mod AgreementLemmas
 pub mod AlikeLemmas
 pub mod LineExamples
 pub mod Places
+pub mod FreeRuns
 pub mod LimitedHeaps
+pub mod Onward
+pub mod Payloads
 pub mod Rows
 pub mod ResumeLemmas
 pub mod WorkedCases

@@ -1,7 +1,7 @@
 -- What the definitions make of bytes where a reader might doubt: each example is proved by computing.
 use Rattle.std.specs.Prelude.{◌≡◌, pos, negsuc, [], ◌∷◌, ◌++◌, Some, None, codes, map, replicate}
 use Rattle.std.proofs.Common.{refl}
-use Rattle.wb_model.specs.declared.lines.Key.TheVariants.{Proc, Ptr, Alloc, Free, Print, End}
+use Rattle.wb_model.specs.declared.lines.Key.TheVariants.{Proc, Ptr, Alloc, Free, Store, Print, Heap, Available, Compress, End}
 use Rattle.wb_model.specs.declared.lines.Operand.TheVariants.{Name, Number, Literal}
 use Rattle.wb_model.specs.declared.lines.Form.TheVariants.{Skip, Unknown, Line}
 use Rattle.wb_model.specs.Lines.{lines_of, words_of, first_foreign_line}
@@ -73,6 +73,14 @@ procedure : line_form (codes "proc main") ≡ Line Proc (Name (codes "main") ∷
 unfolding keys
 procedure = refl
 
+notes : map line_form (codes "heap" ∷ codes " available" ∷ codes "compress\r" ∷ []) ≡ Line Heap [] ∷ Line Available [] ∷ Line Compress [] ∷ []
+unfolding keys
+notes = refl
+
+notes_take_no_word : map line_form (codes "heap 1" ∷ codes "available p" ∷ codes "compress \"\"" ∷ []) ≡ replicate 3 Unknown
+unfolding keys
+notes_take_no_word = refl
+
 end_before_carriage_return : line_form (codes "end\r") ≡ Line End []
 unfolding keys
 end_before_carriage_return = refl
@@ -111,6 +119,15 @@ unfolding keys
 name_that_begins_with_self = refl
 
 -- Numbers.
+
+two_numbers : line_form (codes "\tstore p 3 -2\r") ≡ Line Store (Name (codes "p") ∷ Number (pos 3) ∷ Number (negsuc 1) ∷ [])
+unfolding keys
+two_numbers = refl
+
+-- a name where a number is wanted, a number where a pointer is, and one operand more or less
+no_stores : map line_form (codes "store p x 1" ∷ codes "store p 1 x" ∷ codes "store 0 1 2" ∷ codes "store p 1" ∷ codes "store p 1 2 3" ∷ codes "store" ∷ []) ≡ replicate 6 Unknown
+unfolding keys
+no_stores = refl
 
 negative : line_form (codes "alloc p -007") ≡ Line Alloc (Name (codes "p") ∷ Number (negsuc 6) ∷ [])
 unfolding keys

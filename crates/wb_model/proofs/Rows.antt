@@ -7,7 +7,7 @@ use Rattle.std.proofs.lemmas.List.Elements.{All-cons, All-nil}
 use Rattle.std.proofs.lemmas.List.Kept.{AllPairs-cons, AllPairs-filter}
 use Rattle.wb_model.specs.declared.heap.Header.{Header}
 use Rattle.wb_model.specs.declared.heap.Ptr.{Ptr}
-use Rattle.wb_model.specs.Row.{Cell, headers, end_of, is_at, cell_at, inserted, without, IsSpacedFrom, IsRow, Misses, IsFree, place_from, top_from}
+use Rattle.wb_model.specs.Row.{Cell, headers, end_of, is_at, cell_at, inserted, without, changed, IsSpacedFrom, IsRow, Misses, IsFree, place_from, top_from}
 use Rattle.wb_model.proofs.Places.{top_from-above}
 
 -- a row that is spaced from a place is spaced from a lower one
@@ -46,6 +46,14 @@ module _ {A : Type 0} where
       go true rest = rest
       go false rest = ap (λ hs. c.head ∷ hs) rest
 
+  pub headers-changed : (p : Ptr) (f : A → A) (row : List (Cell A)) → headers (changed p f row) ≡ headers row
+  headers-changed p f [] = refl
+  headers-changed p f (c ∷ cs) = go (is_at p c.head) (headers-changed p f cs)
+    where
+      go : (b : Bool) → headers (changed p f cs) ≡ headers cs → headers (cond b (record c { content = f c.content } ∷ cs) (c ∷ changed p f cs)) ≡ c.head ∷ headers cs
+      go true rest = refl
+      go false rest = ap (λ hs. c.head ∷ hs) rest
+
   pub head-cell_at : (p : Ptr) (row : List (Cell A)) → option_map (λ c. c.head) (cell_at p row) ≡ find (is_at p) (headers row)
   head-cell_at p [] = refl
   head-cell_at p (c ∷ cs) = go (is_at p c.head) (head-cell_at p cs)
@@ -78,6 +86,15 @@ module _ {A : Type 0} where
       go : (b : Bool) → All P (headers (inserted c ds)) → All P (headers (cond b (c ∷ d ∷ ds) (d ∷ inserted c ds)))
       go true tail = All-cons P c.head (d.head ∷ headers ds) here rest
       go false tail = All-cons P d.head (headers (inserted c ds)) (All-first P d.head (headers ds) rest) tail
+
+  -- the same of the cells themselves
+  pub All-placed : (P : Cell A → Type 0) (c : Cell A) (row : List (Cell A)) → P c → All P row → All P (inserted c row)
+  All-placed P c [] here rest = All-cons P c [] here rest
+  All-placed P c (d ∷ ds) here rest = go (nat_lt c.head.place d.head.place) (All-placed P c ds here (λ k x lt. rest (suc k) x (omega arith)))
+    where
+      go : (b : Bool) → All P (inserted c ds) → All P (cond b (c ∷ d ∷ ds) (d ∷ inserted c ds))
+      go true tail = All-cons P c (d ∷ ds) here rest
+      go false tail = All-cons P d (inserted c ds) (rest 0 d (omega arith)) tail
 
   -- a new number keeps the numbers apart
   pub numbered-inserted : (c : Cell A) (row : List (Cell A)) → All (λ h. h.number ≢ c.head.number) (headers row) →
@@ -150,3 +167,9 @@ pub top_from-within : (hs : List Header) (at most : ℕ) → at ≤ most → All
 top_from-within [] at most le all = le
 top_from-within (h ∷ hs) at most le all =
     top_from-within hs (end_of h) most (All-first (λ h. end_of h ≤ most) h hs all) (All-rest (λ h. end_of h ≤ most) h hs all)
+
+-- no cell ends past the row's end
+pub ends-within : (hs : List Header) (at : ℕ) → IsSpacedFrom at hs → All (λ h. end_of h ≤ top_from at hs) hs
+ends-within [] at s = All-nil _
+ends-within (h ∷ hs) at s =
+    All-cons (λ g. end_of g ≤ top_from (end_of h) hs) h hs (top_from-above hs (end_of h) s.5) (ends-within hs (end_of h) s.5)

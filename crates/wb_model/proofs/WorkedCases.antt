@@ -450,61 +450,12 @@ view_past_text_from_leaving_allocation_run : run script_view_past_text_from_leav
 unfolding everything
 view_past_text_from_leaving_allocation_run = refl
 
-abbrev script_compress_never_grows_run : Script
-script_compress_never_grows_run = record { classes = []; procedures = (record { parameters = []; body = record { locals = (OfPointer None) ∷ []; statements = rolled ((Statement-F.Alloc (Held (H.Local 0)) (Constant (pos 3900)) GivesNull) ∷ Statement-F.NoteCompress ∷ Statement-F.NoteHeap ∷ (Statement-F.Free (Held (H.Local 0))) ∷ []) } }) ∷ []; operations = []; literals = []; main = 0 }
-
-compress_never_grows_run : run script_compress_never_grows_run R.Unlimited 10000 (shaped 4096 4112) ≡ record { outcome = Ended None []; trace = (line 1 144 0 Granted) ∷ (line 2 3920 144 Granted) ∷ []; lines = []; notes = (Compress 0) ∷ (Heap 2 4064 4096) ∷ []; steps = 4 }
-unfolding everything
-compress_never_grows_run = refl
-
 abbrev script_items_left_at_the_plain_end_of_a_trap_run : Script
 script_items_left_at_the_plain_end_of_a_trap_run = record { classes = []; procedures = (record { parameters = []; body = record { locals = (OfPointer None) ∷ OfNumber ∷ []; statements = rolled ((Statement-F.Alloc (Held (H.Local 0)) (Constant (pos 10)) GivesNull) ∷ (Statement-F.Trap 1 (rolled ((Statement-F.Push (Held (H.Local 0))) ∷ []))) ∷ []) } }) ∷ []; operations = []; literals = []; main = 0 }
 
 items_left_at_the_plain_end_of_a_trap_run : run script_items_left_at_the_plain_end_of_a_trap_run R.Unlimited 10000 (shaped 4096 4096) ≡ record { outcome = Panicked (P.Workbench 5); trace = (line 1 144 0 Granted) ∷ (line 2 32 144 Granted) ∷ []; lines = []; notes = []; steps = 3 }
 unfolding everything
 items_left_at_the_plain_end_of_a_trap_run = refl
-
-abbrev script_committed_length_notes_run : Script
-script_committed_length_notes_run = record { classes = []; procedures = (record { parameters = []; body = record { locals = (OfPointer None) ∷ []; statements = rolled ((Statement-F.Alloc (Held (H.Local 0)) (Constant (pos 200)) GivesNull) ∷ Statement-F.NoteAvailable ∷ Statement-F.NoteHeap ∷ (Statement-F.Free (Held (H.Local 0))) ∷ Statement-F.NoteAvailable ∷ Statement-F.NoteCompress ∷ Statement-F.NoteHeap ∷ []) } }) ∷ []; operations = []; literals = []; main = 0 }
-
-committed_length_notes_run : run script_committed_length_notes_run R.Unlimited 10000 (shaped 256 64) ≡ record { outcome = Ended None []; trace = (line 1 144 0 Granted) ∷ (line 2 224 144 Granted) ∷ []; lines = []; notes = (Available 16 16) ∷ (Heap 2 368 384) ∷ (Available 240 240) ∷ (Compress 128) ∷ (Heap 1 144 256) ∷ []; steps = 7 }
-unfolding everything
-committed_length_notes_run = refl
-
-abbrev script_forged_header_in_a_payload_run : Script
-script_forged_header_in_a_payload_run = record { classes = []; procedures = (record { parameters = []; body = record { locals = (OfPointer None) ∷ (OfPointer None) ∷ (OfPointer None) ∷ []; statements = rolled ((Statement-F.Alloc (Held (H.Local 0)) (Constant (pos 16)) GivesNull) ∷ (Statement-F.Alloc (Held (H.Local 1)) (Constant (pos 16)) GivesNull) ∷ (Statement-F.Free (Held (H.Local 0))) ∷ (Statement-F.Free (Held (H.Local 1))) ∷ (Statement-F.Alloc (Held (H.Local 2)) (Constant (pos 64)) GivesNull) ∷ (Statement-F.Store (Held (H.Local 2)) (Constant (pos 4)) (Constant (pos 32))) ∷ (Statement-F.Store (Held (H.Local 2)) (Constant (pos 5)) (Constant (pos 1))) ∷ (Statement-F.Store (Held (H.Local 2)) (Constant (pos 6)) (Constant (pos 0))) ∷ (Statement-F.Store (Held (H.Local 2)) (Constant (pos 7)) (Constant (pos 3))) ∷ (Statement-F.Free (Held (H.Local 1))) ∷ []) } }) ∷ []; operations = []; literals = []; main = 0 }
-
-forged_header_in_a_payload_run : run script_forged_header_in_a_payload_run R.Unlimited 10000 (shaped 4096 4096) ≡ record { outcome = Panicked (P.User 42); trace = (line 1 144 0 Granted) ∷ (line 2 32 144 Granted) ∷ (line 3 32 176 Granted) ∷ (line 4 80 144 Granted) ∷ []; lines = []; notes = []; steps = 10 }
-unfolding everything
-forged_header_in_a_payload_run = refl
-
-abbrev script_limit_not_a_multiple_of_sixteen_run : Script
-script_limit_not_a_multiple_of_sixteen_run = record { classes = []; procedures = (record { parameters = []; body = record { locals = (OfPointer None) ∷ []; statements = rolled ((Statement-F.Alloc (Held (H.Local 0)) (Constant (pos 9)) GivesNull) ∷ Statement-F.NoteAvailable ∷ Statement-F.NoteHeap ∷ Statement-F.NoteCompress ∷ (Statement-F.Alloc (Held (H.Local 0)) (Constant (pos 1)) GivesNull) ∷ []) } }) ∷ []; operations = []; literals = []; main = 0 }
-
-limit_not_a_multiple_of_sixteen_run : run script_limit_not_a_multiple_of_sixteen_run (R.Limit 190) 10000 (shaped 176 16) ≡ record { outcome = Ended None ((record { number = 2; length = 32; place = 144 }) ∷ []); trace = (line 1 144 0 Granted) ∷ (line 2 32 144 Granted) ∷ (line 3 32 176 Refused) ∷ []; lines = []; notes = (Available 0 0) ∷ (Heap 2 176 176) ∷ (Compress 0) ∷ []; steps = 5 }
-unfolding everything
-limit_not_a_multiple_of_sixteen_run = refl
-
-abbrev script_limit_one_byte_below_the_cleanup_cell_run : Script
-script_limit_one_byte_below_the_cleanup_cell_run = record { classes = []; procedures = (record { parameters = []; body = record { locals = []; statements = [] } }) ∷ []; operations = []; literals = []; main = 0 }
-
-limit_one_byte_below_the_cleanup_cell_run : run script_limit_one_byte_below_the_cleanup_cell_run (R.Limit 143) 10000 (shaped 4096 4096) ≡ record { outcome = NoCleanup; trace = (line 1 144 0 Refused) ∷ []; lines = []; notes = []; steps = 0 }
-unfolding everything
-limit_one_byte_below_the_cleanup_cell_run = refl
-
-abbrev script_limit_refuses_one_cell_run : Script
-script_limit_refuses_one_cell_run = record { classes = []; procedures = (record { parameters = []; body = record { locals = (OfPointer None) ∷ (OfPointer None) ∷ (OfPointer None) ∷ []; statements = rolled ((Statement-F.Alloc (Held (H.Local 0)) (Constant (pos 10)) GivesNull) ∷ (Statement-F.Alloc (Held (H.Local 1)) (Constant (pos 100)) GivesNull) ∷ (Statement-F.Free (Held (H.Local 0))) ∷ (Statement-F.Alloc (Held (H.Local 2)) (Constant (pos 16)) GivesNull) ∷ (Statement-F.Free (Held (H.Local 1))) ∷ (Statement-F.Free (Held (H.Local 2))) ∷ []) } }) ∷ []; operations = []; literals = []; main = 0 }
-
-limit_refuses_one_cell_run : run script_limit_refuses_one_cell_run (R.Limit 303) 10000 (shaped 4096 4096) ≡ record { outcome = Ended None []; trace = (line 1 144 0 Granted) ∷ (line 2 32 144 Granted) ∷ (line 3 128 176 Refused) ∷ (line 4 32 144 Granted) ∷ []; lines = []; notes = []; steps = 6 }
-unfolding everything
-limit_refuses_one_cell_run = refl
-
-abbrev script_limit_zero_run : Script
-script_limit_zero_run = record { classes = []; procedures = (record { parameters = []; body = record { locals = (OfPointer None) ∷ (OfPointer None) ∷ (OfPointer None) ∷ []; statements = rolled ((Statement-F.Alloc (Held (H.Local 0)) (Constant (pos 10)) GivesNull) ∷ (Statement-F.Alloc (Held (H.Local 1)) (Constant (pos 100)) GivesNull) ∷ (Statement-F.Free (Held (H.Local 0))) ∷ (Statement-F.Alloc (Held (H.Local 2)) (Constant (pos 16)) GivesNull) ∷ (Statement-F.Free (Held (H.Local 1))) ∷ (Statement-F.Free (Held (H.Local 2))) ∷ []) } }) ∷ []; operations = []; literals = []; main = 0 }
-
-limit_zero_run : run script_limit_zero_run (R.Limit 0) 10000 (shaped 4096 4096) ≡ record { outcome = NoCleanup; trace = (line 1 144 0 Refused) ∷ []; lines = []; notes = []; steps = 0 }
-unfolding everything
-limit_zero_run = refl
 
 abbrev script_cell_for_zero_bytes_run : Script
 script_cell_for_zero_bytes_run = record { classes = []; procedures = (record { parameters = []; body = record { locals = (OfPointer None) ∷ OfNumber ∷ []; statements = rolled ((Statement-F.Alloc (Held (H.Local 0)) (Constant (pos 0)) GivesNull) ∷ (Statement-F.AllocLen 1 (Held (H.Local 0))) ∷ (Statement-F.PrintNumber (Variable 1)) ∷ (Statement-F.Free (Held (H.Local 0))) ∷ []) } }) ∷ []; operations = []; literals = []; main = 0 }
@@ -673,3 +624,52 @@ script_top_cell_grows_in_place_size = record { classes = []; procedures = (recor
 top_cell_grows_in_place_size : (required script_top_cell_grows_in_place_size 10000 (shaped 4096 4096) ≡ 272) × (rises script_top_cell_grows_in_place_size 10000 (shaped 4096 4096) ≡ ((1, 144)) ∷ ((2, 208)) ∷ ((3, 240)) ∷ ((4, 272)) ∷ [])
 unfolding everything
 top_cell_grows_in_place_size = (refl, refl)
+
+abbrev script_committed_length_notes_run : Script
+script_committed_length_notes_run = record { classes = []; procedures = (record { parameters = []; body = record { locals = (OfPointer None) ∷ []; statements = rolled ((Statement-F.Alloc (Held (H.Local 0)) (Constant (pos 200)) GivesNull) ∷ Statement-F.NoteAvailable ∷ Statement-F.NoteHeap ∷ (Statement-F.Free (Held (H.Local 0))) ∷ Statement-F.NoteAvailable ∷ Statement-F.NoteCompress ∷ Statement-F.NoteHeap ∷ []) } }) ∷ []; operations = []; literals = []; main = 0 }
+
+committed_length_notes_run : run script_committed_length_notes_run R.Unlimited 10000 (shaped 256 64) ≡ record { outcome = Ended None []; trace = (line 1 144 0 Granted) ∷ (line 2 224 144 Granted) ∷ []; lines = []; notes = (Available 16 16) ∷ (Heap 2 368 384) ∷ (Available 240 240) ∷ (Compress 128) ∷ (Heap 1 144 256) ∷ []; steps = 7 }
+unfolding everything
+committed_length_notes_run = refl
+
+abbrev script_compress_never_grows_run : Script
+script_compress_never_grows_run = record { classes = []; procedures = (record { parameters = []; body = record { locals = (OfPointer None) ∷ []; statements = rolled ((Statement-F.Alloc (Held (H.Local 0)) (Constant (pos 3900)) GivesNull) ∷ Statement-F.NoteCompress ∷ Statement-F.NoteHeap ∷ (Statement-F.Free (Held (H.Local 0))) ∷ []) } }) ∷ []; operations = []; literals = []; main = 0 }
+
+compress_never_grows_run : run script_compress_never_grows_run R.Unlimited 10000 (shaped 4096 4112) ≡ record { outcome = Ended None []; trace = (line 1 144 0 Granted) ∷ (line 2 3920 144 Granted) ∷ []; lines = []; notes = (Compress 0) ∷ (Heap 2 4064 4096) ∷ []; steps = 4 }
+unfolding everything
+compress_never_grows_run = refl
+
+abbrev script_forged_header_in_a_payload_run : Script
+script_forged_header_in_a_payload_run = record { classes = []; procedures = (record { parameters = []; body = record { locals = (OfPointer None) ∷ (OfPointer None) ∷ (OfPointer None) ∷ []; statements = rolled ((Statement-F.Alloc (Held (H.Local 0)) (Constant (pos 16)) GivesNull) ∷ (Statement-F.Alloc (Held (H.Local 1)) (Constant (pos 16)) GivesNull) ∷ (Statement-F.Free (Held (H.Local 0))) ∷ (Statement-F.Free (Held (H.Local 1))) ∷ (Statement-F.Alloc (Held (H.Local 2)) (Constant (pos 64)) GivesNull) ∷ (Statement-F.Store (Held (H.Local 2)) (Constant (pos 4)) (Constant (pos 32))) ∷ (Statement-F.Store (Held (H.Local 2)) (Constant (pos 5)) (Constant (pos 1))) ∷ (Statement-F.Store (Held (H.Local 2)) (Constant (pos 6)) (Constant (pos 0))) ∷ (Statement-F.Store (Held (H.Local 2)) (Constant (pos 7)) (Constant (pos 3))) ∷ (Statement-F.Free (Held (H.Local 1))) ∷ []) } }) ∷ []; operations = []; literals = []; main = 0 }
+
+forged_header_in_a_payload_run : run script_forged_header_in_a_payload_run R.Unlimited 10000 (shaped 4096 4096) ≡ record { outcome = Panicked (P.User 42); trace = (line 1 144 0 Granted) ∷ (line 2 32 144 Granted) ∷ (line 3 32 176 Granted) ∷ (line 4 80 144 Granted) ∷ []; lines = []; notes = []; steps = 10 }
+unfolding everything
+forged_header_in_a_payload_run = refl
+
+abbrev script_limit_not_a_multiple_of_sixteen_run : Script
+script_limit_not_a_multiple_of_sixteen_run = record { classes = []; procedures = (record { parameters = []; body = record { locals = (OfPointer None) ∷ []; statements = rolled ((Statement-F.Alloc (Held (H.Local 0)) (Constant (pos 9)) GivesNull) ∷ Statement-F.NoteAvailable ∷ Statement-F.NoteHeap ∷ Statement-F.NoteCompress ∷ (Statement-F.Alloc (Held (H.Local 0)) (Constant (pos 1)) GivesNull) ∷ []) } }) ∷ []; operations = []; literals = []; main = 0 }
+
+limit_not_a_multiple_of_sixteen_run : run script_limit_not_a_multiple_of_sixteen_run (R.Limit 190) 10000 (shaped 176 16) ≡ record { outcome = Ended None ((record { number = 2; length = 32; place = 144 }) ∷ []); trace = (line 1 144 0 Granted) ∷ (line 2 32 144 Granted) ∷ (line 3 32 176 Refused) ∷ []; lines = []; notes = (Available 0 0) ∷ (Heap 2 176 176) ∷ (Compress 0) ∷ []; steps = 5 }
+unfolding everything
+limit_not_a_multiple_of_sixteen_run = refl
+
+abbrev script_limit_one_byte_below_the_cleanup_cell_run : Script
+script_limit_one_byte_below_the_cleanup_cell_run = record { classes = []; procedures = (record { parameters = []; body = record { locals = []; statements = [] } }) ∷ []; operations = []; literals = []; main = 0 }
+
+limit_one_byte_below_the_cleanup_cell_run : run script_limit_one_byte_below_the_cleanup_cell_run (R.Limit 143) 10000 (shaped 4096 4096) ≡ record { outcome = NoCleanup; trace = (line 1 144 0 Refused) ∷ []; lines = []; notes = []; steps = 0 }
+unfolding everything
+limit_one_byte_below_the_cleanup_cell_run = refl
+
+abbrev script_limit_refuses_one_cell_run : Script
+script_limit_refuses_one_cell_run = record { classes = []; procedures = (record { parameters = []; body = record { locals = (OfPointer None) ∷ (OfPointer None) ∷ (OfPointer None) ∷ []; statements = rolled ((Statement-F.Alloc (Held (H.Local 0)) (Constant (pos 10)) GivesNull) ∷ (Statement-F.Alloc (Held (H.Local 1)) (Constant (pos 100)) GivesNull) ∷ (Statement-F.Free (Held (H.Local 0))) ∷ (Statement-F.Alloc (Held (H.Local 2)) (Constant (pos 16)) GivesNull) ∷ (Statement-F.Free (Held (H.Local 1))) ∷ (Statement-F.Free (Held (H.Local 2))) ∷ []) } }) ∷ []; operations = []; literals = []; main = 0 }
+
+limit_refuses_one_cell_run : run script_limit_refuses_one_cell_run (R.Limit 303) 10000 (shaped 4096 4096) ≡ record { outcome = Ended None []; trace = (line 1 144 0 Granted) ∷ (line 2 32 144 Granted) ∷ (line 3 128 176 Refused) ∷ (line 4 32 144 Granted) ∷ []; lines = []; notes = []; steps = 6 }
+unfolding everything
+limit_refuses_one_cell_run = refl
+
+abbrev script_limit_zero_run : Script
+script_limit_zero_run = record { classes = []; procedures = (record { parameters = []; body = record { locals = (OfPointer None) ∷ (OfPointer None) ∷ (OfPointer None) ∷ []; statements = rolled ((Statement-F.Alloc (Held (H.Local 0)) (Constant (pos 10)) GivesNull) ∷ (Statement-F.Alloc (Held (H.Local 1)) (Constant (pos 100)) GivesNull) ∷ (Statement-F.Free (Held (H.Local 0))) ∷ (Statement-F.Alloc (Held (H.Local 2)) (Constant (pos 16)) GivesNull) ∷ (Statement-F.Free (Held (H.Local 1))) ∷ (Statement-F.Free (Held (H.Local 2))) ∷ []) } }) ∷ []; operations = []; literals = []; main = 0 }
+
+limit_zero_run : run script_limit_zero_run (R.Limit 0) 10000 (shaped 4096 4096) ≡ record { outcome = NoCleanup; trace = (line 1 144 0 Refused) ∷ []; lines = []; notes = []; steps = 0 }
+unfolding everything
+limit_zero_run = refl

@@ -1,6 +1,7 @@
 pub mod Account
 pub mod Agreement
 pub mod Attempts
+pub mod CellRow
 pub mod Forms
 pub mod Grammar
 pub mod Heap

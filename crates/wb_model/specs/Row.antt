@@ -1,5 +1,5 @@
 -- Rows of live cells, and where a request goes.
-use Rattle.std.specs.Prelude.{◌≡◌, ◌≢◌, ℕ, ◌+◌, ◌-◌, ◌*◌, ◌/◌, ◌%◌, ◌≤◌, ◌⊎◌, List, [], ◌∷◌, Bool, not, ◌&&◌, nat_eq, nat_lt, nat_le, if◌then◌else◌, Option, map, find, filter, AllPairs}
+use Rattle.std.specs.Prelude.{◌≡◌, ◌≢◌, ℕ, ◌+◌, ◌-◌, ◌*◌, ◌/◌, ◌%◌, ◌≤◌, ◌⊎◌, List, [], ◌∷◌, Bool, not, ◌&&◌, nat_eq, nat_lt, nat_le, if◌then◌else◌, Option, map, find, filter, AllPairs, sum}
 use Rattle.wb_model.specs.declared.heap.Ptr.{Ptr}
 use Rattle.wb_model.specs.declared.heap.Header.{Header}
 
@@ -91,3 +91,7 @@ top_from at (h ∷ hs) = top_from (end_of h) hs
 -- the end of the last cell
 abbrev pub top_of : List Header → ℕ
 top_of row = top_from 0 row
+
+-- the cell lengths together
+abbrev pub total_length : List Header → ℕ
+total_length row = sum (map (λ h. h.length) row)

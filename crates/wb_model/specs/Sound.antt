@@ -48,6 +48,10 @@ is_statement literals locals (Statement-F.Alloc p v GivesNull) = is_pointer loca
 is_statement literals locals (Statement-F.Free p) = is_pointer locals p
 is_statement literals locals (Statement-F.PrintText t) = is_readable literals t
 is_statement literals locals (Statement-F.PrintNumber v) = is_number v
+is_statement literals locals (Statement-F.Store p v w) = is_pointer locals p && (is_number v && is_number w)
+is_statement literals locals Statement-F.NoteHeap = true
+is_statement literals locals Statement-F.NoteAvailable = true
+is_statement literals locals Statement-F.NoteCompress = true
 is_statement literals locals _ = false
 
 abbrev pub are_statements : ℕ → List Local → List Statement → Bool

@@ -1,11 +1,11 @@
 -- The committed length of a chunk: how a limit and a shape decide it, and the free runs below it.
-use Rattle.std.specs.Prelude.{ℕ, ◌+◌, ◌-◌, ◌*◌, ◌/◌, ◌%◌, List, [], ◌∷◌, Bool, ◌&&◌, nat_lt, nat_le, nat_eq, if◌then◌else◌, min, max}
+use Rattle.std.specs.Prelude.{ℕ, ◌+◌, ◌-◌, ◌*◌, ◌/◌, ◌%◌, ◌≡◌, ◌≤◌, List, [], ◌∷◌, Bool, ◌&&◌, nat_lt, nat_le, nat_eq, if◌then◌else◌, min, max, sum}
 use Rattle.wb_model.specs.declared.heap.TheConstants.{CEILING}
 use Rattle.wb_model.specs.declared.heap.Rule.{Rule}
 use Rattle.wb_model.specs.declared.heap.Rule.TheVariants.{Limit}
 use Rattle.wb_model.specs.declared.heap.Shape.{Shape}
 use Rattle.wb_model.specs.declared.heap.Header.{Header}
-use Rattle.wb_model.specs.Row.{end_of}
+use Rattle.wb_model.specs.Row.{end_of, IsFree, total_length}
 
 -- the shapes that a heap may have
 abbrev pub is_shape : Shape → Bool
@@ -54,3 +54,15 @@ free_runs at (h ∷ hs) committed = (h.place - at) ∷ free_runs (end_of h) hs c
 abbrev pub longest : List ℕ → ℕ
 longest [] = 0
 longest (n ∷ ns) = max n (longest ns)
+
+-- so many bytes from a place on lie below a length, and no cell meets them
+pub record IsFreeBelow (row : List Header) (committed place length : ℕ) : Type 0 where
+  pub within : place + length ≤ committed
+  pub free : IsFree row place length
+
+-- what the runs below a length are, in words: with the cells they make up that length, the longest of them is a stretch
+-- of bytes that no cell meets, and no such stretch is longer; `free_runs_are` among the laws says so
+pub record AreFreeRuns (row : List Header) (committed : ℕ) (runs : List ℕ) : Type 0 where
+  pub total : sum runs + total_length row ≡ committed
+  pub found : (place : ℕ) × IsFreeBelow row committed place (longest runs)
+  pub longest_of_all : (place length : ℕ) → IsFreeBelow row committed place length → length ≤ longest runs

@@ -1,6 +1,6 @@
 -- What each statement means, and the destruction of items and objects. The operands of a clause are refused from left to
 -- right, as they stand in its text.
-use Rattle.std.specs.Prelude.{ℕ, ℤ, pos, negsuc, suc, ◌+◌, ◌-◌, ◌*◌, ◌/◌, ◌+ℤ◌, List, [], ◌∷◌, ◌++◌, Bool, true, false, not, ◌&&◌, nat_eq, nat_le, nat_lt, int_lt, int_le, if◌then◌else◌, Option, Some, None, length, take, replicate, map, sum, slice_get, slice_set, unwrap_or}
+use Rattle.std.specs.Prelude.{ℕ, ℤ, pos, negsuc, suc, ◌+◌, ◌-◌, ◌*◌, ◌/◌, ◌+ℤ◌, List, [], ◌∷◌, ◌++◌, Bool, true, false, not, ◌&&◌, nat_eq, nat_le, nat_lt, int_lt, int_le, if◌then◌else◌, Option, Some, None, length, take, replicate, map, slice_get, slice_set, unwrap_or}
 use Rattle.std.specs.Fmt.{signed_decimal}
 use Rattle.wb_model.specs.declared.heap.Ptr.{Ptr}
 use Rattle.wb_model.specs.declared.heap.Header.{Header}
@@ -22,7 +22,7 @@ use Rattle.wb_model.specs.declared.script.Argument.{Argument}
 use Rattle.wb_model.specs.declared.script.Argument.TheVariants.{Passed, Given}
 use Rattle.wb_model.specs.declared.script.Statement.{Statement}
 use Rattle.wb_model.specs.declared.script.Statement.TheOpen.{Statement-F}
-use Rattle.wb_model.specs.Row.{Cell, headers, cell_at, without, changed, usable_of, top_of}
+use Rattle.wb_model.specs.Row.{Cell, headers, cell_at, without, changed, usable_of, top_of, total_length}
 use Rattle.wb_model.specs.Rules.{never, next, each}
 use Rattle.wb_model.specs.Heap.{after_mark, after_mark_end, mark_end_refusal, checked, cells_of_level, cells_of_all_levels}
 use Rattle.wb_model.specs.Texts.{at_most, insert_text, delete_text, set_length_text, left_part, right_part, mid_part}
@@ -228,10 +228,6 @@ realloc_text p c us n st =
 abbrev pub set_setting : State → Rattle.wb_model.specs.Rules.Setting → State
 set_setting st s = set_heap st (record st.heap { setting = s })
 
--- the lengths of all cells together
-abbrev pub total : List Header → ℕ
-total row = sum (map (λ h. h.length) row)
-
 -- a rate
 abbrev pub at_least_one : ℤ → Option ℕ
 at_least_one (pos (suc n)) = Some (suc n)
@@ -344,7 +340,7 @@ statement script rec at (Statement-F.PrintText t) st =
     with_readable st t (λ from. with_units script.literals st from (λ us. print_line (printed us) st))
 statement script rec at (Statement-F.PrintNumber v) st = print_line (signed_decimal (number_of st v)) st
 statement script rec at Statement-F.NoteHeap st =
-    notes (heap_note (length st.heap.row) (total (headers st.heap.row))) (done st)
+    notes (heap_note (length st.heap.row) (total_length (headers st.heap.row))) (done st)
 statement script rec at Statement-F.NoteAvailable st = notes (available_note (headers st.heap.row)) (done st)
 statement script rec at Statement-F.NoteCompress st = notes (compress_note (top_of (headers st.heap.row))) (done st)
 statement script rec at (Statement-F.If cond first) st = with_condition st cond (λ b. rec at (all (choice b first [])) st)

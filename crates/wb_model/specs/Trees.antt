@@ -1,6 +1,6 @@
 -- The lines of a script's tree, with indexes for names and literals.
 use Rattle.std.specs.Prelude.{ℕ, suc, List, [], ◌∷◌, ◌++◌, Option, Some, None, map}
-use Rattle.wb_model.specs.declared.lines.Key.TheVariants.{Proc, Ptr, Alloc, Free, Print, End}
+use Rattle.wb_model.specs.declared.lines.Key.TheVariants.{Proc, Ptr, Alloc, Free, Store, Print, Heap, Available, Compress, End}
 use Rattle.wb_model.specs.declared.lines.Key.{Key}
 use Rattle.wb_model.specs.declared.lines.Operand.{Operand}
 use Rattle.wb_model.specs.declared.lines.Operand.TheVariants.{Name, Number, Literal}
@@ -69,6 +69,10 @@ statement_line (Statement-F.Alloc p v GivesNull) = line Alloc (pointer_operand p
 statement_line (Statement-F.Free p) = line Free (pointer_operand p ∷ [])
 statement_line (Statement-F.PrintNumber v) = line Print (number_operand v ∷ [])
 statement_line (Statement-F.PrintText t) = line Print (text_operand t ∷ [])
+statement_line (Statement-F.Store p v w) = line Store (pointer_operand p ∷ number_operand v ∷ number_operand w ∷ [])
+statement_line Statement-F.NoteHeap = line Heap []
+statement_line Statement-F.NoteAvailable = line Available []
+statement_line Statement-F.NoteCompress = line Compress []
 statement_line _ = Unknown
 
 abbrev pub statement_lines : List Statement → List Indexed

@@ -10,7 +10,11 @@ pub enum Key {
     Ptr,
     Alloc,
     Free,
+    Store,
     Print,
+    Heap,
+    Available,
+    Compress,
     End,
 }
 

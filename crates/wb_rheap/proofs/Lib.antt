@@ -1,2 +1,5 @@
-pub mod Searches
-pub mod Views
+pub mod Counters
+pub mod Finding
+pub mod Kept
+pub mod LongestRuns
+pub mod Numbers

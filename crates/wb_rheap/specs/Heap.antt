@@ -1,14 +1,21 @@
--- What contracts see of the heap, from what it holds.
-use Rattle.std.specs.Prelude.{ℕ, List, map}
-use Rattle.wb_model.specs.declared.heap.Header.{Header}
-use Rattle.wb_model.specs.Row.{Cell}
-use Rattle.wb_model.specs.LimitedHeap.{LimitedHeap, zero_words}
+-- What contracts see of the heap, from what it holds, and what it keeps beside its cells.
+use Rattle.std.specs.Prelude.{◌≡◌, length}
+use Rattle.wb_model.specs.Row.{headers, total_length}
+use Rattle.wb_model.specs.LimitedHeap.{LimitedHeap, IsSoundHeap}
 use Rattle.wb_rheap.specs.declared.heap.Heap.TheInside.{Inside}
 
--- a cell of which only the header is kept, with zeros for what it holds
-abbrev pub zeroed : Header → Cell (List ℕ)
-zeroed h = record { head = h; content = zero_words h.length }
-
+-- the cells hold memory for the greatest committed length so far
 abbrev pub heap_of : Inside → LimitedHeap
-heap_of inside =
-    record { row = map zeroed inside.cells.items; limit = inside.limit; shape = inside.shape; committed = inside.committed }
+heap_of inside = record {
+  row = inside.cells.row;
+  limit = inside.limit;
+  shape = inside.shape;
+  committed = inside.committed;
+  held = inside.cells.held;
+}
+
+-- the counters tell the live cells and their lengths
+pub record IsKept (inside : Inside) : Type 0 where
+  pub sound : IsSoundHeap (heap_of inside)
+  pub counted : inside.count ≡ length inside.cells.row
+  pub totalled : inside.total ≡ total_length (headers inside.cells.row)

@@ -1,6 +1,6 @@
 //! Why the heap refuses a call.
 
-use std::alloc::AllocError;
+use wb_model::memory::NoMemory;
 
 /// Why a call of the heap was refused. A refused call leaves the heap as it was.
 #[derive(Clone, Copy, Debug, PartialEq, Eq)]
@@ -15,13 +15,13 @@ pub enum HeapFault {
     BadCell = 4,
 }
 
-impl From<AllocError> for HeapFault {
+impl From<NoMemory> for HeapFault {
     ghost use Rattle.std.specs.Prelude.{◌≡◌};
     ghost use Rattle.wb_rheap.specs.declared.fault.HeapFault.TheVariants.{NoMemory};
 
     ghost from_gives = { λ _ fault. fault ≡ NoMemory };
 
-    fn from(_error: AllocError) -> HeapFault {
+    fn from(_error: NoMemory) -> HeapFault {
         HeapFault::NoMemory
     }
 }

@@ -1,44 +1,50 @@
-//! The heap and its calls. What is asked of a row of cells stands in `row`, the committed length in `space`.
+//! The heap and its calls. The cells stand in the crate below, the committed length in `space`.
 
-ghost use Rattle.std.specs.Prelude.{◌≡◌, ◌≢◌, ◌+◌, ◌<◌, ◌≤◌, ◌↔◌, false, All, IfOk, IfErr, IfSome, OnOk, OnErr, None, option_map};
-ghost use Rattle.wb_model.specs.LimitedHeap.{IsCellLength, IsLiveBelow, IsSoundHeap, empty_heap, place_in, heap_with, heap_without, next_live_of};
-ghost use Rattle.wb_model.specs.Row.{IsLeastPlace, cell_at, headers};
-ghost use Rattle.wb_model.specs.Space.{is_shape};
+ghost use Rattle.std.specs.Prelude.{◌≡◌, ◌≢◌, ◌+◌, ◌*◌, ◌<◌, ◌≤◌, ◌++◌, ◌↔◌, false, length, take, drop, slice_index, slice_set, sum, All, IfOk, IfErr, IfSome, IsSome, OnOk, OnErr, None, option_map};
+ghost use Rattle.wb_chunk.specs.Halves.{half_of, with_half};
+ghost use Rattle.wb_model.specs.CellRow.{payload_of};
+ghost use Rattle.wb_model.specs.LimitedHeap.{IsCellLength, IsLiveBelow, IsSoundHeap, empty_heap, place_in, committed_with, heap_with, heap_without, heap_changed, heap_compressed, reclaimed_from, runs_in, next_live_of};
+ghost use Rattle.wb_model.specs.Row.{IsLeastPlace, cell_at, headers, total_length, usable_of};
+ghost use Rattle.wb_model.specs.Space.{is_shape, longest};
 
 use crate::fault::HeapFault;
-use crate::{row, space};
+use crate::{room, runs, space};
 use std::alloc::Global;
 use std::marker::Model;
+use wb_cells::cells::Cells;
 use wb_model::heap::{CEILING, Header, Kind, Ptr, Shape};
 
-/// A simulated heap: live cells, and a limit that none of them passes.
+/// A simulated heap: live cells with their payloads, and a limit that none of them passes.
 ///
 /// Places, lengths, the limit and the committed length are bytes from the start of the chunk. The committed
-/// length is the least under the shape at first, grows with the cells and never falls by itself. A payload is
-/// zeroed when its cell is granted. Source: this project's profile.
-#[derive(Debug, Drop)]
+/// length is the least under the shape at first, grows with the cells and falls by `compress` alone. Memory is held for
+/// the greatest committed length so far. A payload is zeroed when its cell is granted. Source: this project's profile.
+#[derive(Drop)]
 pub struct Heap {
-    /// In order of place.
-    cells: Vec<Header>,
+    cells: Cells,
     limit: u32,
     shape: Shape,
     committed: u32,
+    /// How many cells are live.
+    count: u32,
+    /// Their lengths together.
+    total: u32,
 }
 
 impl Model for Heap {
-    ghost use Rattle.wb_model.specs.LimitedHeap.{LimitedHeap, IsSoundHeap};
+    ghost use Rattle.wb_model.specs.LimitedHeap.{LimitedHeap};
 
     ghost Value = { LimitedHeap };
 
-    ghost use Rattle.wb_rheap.specs.Heap.{heap_of};
+    ghost use Rattle.wb_rheap.specs.Heap.{heap_of, IsKept};
 
     ghost view = { heap_of };
 
-    ghost invariant = { λ inside. IsSoundHeap (heap_of inside) };
+    ghost invariant = { IsKept };
 }
 
 impl Heap {
-    /// A heap with no cell, with the least committed length.
+    /// A heap with no cell, with the least committed length, for which it takes memory.
     ///
     /// The limit is in bytes, and need be no multiple of 16. `BadShape` where no heap may have the shape, and
     /// else `NoMemory` at worst. Source: this project's profile.
@@ -52,12 +58,16 @@ impl Heap {
         if !space::may_have_shape(shape) {
             return Err(HeapFault::BadShape);
         }
-        let committed = shape.min.min(space::greatest_below(limit));
+        let committed = space::least_for(limit, shape);
+        let mut cells = Cells::new(alloc);
+        room::hold(&mut cells, committed)?;
         Ok(Heap {
-            cells: Vec::new(alloc),
+            cells,
             limit,
             shape,
             committed,
+            count: 0,
+            total: 0,
         })
     }
 
@@ -73,15 +83,15 @@ impl Heap {
         ensures within { result ≤ self.now.committed }
         ensures sound { IsSoundHeap self.now }
     {
-        row::place(&self.cells, length)
+        self.cells.first_fit(length)
     }
 
     /// Grants a cell at the place that `place_for` gives, with zeros for its payload.
     ///
     /// The length is the cell length in bytes, the number that of the attempt, from 1 on, and the level that
     /// of the heap marks. `TooShort` exactly where the cell would end past the limit, and else `NoMemory` at
-    /// worst. A refusal leaves the heap as it was. Source: Symbian OS v9 SDK reference, RHeap, for a grant
-    /// that is refused, and this project's profile.
+    /// worst, and not even that where the new committed length is within `held`. A refusal leaves the heap as it was.
+    /// Source: Symbian OS v9 SDK reference, RHeap, for a grant that is refused, and this project's profile.
     pub fn alloc(
         &mut self,
         length: u32,
@@ -97,6 +107,7 @@ impl Heap {
 
         ensures short { (result ≡ Err HeapFault.TooShort) ↔ (self.old.limit < place_in self.old length + length) }
         ensures no_other { IfErr result (λ fault. fault ≢ HeapFault.TooShort → fault ≡ HeapFault.NoMemory) }
+        ensures no_growth { committed_with self.old length ≤ self.old.held → result ≢ Err HeapFault.NoMemory }
         ensures err { OnErr result (self.new ≡ self.old) }
 
         ensures sound { IsSoundHeap self.new }
@@ -106,23 +117,28 @@ impl Heap {
         if self.limit < end {
             return Err(HeapFault::TooShort);
         }
-        let cell = Header {
+        let committed = space::committed_for(self.limit, self.shape, self.committed, end);
+        room::hold(&mut self.cells, committed)?;
+        let header = Header {
             place,
             length,
             kind,
             level,
             number,
         };
-        row::insert_cell(&mut self.cells, cell)?;
-        self.committed = space::committed_for(self.limit, self.shape, self.committed, end);
+        self.cells.take(place, length, header);
+        self.committed = committed;
+        self.count += 1;
+        self.total += length;
         Ok(Ptr { place, number })
     }
 
-    /// Releases the cell that the pointer names. Its bytes are free for the next cells.
+    /// Releases the cell that the pointer names. Its bytes are free for the next cells, together with the free bytes on
+    /// both sides of it. The committed length stays.
     ///
     /// A pointer names a cell by its place and its number, so one that outlived its cell stays bad after the
-    /// place was used again. `BadCell` exactly where it names no live cell, and then the heap is as it was.
-    /// Source: Symbian OS v9 SDK reference, RHeap.
+    /// place was used again, whatever words a payload holds. `BadCell` exactly where it names no live cell, and then the
+    /// heap is as it was. Source: Symbian OS v9 SDK reference, RHeap.
     pub fn free(&mut self, ptr: Ptr) -> Result<(), HeapFault>
         ensures freed { OnOk result (self.new ≡ heap_without self.old ptr) }
 
@@ -132,21 +148,24 @@ impl Heap {
 
         ensures sound { IsSoundHeap self.new }
     {
-        if row::named(&self.cells, ptr).is_none() {
+        let Some(header) = self.header(ptr) else {
             return Err(HeapFault::BadCell);
-        }
-        row::remove_cell(&mut self.cells, ptr);
+        };
+        self.cells.give(ptr);
+        self.count -= 1;
+        self.total -= header.length;
         Ok(())
     }
 
-    /// The header of the cell that the pointer names, or `None` exactly where it names no live cell. Source:
-    /// this project's profile.
+    /// The header of the cell that the pointer names, or `None` exactly where it names no live cell. Its payload has a
+    /// word for each four bytes of its usable length. Source: this project's profile.
     pub fn header(&self, ptr: Ptr) -> Option<Header>
         ensures header { result ≡ option_map (λ c. c.head) (cell_at ptr self.now.row) }
         ensures live { IfSome result (IsLiveBelow self.now.limit) }
+        ensures payload { IfSome result (λ h. 4 * length (payload_of ptr self.now.row) ≡ usable_of h) }
         ensures sound { IsSoundHeap self.now }
     {
-        row::named(&self.cells, ptr)
+        self.cells.header(ptr)
     }
 
     /// The first live cell that begins at this place, in bytes, or above it, or `None` where there is none.
@@ -158,6 +177,116 @@ impl Heap {
         ensures live { IfSome result (IsLiveBelow self.now.limit) }
         ensures sound { IsSoundHeap self.now }
     {
-        row::next(&self.cells, from)
+        self.cells.next_live(from)
+    }
+
+    /// Gives up committed length above the last live cell, down to the least or to whole steps, and answers how many
+    /// bytes that reclaims, or 0. Memory stays held. Source: Symbian OS v9 SDK reference, RHeap, and this project's
+    /// profile for the lengths.
+    pub fn compress(&mut self) -> u32
+        ensures reclaimed { result ≡ reclaimed_from self.old }
+        ensures fallen { self.new ≡ heap_compressed self.old }
+        ensures sound { IsSoundHeap self.new }
+    {
+        let committed = space::compressed_for(
+            self.limit,
+            self.shape,
+            self.committed,
+            self.cells.top(),
+        );
+        let reclaimed = self.committed - committed;
+        self.committed = committed;
+        reclaimed
+    }
+
+    /// The free bytes below the committed length, and the longest run of them, in bytes, headers included. Source:
+    /// Symbian OS v9 SDK reference, RHeap.
+    pub fn available(&self) -> (u32, u32)
+        ensures total { result.0 ≡ sum (runs_in self.now) }
+        ensures longest { result.1 ≡ longest (runs_in self.now) }
+    {
+        (
+            self.committed - self.total,
+            runs::longest_run(&self.cells, self.committed),
+        )
+    }
+
+    /// The number of live cells, and their cell lengths together, in bytes. Source: Symbian OS v9 SDK reference, RHeap.
+    pub fn alloc_size(&self) -> (u32, u32)
+        ensures count { result.0 ≡ length self.now.row }
+        ensures total { result.1 ≡ total_length (headers self.now.row) }
+    {
+        (self.count, self.total)
+    }
+
+    /// The number of live cells. Source: Symbian OS v9 SDK reference, RHeap.
+    pub fn count(&self) -> u32
+        ensures { result ≡ length self.now.row }
+    {
+        self.alloc_size().0
+    }
+
+    /// The committed length, in bytes. Source: this project's profile.
+    pub fn committed(&self) -> u32
+        ensures { result ≡ self.now.committed }
+    {
+        self.committed
+    }
+
+    /// The greatest committed length so far, in bytes, for which memory is held. Source: this project's profile.
+    pub fn held(&self) -> u32
+        ensures { result ≡ self.now.held }
+    {
+        self.cells.held()
+    }
+}
+
+/// The words of payloads. Words and their halves are counted from 0; the half 2k is the low half of word k.
+impl Heap {
+    /// A word of a payload. Source: this project's profile.
+    pub fn payload(&self, ptr: Ptr, i: u32) -> u32
+        requires { i < length (payload_of ptr self.now.row) }
+        ensures { result ≡ slice_index (payload_of ptr self.now.row) i }
+    {
+        self.cells.payload(ptr, i)
+    }
+
+    /// Changes a word of a payload, and nothing else. Source: this project's profile.
+    pub fn set_payload(&mut self, ptr: Ptr, i: u32, v: u32)
+        requires { i < length (payload_of ptr self.old.row) }
+        ensures changed { self.new ≡ heap_changed self.old ptr (slice_set (payload_of ptr self.old.row) i v) }
+        ensures sound { IsSoundHeap self.new }
+    {
+        self.cells.set_payload(ptr, i, v);
+    }
+
+    /// A half of a payload's words. Source: this project's profile.
+    pub fn payload_half(&self, ptr: Ptr, i: u32) -> u16
+        requires { i < 2 * length (payload_of ptr self.now.row) }
+        ensures { result ≡ half_of (payload_of ptr self.now.row) i }
+    {
+        self.cells.payload_half(ptr, i)
+    }
+
+    /// Changes a half of a payload's words, and nothing else. Source: this project's profile.
+    pub fn set_payload_half(&mut self, ptr: Ptr, i: u32, v: u16)
+        requires { i < 2 * length (payload_of ptr self.old.row) }
+        ensures changed { self.new ≡ heap_changed self.old ptr (with_half (payload_of ptr self.old.row) i v) }
+        ensures sound { IsSoundHeap self.new }
+    {
+        self.cells.set_payload_half(ptr, i, v);
+    }
+
+    /// Copies the first `n` words of one cell's payload to the front of another's, or of its own. Source: this
+    /// project's profile.
+    pub fn copy_payload(&mut self, from: Ptr, to: Ptr, n: u32)
+        requires from_live { IsSome (cell_at from self.old.row) }
+        requires to_live { IsSome (cell_at to self.old.row) }
+        requires source { n ≤ length (payload_of from self.old.row) }
+        requires target { n ≤ length (payload_of to self.old.row) }
+        ensures changed { self.new ≡ heap_changed self.old to (take n (payload_of from self.old.row) ++ drop n (payload_of to self.old.row)) }
+        ensures sound { IsSoundHeap self.new }
+    {
+        self.cells.copy_payload(from, to, n);
     }
 }

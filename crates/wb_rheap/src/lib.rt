@@ -1,9 +1,13 @@
-//! The simulated heap: live cells in order of place, below a limit. It keeps no payloads.
+//! The simulated heap: live cells with their payloads, below a limit.
+//!
+//! What a grant, a release, a compression and a store make of the heap stands here; how cells are laid out in words
+//! stands in the crate below.
 #![tactic(auto)]
 
 pub mod fault;
 pub mod heap;
-mod row;
+mod room;
+mod runs;
 mod space;
 #[cfg(test)]
 mod tests;

@@ -1,7 +1,7 @@
 //! The committed length of the chunk, in bytes.
 
-ghost use Rattle.std.specs.Prelude.{◌≡◌, ◌≤◌, true};
-ghost use Rattle.wb_model.specs.Space.{is_shape, space_below, bound_below, committed_by};
+ghost use Rattle.std.specs.Prelude.{◌≡◌, ◌≤◌, true, min};
+ghost use Rattle.wb_model.specs.Space.{is_shape, space_below, bound_below, round_up, committed_by, compressed_to};
 
 use wb_model::heap::{CEILING, Shape};
 
@@ -23,6 +23,23 @@ pub fn greatest_below(limit: u32) -> u32
     limit / 16 * 16
 }
 
+/// The least committed length.
+pub fn least_for(limit: u32, shape: Shape) -> u32
+    ensures { result ≡ min shape.min (bound_below limit) }
+{
+    shape.min.min(greatest_below(limit))
+}
+
+/// Whole steps up to an end, cut to the greatest committed length.
+fn grown_to(limit: u32, shape: Shape, end: u32) -> u32
+    requires shape { is_shape shape ≡ true }
+    requires end { end ≤ CEILING }
+    ensures { result ≡ min (round_up end shape.step) (bound_below limit) }
+{
+    let grown = (end + (shape.step - 1)) / shape.step * shape.step;
+    grown.min(greatest_below(limit))
+}
+
 /// The committed length once a cell with this end was granted.
 pub fn committed_for(limit: u32, shape: Shape, committed: u32, end: u32) -> u32
     requires shape { is_shape shape ≡ true }
@@ -32,6 +49,15 @@ pub fn committed_for(limit: u32, shape: Shape, committed: u32, end: u32) -> u32
     if end <= committed {
         return committed;
     }
-    let grown = (end + (shape.step - 1)) / shape.step * shape.step;
-    grown.min(greatest_below(limit))
+    grown_to(limit, shape, end)
+}
+
+/// The committed length once a chunk whose last cell ends at this top was compressed.
+pub fn compressed_for(limit: u32, shape: Shape, committed: u32, top: u32) -> u32
+    requires shape { is_shape shape ≡ true }
+    requires top { top ≤ CEILING }
+    ensures { result ≡ compressed_to (space_below (bound_below limit) shape) committed top }
+{
+    let kept = grown_to(limit, shape, top).max(least_for(limit, shape));
+    kept.min(committed)
 }

@@ -1,80 +1,143 @@
-//! Worked heaps: the cells of three scripts, with the places that their traces must have.
+//! Worked heaps: what scripts ask of the heap, and the places, notes and refusals that their reports must have.
 
-ghost use Rattle.std.specs.Prelude.{◌≡◌, ℕ, ◌+◌, ◌<◌, ◌≤◌, All};
+ghost use Rattle.std.specs.Prelude.{◌≡◌, ◌+◌, ◌<◌, ◌≤◌, All};
 ghost use Rattle.wb_model.specs.LimitedHeap.{IsCellLength};
 ghost use Rattle.wb_model.specs.Row.{headers};
 
 use crate::fault::HeapFault;
 use crate::heap::Heap;
+use std::alloc::Global;
 use std::test::Fail;
 use wb_model::heap::{CEILING, Header, Kind, Ptr, Shape};
 
 const SHAPE: Shape = Shape { min: 0, step: 4096 };
 
-/// Grants a raw cell under the next number.
-fn grant(heap: &mut Heap, length: u32, number: u32) -> Result<Ptr, HeapFault>
-    requires length { IsCellLength length }
-    requires numbered { 1 ≤ number }
-    requires below { All (λ h. h.number < number) (headers heap.old.row) }
-    ensures { All (λ h. h.number < number + 1) (headers heap.new.row) }
-{
-    heap.alloc(length, Kind::Raw, number, 0)
+/// A heap, and the number of its next attempt.
+#[derive(Drop)]
+struct Worked {
+    heap: Heap,
+    next: u32,
+    ghost numbered: { 1 ≤ next },
+    ghost below: { All (λ h. h.number < next) (headers heap.row) },
 }
 
-/// Releases a cell.
-fn release(heap: &mut Heap, ptr: Ptr) -> Result<(), HeapFault>
-    ensures { (n : ℕ) → All (λ h. h.number < n) (headers heap.old.row) → All (λ h. h.number < n) (headers heap.new.row) }
-{
-    heap.free(ptr)
+impl Worked {
+    /// A heap after its first attempt, for the cleanup stack's 144 bytes at place 0.
+    fn start(alloc: Global, limit: u32, shape: Shape) -> Result<Worked, HeapFault>
+        requires { limit ≤ CEILING }
+    {
+        let mut worked = Worked {
+            heap: Heap::new(alloc, limit, shape)?,
+            next: 1,
+        };
+        worked.grant(144)?;
+        Ok(worked)
+    }
+
+    /// An attempt for a raw cell of this length.
+    fn grant(&mut self, length: u32) -> Result<Ptr, HeapFault>
+        requires { IsCellLength length }
+    {
+        let number = self.next;
+        let Some(next) = number.checked_add(1) else {
+            return Err(HeapFault::NoMemory);
+        };
+        let granted = self.heap.alloc(length, Kind::Raw, number, 0);
+        self.next = next;
+        granted
+    }
+
+    fn release(&mut self, ptr: Ptr) -> Result<(), HeapFault> {
+        self.heap.free(ptr)
+    }
+
+    /// Stores a word, where there is one.
+    fn store(&mut self, ptr: Ptr, i: u32, v: u32) -> Result<(), HeapFault> {
+        match self.heap.header(ptr) {
+            Some(header) if i < (header.length - 16) / 4 => {
+                self.heap.set_payload(ptr, i, v);
+                Ok(())
+            }
+            _ => Err(HeapFault::BadCell),
+        }
+    }
+
+    /// Stores a half of a word, where there is one.
+    fn store_half(&mut self, ptr: Ptr, i: u32, v: u16) -> Result<(), HeapFault> {
+        match self.heap.header(ptr) {
+            Some(header) if i < (header.length - 16) / 2 => {
+                self.heap.set_payload_half(ptr, i, v);
+                Ok(())
+            }
+            _ => Err(HeapFault::BadCell),
+        }
+    }
+
+    /// Copies so many words, where both payloads have them.
+    fn copy(&mut self, from: Ptr, to: Ptr, n: u32) -> Result<(), HeapFault> {
+        match (self.heap.header(from), self.heap.header(to)) {
+            (Some(source), Some(target))
+                if n <= (source.length - 16) / 4 && n <= (target.length - 16) / 4 => {
+                self.heap.copy_payload(from, to, n);
+                Ok(())
+            }
+            _ => Err(HeapFault::BadCell),
+        }
+    }
+
+    /// The numbers of the note on the heap.
+    fn note(&self) -> (u32, u32, u32) {
+        let (count, total) = self.heap.alloc_size();
+        (count, total, self.heap.committed())
+    }
 }
 
 #[test]
 fn first_fit_reuses_a_hole(rt: HostRuntime) -> Result<(), Fail> {
-    let mut heap = Heap::new(rt.alloc(), CEILING, SHAPE)?;
-    assert_eq!(rt; grant(&mut heap, 144, 1)?.place, 0);
-    let a = grant(&mut heap, 32, 2)?;
-    assert_eq!(rt; a.place, 144);
-    let b = grant(&mut heap, 128, 3)?;
-    assert_eq!(rt; b.place, 176);
-    release(&mut heap, a)?;
-    let c = grant(&mut heap, 32, 4)?;
+    let mut worked = Worked::start(rt.alloc(), CEILING, SHAPE)?;
+    let a = worked.grant(32)?;
+    let b = worked.grant(128)?;
+    assert_eq!(rt; (a.place, b.place), (144, 176));
+    worked.release(a)?;
+    let c = worked.grant(32)?;
     assert_eq!(rt; c.place, 144);
-    release(&mut heap, b)?;
-    release(&mut heap, c)?;
-    assert_eq!(rt; heap.next_live(144), None);
+    worked.release(b)?;
+    worked.release(c)?;
+    assert_eq!(rt; worked.heap.next_live(144), None);
+    assert_eq!(rt; worked.note(), (1, 144, 4096));
+    assert_eq!(rt; worked.heap.count(), 1);
     Ok(())
 }
 
 #[test]
 fn freed_neighbours_merge(rt: HostRuntime) -> Result<(), Fail> {
-    let mut heap = Heap::new(rt.alloc(), CEILING, SHAPE)?;
-    assert_eq!(rt; grant(&mut heap, 144, 1)?.place, 0);
-    let a = grant(&mut heap, 32, 2)?;
-    let b = grant(&mut heap, 32, 3)?;
-    let c = grant(&mut heap, 32, 4)?;
-    let d = grant(&mut heap, 32, 5)?;
+    let mut worked = Worked::start(rt.alloc(), CEILING, SHAPE)?;
+    let a = worked.grant(32)?;
+    let b = worked.grant(32)?;
+    let c = worked.grant(32)?;
+    let d = worked.grant(32)?;
     assert_eq!(rt; (a.place, b.place, c.place, d.place), (144, 176, 208, 240));
-    release(&mut heap, b)?;
-    release(&mut heap, a)?;
-    release(&mut heap, c)?;
-    let e = grant(&mut heap, 96, 6)?;
+    worked.release(b)?;
+    worked.release(a)?;
+    worked.release(c)?;
+    assert_eq!(rt; worked.heap.available(), (3920, 3824));
+    let e = worked.grant(96)?;
     assert_eq!(rt; e.place, 144);
-    release(&mut heap, d)?;
-    release(&mut heap, e)?;
-    assert_eq!(rt; heap.next_live(144), None);
+    worked.release(d)?;
+    worked.release(e)?;
+    assert_eq!(rt; worked.heap.next_live(144), None);
     Ok(())
 }
 
 #[test]
 fn stale_pointer_is_refused(rt: HostRuntime) -> Result<(), Fail> {
-    let mut heap = Heap::new(rt.alloc(), CEILING, SHAPE)?;
-    assert_eq!(rt; grant(&mut heap, 144, 1)?.place, 0);
-    let x = grant(&mut heap, 32, 2)?;
-    release(&mut heap, x)?;
-    let y = grant(&mut heap, 32, 3)?;
+    let mut worked = Worked::start(rt.alloc(), CEILING, SHAPE)?;
+    let x = worked.grant(32)?;
+    worked.release(x)?;
+    let y = worked.grant(32)?;
     assert_eq!(rt; (x.place, y.place), (144, 144));
-    assert_eq!(rt; release(&mut heap, x), Err(HeapFault::BadCell));
-    assert_eq!(rt; heap.header(x), None);
+    assert_eq!(rt; worked.release(x), Err(HeapFault::BadCell));
+    assert_eq!(rt; worked.heap.header(x), None);
     let cell = Header {
         place: 144,
         length: 32,
@@ -82,19 +145,112 @@ fn stale_pointer_is_refused(rt: HostRuntime) -> Result<(), Fail> {
         level: 0,
         number: 3,
     };
-    assert_eq!(rt; heap.header(y), Some(cell));
-    assert_eq!(rt; heap.next_live(1), Some(cell));
+    assert_eq!(rt; worked.heap.header(y), Some(cell));
+    assert_eq!(rt; worked.heap.next_live(1), Some(cell));
+    Ok(())
+}
+
+#[test]
+fn a_payload_that_looks_like_a_header_names_no_cell(rt: HostRuntime) -> Result<(), Fail> {
+    let mut worked = Worked::start(rt.alloc(), CEILING, SHAPE)?;
+    let a = worked.grant(32)?;
+    let b = worked.grant(32)?;
+    assert_eq!(rt; b.place, 176);
+    worked.release(a)?;
+    worked.release(b)?;
+    let c = worked.grant(80)?;
+    assert_eq!(rt; c.place, 144);
+    worked.store(c, 4, 32)?;
+    worked.store(c, 5, 1)?;
+    worked.store(c, 6, 0)?;
+    worked.store(c, 7, b.number)?;
+    assert_eq!(rt; worked.heap.header(b), None);
+    assert_eq!(rt; worked.release(b), Err(HeapFault::BadCell));
+    assert_eq!(rt; worked.store(c, 16, 1), Err(HeapFault::BadCell));
     Ok(())
 }
 
 #[test]
 fn limit_and_shape_are_kept(rt: HostRuntime) -> Result<(), Fail> {
-    let mut heap = Heap::new(rt.alloc(), 176, SHAPE)?;
-    grant(&mut heap, 144, 1)?;
-    assert_eq!(rt; heap.place_for(48), 144);
-    assert_eq!(rt; grant(&mut heap, 48, 2), Err(HeapFault::TooShort));
-    assert_eq!(rt; grant(&mut heap, 32, 3)?.place, 144);
+    let mut worked = Worked::start(rt.alloc(), 303, SHAPE)?;
+    let a = worked.grant(32)?;
+    assert_eq!(rt; worked.heap.place_for(128), 176);
+    assert_eq!(rt; worked.grant(128), Err(HeapFault::TooShort));
+    worked.release(a)?;
+    assert_eq!(rt; worked.grant(32)?.place, 144);
+    assert_eq!(rt; worked.note(), (2, 176, 288));
     let odd = Shape { min: 8, step: 4096 };
     assert_eq!(rt; Heap::new(rt.alloc(), 176, odd).is_err(), true);
     Ok(())
+}
+
+#[test]
+fn notes_follow_the_committed_length(rt: HostRuntime) -> Result<(), Fail> {
+    let shape = Shape { min: 256, step: 64 };
+    let mut worked = Worked::start(rt.alloc(), CEILING, shape)?;
+    let a = worked.grant(224)?;
+    assert_eq!(rt; worked.heap.available(), (16, 16));
+    assert_eq!(rt; worked.note(), (2, 368, 384));
+    worked.release(a)?;
+    assert_eq!(rt; worked.heap.available(), (240, 240));
+    assert_eq!(rt; worked.heap.compress(), 128);
+    assert_eq!(rt; worked.note(), (1, 144, 256));
+    assert_eq!(rt; worked.heap.held(), 384);
+    Ok(())
+}
+
+#[test]
+fn a_limit_is_cut_to_sixteen(rt: HostRuntime) -> Result<(), Fail> {
+    let shape = Shape { min: 176, step: 16 };
+    let mut worked = Worked::start(rt.alloc(), 190, shape)?;
+    worked.grant(32)?;
+    assert_eq!(rt; worked.heap.available(), (0, 0));
+    assert_eq!(rt; worked.note(), (2, 176, 176));
+    assert_eq!(rt; worked.heap.compress(), 0);
+    assert_eq!(rt; worked.grant(32), Err(HeapFault::TooShort));
+    assert_eq!(rt; worked.heap.held(), 176);
+    Ok(())
+}
+
+#[test]
+fn a_granted_payload_is_zero(rt: HostRuntime) -> Result<(), Fail> {
+    let mut worked = Worked::start(rt.alloc(), CEILING, SHAPE)?;
+    let a = worked.grant(32)?;
+    worked.store(a, 3, 0x1234_5678)?;
+    assert_eq!(rt; word(&worked.heap, a, 3), Some(0x1234_5678));
+    worked.release(a)?;
+    let b = worked.grant(32)?;
+    assert_eq!(rt; (b.place, word(&worked.heap, b, 3)), (a.place, Some(0)));
+    Ok(())
+}
+
+#[test]
+fn halves_and_copies_of_payloads(rt: HostRuntime) -> Result<(), Fail> {
+    let mut worked = Worked::start(rt.alloc(), CEILING, SHAPE)?;
+    let a = worked.grant(32)?;
+    let b = worked.grant(48)?;
+    worked.store_half(a, 3, 0xabcd)?;
+    assert_eq!(rt; half(&worked.heap, a, 2), Some(0));
+    assert_eq!(rt; half(&worked.heap, a, 3), Some(0xabcd));
+    assert_eq!(rt; word(&worked.heap, a, 1), Some(0xabcd_0000));
+    worked.copy(a, b, 4)?;
+    assert_eq!(rt; word(&worked.heap, b, 1), Some(0xabcd_0000));
+    assert_eq!(rt; word(&worked.heap, b, 7), Some(0));
+    Ok(())
+}
+
+/// A word of a payload, where there is one.
+fn word(heap: &Heap, ptr: Ptr, i: u32) -> Option<u32> {
+    match heap.header(ptr) {
+        Some(header) if i < (header.length - 16) / 4 => Some(heap.payload(ptr, i)),
+        _ => None,
+    }
+}
+
+/// A half of a payload's words, where there is one.
+fn half(heap: &Heap, ptr: Ptr, i: u32) -> Option<u16> {
+    match heap.header(ptr) {
+        Some(header) if i < (header.length - 16) / 2 => Some(heap.payload_half(ptr, i)),
+        _ => None,
+    }
 }

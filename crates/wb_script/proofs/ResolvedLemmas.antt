@@ -121,10 +121,7 @@ due known key.Ptr (Name n ∷ []) typed within = rw (same_test (length known.loc
 due known key.Ptr (Name n ∷ o ∷ os) typed within = let clash : ⊥ = cc in absurd clash
 due known key.Ptr (Number z ∷ os) typed within = let clash : ⊥ = cc in absurd clash
 due known key.Ptr (Literal t ∷ os) typed within = let clash : ⊥ = cc in absurd clash
-due known key.Alloc operands typed within = refl
-due known key.Free operands typed within = refl
-due known key.Print operands typed within = refl
-due known key.End operands typed within = refl
+due known _ operands typed within = refl
 
 line_fits : (literals : ℕ) (known : Known) (form : Form Text) → is_typed form ≡ true → uses_unknown known form ≡ false → passes_limit known form ≡ false →
     length known.literals + length (picked literal_in form) ≤ literals → fits literals (counted_known known) (resolved_line known form) ≡ true
@@ -149,10 +146,7 @@ line_counts known (Line key.Ptr (Name n ∷ [])) typed = ap (λ m. record { proc
 line_counts known (Line key.Ptr (Name n ∷ o ∷ os)) typed = let clash : ⊥ = cc in absurd clash
 line_counts known (Line key.Ptr (Number z ∷ os)) typed = let clash : ⊥ = cc in absurd clash
 line_counts known (Line key.Ptr (Literal t ∷ os)) typed = let clash : ⊥ = cc in absurd clash
-line_counts known (Line key.Alloc operands) typed = refl
-line_counts known (Line key.Free operands) typed = refl
-line_counts known (Line key.Print operands) typed = refl
-line_counts known (Line key.End operands) typed = refl
+line_counts known (Line _ operands) typed = refl
 
 -- a line adds its literals
 literals_after : (known : Known) (form : Form Text) → (known_after known form).literals ≡ known.literals ++ picked literal_in form
@@ -197,7 +191,7 @@ counts_from (form ∷ forms) known typed =
 pub counts-resolved : (forms : List (Form Text)) → AreTyped forms → counts_of (resolved forms) ≡ counted_known (known_of forms)
 counts-resolved forms typed = counts_from forms nothing_known typed
 
--- the literals of a script: what may stand in quotes, and no more than two of a line
+-- the literals of a script: what may stand in quotes, and no more than three of a line
 quotable_of : (letters : List Letter) (operands : List (Operand Text)) → are_operands letters operands ≡ true → list_all (list_all is_quotable) (picked_of literal_in letters operands) ≡ true
 quotable_of [] operands typed = refl
 quotable_of (at ∷ letters) [] typed = refl
@@ -233,26 +227,22 @@ few_of (letter ∷ letters) (Name n ∷ os) = let rest = few_of letters os in om
 few_of (letter ∷ letters) (Number z ∷ os) = let rest = few_of letters os in omega arith
 few_of (letter ∷ letters) (Literal t ∷ os) = let rest = few_of letters os in omega arith
 
-few_letters : (key : Key) → length (letters_of key) ≤ 2
-few_letters key.Proc = omega arith
-few_letters key.Ptr = omega arith
-few_letters key.Alloc = omega arith
-few_letters key.Free = omega arith
-few_letters key.Print = omega arith
-few_letters key.End = omega arith
+few_letters : (key : Key) → length (letters_of key) ≤ 3
+few_letters key.Store = omega arith
+few_letters _ = omega arith
 
-few_picked : (form : Form Text) → length (picked literal_in form) ≤ 2
+few_picked : (form : Form Text) → length (picked literal_in form) ≤ 3
 few_picked Skip = omega arith
 few_picked Unknown = omega arith
 few_picked (Line key operands) = let few = few_of (letters_of key) operands in let letters = few_letters key in omega arith
 
-few_from : (forms : List (Form Text)) (known : Known) → length (state_after known_after known forms).literals ≤ length known.literals + 2 * length forms
+few_from : (forms : List (Form Text)) (known : Known) → length (state_after known_after known forms).literals ≤ length known.literals + 3 * length forms
 few_from [] known = omega arith
 few_from (form ∷ forms) known =
     let later = few_from forms (known_after known form) in
     let longer : length (known_after known form).literals ≡ length known.literals + length (picked literal_in form) = ap length (literals_after known form) ∙ simp length-append in
-    let two = few_picked form in
+    let few = few_picked form in
     omega arith
 
-pub few_literals : (forms : List (Form Text)) → length (known_of forms).literals ≤ 2 * length forms
+pub few_literals : (forms : List (Form Text)) → length (known_of forms).literals ≤ 3 * length forms
 few_literals forms = let few = few_from forms nothing_known in omega arith

@@ -4,7 +4,7 @@ use Rattle.std.specs.List.{list_all, flat_map}
 use Rattle.std.specs.Option.{option_and_then}
 use Rattle.std.proofs.lemmas.List.Folds.{list_all-append}
 use Rattle.wb_model.specs.declared.lines.Key.{Key}
-use Rattle.wb_model.specs.declared.lines.Key.TheVariants.{Proc, Ptr, Alloc, Free, Print, End}
+use Rattle.wb_model.specs.declared.lines.Key.TheVariants.{Proc, Ptr, Alloc, Free, Store, Print, Heap, Available, Compress, End}
 use Rattle.wb_model.specs.declared.lines.Operand.TheVariants.{Name, Number, Literal}
 use Rattle.wb_model.specs.declared.lines.Form.TheVariants.{Skip, Unknown, Line}
 use Rattle.wb_model.specs.declared.lines.Role.{Role}
@@ -69,11 +69,7 @@ run_known (r ∷ roles) stack last is = go (step stack r) (run_known roles) is
 
 content_of : (key : Key) → content (role_of key) ≡ role_of key ∷ []
 content_of Proc = refl
-content_of Ptr = refl
-content_of Alloc = refl
-content_of Free = refl
-content_of Print = refl
-content_of End = refl
+content_of _ = refl
 
 -- the lines that count are those whose roles count
 contents : (lines : List Indexed) → flat_map content (map role_of_form lines) ≡ map role_of_form (flat_map counted lines)
@@ -107,6 +103,10 @@ statement_in (Line Alloc (Name i ∷ Number z ∷ [])) = Statement-F.Alloc (Held
 statement_in (Line Free (Name i ∷ [])) = Statement-F.Free (Held (H.Local i))
 statement_in (Line Print (Number z ∷ [])) = Statement-F.PrintNumber (Constant z)
 statement_in (Line Print (Literal i ∷ [])) = Statement-F.PrintText (Quoted i)
+statement_in (Line Store (Name i ∷ Number z ∷ Number w ∷ [])) = Statement-F.Store (Held (H.Local i)) (Constant z) (Constant w)
+statement_in (Line Heap []) = Statement-F.NoteHeap
+statement_in (Line Available []) = Statement-F.NoteAvailable
+statement_in (Line Compress []) = Statement-F.NoteCompress
 statement_in _ = Statement-F.Return
 
 abbrev with_line : Indexed → Part → Part
@@ -133,6 +133,10 @@ statement_said (Statement-F.Alloc (Held (H.Local i)) (Constant z) GivesNull) par
 statement_said (Statement-F.Free (Held (H.Local i))) part known = refl
 statement_said (Statement-F.PrintNumber (Constant z)) part known = refl
 statement_said (Statement-F.PrintText (Quoted i)) part known = refl
+statement_said (Statement-F.Store (Held (H.Local i)) (Constant z) (Constant w)) part known = refl
+statement_said Statement-F.NoteHeap part known = refl
+statement_said Statement-F.NoteAvailable part known = refl
+statement_said Statement-F.NoteCompress part known = refl
 statement_said _ part known = let clash : ⊥ = cc in absurd clash
 
 statements_said : (ss : List Statement) (part : Part) → list_all is_known (statement_lines ss) ≡ true → with_lines (statement_lines ss) part ≡ record part { statements = ss ++ part.statements }

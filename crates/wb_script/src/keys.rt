@@ -6,12 +6,16 @@ ghost use Rattle.wb_model.specs.Keys.{text_of, letters_of, role_of};
 use wb_model::lines::{Key, Letter, Role};
 
 /// Every key; a line is of the first that fits.
-pub(crate) const ALL: [Key; 6] = [
+pub(crate) const ALL: [Key; 10] = [
     Key::Proc,
     Key::Ptr,
     Key::Alloc,
     Key::Free,
+    Key::Store,
     Key::Print,
+    Key::Heap,
+    Key::Available,
+    Key::Compress,
     Key::End,
 ];
 
@@ -24,7 +28,11 @@ pub(crate) fn text_of(key: Key) -> &'static [u8]
         Key::Ptr => b"ptr",
         Key::Alloc => b"alloc",
         Key::Free => b"free",
+        Key::Store => b"store",
         Key::Print => b"print",
+        Key::Heap => b"heap",
+        Key::Available => b"available",
+        Key::Compress => b"compress",
         Key::End => b"end",
     }
 }
@@ -37,8 +45,9 @@ pub(crate) fn letters_of(key: Key) -> &'static [Letter]
         Key::Proc | Key::Ptr => &[Letter::Declared],
         Key::Alloc => &[Letter::Pointer, Letter::Value],
         Key::Free => &[Letter::Pointer],
+        Key::Store => &[Letter::Pointer, Letter::Value, Letter::Value],
         Key::Print => &[Letter::Printed],
-        Key::End => &[],
+        Key::Heap | Key::Available | Key::Compress | Key::End => &[],
     }
 }
 
@@ -49,7 +58,8 @@ pub(crate) fn role_of(key: Key) -> Role
     match key {
         Key::Proc => Role::Procedure,
         Key::Ptr => Role::Declaration,
-        Key::Alloc | Key::Free | Key::Print => Role::Plain,
+        Key::Alloc | Key::Free | Key::Store | Key::Print => Role::Plain,
+        Key::Heap | Key::Available | Key::Compress => Role::Plain,
         Key::End => Role::End,
     }
 }

@@ -78,6 +78,14 @@ fn each_key(rt: HostRuntime) -> Result<(), Fail> {
     assert!(rt; says(alloc, b"ptr p", Key::Ptr, &[p])?);
     assert!(rt; says(alloc, b"alloc p 24", Key::Alloc, &[p, Operand::Number(24)])?);
     assert!(rt; says(alloc, b"free p", Key::Free, &[p])?);
+    assert!(rt;
+        says(
+            alloc,
+            b"store p 3 -24",
+            Key::Store,
+            &[p, Operand::Number(3), Operand::Number(-24)]
+        )?
+    );
     assert!(rt; says(alloc, b"print 0", Key::Print, &[Operand::Number(0)])?);
     assert!(rt;
         says(
@@ -87,6 +95,9 @@ fn each_key(rt: HostRuntime) -> Result<(), Fail> {
             &[Operand::Literal(b"a b")]
         )?
     );
+    assert!(rt; says(alloc, b"heap", Key::Heap, &[])?);
+    assert!(rt; says(alloc, b"available", Key::Available, &[])?);
+    assert!(rt; says(alloc, b"compress", Key::Compress, &[])?);
     assert!(rt; says(alloc, b"end", Key::End, &[])?);
     Ok(())
 }
@@ -136,6 +147,16 @@ fn lines_that_say_nothing(rt: HostRuntime) -> Result<(), Fail> {
         b"alloc p",
         b"alloc p n",
         b"alloc p \"4\"",
+        b"store p 1",
+        b"store p 1 2 3",
+        b"store p x 1",
+        b"store p 1 x",
+        b"store 0 1 2",
+        b"store p 1 \"2\"",
+        b"heap 1",
+        b"available p",
+        b"compress \"\"",
+        b"Heap",
         b"ptr 1a",
         b"ptr _a",
         b"ptr a.b",

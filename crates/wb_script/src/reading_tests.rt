@@ -95,6 +95,51 @@ fn tree_of_a_script(rt: HostRuntime) -> Result<(), Fail> {
 }
 
 #[test]
+fn tree_of_stores_and_notes(rt: HostRuntime) -> Result<(), Fail> {
+    let text =
+        b"proc main\nptr p\nptr q\nstore q 3 -999999999\nheap\n\tavailable\ncompress\r\nstore p -1 7\nend";
+    let script = read(rt.alloc(), text)?;
+    let main = script.procedures.get(0).expect(&rt, "main");
+    assert_eq!(rt; main.body.statements.len(), 5);
+    match main.body.statements.get(0).expect(&rt, "store") {
+        Statement::Store(pointer, index, value) => {
+            assert_eq!(rt; *pointer, Pointer::Held(Holder::Local(1)));
+            assert_eq!(rt; *index, Number::Constant(3));
+            assert_eq!(rt; *value, Number::Constant(-999_999_999));
+        }
+        _ => assert!(rt; false),
+    }
+    assert!(rt; matches!(main.body.statements.get(1), Some(Statement::NoteHeap)));
+    assert!(rt; matches!(main.body.statements.get(2), Some(Statement::NoteAvailable)));
+    assert!(rt; matches!(main.body.statements.get(3), Some(Statement::NoteCompress)));
+    match main.body.statements.get(4).expect(&rt, "store") {
+        Statement::Store(pointer, index, value) => {
+            assert_eq!(rt; *pointer, Pointer::Held(Holder::Local(0)));
+            assert_eq!(rt; *index, Number::Constant(-1));
+            assert_eq!(rt; *value, Number::Constant(7));
+        }
+        _ => assert!(rt; false),
+    }
+    Ok(())
+}
+
+/// The scripts of the worked cases of the heap in raw words.
+#[test]
+fn scripts_of_worked_cases(rt: HostRuntime) {
+    let alloc = rt.alloc();
+    let scripts = [
+        b"proc main\nptr a\nalloc a 200\navailable\nheap\nfree a\navailable\ncompress\nheap\nend\n".as_slice(),
+        b"proc main\nptr a\nptr b\nptr c\nalloc a 16\nalloc b 16\nfree a\nfree b\nalloc c 64\nstore c 4 32\nstore c 5 1\nstore c 6 0\nstore c 7 3\nfree b\nend\n",
+        b"proc main\nptr a\nalloc a 9\navailable\nheap\ncompress\nalloc a 1\nend\n",
+        b"proc main\nend\n",
+        b"proc main\nptr a\nptr b\nptr c\nalloc a 10\nalloc b 100\nfree a\nalloc c 16\nfree b\nfree c\nend\n",
+    ];
+    for script in scripts.iter() {
+        assert_eq!(rt; fault_of(alloc, script), None);
+    }
+}
+
+#[test]
 fn bytes_of_no_script(rt: HostRuntime) -> Result<(), Fail> {
     let alloc = rt.alloc();
     assert_eq!(rt;
@@ -155,6 +200,29 @@ fn lines_that_fit_nowhere(rt: HostRuntime) -> Result<(), Fail> {
         fault_of(alloc, b"proc main\nrepeat 2\nend\nend"),
         grammar(2)
     );
+    // Operands of a `store` that are too few, too many, or of another kind, and a note with an operand.
+    assert_eq!(rt;
+        fault_of(alloc, b"proc main\nptr p\nstore p 0\nend"),
+        grammar(3)
+    );
+    assert_eq!(rt;
+        fault_of(alloc, b"proc main\nptr p\nstore p 0 1 2\nend"),
+        grammar(3)
+    );
+    assert_eq!(rt;
+        fault_of(alloc, b"proc main\nptr p\nptr x\nstore p x 1\nend"),
+        grammar(4)
+    );
+    assert_eq!(rt; fault_of(alloc, b"proc main\nstore 1 0 1\nend"), grammar(2));
+    assert_eq!(rt;
+        fault_of(alloc, b"proc main\nheap\nheap 1\nend"),
+        grammar(3)
+    );
+    assert_eq!(rt;
+        fault_of(alloc, b"proc main\navailable\nptr p\nend"),
+        grammar(3)
+    );
+    assert_eq!(rt; fault_of(alloc, b"compress\nproc main\nend"), grammar(1));
     // It is asked before the names.
     assert_eq!(rt;
         fault_of(alloc, b"proc main\nfree a\nset a\nend"),
@@ -177,6 +245,13 @@ fn names_that_break_a_rule(rt: HostRuntime) -> Result<(), Fail> {
     assert_eq!(rt;
         fault_of(alloc, b"proc main\nfree main\nend"),
         Some(ScriptFault::UnknownName { line: 2 })
+    );
+    assert_eq!(rt;
+        fault_of(
+            alloc,
+            b"proc main\nptr p\nstore p 0 1\nheap\nstore q 0 1\nend"
+        ),
+        Some(ScriptFault::UnknownName { line: 5 })
     );
     // An earlier check wins whatever the lines.
     assert_eq!(rt;

@@ -117,8 +117,28 @@ fn statement_of(
             [pointer] => Some(Statement::Free(pointer_of(locals, pointer)?)),
             _ => None,
         },
+        Key::Store => match operands {
+            [pointer, index, value] => Some(Statement::Store(
+                pointer_of(locals, pointer)?,
+                number_of(index)?,
+                number_of(value)?,
+            )),
+            _ => None,
+        },
         Key::Print => match operands {
             [operand] => printed(literals, operand),
+            _ => None,
+        },
+        Key::Heap => match operands {
+            [] => Some(Statement::NoteHeap),
+            _ => None,
+        },
+        Key::Available => match operands {
+            [] => Some(Statement::NoteAvailable),
+            _ => None,
+        },
+        Key::Compress => match operands {
+            [] => Some(Statement::NoteCompress),
             _ => None,
         },
         Key::Proc | Key::Ptr | Key::End => None,
@@ -204,12 +224,10 @@ fn inside(
                 Ok(None)
             }
         }
-        Key::Alloc | Key::Free | Key::Print => {
-            match statement_of(literals, body.locals.as_slice(), key, operands) {
-                Some(statement) => Ok(Some(Left::Inside(with_statement(body, statement)?))),
-                None => Ok(None),
-            }
-        }
+        _ => match statement_of(literals, body.locals.as_slice(), key, operands) {
+            Some(statement) => Ok(Some(Left::Inside(with_statement(body, statement)?))),
+            None => Ok(None),
+        },
     }
 }
 

@@ -4,5 +4,8 @@ pub mod FaultLemmas
 pub mod Hexadecimal
 pub mod KnownBytesLemmas
 pub mod MatchesLemmas
+pub mod PassedValues
 pub mod RefusalLemmas
+pub mod WordLemmas
 pub mod WorkedReports
+pub mod WorkedWords

@@ -1,24 +1,38 @@
 -- From what a parse found to what the words spell.
-use Rattle.std.proofs.Common.{◌≡◌, ◌∙◌, true, refl, sym, ap, List, [], Option, Some, None, codes, option_map}
-use Rattle.std.specs.Prelude.{Box, IfSome}
+use Rattle.std.proofs.Common.{◌≡◌, ◌∙◌, ◌<◌, ◌≤◌, ◌^◌, ◌%◌, ℕ, Bool, nat_eq, arith, true, false, eqb-true, refl, sym, ap, subst, List, [], ◌∷◌, Option, Some, None, Result, Ok, Err, codes, option_and_then, option_map}
+use Rattle.std.specs.Prelude.{Box, IfSome, MatchOption, pos, unwrap_or}
 use Rattle.std.specs.Borrow.{Bor}
 use Rattle.std.specs.Box.{box_value}
-use Rattle.clap.specs.Words.{App, HasMatchesOf, Row, Text, fault_of, first_of, first_value, found_of, is_simple, is_simple_and_free, rows_of, subcommand_name_of, subcommand_of, subcommand_rows, subcommand_rows_of}
+use Rattle.std.specs.Str.Parse.{ParsesUnsigned}
+use Rattle.clap.specs.Values.{Accepts, IsSignedIn, read_as, reading_of}
+use Rattle.clap.specs.Lexer.{without_minus}
+use Rattle.clap.specs.Facts.{parser_of_value}
+use Rattle.clap.specs.Walk.{Rule, reading_by}
+use Rattle.clap.specs.Words.{App, HasMatchesOf, ReadsOne, Row, Text, fault_of, first_of, first_value, found_of, is_simple, is_simple_and_free, one_of, one_text, rows_of, subcommand_name_of, subcommand_of, subcommand_rows, subcommand_rows_of}
+use Rattle.clap.specs.declared.builder.value_parser.ValueParser.{ValueParser}
+use Rattle.clap.specs.declared.builder.value_parser.ValueParser.TheVariants.{Signed}
 use Rattle.clap.specs.declared.parser.matches.ArgMatches.{ArgMatches}
+use Rattle.clap.specs.declared.parser.matches.Found.{Found}
 use Rattle.clap.specs.declared.parser.matches.SubCommand.{SubCommand}
 use Rattle.clap.specs.declared.parser.matches.ArgMatches.TheViews.{out-ArgMatches, out-SubCommand}
-use Rattle.clap.proofs.WalkLemmas.{first_value-rows}
-use Rattle.workbench.specs.CommandLine.{command_line}
-use Rattle.workbench.specs.Spelled.{spelled}
-use Rattle.workbench.specs.WordByWord.{run_of}
-use Rattle.workbench.proofs.CommandLineLemmas.{run_is_met, spelled_run}
+use Rattle.clap.proofs.CallerReads.{signed_reads}
+use Rattle.clap.proofs.ValueTestLemmas.{accepts-Accepts}
+use Rattle.clap.proofs.WalkLemmas.{first_value-rows, one_text-rows}
+use Rattle.wb_model.specs.declared.heap.Shape.{Shape}
+use Rattle.workbench.specs.Command.{is_sixteenfold}
+use Rattle.workbench.specs.CommandLine.{command_line, run_level}
+use Rattle.workbench.specs.Spelled.{command_of, decimal, number_of, run_of, spelled}
+use Rattle.workbench.proofs.CommandLineLemmas.{below, limit_rule, min_rule, only_limit, only_min, only_step, run_is_met, step_rule}
+use Rattle.workbench.specs.Passed.{RowsPass}
+use Rattle.workbench.proofs.PassedValues.{IsOnly, PassedAs, first_passed}
 
--- the words have no fault, and by them and by the parse the subcommand is `run`, with these rows
+-- the words have no fault, by them and by the parse the subcommand is `run` with these rows, and their values passed
 pub record MeetsRun (words : List Text) (m : ArgMatches) : Type 0 where
   pub faultless : fault_of command_line words ≡ []
   pub rows : List Row
   pub by_words : subcommand_of command_line words ≡ Some (codes "run", rows)
   pub by_parse : subcommand_rows_of m ≡ Some (codes "run", rows)
+  pub passed : RowsPass below.rules rows
 
 pub meets_run : (words : List Text) (a : App) (m : ArgMatches) → a ≡ command_line → (is_simple_and_free a ≡ true → fault_of a words ≡ []) → HasMatchesOf a words m → MeetsRun words m
 meets_run words a m line no_fault matches =
@@ -26,8 +40,9 @@ meets_run words a m line no_fault matches =
     let met = run_is_met words faultless in record {
       faultless = faultless;
       rows = _;
-      by_words = met.1;
-      by_parse = (matches (ap is_simple line)).1 ∙ ap (λ b. subcommand_of b words) line ∙ met.1;
+      by_words = met.1.meaning;
+      by_parse = (matches (ap is_simple line)).1 ∙ ap (λ b. subcommand_of b words) line ∙ met.1.meaning;
+      passed = met.1.passed;
     }
 
 named_rows : {Z : Type 0} (o : Option (Box SubCommand Z)) → option_map (λ b. (out-SubCommand (box_value b)).name.now) o ≡ option_map (λ (p : Text × List Row). p.0) (subcommand_rows o)
@@ -37,14 +52,90 @@ named_rows (Some b) = refl
 pub names_run : (words : List Text) (m : ArgMatches) → MeetsRun words m → subcommand_name_of m ≡ Some (codes "run")
 names_run words m met = named_rows (out-ArgMatches m).subcommand ∙ ap (option_map (λ p. p.0)) met.by_parse
 
--- o is what the parse has of `run`, and text what it has of FILE
-pub spelled_by : (words : List Text) (m : ArgMatches) → MeetsRun words m → (o : Option (Bor ArgMatches)) (r : Bor ArgMatches) (text : Option (Bor Text)) (file : Option Text)
+-- o is what the parse has of `run`
+pub rows_are : (words : List Text) (m : ArgMatches) → (met : MeetsRun words m) → (o : Option (Bor ArgMatches)) (r : Bor ArgMatches)
     → IfSome o (λ x. option_map (λ (p : Text × List Row). p.1) (subcommand_rows_of m) ≡ Some (rows_of (found_of x.now))) → o ≡ Some r
-    → option_map (λ s. s.now) text ≡ first_value (found_of r.now) (codes "file") → option_map (λ s. s.now) text ≡ file
-    → spelled words ≡ Some (run_of file)
-spelled_by words m met o r text file found is text_is_first named =
+    → met.rows ≡ rows_of (found_of r.now)
+rows_are words m met o r found is =
     let at : option_map (λ (p : Text × List Row). p.1) (subcommand_rows_of m) ≡ Some (rows_of (found_of r.now)) = rw is at found in
-    let same : Some met.rows ≡ Some (rows_of (found_of r.now)) = ap (option_map (λ (p : Text × List Row). p.1)) (sym met.by_parse) ∙ at in
-    let rows_are : met.rows ≡ rows_of (found_of r.now) = cc in
-    let first : first_of (codes "file") met.rows ≡ file = ap (first_of (codes "file")) rows_are ∙ sym (first_value-rows (found_of r.now) (codes "file")) ∙ sym text_is_first ∙ named in
-    spelled_run words met.rows file met.by_words first
+    let same : Some met.rows ≡ Some (rows_of (found_of r.now)) = ap (option_map (λ (p : Text × List Row). p.1)) (sym met.by_parse) ∙ at in cc
+
+pub run_passed : (words : List Text) (m : ArgMatches) → (met : MeetsRun words m) → (rows : List Row) → met.rows ≡ rows → RowsPass run_level.rules rows
+run_passed words m met rows are = subst (RowsPass run_level.rules) are met.passed
+
+pub spelled_run : (words : List Text) (m : ArgMatches) → (met : MeetsRun words m) → (rows : List Row) → met.rows ≡ rows → spelled words ≡ Some (run_of rows)
+spelled_run words m met rows are = ap (option_and_then command_of) met.by_words ∙ ap (λ l. Some (run_of l)) are
+
+-- ---- numbers
+
+-- what was read of an option is the number that it was given, in its range
+pub record IsNumberOf (id : Text) (rows : List Row) (low high : ℕ) (r : Option ℕ) : Type 0 where
+  pub is : r ≡ number_of id rows
+  pub within : IfSome r (λ n. (low ≤ n) × (n ≤ high))
+
+module _ (E : Type 0) (G : List ℕ → Result ℕ E → Type 0) (parses : (u : List ℕ) (x : Result ℕ E) → G u x → ParsesUnsigned 32 10 u x) where
+  read_is_decimal : (u : Text) (n : ℕ) → G u (Ok n) → n ≡ decimal u
+  read_is_decimal u n g = (parses u (Ok n) g).1
+
+  pub number_is : (c : List Rule) (id : Text) (a : Rule) (low high : ℕ) (f : Found) (r : Option ℕ)
+      → a.parser ≡ Some (Signed (pos low) (pos high)) → high < 2 ^ 32 → IsOnly c id a → RowsPass c (rows_of f)
+      → (one_text f id ≡ None → r ≡ None) → ((t : Text) → one_text f id ≡ Some t → ReadsOne G t r) → IsNumberOf id (rows_of f) low high r
+  number_is c id a low high f r parser fits only passed none value = go (first_of id (rows_of f)) (first_passed c id a (rows_of f) only passed)
+    where
+      given : (t : Text) → PassedAs a t (one_of id (rows_of f)) → IsNumberOf id (rows_of f) low high r
+      given t p =
+          let as_read : one_of id (rows_of f) ≡ Some (without_minus t) =
+          p.as_read ∙ ap (λ (o : Option ValueParser). Some (read_as (reading_of (parser_of_value o)) t)) parser in
+          let accepted : IsSignedIn (pos low) (pos high) t =
+          subst (λ (o : Option ValueParser). Accepts a.ignore_case (parser_of_value o) t) parser (accepts-Accepts a.ignore_case (parser_of_value a.parser) t p.passed) in
+          let one = value (without_minus t) (one_text-rows f id ∙ as_read) in
+          let got = signed_reads E G 32 low high t r one parses fits accepted in
+          let number : got.0 ≡ decimal (without_minus t) = read_is_decimal (without_minus t) got.0 (subst (λ (o : Option ℕ). ReadsOne G (without_minus t) o) got.1 one) in
+          record {
+            is = got.1 ∙ ap (λ n. Some n) number ∙ ap (option_map decimal) (sym as_read);
+            within = rw got.1 (got.2, got.3);
+          }
+
+      go : (o : Option Text) → MatchOption o (one_of id (rows_of f) ≡ None) (λ t. PassedAs a t (one_of id (rows_of f))) → IsNumberOf id (rows_of f) low high r
+      go None absent =
+          let is_none : r ≡ None = none (one_text-rows f id ∙ absent) in
+          record { is = is_none ∙ ap (option_map decimal) (sym absent); within = rw is_none tt }
+      go (Some t) p = given t p
+
+  -- of each option of `run`
+  abbrev OptionRead : Text → ℕ → ℕ → Type 0
+  OptionRead id low high = (f : Found) (r : Option ℕ) → RowsPass run_level.rules (rows_of f)
+      → (one_text f id ≡ None → r ≡ None) → ((t : Text) → one_text f id ≡ Some t → ReadsOne G t r) → IsNumberOf id (rows_of f) low high r
+
+  pub limit_is : OptionRead (codes "limit") 0 16777216
+  limit_is f r passed = number_is run_level.rules (codes "limit") limit_rule 0 16777216 f r refl (omega arith) only_limit passed
+
+  pub min_is : OptionRead (codes "min") 0 1048576
+  min_is f r passed = number_is run_level.rules (codes "min") min_rule 0 1048576 f r refl (omega arith) only_min passed
+
+  pub step_is : OptionRead (codes "step") 16 1048576
+  step_is f r passed = number_is run_level.rules (codes "step") step_rule 16 1048576 f r refl (omega arith) only_step passed
+
+-- the number of an option, or the default, in its range
+pub record IsGivenOr (id : Text) (rows : List Row) (low high default n : ℕ) : Type 0 where
+  pub is : n ≡ unwrap_or (number_of id rows) default
+  pub least : low ≤ n
+  pub most : n ≤ high
+
+pub given_or : (id : Text) (rows : List Row) (low high default n : ℕ) (r : Option ℕ) → IsNumberOf id rows low high r → low ≤ default → default ≤ high → n ≡ unwrap_or r default
+    → IsGivenOr id rows low high default n
+given_or id rows low high default n r read least most is =
+    let within = go r read.within in
+    record { is = is ∙ ap (λ o. unwrap_or o default) read.is; least = rw is within.0; most = rw is within.1 }
+  where
+    go : (o : Option ℕ) → IfSome o (λ m. (low ≤ m) × (m ≤ high)) → (low ≤ unwrap_or o default) × (unwrap_or o default ≤ high)
+    go None w = (least, most)
+    go (Some m) w = w
+
+pub not_sixteenfold : (shape : Shape) → (shape.min % 16 ≡ 0 → shape.step % 16 ≡ 0 → ⊥) → is_sixteenfold shape ≡ false
+not_sixteenfold shape misshapen = go (nat_eq (shape.min % 16) 0) refl (nat_eq (shape.step % 16) 0) refl
+  where
+    go : (a : Bool) → nat_eq (shape.min % 16) 0 ≡ a → (b : Bool) → nat_eq (shape.step % 16) 0 ≡ b → is_sixteenfold shape ≡ false
+    go true x true y = absurd (misshapen (eqb-true _ _ x) (eqb-true _ _ y))
+    go true x false y = rw (x, y) refl
+    go false x b y = rw x refl

@@ -1,4 +1,4 @@
--- Words that clap refuses, of a command whose only flag is help.
+-- Words that clap refuses, of a command whose only flag is help, beside options that the words don't name.
 use Rattle.std.proofs.Common.{◌≡◌, ◌&&◌, ◌||◌, ℕ, Bool, cond, true, false, refl, sym, subst, List, [], ◌∷◌, ◌++◌, length, Option, Some, None, codes}
 use Rattle.std.specs.Prelude.{◌==◌, encode_utf8, slice_get, drop}
 use Rattle.std.specs.Str.{bytes_eq, chars}
@@ -36,7 +36,7 @@ fails_second [] b false q f = record { fault = f.fault; test = refl }
 fails_second (k ∷ ks) b true q f = record { fault = has_kind k ks; test = f.test }
 fails_second (k ∷ ks) b false q f = record { fault = has_kind k ks; test = refl }
 
--- ---- one word of a level whose only flag is help
+-- ---- one word of a level whose only flag beside its options is help
 
 abbrev pub help : Rule
 help = filled help_rule
@@ -44,7 +44,7 @@ help = filled help_rule
 abbrev pub unskipped : Held → Held
 unskipped h = record h { skip = 0 }
 
-module _ (s : Shape) (is_help_long : (name : Text) → arg_by_long s.rules name ≡ cond (bytes_eq (codes "help") name || false) (Some help) None)
+module _ (s : Shape) (is_option : Text → Bool) (is_help_long : (name : Text) → is_option name ≡ false → arg_by_long s.rules name ≡ cond (bytes_eq (codes "help") name || false) (Some help) None)
     (is_help_short : (x : ℕ) → arg_by_short s.rules x ≡ cond ((104 == x) || false) (Some help) None) where
   abbrev again : Bool
   again = s.args_override_self
@@ -53,8 +53,8 @@ module _ (s : Shape) (is_help_long : (name : Text) → arg_by_long s.rules name 
   help_fails h = fails_second (settle_fault s.rules again h) (use_fault again help [] (settled s.rules h).rows)
       (settle_passes s.rules again h) (use_passes again help [] (settled s.rules h).rows) (record { fault = has_kind _ _; test = refl })
 
-  long_fails : (p : Text × Option Text) (word : Text) (h : Held) → Fails (flag_word_fault s.rules again (Some p) word h) (flag_word_passes s.rules again (Some p) word h)
-  long_fails p word h = rw is_help_long (go (bytes_eq (codes "help") p.0) p.1)
+  long_fails : (p : Text × Option Text) (word : Text) (h : Held) → is_option p.0 ≡ false → Fails (flag_word_fault s.rules again (Some p) word h) (flag_word_passes s.rules again (Some p) word h)
+  long_fails p word h no_option = rw (is_help_long p.0 no_option) (go (bytes_eq (codes "help") p.0) p.1)
     where
       go : (b : Bool) (v : Option Text) → Fails (long_fault s.rules again (cond (b || false) (Some help) None) v h) (long_passes s.rules again (cond (b || false) (Some help) None) v h)
       go true (Some v) = record { fault = has_kind _ _; test = refl }
@@ -86,8 +86,8 @@ module _ (s : Shape) (is_help_long : (name : Text) → arg_by_long s.rules name 
   TurnFails position word h = Fails (or_else (other_fault s None word h) (step_fault s position (met_with position word h).0 (met_with position word h).1))
       (other_passes s None word h && step_passes s position (met_with position word h).0 (met_with position word h).1)
 
-  pub long_turn : (position : ℕ) (word : Text) (h : Held) (p : Text × Option Text) → bytes_eq word (codes "--") ≡ false → long_of word ≡ Some p → TurnFails position word h
-  long_turn position word h p no_dashes is_long = rw (no_dashes, is_long) (fails_first _ _ _ _ (long_fails p word h))
+  pub long_turn : (position : ℕ) (word : Text) (h : Held) (p : Text × Option Text) → bytes_eq word (codes "--") ≡ false → long_of word ≡ Some p → is_option p.0 ≡ false → TurnFails position word h
+  long_turn position word h p no_dashes is_long no_option = rw (no_dashes, is_long) (fails_first _ _ _ _ (long_fails p word h no_option))
 
   pub short_turn : (position : ℕ) (word flags : Text) (h : Held) (x : ℕ) → bytes_eq word (codes "--") ≡ false → long_of word ≡ None → short_of word ≡ Some flags → slice_get (chars flags) 0 ≡ Some x
       → TurnFails position word (unskipped h)
@@ -124,9 +124,9 @@ module _ (s : Shape) (is_help_long : (name : Text) → arg_by_long s.rules name 
             let rest = drop (length (encode_utf8 y)) (x ∷ xs) in
             fails_first _ _ _ _ (short_fails y rest (unskipped h) (flags_fault s.rules again (length xs) rest 0) (flags_pass s.rules again (length xs) rest 0))
 
-    -- any word but `--`
-    pub word_fails : (word : Text) (h : Held) → bytes_eq word (codes "--") ≡ false → TurnFails position word (unskipped h)
-    word_fails word h no_dashes = rw no_dashes (go (long_of word))
+    -- any word but `--` and the options
+    pub word_fails : (word : Text) (h : Held) → bytes_eq word (codes "--") ≡ false → option_map_or (λ p. is_option p.0) (long_of word) false ≡ false → TurnFails position word (unskipped h)
+    word_fails word h no_dashes no_option = rw no_dashes (go (long_of word) no_option)
       where
         go_short : (o : Option Text)
             → Fails (or_else (option_map_or (λ flags. bundle_fault s.rules again flags (unskipped h)) o []) (step_fault s position (short_or_plain s.rules idle word o (unskipped h)).0 (short_or_plain s.rules idle word o (unskipped h)).1))
@@ -134,11 +134,11 @@ module _ (s : Shape) (is_help_long : (name : Text) → arg_by_long s.rules name 
         go_short None = value_fails (unskipped h)
         go_short (Some flags) = flags_fail word flags h
 
-        go : (l : Option (Text × Option Text))
+        go : (l : Option (Text × Option Text)) → option_map_or (λ p. is_option p.0) l false ≡ false
             → Fails (or_else (flag_word_fault s.rules again l word (unskipped h)) (step_fault s position (long_or_other s.rules idle word l (unskipped h)).0 (long_or_other s.rules idle word l (unskipped h)).1))
             (flag_word_passes s.rules again l word (unskipped h) && step_passes s position (long_or_other s.rules idle word l (unskipped h)).0 (long_or_other s.rules idle word l (unskipped h)).1)
-        go None = go_short (short_of word)
-        go (Some p) = fails_first _ _ _ _ (long_fails p word (unskipped h))
+        go None none = go_short (short_of word)
+        go (Some p) none = fails_first _ _ _ _ (long_fails p word (unskipped h) none)
 
 -- ---- a level
 

@@ -1,8 +1,24 @@
 -- What every command that words spell keeps.
-use Rattle.std.specs.Prelude.{Bool, ◌&&◌, nat_le, not}
+use Rattle.std.specs.Prelude.{Bool, true, ◌&&◌, ◌%◌, nat_eq, nat_le, not}
 use Rattle.wb_model.specs.Space.{is_shape}
+use Rattle.wb_model.specs.declared.heap.TheConstants.{CEILING}
+use Rattle.wb_model.specs.declared.heap.Rule.{Rule}
+use Rattle.wb_model.specs.declared.heap.Rule.TheVariants.{Limit, Number, Unlimited}
+use Rattle.wb_model.specs.declared.heap.Shape.{Shape}
 use Rattle.workbench.specs.declared.command.Command.{Command}
+use Rattle.workbench.specs.declared.command.Task.{Task}
+use Rattle.workbench.specs.declared.command.Task.TheVariants.{Run}
+
+-- a limit, or the number of an attempt, is no greater than the greatest length of a heap
+abbrev pub is_in_range : Task → Bool
+is_in_range (Run Unlimited) = true
+is_in_range (Run (Limit l)) = nat_le l CEILING
+is_in_range (Run (Number n)) = nat_le n CEILING
+
+-- the minimum length and the step are multiples of 16
+abbrev pub is_sixteenfold : Shape → Bool
+is_sixteenfold shape = nat_eq (shape.min % 16) 0 && nat_eq (shape.step % 16) 0
 
 -- the numbers of a command are in their ranges, and it asks for lines of text
 abbrev pub is_answerable : Command → Bool
-is_answerable c = nat_le 1 c.budget && nat_le c.budget 1000000 && is_shape c.shape && not c.json
+is_answerable c = nat_le 1 c.budget && nat_le c.budget 1000000 && is_shape c.shape && not c.json && is_in_range c.task

@@ -1,10 +1,32 @@
 -- The command line, as clap's meaning of a simple command sees it.
-use Rattle.std.specs.Prelude.{true, codes}
-use Rattle.clap.specs.Words.{App, new_app, new_rule, with_rule, with_subcommand}
+use Rattle.std.specs.Prelude.{true, ℕ, Some, codes, pos}
+use Rattle.clap.specs.Words.{App, Rule, Text, new_app, new_rule, with_rule, with_subcommand}
+use Rattle.clap.specs.Simple.{Shape, built_leaf}
+use Rattle.clap.specs.declared.builder.value_parser.ValueParser.TheVariants.{Signed}
 
--- `run [FILE]`
+-- `--NAME N`, where N is a number from the least to the most
+abbrev pub number_option : Text → ℕ → ℕ → Rule
+number_option name least most = record (new_rule name) { long = Some name; value_names = 1; parser = Some (Signed (pos least) (pos most)) }
+
+abbrev pub file_argument : Rule
+file_argument = record (new_rule (codes "file")) { value_names = 1 }
+
+abbrev pub limit_option : Rule
+limit_option = number_option (codes "limit") 0 16777216
+
+abbrev pub min_option : Rule
+min_option = number_option (codes "min") 0 1048576
+
+abbrev pub step_option : Rule
+step_option = number_option (codes "step") 16 1048576
+
+-- `run [--limit L] [--min M] [--step G] [FILE]`
 abbrev pub run_line : App
-run_line = with_rule (new_app (codes "run")) (record (new_rule (codes "file")) { value_names = 1 })
+run_line = with_rule (with_rule (with_rule (with_rule (new_app (codes "run")) file_argument) limit_option) min_option) step_option
+
+-- the same once it is built, with its call for help
+abbrev pub run_level : Shape
+run_level = built_leaf run_line.top
 
 -- `workbench`, which wants a subcommand
 abbrev pub bare_line : App

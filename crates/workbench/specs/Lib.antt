@@ -2,6 +2,7 @@ pub mod Answer
 pub mod Command
 pub mod CommandLine
 pub mod Fault
+pub mod Passed
 pub mod Report
 pub mod Spelled
 pub mod Streams

@@ -1,13 +1,15 @@
 -- The command that words spell, by clap's meaning of the command line. The first word is the program's name, and is not
 -- looked at.
-use Rattle.std.specs.Prelude.{◌≡◌, ℕ, List, [], false, Option, Some, None, codes, if◌then◌else◌, option_map, option_and_then}
+use Rattle.std.specs.Prelude.{◌≡◌, ℕ, List, [], Bool, false, Option, Some, None, codes, if◌then◌else◌, option_map, option_and_then, unwrap_or}
+use Rattle.std.specs.Option.{option_map_or}
 use Rattle.std.specs.Str.{bytes_eq}
-use Rattle.clap.specs.Words.{Row, Text, fault_of, first_of, subcommand_of}
-use Rattle.wb_model.specs.declared.heap.Rule.TheVariants.{Unlimited}
+use Rattle.std.specs.Str.Parse.{digits_value, without_leading_plus}
+use Rattle.clap.specs.Words.{Row, Text, fault_of, first_of, one_of, subcommand_of}
+use Rattle.wb_model.specs.declared.heap.Rule.{Rule}
+use Rattle.wb_model.specs.declared.heap.Rule.TheVariants.{Limit, Unlimited}
 use Rattle.wb_model.specs.declared.heap.Shape.{Shape}
 use Rattle.workbench.specs.CommandLine.{command_line}
 use Rattle.workbench.specs.declared.command.Command.{Command}
-use Rattle.workbench.specs.declared.command.Task.{Task}
 use Rattle.workbench.specs.declared.command.Task.TheVariants.{Run}
 
 -- what holds where the words don't say otherwise
@@ -17,19 +19,36 @@ default_budget = 10000
 abbrev pub default_shape : Shape
 default_shape = record { min = 4096; step = 4096 }
 
--- what a subcommand is to do, by its name and its matches
-abbrev pub task_of : Text → List Row → Option Task
-task_of name rows = if bytes_eq name (codes "run") then Some (Run Unlimited) else None
+-- the number of a decimal text; a plus before it and leading zeros make no difference
+abbrev pub decimal : Text → ℕ
+decimal text = digits_value 10 (without_leading_plus text)
+
+-- the number that an option was given, where it was given one
+abbrev pub number_of : Text → List Row → Option ℕ
+number_of option rows = option_map decimal (one_of option rows)
+
+abbrev pub rule_of : List Row → Rule
+rule_of rows = option_map_or Limit (number_of (codes "limit") rows) Unlimited
+
+abbrev pub shape_of : List Row → Shape
+shape_of rows = record {
+  min = unwrap_or (number_of (codes "min") rows) default_shape.min;
+  step = unwrap_or (number_of (codes "step") rows) default_shape.step;
+}
+
+-- the command of `run`, by its matches
+abbrev pub run_of : List Row → Command
+run_of rows = record {
+  task = Run (rule_of rows);
+  file = first_of (codes "file") rows;
+  budget = default_budget;
+  shape = shape_of rows;
+  json = false;
+}
 
 -- the command of a subcommand's name and matches
 abbrev pub command_of : Text × List Row → Option Command
-command_of p = option_map (λ task. record {
-  task = task;
-  file = first_of (codes "file") p.1;
-  budget = default_budget;
-  shape = default_shape;
-  json = false;
-}) (task_of p.0 p.1)
+command_of p = if bytes_eq p.0 (codes "run") then Some (run_of p.1) else None
 
 -- the command that the words spell, where clap takes them
 abbrev pub spelled : List Text → Option Command

@@ -1,6 +1,8 @@
--- Which words clap takes on the command line, and what they spell, said without clap.
-use Rattle.std.specs.Prelude.{◌≡◌, ◌≢◌, ◌==◌, ◌&&◌, Bool, true, false, not, List, [], ◌∷◌, Option, Some, None, MatchOption, codes, if◌then◌else◌}
+-- Which words clap takes on the command line where none of them is an option, and what they spell, said without clap.
+use Rattle.std.specs.Prelude.{◌≡◌, ◌≢◌, ◌==◌, ◌&&◌, ◌||◌, Bool, true, false, not, List, [], ◌∷◌, Option, Some, None, MatchOption, codes, drop, if◌then◌else◌}
+use Rattle.std.specs.Option.{option_map_or}
 use Rattle.std.specs.Str.{bytes_eq}
+use Rattle.clap.specs.Lexer.{long_of}
 use Rattle.clap.specs.Words.{Text, fault_of, takes}
 use Rattle.wb_model.specs.declared.heap.Rule.TheVariants.{Unlimited}
 use Rattle.workbench.specs.CommandLine.{command_line}
@@ -17,6 +19,19 @@ abbrev pub is_flag : Text → Bool
 is_flag (x ∷ y ∷ rest) = x == 45
 is_flag _ = false
 
+-- the name of an option of `run`
+abbrev pub is_option : Text → Bool
+is_option name = bytes_eq (codes "limit") name || (bytes_eq (codes "min") name || bytes_eq (codes "step") name)
+
+-- `--NAME` or `--NAME=VALUE`, with such a name
+abbrev pub names_option : Text → Bool
+names_option word = option_map_or (λ named. is_option named.0) (long_of word) false
+
+-- no word before a first `--` does
+abbrev pub has_no_option : List Text → Bool
+has_no_option [] = true
+has_no_option (word ∷ rest) = is_separator word || (not (names_option word) && has_no_option rest)
+
 -- what the words after `run` name: FILE, or nothing (`Some None`); `None` where they are not taken. One `--` may stand
 -- before FILE, which may then be any word, or after it, or alone
 abbrev pub file_named : List Text → Option (Option Text)
@@ -31,17 +46,18 @@ abbrev pub file_in : List Text → Option (Option Text)
 file_in (name ∷ word ∷ rest) = if bytes_eq (codes "run") word then file_named rest else None
 file_in _ = None
 
-abbrev pub run_of : Option Text → Command
-run_of file = record { task = Run Unlimited; file = file; budget = default_budget; shape = default_shape; json = false }
+-- a run of the file, or of standard input, with no limit and the default shape
+abbrev pub plain_run : Option Text → Command
+plain_run file = record { task = Run Unlimited; file = file; budget = default_budget; shape = default_shape; json = false }
 
 pub record AreTaken (words : List Text) (file : Option Text) : Type 0 where
   pub taken : takes command_line words ≡ true
-  pub spell : IsSpelledBy words (run_of file)
+  pub spell : IsSpelledBy words (plain_run file)
 
 pub record AreRefused (words : List Text) : Type 0 where
   pub refused : takes command_line words ≡ false
   pub faulty : fault_of command_line words ≢ []
 
--- clap takes just these words, and they spell a run of the file that they name
+-- without options, clap takes just these words, and they spell a run of the file that they name
 abbrev pub AreRead : List Text → Type 0
-AreRead words = MatchOption (file_in words) (AreRefused words) (AreTaken words)
+AreRead words = has_no_option (drop 2 words) ≡ true → MatchOption (file_in words) (AreRefused words) (AreTaken words)

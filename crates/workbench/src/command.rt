@@ -37,6 +37,9 @@ pub enum CommandFault {
     /// `clap` refuses the words, or they call for help; its text is for the user.
     #[error("{0}")]
     Usage(clap::Error),
+    /// `clap` takes the words, but the heap's minimum length or step is no multiple of 16 bytes.
+    #[error("error: the values of '--min' and '--step' are multiples of 16\n")]
+    Shape,
     /// The workbench's own memory ran out, or `clap` found none; it says nothing of the words.
     #[error("error: no memory\n")]
     NoMemory,

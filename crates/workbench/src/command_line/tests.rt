@@ -45,6 +45,98 @@ fn takes_a_run_of_a_file(rt: HostRuntime) -> Result<(), Fail> {
     takes_file(&rt, alloc, &["workbench", "run", "a.oom", "--"], "a.oom")
 }
 
+/// The words spell this rule and this shape, and name no file.
+fn takes_options(
+    rt: &impl Abort,
+    alloc: Global,
+    words: &[&str],
+    rule: Rule,
+    shape: Shape,
+) -> Result<(), Fail> {
+    let command = command(alloc, words)?;
+    assert_eq!(rt; command.task, Task::Run(rule));
+    assert_eq!(rt; command.shape, shape);
+    assert!(rt; command.file.is_none());
+    Ok(())
+}
+
+#[test]
+fn takes_options_of_a_run(rt: HostRuntime) -> Result<(), Fail> {
+    let alloc = rt.alloc();
+    let default = Shape {
+        min: 4096,
+        step: 4096,
+    };
+    let limited = ["workbench", "run", "--limit", "303"];
+    takes_options(&rt, alloc, &limited, Rule::Limit(303), default)?;
+    let no_room = ["workbench", "run", "--limit=0"];
+    takes_options(&rt, alloc, &no_room, Rule::Limit(0), default)?;
+    let most = ["workbench", "run", "--limit", "16777216"];
+    takes_options(&rt, alloc, &most, Rule::Limit(16_777_216), default)?;
+    let shaped = ["workbench", "run", "--min", "256", "--step", "64"];
+    let small = Shape { min: 256, step: 64 };
+    takes_options(&rt, alloc, &shaped, Rule::Unlimited, small)?;
+    let least = ["workbench", "run", "--step=16", "--min=0"];
+    let tight = Shape { min: 0, step: 16 };
+    takes_options(&rt, alloc, &least, Rule::Unlimited, tight)?;
+    let greatest = ["workbench", "run", "--min=1048576", "--step=1048576"];
+    let wide = Shape {
+        min: 1_048_576,
+        step: 1_048_576,
+    };
+    takes_options(&rt, alloc, &greatest, Rule::Unlimited, wide)?;
+    let spelled = ["workbench", "run", "--limit", "+5", "--min", "0000032"];
+    let other = Shape {
+        min: 32,
+        step: 4096,
+    };
+    takes_options(&rt, alloc, &spelled, Rule::Limit(5), other)
+}
+
+#[test]
+fn takes_options_around_a_file(rt: HostRuntime) -> Result<(), Fail> {
+    let words = [
+        "workbench",
+        "run",
+        "--min",
+        "32",
+        "a.oom",
+        "--limit=190",
+        "--step",
+        "16",
+    ];
+    let command = command(rt.alloc(), &words)?;
+    assert_eq!(rt; command.task, Task::Run(Rule::Limit(190)));
+    assert_eq!(rt; command.shape, Shape { min: 32, step: 16 });
+    assert!(rt; command.file.is_some_and(|name| name.as_str() == "a.oom"));
+    Ok(())
+}
+
+/// The words are taken, but for their shape.
+fn misshapes(rt: &impl Abort, alloc: Global, words: &[&str]) -> Result<(), Fail> {
+    match command(alloc, words) {
+        Err(CommandFault::Shape) => Ok(()),
+        _ => Err(Fail::from("a fault of the shape")),
+    }
+}
+
+#[test]
+fn refuses_shapes_that_are_no_multiples_of_16(rt: HostRuntime) -> Result<(), Fail> {
+    let alloc = rt.alloc();
+    misshapes(&rt, alloc, &["workbench", "run", "--min", "8"])?;
+    misshapes(&rt, alloc, &["workbench", "run", "--step", "17"])?;
+    misshapes(
+        &rt,
+        alloc,
+        &["workbench", "run", "--min=1048575", "--step=24", "a.oom"],
+    )?;
+    misshapes(
+        &rt,
+        alloc,
+        &["workbench", "run", "--limit=1", "--min=16", "--step=1048575"],
+    )
+}
+
 /// Clap's text on words that are refused, which holds `part`.
 fn refuses(rt: &impl Abort, alloc: Global, words: &[&str], part: &str) -> Result<(), Fail> {
     match command(alloc, words) {
@@ -77,8 +169,8 @@ fn refuses_other_words(rt: HostRuntime) -> Result<(), Fail> {
     refuses(
         &rt,
         alloc,
-        &["workbench", "run", "--limit", "5"],
-        "unexpected argument '--limit'",
+        &["workbench", "run", "--fail", "5"],
+        "unexpected argument '--fail'",
     )?;
     refuses(
         &rt,
@@ -91,6 +183,94 @@ fn refuses_other_words(rt: HostRuntime) -> Result<(), Fail> {
         alloc,
         &["workbench", "run", "a.oom", "b.oom"],
         "unexpected argument 'b.oom'",
+    )
+}
+
+#[test]
+fn refuses_numbers_out_of_range(rt: HostRuntime) -> Result<(), Fail> {
+    let alloc = rt.alloc();
+    refuses(
+        &rt,
+        alloc,
+        &["workbench", "run", "--limit", "16777217"],
+        "16777217 is not in 0..=16777216",
+    )?;
+    refuses(
+        &rt,
+        alloc,
+        &["workbench", "run", "--min", "1048592"],
+        "1048592 is not in 0..=1048576",
+    )?;
+    refuses(
+        &rt,
+        alloc,
+        &["workbench", "run", "--step", "0"],
+        "0 is not in 16..=1048576",
+    )?;
+    refuses(
+        &rt,
+        alloc,
+        &["workbench", "run", "--step", "15", "--min", "8"],
+        "15 is not in 16..=1048576",
+    )?;
+    refuses(
+        &rt,
+        alloc,
+        &["workbench", "run", "--limit=-1"],
+        "-1 is not in 0..=16777216",
+    )?;
+    refuses(
+        &rt,
+        alloc,
+        &["workbench", "run", "--limit", "0x10"],
+        "invalid digit",
+    )?;
+    refuses(
+        &rt,
+        alloc,
+        &["workbench", "run", "--limit", "99999999999999999999"],
+        "number too large",
+    )
+}
+
+#[test]
+fn refuses_options_without_a_number_or_twice(rt: HostRuntime) -> Result<(), Fail> {
+    let alloc = rt.alloc();
+    refuses(
+        &rt,
+        alloc,
+        &["workbench", "run", "--limit"],
+        "a value is required for '--limit <L>'",
+    )?;
+    refuses(
+        &rt,
+        alloc,
+        &["workbench", "run", "--min", "--step", "16"],
+        "a value is required for '--min <M>'",
+    )?;
+    refuses(
+        &rt,
+        alloc,
+        &["workbench", "run", "--step="],
+        "cannot parse integer from empty string",
+    )?;
+    refuses(
+        &rt,
+        alloc,
+        &["workbench", "run", "--limit", "5", "a.oom", "--limit", "5"],
+        "cannot be used multiple times",
+    )?;
+    refuses(
+        &rt,
+        alloc,
+        &["workbench", "run", "--min=16", "--min=16"],
+        "cannot be used multiple times",
+    )?;
+    refuses(
+        &rt,
+        alloc,
+        &["workbench", "--limit", "5", "run"],
+        "unexpected argument '--limit'",
     )
 }
 
@@ -113,12 +293,12 @@ fn refuses_calls_for_help(rt: HostRuntime) -> Result<(), Fail> {
         &rt,
         alloc,
         &["workbench", "run", "-h"],
-        "Usage: workbench run [FILE]",
+        "Usage: workbench run [OPTIONS] [FILE]",
     )?;
     refuses(
         &rt,
         alloc,
         &["workbench", "help", "run"],
-        "Usage: workbench run [FILE]",
+        "Usage: workbench run [OPTIONS] [FILE]",
     )
 }

@@ -1,10 +1,12 @@
-use Rattle.std.proofs.Common.{ap, ◌∙◌, sym, length, arith, rules, w32, FitsSigned}
-use Rattle.wb_model.specs.declared.script.Statement.TheViews.{out-Statement, outs-Alloc, outs-Free, outs-PrintText, outs-PrintNumber}
+use Rattle.std.proofs.Common.{ap, ◌∙◌, sym, subst, length, arith, rules, w32, FitsSigned}
+use Rattle.wb_model.specs.declared.script.Statement.TheViews.{out-Statement, outs-Alloc, outs-Free, outs-PrintText, outs-PrintNumber, outs-Store, outs-NoteHeap, outs-NoteAvailable, outs-NoteCompress}
 use Rattle.std.proofs.lemmas.Int.{to_z-of_z}
 use Rattle.wb_model.specs.declared.script.Number.TheVariants.{Constant}
 use Rattle.wb_machine.specs.Held.{main_of}
 use Rattle.wb_machine.proofs.Outcomes.{if_ok_with}
 use Rattle.wb_machine.proofs.Kept.{alloc_carried_out, free_carried_out, number_carried_out, text_carried_out, local_within, alloc_target, text_quoted}
+use Rattle.wb_machine.proofs.Noted.{heap_carried_out, available_carried_out, compress_carried_out}
+use Rattle.wb_machine.proofs.Stores.{store_carried_out}
 use Rattle.wb_machine.proofs.state.State.carry_out.Goals as goal
 
 pub alloc-requires-clause-target : goal.alloc-requires-clause-target
@@ -44,3 +46,33 @@ returns-in-PrintNumber-clause-kept c =
     number_carried_out r c.args.script.now rec c.args.self.now c.print-in-PrintNumber.new.self (out-Statement c.args.first.now) c.in-PrintNumber.number
     _ c.number_line.result ending
     (ap out-Statement c.in-PrintNumber.is ∙ outs-PrintNumber c.in-PrintNumber.number) (c.constant_of-in-PrintNumber.ensures ∙ ap Constant (sym (to_z-of_z w32 c.constant_of-in-PrintNumber.result fits))) c.number_line.ensures e g)
+
+pub returns-in-Store-clause-kept : goal.returns-in-Store-clause-kept
+returns-in-Store-clause-kept c r f rec =
+    let index : FitsSigned w32 c.constant_of-in-Store.result = search rules in
+    let fits : FitsSigned w32 c.constant_of-in-Store-2.result = search rules in
+    let value = to_z-of_z w32 c.constant_of-in-Store-2.result fits in
+    store_carried_out r c.args.script.now rec c.args.self.now c.store.new.self (out-Statement c.args.first.now) c.in-Store.pointer c.in-Store.index c.in-Store.value
+    c.local_of-in-Store.result c.local-ptr-in-Store.result _ _ c.store.result
+    (ap out-Statement c.in-Store.is ∙ outs-Store c.in-Store.pointer c.in-Store.index c.in-Store.value) c.local_of-in-Store.ensures
+    (c.constant_of-in-Store.ensures ∙ ap Constant (sym (to_z-of_z w32 c.constant_of-in-Store.result index)))
+    (c.constant_of-in-Store-2.ensures ∙ ap Constant (sym value)) (subst (λ z. FitsSigned w32 z) (sym value) fits) c.local-ptr-in-Store.ensures
+    c.store.ensures.ending c.store.ensures.held
+
+pub returns-in-NoteHeap-clause-kept : goal.returns-in-NoteHeap-clause-kept
+returns-in-NoteHeap-clause-kept c =
+    if_ok_with c.note_heap.result _ _ _ c.note_heap.ensures.ending c.note_heap.ensures.held (λ ending e g r f rec.
+    heap_carried_out r c.args.script.now rec c.args.self.now c.note_heap.new.self (out-Statement c.args.first.now) ending
+    (ap out-Statement c.in-NoteHeap.is ∙ outs-NoteHeap) e g)
+
+pub returns-in-NoteAvailable-clause-kept : goal.returns-in-NoteAvailable-clause-kept
+returns-in-NoteAvailable-clause-kept c =
+    if_ok_with c.note_available.result _ _ _ c.note_available.ensures.ending c.note_available.ensures.held (λ ending e g r f rec.
+    available_carried_out r c.args.script.now rec c.args.self.now c.note_available.new.self (out-Statement c.args.first.now) ending
+    (ap out-Statement c.in-NoteAvailable.is ∙ outs-NoteAvailable) e g)
+
+pub returns-in-NoteCompress-clause-kept : goal.returns-in-NoteCompress-clause-kept
+returns-in-NoteCompress-clause-kept c =
+    if_ok_with c.note_compress.result _ _ _ c.note_compress.ensures.ending c.note_compress.ensures.held (λ ending e g r f rec.
+    compress_carried_out r c.args.rule c.args.script.now rec c.args.self.now c.note_compress.new.self (out-Statement c.args.first.now) ending
+    (ap out-Statement c.in-NoteCompress.is ∙ outs-NoteCompress) e g c.requires.limit f)

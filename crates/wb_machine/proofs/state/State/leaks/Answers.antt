@@ -2,7 +2,8 @@ use Rattle.std.proofs.Common.{◌≡◌, ◌++◌, ap, ◌∙◌, sym, subst, Li
 use Rattle.wb_model.specs.declared.run.Leak.{Leak}
 use Rattle.wb_model.specs.Row.{headers, end_of}
 use Rattle.wb_machine.specs.Told.{leaks_held}
-use Rattle.wb_machine.proofs.Leaks.{onward, leaks_of, onward_zero, onward_next, onward_fewer, leaks_on, leaks_past, leaks_whole}
+use Rattle.wb_model.proofs.Onward.{onward, onward_zero, onward_next, onward_fewer}
+use Rattle.wb_machine.proofs.Leaks.{leaks_of, leaks_on, leaks_past, leaks_whole}
 use Rattle.wb_machine.proofs.state.State.leaks.Goals.{then-may_leak+in_ok-push, else-may_leak}
 use Rattle.wb_machine.proofs.state.State.leaks.Goals as goal
 

@@ -1,6 +1,7 @@
 use Rattle.std.proofs.Common.{◌≡◌, ◌++◌, length}
 use Rattle.wb_model.specs.Row.{headers}
-use Rattle.wb_machine.proofs.Leaks.{onward, leaks_of}
+use Rattle.wb_model.proofs.Onward.{onward}
+use Rattle.wb_machine.proofs.Leaks.{leaks_of}
 use Rattle.wb_machine.proofs.state.State.leaks.Given as goal
 
 abbrev pub invariant-loop-cell : goal.invariant-loop-cell

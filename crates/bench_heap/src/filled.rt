@@ -1,0 +1,96 @@
+//! A heap full of equal cells, and rounds of calls over all of them.
+
+ghost use Rattle.std.specs.Prelude.{◌≡◌, ◌+◌, ◌<◌, ◌≤◌, All};
+ghost use Rattle.wb_model.specs.Row.{headers};
+
+use std::alloc::{AllocError, Global};
+use wb_model::heap::{CEILING, Kind, Ptr, Shape};
+use wb_rheap::heap::Heap;
+
+/// The cell length, in bytes: a header and four words.
+const LENGTH: u32 = 32;
+const SHAPE: Shape = Shape {
+    min: 4096,
+    step: 4096,
+};
+
+/// A heap, and the number of its next attempt.
+#[derive(Drop)]
+pub struct Filled {
+    heap: Heap,
+    next: u32,
+    ghost numbered: { 1 ≤ next },
+    ghost below: { All (λ h. h.number < next) (headers heap.row) },
+}
+
+impl Filled {
+    /// So many live cells, listed in order of place.
+    pub fn new(alloc: Global, count: u32, cells: &mut Vec<Ptr>) -> Result<Filled, AllocError> {
+        let Ok(heap) = Heap::new(alloc, CEILING, SHAPE) else {
+            return Err(AllocError);
+        };
+        let mut filled = Filled { heap, next: 1 };
+        for _ in 0..count {
+            let cell = filled.grant()?;
+            cells.push(cell)?;
+        }
+        Ok(filled)
+    }
+
+    fn grant(&mut self) -> Result<Ptr, AllocError> {
+        let number = self.next;
+        let Some(next) = number.checked_add(1) else {
+            return Err(AllocError);
+        };
+        let granted = self.heap.alloc(LENGTH, Kind::Raw, number, 0);
+        self.next = next;
+        granted.map_err(|_| AllocError)
+    }
+
+    fn release(&mut self, cell: Ptr) {
+        let _ = self.heap.free(cell);
+    }
+
+    /// Frees every second cell, from the last one down.
+    pub fn free_every_second(&mut self, cells: &[Ptr]) {
+        for pair in (0..cells.len() / 2).rev() {
+            self.release(cells[2 * pair]);
+        }
+    }
+
+    /// Fills the holes again.
+    pub fn fill(&mut self, cells: &mut [Ptr]) -> Result<(), AllocError> {
+        for pair in 0..cells.len() / 2 {
+            cells[2 * pair] = self.grant()?;
+        }
+        Ok(())
+    }
+
+    /// Stores a word in each cell.
+    pub fn store(&mut self, cells: &[Ptr], word: u32) {
+        for cell in cells {
+            self.store_in(*cell, word);
+        }
+    }
+
+    fn store_in(&mut self, cell: Ptr, word: u32) {
+        if let Some(header) = self.heap.header(cell)
+            && header.length == LENGTH
+        {
+            self.heap.set_payload(cell, 1, word);
+        }
+    }
+
+    /// Looks up each cell, and answers how many are live.
+    pub fn look_up(&self, cells: &[Ptr]) -> usize {
+        cells
+            .iter()
+            .filter(|cell| self.heap.header(**cell).is_some())
+            .count()
+    }
+
+    /// How many cells are live, and their bytes.
+    pub fn live(&self) -> (u32, u32) {
+        self.heap.alloc_size()
+    }
+}

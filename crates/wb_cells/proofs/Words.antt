@@ -1,0 +1,37 @@
+-- Edits of a list of words.
+use Rattle.std.proofs.Common.{◌≡◌, ℕ, suc, ◌+◌, ◌-◌, ◌≤◌, List, [], ◌∷◌, ◌++◌, length, slice_set, take, drop, sym, ◌∙◌, ap, arith, append_assoc, length-append}
+use Rattle.std.specs.Prelude.{slice_range}
+use Rattle.std.specs.List.{replace_range}
+use Rattle.std.proofs.lemmas.List.{take_at, drop_at, drop-drop, drop-append-le, take-append-le}
+use Rattle.std.proofs.lemmas.List.Edits.{sets-eq}
+
+-- four words, one after another
+pub four_sets : (l : List ℕ) (i a b c d : ℕ) → i + 4 ≤ length l →
+    slice_set (slice_set (slice_set (slice_set l i a) (i + 1) b) (i + 2) c) (i + 3) d ≡ replace_range l i (i + 4) (a ∷ b ∷ c ∷ d ∷ [])
+four_sets l i a b c d le =
+    let e1 : i + 1 ≡ suc i = omega arith in
+    let e2 : i + 2 ≡ suc (suc i) = omega arith in
+    let e3 : i + 3 ≡ suc (suc (suc i)) = omega arith in
+    rw (e1, e2, e3) (sets-eq (a ∷ b ∷ c ∷ d ∷ []) l i le)
+
+-- words over a part of the list that begins after two others
+pub replace_range-inside : (before head body after new : List ℕ) (at n : ℕ) → length before + length head ≡ at → n ≤ length body →
+    replace_range (before ++ (head ++ (body ++ after))) at (at + n) new ≡ before ++ (head ++ ((new ++ drop n body) ++ after))
+replace_range-inside before head body after new at n is fits =
+    let ws = before ++ (head ++ (body ++ after)) in
+    let front : length (before ++ head) ≡ at = length-append before head ∙ is in
+    let parts : ws ≡ (before ++ head) ++ (body ++ after) = sym (append_assoc before head (body ++ after)) in
+    let first : take at ws ≡ before ++ head = ap (take at) parts ∙ take_at (before ++ head) (body ++ after) at front in
+    let last : drop (at + n) ws ≡ drop n body ++ after =
+    sym (drop-drop n at ws) ∙ ap (drop n) (ap (drop at) parts ∙ drop_at (before ++ head) (body ++ after) at front) ∙ drop-append-le n body after fits in
+    rw (first, last) (simp append_assoc)
+
+-- and what stood there
+pub slice_range-inside : (before head body after : List ℕ) (at n : ℕ) → length before + length head ≡ at → n ≤ length body →
+    slice_range (before ++ (head ++ (body ++ after))) at (at + n) ≡ take n body
+slice_range-inside before head body after at n is fits =
+    let ws = before ++ (head ++ (body ++ after)) in
+    let front : length (before ++ head) ≡ at = length-append before head ∙ is in
+    let parts : ws ≡ (before ++ head) ++ (body ++ after) = sym (append_assoc before head (body ++ after)) in
+    let left : at + n - at ≡ n = omega arith in
+    rw (left, ap (drop at) parts ∙ drop_at (before ++ head) (body ++ after) at front) (take-append-le n body after fits)

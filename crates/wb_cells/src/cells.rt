@@ -1,0 +1,224 @@
+//! The cells of a chunk, and their calls. Which bytes a grown heap may use, and in what order memory is asked for, is
+//! not decided here.
+
+ghost use Rattle.std.specs.Prelude.{◌≡◌, ◌≢◌, ◌+◌, ◌*◌, ◌%◌, ◌<◌, ◌≤◌, [], ◌++◌, max, length, take, drop, slice_index, slice_set, All, OnOk, OnErr, option_map, IsSome};
+ghost use Rattle.wb_chunk.specs.Halves.{half_of, with_half};
+ghost use Rattle.wb_model.specs.CellRow.{CellRow, IsGap, IsSoundCells, payload_of, with_payload};
+ghost use Rattle.wb_model.specs.LimitedHeap.{next_live_of, zero_words};
+ghost use Rattle.wb_model.specs.Row.{IsLeastPlace, cell_at, headers, inserted, place_of, top_of, without};
+
+use crate::free_list::{self, Ends};
+use crate::layout::{self, NONE};
+use crate::starts::Starts;
+use std::alloc::Global;
+use std::marker::Model;
+use wb_chunk::Chunk;
+use wb_model::heap::{CEILING, Header, Ptr};
+use wb_model::memory::NoMemory;
+
+/// Cells end to end in a chunk of words, from place 0 up to the end of the last live one. Contracts see the row that the
+/// words spell and the bytes held. Places and lengths are bytes; a place is a multiple of 16.
+///
+/// A free cell lies between two live ones, or before the first; the words link the free cells in order of place. No two
+/// free cells touch. One bit for each place of 16 bytes says whether a live cell begins there, so that no payload can
+/// pass for a header. Source: this project's profile.
+#[derive(Drop)]
+pub struct Cells {
+    words: Chunk,
+    starts: Starts,
+    ends: Ends,
+}
+
+impl Model for Cells {
+    ghost use Rattle.wb_model.specs.CellRow.{CellRow};
+    ghost use Rattle.wb_cells.specs.Inside.{cells_in, IsLaid};
+
+    ghost Value = { CellRow };
+
+    ghost view = { λ c. cells_in c.words c.ends.top };
+
+    ghost invariant = { λ c. IsLaid c.words c.starts c.ends.top c.ends.first };
+}
+
+impl Cells {
+    /// No cell, and no byte held. It takes no memory.
+    pub fn new(alloc: Global) -> Cells
+        ensures { result ≡ record { row = []; held = 0 } }
+    {
+        Cells {
+            words: Chunk::new(alloc),
+            starts: Starts::new(alloc),
+            ends: Ends {
+                top: 0,
+                first: NONE,
+            },
+        }
+    }
+
+    /// Holds so many bytes at least; the cells stay as they are. Where memory is refused, nothing changes.
+    pub fn reserve(&mut self, bytes: u32) -> Result<(), NoMemory>
+        requires rounded { bytes % 16 ≡ 0 }
+        requires within { bytes ≤ CEILING }
+        ensures ok { OnOk result (self.new ≡ record self.old { held = max self.old.held bytes }) }
+        ensures err { OnErr result (self.new ≡ self.old) }
+        ensures sound { IsSoundCells self.new }
+    {
+        self.starts.grow_to(bytes / 16)?;
+        layout::grow_to(&mut self.words, bytes / 4)?;
+        Ok(())
+    }
+
+    /// The bytes held: the greatest number that was reserved.
+    pub fn held(&self) -> u32
+        ensures bytes { result ≡ self.now.held }
+        ensures sound { IsSoundCells self.now }
+    {
+        4 * self.words.words()
+    }
+
+    /// The end of the last live cell, or 0 where there is none.
+    pub fn top(&self) -> u32
+        ensures end { result ≡ top_of (headers self.now.row) }
+        ensures sound { IsSoundCells self.now }
+    {
+        self.ends.top
+    }
+
+    /// The lowest place where a cell of this length fits; the space above the last live cell counts as free without
+    /// end. It walks the free cells below that place. Source: Symbian OS v9 SDK reference, RHeap (first fit in address
+    /// order).
+    pub fn first_fit(&self, length: u32) -> u32
+        requires { 16 ≤ length }
+        ensures place { result ≡ place_of (headers self.now.row) length }
+        ensures least { IsLeastPlace (headers self.now.row) length result }
+        ensures gap { IsGap (headers self.now.row) result length }
+        ensures low { result ≤ top_of (headers self.now.row) }
+        ensures sound { IsSoundCells self.now }
+    {
+        free_list::first_fit(&self.words, self.ends, length)
+    }
+
+    /// Inserts a live cell with this header, whose payload is zeros whatever stood there. What a free cell has past the
+    /// new one's end stays a free cell. It takes no memory.
+    pub fn take(&mut self, place: u32, length: u32, header: Header)
+        requires rounded { length % 16 ≡ 0 }
+        requires least { 16 ≤ length }
+        requires within { place + length ≤ self.old.held }
+        requires gap { IsGap (headers self.old.row) place length }
+        requires placed { header.place ≡ place }
+        requires long { header.length ≡ length }
+        requires numbered { 1 ≤ header.number }
+        requires unused { All (λ h. h.number ≢ header.number) (headers self.old.row) }
+        ensures taken { self.new ≡ record self.old { row = inserted (record { head = header; content = zero_words length }) self.old.row } }
+        ensures sound { IsSoundCells self.new }
+    {
+        let ends = free_list::open(&mut self.words, self.ends, place, length);
+        self.ends = ends;
+        layout::write_header(
+            &mut self.words,
+            place,
+            length,
+            layout::state_of(header.kind),
+            header.level,
+            header.number,
+        );
+        self.words.zero(place / 16 * 4 + 4, length / 16 * 4 - 4);
+        self.starts.set(place / 16, true);
+    }
+
+    /// Removes the cell that the pointer names. Its bytes and the free cells that touch it become one free cell, or
+    /// part of the space above the last live cell where none follows. It walks the free cells below the place.
+    pub fn give(&mut self, ptr: Ptr)
+        requires { IsSome (cell_at ptr self.old.row) }
+        ensures given { self.new ≡ record self.old { row = without ptr self.old.row } }
+        ensures sound { IsSoundCells self.new }
+    {
+        let around = free_list::around(&self.words, self.ends.first, ptr.place);
+        let hole = free_list::hole_left(&self.words, ptr.place, around);
+        let ends = free_list::close(&mut self.words, self.ends, hole);
+        self.ends = ends;
+        self.starts.set(ptr.place / 16, false);
+    }
+
+    /// The header of the cell that the pointer names, or `None` where no live cell begins at its place or that cell has
+    /// another number. It reads one bit and four words, however many cells there are.
+    pub fn header(&self, ptr: Ptr) -> Option<Header>
+        ensures header { result ≡ option_map (λ c. c.head) (cell_at ptr self.now.row) }
+        ensures sound { IsSoundCells self.now }
+    {
+        if !self.starts.is_on(ptr.place / 16) {
+            return None;
+        }
+        if ptr.place % 16 != 0 {
+            return None;
+        }
+        let header = layout::header_at(&self.words, ptr.place);
+        if header.number == ptr.number {
+            Some(header)
+        } else {
+            None
+        }
+    }
+
+    /// The first live cell that begins at a place or above it. It scans bits from there.
+    pub fn next_live(&self, from: u32) -> Option<Header>
+        ensures first { result ≡ next_live_of from (headers self.now.row) }
+        ensures sound { IsSoundCells self.now }
+    {
+        match self.starts.next(from.div_ceil(16)) {
+            Some(start) => Some(layout::header_at(&self.words, 16 * start)),
+            None => None,
+        }
+    }
+
+    /// The word at an index of a payload. An index within a payload says that the pointer names a cell.
+    pub fn payload(&self, ptr: Ptr, i: u32) -> u32
+        requires { i < length (payload_of ptr self.now.row) }
+        ensures word { result ≡ slice_index (payload_of ptr self.now.row) i }
+        ensures sound { IsSoundCells self.now }
+    {
+        self.words.word(ptr.place / 16 * 4 + 4 + i)
+    }
+
+    /// Puts another word at an index of a payload.
+    pub fn set_payload(&mut self, ptr: Ptr, i: u32, v: u32)
+        requires { i < length (payload_of ptr self.old.row) }
+        ensures changed { self.new ≡ record self.old { row = with_payload ptr (slice_set (payload_of ptr self.old.row) i v) self.old.row } }
+        ensures sound { IsSoundCells self.new }
+    {
+        self.words.set_word(ptr.place / 16 * 4 + 4 + i, v);
+    }
+
+    /// The half at an index of halves of a payload: half 2k is the low half of word k.
+    pub fn payload_half(&self, ptr: Ptr, i: u32) -> u16
+        requires { i < 2 * length (payload_of ptr self.now.row) }
+        ensures half { result ≡ half_of (payload_of ptr self.now.row) i }
+        ensures sound { IsSoundCells self.now }
+    {
+        self.words.half(2 * (ptr.place / 16 * 4 + 4) + i)
+    }
+
+    /// Puts another half at an index of halves of a payload, and leaves the word's other half.
+    pub fn set_payload_half(&mut self, ptr: Ptr, i: u32, v: u16)
+        requires { i < 2 * length (payload_of ptr self.old.row) }
+        ensures changed { self.new ≡ record self.old { row = with_payload ptr (with_half (payload_of ptr self.old.row) i v) self.old.row } }
+        ensures sound { IsSoundCells self.new }
+    {
+        self.words.set_half(2 * (ptr.place / 16 * 4 + 4) + i, v);
+    }
+
+    /// Puts the first `n` words of one payload over those of another, which may be the same cell.
+    pub fn copy_payload(&mut self, from: Ptr, to: Ptr, n: u32)
+        requires source { n ≤ length (payload_of from self.old.row) }
+        requires target { n ≤ length (payload_of to self.old.row) }
+        requires from_live { IsSome (cell_at from self.old.row) }
+        requires to_live { IsSome (cell_at to self.old.row) }
+        ensures copied { self.new ≡ record self.old {
+          row = with_payload to (take n (payload_of from self.old.row) ++ drop n (payload_of to self.old.row)) self.old.row;
+        } }
+        ensures sound { IsSoundCells self.new }
+    {
+        self.words
+            .copy(from.place / 16 * 4 + 4, to.place / 16 * 4 + 4, n);
+    }
+}

@@ -1,0 +1,197 @@
+//! The free cells, linked in order of place: the walks along them, and what a grant and a release make of them. Of live
+//! cells nothing here reads but the length of the one that is released.
+
+ghost use Rattle.std.specs.Prelude.{◌≡◌, ◌≢◌, ◌+◌, ◌*◌, ◌/◌, ◌%◌, ◌<◌, ◌≤◌, ◌⊎◌, [], ◌++◌, List, length, slice_index, slice_set, if◌then◌else◌, nat_eq};
+ghost use Rattle.wb_cells.specs.FreeList.{Gap, Links, NO_PLACE, fit_among, AreBelow, AreFrom, last_place, IsRound, IsWithin, linked_first, linked_words, next_past, parted_words};
+ghost use Rattle.wb_cells.specs.Holes.{IsOpenable, IsOpened, IsRaised, hole_of, closed_words, closed_ends};
+
+use crate::layout::{self, NONE};
+use wb_chunk::Chunk;
+
+/// The free cells on both sides of a place, or NONE.
+#[derive(Clone, Copy, Debug)]
+pub struct Neighbours {
+    /// The last one below that.
+    pub prior: u32,
+    /// The last one below the place.
+    pub before: u32,
+    /// The first one at the place or above it.
+    pub after: u32,
+}
+
+/// The length of the cell at a place.
+pub fn length_at(words: &Chunk, place: u32) -> u32
+    requires { place / 16 * 4 + 4 ≤ length words.now }
+    ensures { result ≡ slice_index words.now (place / 16 * 4) }
+{
+    words.word(place / 16 * 4)
+}
+
+/// The link of the free cell at a place.
+pub fn link_at(words: &Chunk, place: u32) -> u32
+    requires { place / 16 * 4 + 4 ≤ length words.now }
+    ensures { result ≡ slice_index words.now (place / 16 * 4 + 2) }
+{
+    words.word(place / 16 * 4 + 2)
+}
+
+/// The free cells round a place. It walks those below it.
+pub fn around(words: &Chunk, first: u32, place: u32) -> Neighbours
+    requires below { place < NO_PLACE }
+    requires linked { (gaps : List Gap) × Links words.now first gaps }
+    ensures under { result.before ≢ NO_PLACE → result.before < place }
+    ensures round { (low high : List Gap) → Links words.now first (low ++ high) → AreBelow place low → AreFrom place high
+        → IsRound low high result.prior result.before result.after }
+{
+    let mut prior = NONE;
+    let mut before = NONE;
+    let mut after = first;
+    while after < place {
+        prior = before;
+        before = after;
+        after = link_at(words, after);
+    }
+    Neighbours {
+        prior,
+        before,
+        after,
+    }
+}
+
+/// The first free cell that is long enough, or the top where none is.
+pub fn first_fit(words: &Chunk, ends: Ends, bytes: u32) -> u32
+    requires { (gaps : List Gap) × Links words.now ends.first gaps }
+    ensures { (gaps : List Gap) → Links words.now ends.first gaps → result ≡ fit_among gaps bytes ends.top }
+{
+    let mut at = ends.first;
+    while at != NONE {
+        if bytes <= length_at(words, at) {
+            return at;
+        }
+        at = link_at(words, at);
+    }
+    ends.top
+}
+
+/// Makes one free cell follow another, or be the first. Answers the first one.
+pub fn link(words: &mut Chunk, first: u32, before: u32, next: u32) -> u32
+    requires { before ≢ NO_PLACE → before / 16 * 4 + 4 ≤ length words.old }
+    ensures first { result ≡ linked_first first before next }
+    ensures words { words.new ≡ linked_words words.old before next }
+    ensures count { length words.new ≡ length words.old }
+{
+    if before == NONE {
+        return next;
+    }
+    words.set_word(before / 16 * 4 + 2, next);
+    first
+}
+
+/// Parts a free cell after so many bytes: what is left is a free cell of its own, or nothing. Answers the free cell
+/// that follows these bytes.
+pub fn split(words: &mut Chunk, place: u32, bytes: u32) -> u32
+    requires rounded { bytes % 16 ≡ 0 }
+    requires within { IsWithin words.old place }
+    requires fits { bytes ≤ slice_index words.old (place / 16 * 4) }
+    requires whole { (place % 16 ≡ 0) × (slice_index words.old (place / 16 * 4) % 16 ≡ 0) }
+    ensures next { result ≡ next_past words.old place bytes }
+    ensures words { words.new ≡ parted_words words.old place bytes }
+    ensures count { length words.new ≡ length words.old }
+{
+    let next = link_at(words, place);
+    let rest = length_at(words, place) - bytes;
+    if rest == 0 {
+        return next;
+    }
+    layout::write_header(words, place + bytes, rest, 0, next, 0);
+    place + bytes
+}
+
+/// The end of the last live cell, and the first free cell.
+#[derive(Clone, Copy, Debug)]
+pub struct Ends {
+    pub top: u32,
+    pub first: u32,
+}
+
+/// Makes room for a cell, in a free cell or at the top. The room is no free cell then, and its words are as they were.
+pub fn open(words: &mut Chunk, ends: Ends, place: u32, bytes: u32) -> Ends
+    requires rounded { bytes % 16 ≡ 0 }
+    requires below { place + bytes ≤ 16777216 }
+    requires linked { (gaps : List Gap) × Links words.old ends.first gaps }
+    requires gap { place ≢ ends.top → IsOpenable words.old place bytes }
+    ensures count { length words.new ≡ length words.old }
+    ensures top { place ≡ ends.top → IsRaised words.old words.new ends.first place bytes result }
+    ensures gap { place ≢ ends.top → (low high : List Gap) → Links words.old ends.first (low ++ high) → AreBelow place low → AreFrom place high
+        → IsOpened words.old words.new ends.first ends.top place bytes (last_place low) result }
+{
+    if place == ends.top {
+        return Ends {
+            top: place + bytes,
+            first: ends.first,
+        };
+    }
+    let around = around(words, ends.first, place);
+    let next = split(words, place, bytes);
+    Ends {
+        top: ends.top,
+        first: link(words, ends.first, around.before, next),
+    }
+}
+
+/// The bytes of a released cell and of the free cells that touch it.
+#[derive(Clone, Copy, Debug)]
+pub struct Hole {
+    pub start: u32,
+    pub end: u32,
+    /// The last free cell below the start, or NONE.
+    pub before: u32,
+    /// The first free cell from the end on, or NONE.
+    pub next: u32,
+}
+
+/// The hole that a released cell leaves.
+pub fn hole_left(words: &Chunk, place: u32, around: Neighbours) -> Hole
+    requires cell { IsWithin words.now place }
+    requires below { around.before ≢ NO_PLACE → IsWithin words.now around.before }
+    requires above { around.after ≡ place + slice_index words.now (place / 16 * 4) → IsWithin words.now around.after }
+    ensures { result ≡ hole_of words.now place around }
+{
+    let mut hole = Hole {
+        start: place,
+        end: place + length_at(words, place),
+        before: around.before,
+        next: around.after,
+    };
+    if hole.next == hole.end {
+        hole.end = hole.next + length_at(words, around.after);
+        hole.next = link_at(words, around.after);
+    }
+    if around.before != NONE && around.before + length_at(words, around.before) == place {
+        hole.start = around.before;
+        hole.before = around.prior;
+    }
+    hole
+}
+
+/// Makes a hole a free cell, or lowers the top where no live cell follows it.
+pub fn close(words: &mut Chunk, ends: Ends, hole: Hole) -> Ends
+    requires before { hole.before ≢ NO_PLACE → hole.before / 16 * 4 + 4 ≤ length words.old }
+    requires start { hole.start / 16 * 4 + 4 ≤ length words.old }
+    requires order { hole.start ≤ hole.end }
+    ensures words { words.new ≡ closed_words words.old ends.top hole }
+    ensures ends { result ≡ closed_ends ends.first ends.top hole }
+    ensures count { length words.new ≡ length words.old }
+{
+    if hole.end == ends.top {
+        return Ends {
+            top: hole.start,
+            first: link(words, ends.first, hole.before, NONE),
+        };
+    }
+    layout::write_header(words, hole.start, hole.end - hole.start, 0, hole.next, 0);
+    Ends {
+        top: ends.top,
+        first: link(words, ends.first, hole.before, hole.start),
+    }
+}

@@ -1,0 +1,82 @@
+//! How a header is laid out in four words: the cell length, the state, the level, the allocation number. Of a free
+//! cell the state and the number are 0, and the place of the next free cell stands for the level.
+
+ghost use Rattle.std.specs.Prelude.{◌≡◌, ◌+◌, ◌*◌, ◌/◌, ◌<◌, ◌≤◌, ◌-◌, [], ◌∷◌, ◌++◌, length, drop, replicate, slice_index, OnOk, OnErr};
+ghost use Rattle.std.specs.List.{replace_range};
+ghost use Rattle.wb_model.specs.Spelling.{header_at, kind_of};
+ghost use Rattle.wb_cells.specs.Segments.{state_of};
+ghost use Rattle.wb_cells.specs.States.{IsState};
+
+use std::alloc::AllocError;
+use wb_chunk::Chunk;
+use wb_model::heap::{Header, Kind};
+
+/// The link of the last free cell.
+pub const NONE: u32 = 0xffff_ffff;
+
+/// The state word of a live cell.
+pub fn state_of(kind: Kind) -> u32
+    ensures word { result ≡ state_of kind }
+    ensures bound { result < 65552 }
+{
+    match kind {
+        Kind::Raw => 1,
+        Kind::Text => 2,
+        Kind::Cleanup => 3,
+        Kind::Object(class) => 16 + u32::from(class),
+    }
+}
+
+/// The kind that a state word spells.
+pub fn kind_of(state: u32) -> Kind
+    requires { IsState state }
+    ensures { result ≡ kind_of state }
+{
+    match state {
+        1 => Kind::Raw,
+        2 => Kind::Text,
+        3 => Kind::Cleanup,
+        _ => Kind::Object((state - 16) as u16),
+    }
+}
+
+/// The header that the four words at a place spell.
+pub fn header_at(words: &Chunk, place: u32) -> Header
+    requires within { place / 16 * 4 + 4 ≤ length words.now }
+    requires live { IsState (slice_index words.now (place / 16 * 4 + 1)) }
+    ensures { result ≡ header_at place (drop (place / 16 * 4) words.now) }
+{
+    let at = place / 16 * 4;
+    Header {
+        place,
+        length: words.word(at),
+        kind: kind_of(words.word(at + 1)),
+        level: words.word(at + 2),
+        number: words.word(at + 3),
+    }
+}
+
+/// Writes the four words of a header.
+pub fn write_header(words: &mut Chunk, place: u32, bytes: u32, state: u32, link: u32, number: u32)
+    requires { place / 16 * 4 + 4 ≤ length words.old }
+    ensures count { length words.new ≡ length words.old }
+    ensures words { words.new ≡ replace_range words.old (place / 16 * 4) (place / 16 * 4 + 4) (bytes ∷ state ∷ link ∷ number ∷ []) }
+{
+    let at = place / 16 * 4;
+    words.set_word(at, bytes);
+    words.set_word(at + 1, state);
+    words.set_word(at + 2, link);
+    words.set_word(at + 3, number);
+}
+
+/// Appends words that are 0, up to so many words. Where memory is refused, the words are as they were.
+pub fn grow_to(words: &mut Chunk, count: u32) -> Result<(), AllocError>
+    requires { count ≤ 4194304 }
+    ensures grown { OnOk result (words.new ≡ words.old ++ replicate (count - length words.old) 0) }
+    ensures refused { OnErr result (words.new ≡ words.old) }
+{
+    if count <= words.words() {
+        return Ok(());
+    }
+    words.grow(count - words.words())
+}

@@ -1,0 +1,9 @@
+//! Cells end to end in a chunk of words: headers, payloads, and the free cells linked in order of place.
+#![tactic(auto)]
+
+pub mod cells;
+mod free_list;
+mod layout;
+mod starts;
+#[cfg(test)]
+mod tests;

@@ -1,0 +1,88 @@
+-- How many live cells there are, and their lengths together, over what is done to rows.
+use Rattle.std.proofs.Common.{◌≡◌, ◌≢◌, ℕ, zero, suc, ◌+◌, ◌*◌, ◌≤◌, ◌<◌, Bool, true, false, not, cond, List, [], ◌∷◌, length, get_or, All, AllPairs, Option, Some, None, refl, sym, ◌∙◌, ap, subst, arith}
+use Rattle.std.specs.Prelude.{nat_lt, nat_eq}
+use Rattle.std.proofs.lemmas.Bool.{eqb-true, ne_eqb, and_parts, and_right}
+use Rattle.wb_model.specs.declared.heap.Header.{Header}
+use Rattle.wb_model.specs.declared.heap.Ptr.{Ptr}
+use Rattle.wb_model.specs.Row.{Cell, headers, is_at, cell_at, inserted, without, IsSpacedFrom, IsRow, total_length, top_of, changed}
+use Rattle.wb_model.specs.LimitedHeap.{LimitedHeap, IsSoundHeap}
+use Rattle.wb_model.specs.Space.{free_runs}
+use Rattle.wb_model.proofs.FreeRuns.{total_length-cons, free_runs-are}
+use Rattle.wb_model.proofs.LimitedHeaps.{top_of-committed}
+
+-- a release lowers the count by one, and the total by the cell's length
+pub record AreLess (row rest : List (Cell (List ℕ))) (length_less : ℕ) : Type 0 where
+  pub counted : length rest + 1 ≡ length row
+  pub totalled : total_length (headers rest) + length_less ≡ total_length (headers row)
+
+without_absent : (p : Ptr) (row : List (Cell (List ℕ))) → All (λ h. h.number ≢ p.number) (headers row) → without p row ≡ row
+without_absent p [] others = refl
+without_absent p (c ∷ cs) others =
+    let other : is_at p c.head ≡ false =
+    and_right (nat_eq p.place c.head.place) (nat_eq p.number c.head.number) (ne_eqb p.number c.head.number (λ e. others 0 c.head (omega arith) (sym e))) in
+    ap (λ b. cond (not b) (c ∷ without p cs) (without p cs)) other
+    ∙ ap (λ r. c ∷ r) (without_absent p cs (λ k d lt. others (suc k) d (omega arith)))
+
+pub without-less : (p : Ptr) (row : List (Cell (List ℕ))) (c : Cell (List ℕ)) → AllPairs (λ g h. g.number ≢ h.number) (headers row) →
+    cell_at p row ≡ Some c → AreLess row (without p row) c.head.length
+without-less p [] c apart e = cc
+without-less p (d ∷ ds) c apart e =
+    by (is_at p d.head) refl e (without-less p ds c (λ i j x lt end. apart (suc i) (suc j) x (omega arith) (omega arith)))
+  where
+    others : is_at p d.head ≡ true → All (λ h. h.number ≢ p.number) (headers ds)
+    others here k h lt same =
+        let number : p.number ≡ d.head.number = eqb-true p.number d.head.number (and_parts (nat_eq p.place d.head.place) (nat_eq p.number d.head.number) here).1 in
+        apart 0 (suc k) h (omega arith) (omega arith) (sym number ∙ sym same)
+
+    by : (b : Bool) → is_at p d.head ≡ b → cond b (Some d) (cell_at p ds) ≡ Some c → (cell_at p ds ≡ Some c → AreLess ds (without p ds) c.head.length) →
+        AreLess (d ∷ ds) (cond (not b) (d ∷ without p ds) (without p ds)) c.head.length
+    by true here found rest =
+        let same : d ≡ c = cc in
+        let gone : without p ds ≡ ds = without_absent p ds (others here) in
+        let long : d.head.length ≡ c.head.length = ap (λ x. x.head.length) same in
+        record {
+          counted = omega (arith, ap length gone);
+          totalled = omega (arith, ap (λ r. total_length (headers r)) gone, total_length-cons d.head (headers ds), long);
+        }
+    by false other found rest =
+        let less = rest found in
+        record {
+          counted = omega (arith, less.counted);
+          totalled = omega (arith, less.totalled, total_length-cons d.head (headers ds), total_length-cons d.head (headers (without p ds)));
+        }
+
+-- a grant raises them
+pub record AreMore (row more : List (Cell (List ℕ))) (length_more : ℕ) : Type 0 where
+  pub counted : length more ≡ length row + 1
+  pub totalled : total_length (headers more) ≡ total_length (headers row) + length_more
+
+pub inserted-more : (c : Cell (List ℕ)) (row : List (Cell (List ℕ))) → AreMore row (inserted c row) c.head.length
+inserted-more c [] = record { counted = omega arith; totalled = omega (arith, total_length-cons c.head []) }
+inserted-more c (d ∷ ds) = by (nat_lt c.head.place d.head.place) (inserted-more c ds)
+  where
+    by : (b : Bool) → AreMore ds (inserted c ds) c.head.length → AreMore (d ∷ ds) (cond b (c ∷ d ∷ ds) (d ∷ inserted c ds)) c.head.length
+    by true rest = record { counted = omega arith; totalled = omega (arith, total_length-cons c.head (d.head ∷ headers ds)) }
+    by false rest = record {
+      counted = omega (arith, rest.counted);
+      totalled = omega (arith, rest.totalled, total_length-cons d.head (headers ds), total_length-cons d.head (headers (inserted c ds)));
+    }
+
+-- another payload leaves them
+pub length-changed : (p : Ptr) (f : List ℕ → List ℕ) (row : List (Cell (List ℕ))) → length (changed p f row) ≡ length row
+length-changed p f [] = refl
+length-changed p f (c ∷ cs) = by (is_at p c.head) (length-changed p f cs)
+  where
+    by : (b : Bool) → length (changed p f cs) ≡ length cs → length (cond b (record c { content = f c.content } ∷ cs) (c ∷ changed p f cs)) ≡ length (c ∷ cs)
+    by true rest = refl
+    by false rest = omega (arith, rest)
+
+-- the lengths of the live cells lie below the committed length, and each is 16 at least
+pub total-within : (heap : LimitedHeap) → IsSoundHeap heap → total_length (headers heap.row) ≤ heap.committed
+total-within heap is = omega (arith, (free_runs-are (headers heap.row) heap.committed is.row.spaced (top_of-committed heap is)).total)
+
+count_from : (row : List (Cell (List ℕ))) (at : ℕ) → IsSpacedFrom at (headers row) → 16 * length row ≤ total_length (headers row)
+count_from [] at s = omega arith
+count_from (c ∷ cs) at s = omega (arith, count_from cs (c.head.place + c.head.length) s.5, s.3, total_length-cons c.head (headers cs))
+
+pub count-within : (heap : LimitedHeap) → IsSoundHeap heap → 16 * length heap.row ≤ heap.committed
+count-within heap is = omega (arith, count_from heap.row 0 is.row.spaced, total-within heap is)

@@ -1,0 +1,103 @@
+-- What words with options spell, computed on worked command lines.
+use Rattle.std.proofs.Common.{◌≡◌, ℕ, Bool, true, false, List, [], ◌∷◌, Option, Some, None, codes, refl}
+use Rattle.std.specs.Str.{chars}
+use Rattle.clap.specs.Faults.{defaults_fault, fault_of, flags_fault, walk_fault}
+use Rattle.clap.specs.Kinds.{Kinds}
+use Rattle.clap.specs.Takes.{flags_pass, takes, walk_passes}
+use Rattle.clap.specs.Walk.{Text, bundle_met, walked}
+use Rattle.clap.specs.declared.error.kind.ErrorKind.TheVariants.{ArgumentConflict, InvalidValue, UnknownArgument, ValueValidation}
+use Rattle.wb_model.specs.declared.heap.Rule.{Rule}
+use Rattle.wb_model.specs.declared.heap.Rule.TheVariants.{Limit, Unlimited}
+use Rattle.workbench.specs.CommandLine.{command_line}
+use Rattle.workbench.specs.Spelled.{spelled}
+use Rattle.workbench.specs.declared.command.Command.{Command}
+use Rattle.workbench.specs.declared.command.Task.TheVariants.{Run}
+
+abbrev pub after_run : List Text → List Text
+after_run words = codes "workbench" ∷ codes "run" ∷ words
+
+abbrev run_with : Rule → ℕ → ℕ → Option Text → Command
+run_with rule min step file = record { task = Run rule; file = file; budget = 10000; shape = record { min = min; step = step }; json = false }
+
+-- clap takes the words after `run`, and they spell the command
+record Spell (words : List Text) (command : Command) : Type 0 where
+  taken : takes command_line (after_run words) ≡ true
+  faultless : fault_of command_line (after_run words) ≡ []
+  meaning : spelled (after_run words) ≡ Some command
+
+-- clap refuses them, by an error of this kind
+record Fail (words : List Text) (kinds : Kinds) : Type 0 where
+  refused : takes command_line (after_run words) ≡ false
+  fault : fault_of command_line (after_run words) ≡ kinds
+
+-- ---- words that spell a command
+
+limit-apart : Spell (codes "--limit" ∷ codes "303" ∷ []) (run_with (Limit 303) 4096 4096 None)
+unfolding walked walk_passes walk_fault defaults_fault
+limit-apart = record { taken = refl; faultless = refl; meaning = refl }
+
+limit-attached : Spell (codes "--limit=0" ∷ []) (run_with (Limit 0) 4096 4096 None)
+unfolding walked walk_passes walk_fault defaults_fault
+limit-attached = record { taken = refl; faultless = refl; meaning = refl }
+
+greatest-limit : Spell (codes "--limit" ∷ codes "16777216" ∷ []) (run_with (Limit 16777216) 4096 4096 None)
+unfolding walked walk_passes walk_fault defaults_fault
+greatest-limit = record { taken = refl; faultless = refl; meaning = refl }
+
+shape : Spell (codes "--min" ∷ codes "256" ∷ codes "--step" ∷ codes "64" ∷ []) (run_with Unlimited 256 64 None)
+unfolding walked walk_passes walk_fault defaults_fault
+shape = record { taken = refl; faultless = refl; meaning = refl }
+
+shape-backwards : Spell (codes "--step=16" ∷ codes "--min=0" ∷ []) (run_with Unlimited 0 16 None)
+unfolding walked walk_passes walk_fault defaults_fault
+shape-backwards = record { taken = refl; faultless = refl; meaning = refl }
+
+around-a-file : Spell (codes "--min" ∷ codes "32" ∷ codes "a.oom" ∷ codes "--limit=190" ∷ codes "--step" ∷ codes "16" ∷ []) (run_with (Limit 190) 32 16 (Some (codes "a.oom")))
+unfolding walked walk_passes walk_fault defaults_fault
+around-a-file = record { taken = refl; faultless = refl; meaning = refl }
+
+before-dashes : Spell (codes "--step" ∷ codes "1048576" ∷ codes "--" ∷ codes "--limit" ∷ []) (run_with Unlimited 4096 1048576 (Some (codes "--limit")))
+unfolding walked walk_passes walk_fault defaults_fault
+before-dashes = record { taken = refl; faultless = refl; meaning = refl }
+
+plus-and-zeros : Spell (codes "--limit" ∷ codes "+5" ∷ codes "--min" ∷ codes "0032" ∷ []) (run_with (Limit 5) 32 4096 None)
+unfolding walked walk_passes walk_fault defaults_fault
+plus-and-zeros = record { taken = refl; faultless = refl; meaning = refl }
+
+no-multiple-of-16 : Spell (codes "--min" ∷ codes "8" ∷ []) (run_with Unlimited 8 4096 None)
+unfolding walked walk_passes walk_fault defaults_fault
+no-multiple-of-16 = record { taken = refl; faultless = refl; meaning = refl }
+
+-- ---- words that are refused
+
+past-the-greatest-limit : Fail (codes "--limit" ∷ codes "16777217" ∷ []) (ValueValidation ∷ [])
+unfolding walked walk_passes walk_fault defaults_fault flags_fault flags_pass bundle_met chars
+past-the-greatest-limit = record { refused = refl; fault = refl }
+
+below-the-least-step : Fail (codes "--step=15" ∷ []) (ValueValidation ∷ [])
+unfolding walked walk_passes walk_fault defaults_fault flags_fault flags_pass bundle_met chars
+below-the-least-step = record { refused = refl; fault = refl }
+
+no-number : Fail (codes "--min" ∷ codes "many" ∷ []) (ValueValidation ∷ [])
+unfolding walked walk_passes walk_fault defaults_fault flags_fault flags_pass bundle_met chars
+no-number = record { refused = refl; fault = refl }
+
+twice : Fail (codes "--limit" ∷ codes "5" ∷ codes "a.oom" ∷ codes "--limit" ∷ codes "5" ∷ []) (ArgumentConflict ∷ [])
+unfolding walked walk_passes walk_fault defaults_fault flags_fault flags_pass bundle_met chars
+twice = record { refused = refl; fault = refl }
+
+without-a-number : Fail (codes "--min" ∷ codes "--step" ∷ codes "16" ∷ []) (InvalidValue ∷ [])
+unfolding walked walk_passes walk_fault defaults_fault flags_fault flags_pass bundle_met chars
+without-a-number = record { refused = refl; fault = refl }
+
+at-the-end : Fail (codes "a.oom" ∷ codes "--limit" ∷ []) (InvalidValue ∷ [])
+unfolding walked walk_passes walk_fault defaults_fault flags_fault flags_pass bundle_met chars
+at-the-end = record { refused = refl; fault = refl }
+
+below-zero : Fail (codes "--limit" ∷ codes "-1" ∷ []) (UnknownArgument ∷ [])
+unfolding walked walk_passes walk_fault defaults_fault flags_fault flags_pass bundle_met chars
+below-zero = record { refused = refl; fault = refl }
+
+before-another-option : Fail (codes "--limit=5" ∷ codes "--fail=1" ∷ []) (UnknownArgument ∷ [])
+unfolding walked walk_passes walk_fault defaults_fault flags_fault flags_pass bundle_met chars
+before-another-option = record { refused = refl; fault = refl }
