@@ -451,7 +451,7 @@ unfolding everything
 view_past_text_from_leaving_allocation_run = refl
 
 abbrev script_items_left_at_the_plain_end_of_a_trap_run : Script
-script_items_left_at_the_plain_end_of_a_trap_run = record { classes = []; procedures = (record { parameters = []; body = record { locals = (OfPointer None) ∷ OfNumber ∷ []; statements = rolled ((Statement-F.Alloc (Held (H.Local 0)) (Constant (pos 10)) GivesNull) ∷ (Statement-F.Trap 1 (rolled ((Statement-F.Push (Held (H.Local 0))) ∷ []))) ∷ []) } }) ∷ []; operations = []; literals = []; main = 0 }
+script_items_left_at_the_plain_end_of_a_trap_run = record { classes = []; procedures = (record { parameters = []; body = record { locals = (OfPointer None) ∷ OfNumber ∷ []; statements = rolled ((Statement-F.Alloc (Held (H.Local 0)) (Constant (pos 10)) GivesNull) ∷ (Statement-F.Trap 1 (rolled ((Statement-F.Push (Held (H.Local 0))) ∷ []))) ∷ (Statement-F.PrintNumber (Constant (pos 1))) ∷ []) } }) ∷ []; operations = []; literals = []; main = 0 }
 
 items_left_at_the_plain_end_of_a_trap_run : run script_items_left_at_the_plain_end_of_a_trap_run R.Unlimited 10000 (shaped 4096 4096) ≡ record { outcome = Panicked (P.Workbench 5); trace = (line 1 144 0 Granted) ∷ (line 2 32 144 Granted) ∷ []; lines = []; notes = []; steps = 3 }
 unfolding everything
