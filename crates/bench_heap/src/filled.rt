@@ -9,6 +9,7 @@ use wb_rheap::heap::Heap;
 
 /// The cell length, in bytes: a header and four words.
 const LENGTH: u32 = 32;
+
 const SHAPE: Shape = Shape {
     min: 4096,
     step: 4096,

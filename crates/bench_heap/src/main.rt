@@ -53,8 +53,7 @@ fn time(rt: &HostRuntime, count: u32) -> io::Result<()> {
     }
     let looked_up = start.elapsed(rt)?.as_nanos();
     let calls = rounds.saturating_mul(count);
-    println!(
-        rt;
+    println!(rt;
         "{count} live cells: free {} ns, store {} ns, header {} ns ({found} found)",
         a_call(freed, calls / 2),
         a_call(stored, calls),
@@ -77,8 +76,7 @@ fn call_once(rt: &HostRuntime, count: u32) -> io::Result<()> {
     filled.store(&cells, 1);
     let found = filled.look_up(&cells);
     let (live, bytes) = filled.live();
-    println!(
-        rt;
+    println!(rt;
         "{count} live cells: {thinned} once every second is free, then {live} of {bytes} bytes, {found} found"
     )
 }

@@ -33,8 +33,10 @@ const GRANULE: u32 = 16;
 const MOST_OF_SHAPE: u32 = 1_048_576;
 
 const LIMIT_HELP: &str = "Refuses what would make the heap longer than L bytes, from 0 to 16777216";
+
 const MIN_HELP: &str =
     "The heap's minimum length in bytes, a multiple of 16 from 0 to 1048576 [default: 4096]";
+
 const STEP_HELP: &str =
     "The step by which the heap grows in bytes, a multiple of 16 from 16 to 1048576 [default: 4096]";
 
@@ -135,9 +137,9 @@ fn file<'a>(alloc: Global) -> Arg<'a>
     ensures rule { rule_of result ≡ file_argument }
     ensures own { result.global ≡ false }
 {
-    Arg::new(alloc, "file")
-        .value_name("FILE")
-        .help("The script's file; without it the script is standard input")
+    Arg::new(alloc, "file").value_name("FILE").help(
+        "The script's file; without it the script is standard input",
+    )
 }
 
 /// The command with one argument more.

@@ -133,7 +133,13 @@ fn refuses_shapes_that_are_no_multiples_of_16(rt: HostRuntime) -> Result<(), Fai
     misshapes(
         &rt,
         alloc,
-        &["workbench", "run", "--limit=1", "--min=16", "--step=1048575"],
+        &[
+            "workbench",
+            "run",
+            "--limit=1",
+            "--min=16",
+            "--step=1048575",
+        ],
     )
 }
 
