@@ -1,7 +1,7 @@
 -- What the definitions make of bytes where a reader might doubt: each example is proved by computing.
 use Rattle.std.specs.Prelude.{◌≡◌, pos, negsuc, [], ◌∷◌, ◌++◌, Some, None, codes, map, replicate}
 use Rattle.std.proofs.Common.{refl}
-use Rattle.wb_model.specs.declared.lines.Key.TheVariants.{Proc, Ptr, Alloc, Free, Store, Print, Heap, Available, Compress, End}
+use Rattle.wb_model.specs.declared.lines.Key.TheVariants.{Proc, Ptr, Buf, Alloc, Free, Store, Set, Insert, Left, Print, Heap, Available, Compress, End}
 use Rattle.wb_model.specs.declared.lines.Operand.TheVariants.{Name, Number, Literal}
 use Rattle.wb_model.specs.declared.lines.Form.TheVariants.{Skip, Unknown, Line}
 use Rattle.wb_model.specs.Lines.{lines_of, words_of, first_foreign_line}
@@ -124,10 +124,20 @@ two_numbers : line_form (codes "\tstore p 3 -2\r") ≡ Line Store (Name (codes "
 unfolding keys
 two_numbers = refl
 
--- a name where a number is wanted, a number where a pointer is, and one operand more or less
-no_stores : map line_form (codes "store p x 1" ∷ codes "store p 1 x" ∷ codes "store 0 1 2" ∷ codes "store p 1" ∷ codes "store p 1 2 3" ∷ codes "store" ∷ []) ≡ replicate 6 Unknown
+-- a number where a pointer is wanted, a literal where a number is, and one operand more or less
+no_stores : map line_form (codes "store 0 1 2" ∷ codes "store p 1 \"2\"" ∷ codes "store p 1" ∷ codes "store p 1 2 3" ∷ codes "store" ∷ []) ≡ replicate 5 Unknown
 unfolding keys
 no_stores = refl
+
+number_or_name : line_form (codes "store p x -1") ≡ Line Store (Name (codes "p") ∷ Name (codes "x") ∷ Number (negsuc 0) ∷ [])
+unfolding keys
+number_or_name = refl
+
+-- what a `set` writes has a name, what it reads is a name or a number
+sides_of_set : map line_form (codes "set p q" ∷ codes "set x 3" ∷ codes "set 3 x" ∷ codes "set x \"3\"" ∷ []) ≡
+    Line Set (Name (codes "p") ∷ Name (codes "q") ∷ []) ∷ Line Set (Name (codes "x") ∷ Number (pos 3) ∷ []) ∷ Unknown ∷ Unknown ∷ []
+unfolding keys
+sides_of_set = refl
 
 negative : line_form (codes "alloc p -007") ≡ Line Alloc (Name (codes "p") ∷ Number (negsuc 6) ∷ [])
 unfolding keys
@@ -145,9 +155,15 @@ nine_digits_below_zero = refl
 no_numbers : map number_of (codes "0000000001" ∷ codes "+5" ∷ codes "-" ∷ codes "--5" ∷ codes "5-" ∷ codes "1a" ∷ []) ≡ replicate 6 None
 no_numbers = refl
 
-no_numbers_of_bytes : map line_form (codes "alloc p n" ∷ codes "alloc p \"4\"" ∷ []) ≡ replicate 2 Unknown
+no_numbers_of_bytes : map line_form (codes "alloc p 1n" ∷ codes "alloc p \"4\"" ∷ []) ≡ replicate 2 Unknown
 unfolding keys
 no_numbers_of_bytes = refl
+
+-- the size of a text isn't negative, and nothing but digits
+sizes : map line_form (codes "buf b 257" ∷ codes "buf b -0" ∷ codes "buf b -1" ∷ codes "buf b n" ∷ codes "buf b" ∷ []) ≡
+    Line Buf (Name (codes "b") ∷ Number (pos 257) ∷ []) ∷ Line Buf (Name (codes "b") ∷ Number (pos 0) ∷ []) ∷ replicate 3 Unknown
+unfolding keys
+sizes = refl
 
 -- Literals.
 
@@ -167,6 +183,12 @@ number_is_printed : line_form (codes "print 12") ≡ Line Print (Number (pos 12)
 unfolding keys
 number_is_printed = refl
 
+-- a text that is read may be a literal, one that is written may not, and neither is a number
+texts : map line_form (codes "insert b 0 \"a b\"" ∷ codes "left v \"\" 1" ∷ codes "copy \"a\" b" ∷ codes "setlength \"a\" 1" ∷ codes "append b 1" ∷ codes "mid \"a\" b 0 1" ∷ []) ≡
+    Line Insert (Name (codes "b") ∷ Number (pos 0) ∷ Literal (codes "a b") ∷ []) ∷ Line Left (Name (codes "v") ∷ Literal [] ∷ Number (pos 1) ∷ []) ∷ replicate 4 Unknown
+unfolding keys
+texts = refl
+
 -- open; with a tab or a carriage return; with something right behind; two at once; behind another byte
 no_literals : map line_form (codes "print \"a b" ∷ codes "print \"" ∷ codes "print \"a\tb\"" ∷ codes "print \"\r\"" ∷ codes "print \"a\"b" ∷ codes "print \"a\"\"b\"" ∷ codes "print a\"b\"" ∷ []) ≡ replicate 7 Unknown
 unfolding keys
@@ -177,6 +199,6 @@ quotes_within_words : map line_form (codes "alloc a\" 4" ∷ codes "print \"a\" 
 unfolding keys
 quotes_within_words = refl
 
-name_is_not_printed : line_form (codes "print p") ≡ Unknown
+name_is_printed : line_form (codes "print p") ≡ Line Print (Name (codes "p") ∷ [])
 unfolding keys
-name_is_not_printed = refl
+name_is_printed = refl

@@ -1,5 +1,5 @@
 -- A line that says something is made of words.
-use Rattle.std.proofs.Common.{◌≡◌, ◌≢◌, inl, inr, ℕ, ℤ, pos, neg_ℤ, nat_le, length, fold, ◌≤◌, List, [], ◌∷◌, Bool, true, false, not, ◌&&◌, nat_eq, Option, Some, None, if◌then◌else◌, arith, refl, sym, ap, subst, ◌∙◌}
+use Rattle.std.proofs.Common.{◌≡◌, ◌≢◌, inl, inr, ℕ, ℤ, pos, neg_ℤ, nat_le, length, fold, ◌≤◌, List, [], ◌∷◌, Bool, true, false, not, ◌&&◌, nat_eq, Option, Some, None, if◌then◌else◌, arith, refl, sym, subst}
 use Rattle.std.specs.Prelude.{codes}
 use Rattle.std.specs.List.{list_all}
 use Rattle.std.specs.Option.{option_map}
@@ -9,7 +9,7 @@ use Rattle.std.proofs.lemmas.Bool.Decides.{nat_tests}
 use borrow.Author.Tests.{ne_eqb, eqb-true}
 use Rattle.wb_model.specs.declared.lines.Key.{Key}
 use Rattle.wb_model.specs.declared.lines.Letter.{Letter}
-use Rattle.wb_model.specs.declared.lines.Letter.TheVariants.{Declared, Pointer, Value, Printed}
+use Rattle.wb_model.specs.declared.lines.Letter.TheVariants.{Declared, Pointer, Value, Variable, Target, Source, Size, Writable, Readable, ViewName, Printed}
 use Rattle.wb_model.specs.declared.lines.Operand.{Operand}
 use Rattle.wb_model.specs.declared.lines.Operand.TheVariants.{Name, Number, Literal}
 use Rattle.wb_model.specs.declared.lines.Form.{Form}
@@ -17,7 +17,7 @@ use Rattle.wb_model.specs.declared.lines.Form.TheVariants.{Line}
 use Rattle.wb_model.specs.Lines.{is_blank, words_of}
 use Rattle.wb_model.specs.Words.{is_reserved, with_digit, is_digit, is_name_byte, is_name, is_letter, declared_name, used_name, digits_of, number_of, literal_of}
 use Rattle.wb_model.specs.Keys.{keys, text_of, letters_of}
-use Rattle.wb_model.specs.Forms.{operand_of, operands_of, operands_if, number_or_literal, onto, line_or, form_in, begins_comment, skipped_or, form_of}
+use Rattle.wb_model.specs.Forms.{operand_of, operands_of, operands_if, either, name_word, number_word, literal_word, size_of, onto, line_or, form_in, begins_comment, skipped_or, form_of}
 use Rattle.wb_model.specs.Writing.{is_plain, IsWord, AreWords, IsMadeOfWords}
 use Rattle.wb_model.proofs.WritingLemmas.{both, quoted_of_literal}
 
@@ -97,17 +97,41 @@ word_of_number (byte ∷ bytes) z h = inl (not_empty byte bytes, signed (nat_eq 
 word_of_literal : (word text : List ℕ) → literal_of word ≡ Some text → IsWord word
 word_of_literal word text h = let (printable, is) = quoted_of_literal word text h in inr (text, printable, is)
 
+-- a word of either of two kinds
+word_of_either : (word : List ℕ) (first other : Option (Operand (List ℕ))) (operand : Operand (List ℕ)) → ((o : Operand (List ℕ)) → first ≡ Some o → IsWord word) → ((o : Operand (List ℕ)) → other ≡ Some o → IsWord word) → either first other ≡ Some operand → IsWord word
+word_of_either word (Some o) other operand one two h = one o refl
+word_of_either word None other operand one two h = two operand h
+
+word_of_name_word : (word : List ℕ) (operand : Operand (List ℕ)) → name_word word ≡ Some operand → IsWord word
+word_of_name_word word operand h = let (name, is) = mapped_back Name (used_name word) operand h in word_of_used word name is
+
+word_of_number_word : (word : List ℕ) (operand : Operand (List ℕ)) → number_word word ≡ Some operand → IsWord word
+word_of_number_word word operand h = let (z, is) = mapped_back Number (number_of word) operand h in word_of_number word z is
+
+word_of_literal_word : (word : List ℕ) (operand : Operand (List ℕ)) → literal_word word ≡ Some operand → IsWord word
+word_of_literal_word word operand h = let (text, is) = mapped_back Literal (literal_of word) operand h in word_of_literal word text is
+
+word_of_size : (word : List ℕ) (operand : Operand (List ℕ)) → size_of (number_of word) ≡ Some operand → IsWord word
+word_of_size word operand h = go (number_of word) refl h
+  where
+    go : (o : Option ℤ) → number_of word ≡ o → size_of o ≡ Some operand → IsWord word
+    go (Some z) is h = word_of_number word z is
+    go None is h = cc
+
 word_of_operand : (letter : Letter) (word : List ℕ) (operand : Operand (List ℕ)) → operand_of letter word ≡ Some operand → IsWord word
 word_of_operand Declared word operand h = let (name, is) = mapped_back Name (declared_name word) operand h in word_of_declared word name is
-word_of_operand Pointer word operand h = let (name, is) = mapped_back Name (used_name word) operand h in word_of_used word name is
-word_of_operand Value word operand h = let (z, is) = mapped_back Number (number_of word) operand h in word_of_number word z is
-word_of_operand Printed word operand h = either (number_of word) refl
-  where
-    either : (number : Option ℤ) → number_of word ≡ number → IsWord word
-    either (Some z) is = word_of_number word z is
-    either None is =
-        let (text, is_literal) = mapped_back Literal (literal_of word) operand (sym (ap (λ (o : Option ℤ). number_or_literal (option_map Number o) word) is) ∙ h) in
-        word_of_literal word text is_literal
+word_of_operand Pointer word operand h = word_of_name_word word operand h
+word_of_operand Variable word operand h = word_of_name_word word operand h
+word_of_operand Target word operand h = word_of_name_word word operand h
+word_of_operand Value word operand h = word_of_either word (number_word word) (name_word word) operand (word_of_number_word word) (word_of_name_word word) h
+word_of_operand Source word operand h = word_of_either word (number_word word) (name_word word) operand (word_of_number_word word) (word_of_name_word word) h
+word_of_operand Size word operand h = word_of_size word operand h
+word_of_operand Writable word operand h = word_of_name_word word operand h
+word_of_operand Readable word operand h = word_of_either word (name_word word) (literal_word word) operand (word_of_name_word word) (word_of_literal_word word) h
+word_of_operand ViewName word operand h = word_of_name_word word operand h
+word_of_operand Printed word operand h =
+    word_of_either word (number_word word) (either (name_word word) (literal_word word)) operand (word_of_number_word word)
+    (λ o. word_of_either word (name_word word) (literal_word word) o (word_of_name_word word) (word_of_literal_word word)) h
 
 onto_back : (first : Option (Operand (List ℕ))) (rest : Option (List (Operand (List ℕ)))) (operands : List (Operand (List ℕ))) → onto first rest ≡ Some operands → ((o : Operand (List ℕ)) × (first ≡ Some o)) × ((os : List (Operand (List ℕ))) × (rest ≡ Some os))
 onto_back None rest operands h = cc

@@ -100,6 +100,132 @@ shaped min step = record { min = min; step = step }
 abbrev line : ℕ → ℕ → ℕ → Answer → Attempt
 line number length place answer = record { number = number; length = length; place = place; answer = answer }
 
+abbrev script_buffer_edits_one_after_another_run : Script
+script_buffer_edits_one_after_another_run = record { classes = []; procedures = (record { parameters = []; body = record { locals = (OfBuffer 8) ∷ OfView ∷ []; statements = rolled ((Statement-F.Copy (OwnBuffer 0) (Quoted 0)) ∷ (Statement-F.Insert (OwnBuffer 0) (Constant (pos 1)) (Quoted 1)) ∷ (Statement-F.DeleteText (OwnBuffer 0) (Constant (pos 4)) (Constant (pos 99))) ∷ (Statement-F.Right 1 (Of (OwnBuffer 0)) (Constant (pos 2))) ∷ (Statement-F.Append (OwnBuffer 0) (ViewOf 1)) ∷ (Statement-F.SetLength (OwnBuffer 0) (Constant (pos 8))) ∷ (Statement-F.PrintText (Of (OwnBuffer 0))) ∷ []) } }) ∷ []; operations = []; literals = (97 ∷ 98 ∷ 99 ∷ 100 ∷ []) ∷ (88 ∷ 89 ∷ []) ∷ []; main = 0 }
+
+buffer_edits_one_after_another_run : run script_buffer_edits_one_after_another_run R.Unlimited 10000 (shaped 4096 4096) ≡ record { outcome = Ended None []; trace = (line 1 144 0 Granted) ∷ []; lines = (97 ∷ 88 ∷ 89 ∷ 98 ∷ 89 ∷ 98 ∷ 46 ∷ 46 ∷ []) ∷ []; notes = []; steps = 7 }
+unfolding everything
+buffer_edits_one_after_another_run = refl
+
+abbrev script_refused_text_growth_keeps_the_text_run : Script
+script_refused_text_growth_keeps_the_text_run = record { classes = []; procedures = (record { parameters = []; body = record { locals = (OfPointer None) ∷ (OfPointer None) ∷ []; statements = rolled ((Statement-F.NewText (Held (H.Local 0)) (Constant (pos 4)) GivesNull) ∷ (Statement-F.Append (InCell (Held (H.Local 0))) (Quoted 0)) ∷ (Statement-F.FailNext (Constant (pos 1))) ∷ (Statement-F.ReallocText (Held (H.Local 1)) (Held (H.Local 0)) (Constant (pos 20))) ∷ (Statement-F.PrintText (Of (InCell (Held (H.Local 0))))) ∷ (Statement-F.Free (Held (H.Local 0))) ∷ []) } }) ∷ []; operations = []; literals = (97 ∷ 98 ∷ 99 ∷ []) ∷ []; main = 0 }
+
+refused_text_growth_keeps_the_text_run : run script_refused_text_growth_keeps_the_text_run R.Unlimited 10000 (shaped 4096 4096) ≡ record { outcome = Ended None []; trace = (line 1 144 0 Granted) ∷ (line 2 32 144 Granted) ∷ (line 3 64 144 Simulated) ∷ []; lines = (97 ∷ 98 ∷ 99 ∷ []) ∷ []; notes = []; steps = 6 }
+unfolding everything
+refused_text_growth_keeps_the_text_run = refl
+
+abbrev script_text_longer_than_its_maximum_run : Script
+script_text_longer_than_its_maximum_run = record { classes = []; procedures = (record { parameters = []; body = record { locals = (OfPointer None) ∷ OfNumber ∷ OfView ∷ []; statements = rolled ((Statement-F.NewText (Held (H.Local 0)) (Constant (pos 4)) GivesNull) ∷ (Statement-F.GetMaximum 1 (InCell (Held (H.Local 0)))) ∷ (Statement-F.PrintNumber (Variable 1)) ∷ (Statement-F.Append (InCell (Held (H.Local 0))) (Quoted 0)) ∷ (Statement-F.Append (InCell (Held (H.Local 0))) (Quoted 1)) ∷ []) } }) ∷ []; operations = []; literals = (97 ∷ 98 ∷ 99 ∷ 100 ∷ 101 ∷ 102 ∷ []) ∷ (103 ∷ []) ∷ []; main = 0 }
+
+text_longer_than_its_maximum_run : run script_text_longer_than_its_maximum_run R.Unlimited 10000 (shaped 4096 4096) ≡ record { outcome = Panicked (P.User 11); trace = (line 1 144 0 Granted) ∷ (line 2 32 144 Granted) ∷ []; lines = (54 ∷ []) ∷ []; notes = []; steps = 5 }
+unfolding everything
+text_longer_than_its_maximum_run = refl
+
+abbrev script_text_made_shorter_than_its_length_run : Script
+script_text_made_shorter_than_its_length_run = record { classes = []; procedures = (record { parameters = []; body = record { locals = (OfPointer None) ∷ (OfPointer None) ∷ []; statements = rolled ((Statement-F.NewText (Held (H.Local 0)) (Constant (pos 4)) GivesNull) ∷ (Statement-F.Append (InCell (Held (H.Local 0))) (Quoted 0)) ∷ (Statement-F.ReallocText (Held (H.Local 1)) (Held (H.Local 0)) (Constant (pos 2))) ∷ []) } }) ∷ []; operations = []; literals = (97 ∷ 98 ∷ 99 ∷ []) ∷ []; main = 0 }
+
+text_made_shorter_than_its_length_run : run script_text_made_shorter_than_its_length_run R.Unlimited 10000 (shaped 4096 4096) ≡ record { outcome = Panicked (P.Workbench 8); trace = (line 1 144 0 Granted) ∷ (line 2 32 144 Granted) ∷ []; lines = []; notes = []; steps = 3 }
+unfolding everything
+text_made_shorter_than_its_length_run = refl
+
+abbrev script_view_of_a_freed_text_run : Script
+script_view_of_a_freed_text_run = record { classes = []; procedures = (record { parameters = []; body = record { locals = (OfPointer None) ∷ OfView ∷ []; statements = rolled ((Statement-F.NewText (Held (H.Local 0)) (Constant (pos 4)) GivesNull) ∷ (Statement-F.Mid 1 (Of (InCell (Held (H.Local 0)))) (Constant (pos 0)) (Constant (pos 0))) ∷ (Statement-F.Free (Held (H.Local 0))) ∷ (Statement-F.PrintText (ViewOf 1)) ∷ []) } }) ∷ []; operations = []; literals = []; main = 0 }
+
+view_of_a_freed_text_run : run script_view_of_a_freed_text_run R.Unlimited 10000 (shaped 4096 4096) ≡ record { outcome = Panicked (P.Workbench 1); trace = (line 1 144 0 Granted) ∷ (line 2 32 144 Granted) ∷ []; lines = []; notes = []; steps = 4 }
+unfolding everything
+view_of_a_freed_text_run = refl
+
+abbrev script_view_of_an_empty_view_is_still_the_same_text_run : Script
+script_view_of_an_empty_view_is_still_the_same_text_run = record { classes = []; procedures = (record { parameters = []; body = record { locals = OfView ∷ OfView ∷ (OfBuffer 4) ∷ []; statements = rolled ((Statement-F.Copy (OwnBuffer 2) (Quoted 0)) ∷ (Statement-F.Left 0 (Of (OwnBuffer 2)) (Constant (pos 0))) ∷ (Statement-F.Left 1 (ViewOf 0) (Constant (pos 0))) ∷ (Statement-F.Insert (OwnBuffer 2) (Constant (pos 0)) (ViewOf 1)) ∷ []) } }) ∷ []; operations = []; literals = (97 ∷ 98 ∷ []) ∷ []; main = 0 }
+
+view_of_an_empty_view_is_still_the_same_text_run : run script_view_of_an_empty_view_is_still_the_same_text_run R.Unlimited 10000 (shaped 4096 4096) ≡ record { outcome = Panicked (P.Workbench 9); trace = (line 1 144 0 Granted) ∷ []; lines = []; notes = []; steps = 4 }
+unfolding everything
+view_of_an_empty_view_is_still_the_same_text_run = refl
+
+abbrev script_view_of_nothing_run : Script
+script_view_of_nothing_run = record { classes = []; procedures = (record { parameters = []; body = record { locals = OfView ∷ OfView ∷ (OfBuffer 4) ∷ []; statements = rolled ((Statement-F.Left 1 (ViewOf 0) (Constant (pos 0))) ∷ (Statement-F.Insert (OwnBuffer 2) (Constant (pos 0)) (ViewOf 1)) ∷ (Statement-F.PrintText (Of (OwnBuffer 2))) ∷ (Statement-F.Left 1 (ViewOf 0) (Constant (pos 1))) ∷ []) } }) ∷ []; operations = []; literals = []; main = 0 }
+
+view_of_nothing_run : run script_view_of_nothing_run R.Unlimited 10000 (shaped 4096 4096) ≡ record { outcome = Panicked (P.User 10); trace = (line 1 144 0 Granted) ∷ []; lines = [] ∷ []; notes = []; steps = 4 }
+unfolding everything
+view_of_nothing_run = refl
+
+abbrev script_view_position_past_the_text_run : Script
+script_view_position_past_the_text_run = record { classes = []; procedures = (record { parameters = []; body = record { locals = (OfPointer None) ∷ OfNumber ∷ OfView ∷ []; statements = rolled ((Statement-F.NewText (Held (H.Local 0)) (Constant (pos 4)) GivesNull) ∷ (Statement-F.GetMaximum 1 (InCell (Held (H.Local 0)))) ∷ (Statement-F.PrintNumber (Variable 1)) ∷ (Statement-F.Append (InCell (Held (H.Local 0))) (Quoted 0)) ∷ (Statement-F.Mid 2 (Of (InCell (Held (H.Local 0)))) (Constant (pos 7)) (Constant (pos 0))) ∷ []) } }) ∷ []; operations = []; literals = (97 ∷ 98 ∷ 99 ∷ 100 ∷ 101 ∷ 102 ∷ []) ∷ []; main = 0 }
+
+view_position_past_the_text_run : run script_view_position_past_the_text_run R.Unlimited 10000 (shaped 4096 4096) ≡ record { outcome = Panicked (P.User 10); trace = (line 1 144 0 Granted) ∷ (line 2 32 144 Granted) ∷ []; lines = (54 ∷ []) ∷ []; notes = []; steps = 5 }
+unfolding everything
+view_position_past_the_text_run = refl
+
+abbrev script_append_too_long_run : Script
+script_append_too_long_run = record { classes = []; procedures = (record { parameters = []; body = record { locals = (OfPointer None) ∷ OfNumber ∷ []; statements = rolled ((Statement-F.NewText (Held (H.Local 0)) (Constant (pos 5)) GivesNull) ∷ (Statement-F.GetMaximum 1 (InCell (Held (H.Local 0)))) ∷ (Statement-F.PrintNumber (Variable 1)) ∷ (Statement-F.Append (InCell (Held (H.Local 0))) (Quoted 0)) ∷ (Statement-F.Append (InCell (Held (H.Local 0))) (Quoted 1)) ∷ (Statement-F.Free (Held (H.Local 0))) ∷ []) } }) ∷ []; operations = []; literals = (104 ∷ 101 ∷ 97 ∷ 112 ∷ []) ∷ (32 ∷ 102 ∷ 117 ∷ 108 ∷ 108 ∷ []) ∷ []; main = 0 }
+
+append_too_long_run : run script_append_too_long_run R.Unlimited 10000 (shaped 4096 4096) ≡ record { outcome = Panicked (P.User 11); trace = (line 1 144 0 Granted) ∷ (line 2 32 144 Granted) ∷ []; lines = (54 ∷ []) ∷ []; notes = []; steps = 5 }
+unfolding everything
+append_too_long_run = refl
+
+abbrev script_double_free_run : Script
+script_double_free_run = record { classes = []; procedures = (record { parameters = []; body = record { locals = (OfPointer None) ∷ (OfPointer None) ∷ []; statements = rolled ((Statement-F.Alloc (Held (H.Local 0)) (Constant (pos 40)) GivesNull) ∷ (Statement-F.Free (Held (H.Local 0))) ∷ (Statement-F.Alloc (Held (H.Local 1)) (Constant (pos 40)) GivesNull) ∷ (Statement-F.PrintText (Quoted 0)) ∷ (Statement-F.Free (Held (H.Local 0))) ∷ []) } }) ∷ []; operations = []; literals = (116 ∷ 104 ∷ 101 ∷ 32 ∷ 112 ∷ 108 ∷ 97 ∷ 99 ∷ 101 ∷ 115 ∷ 32 ∷ 97 ∷ 114 ∷ 101 ∷ 32 ∷ 116 ∷ 104 ∷ 101 ∷ 32 ∷ 115 ∷ 97 ∷ 109 ∷ 101 ∷ 44 ∷ 32 ∷ 116 ∷ 104 ∷ 101 ∷ 32 ∷ 97 ∷ 108 ∷ 108 ∷ 111 ∷ 99 ∷ 97 ∷ 116 ∷ 105 ∷ 111 ∷ 110 ∷ 32 ∷ 110 ∷ 117 ∷ 109 ∷ 98 ∷ 101 ∷ 114 ∷ 115 ∷ 32 ∷ 97 ∷ 114 ∷ 101 ∷ 110 ∷ 39 ∷ 116 ∷ []) ∷ []; main = 0 }
+
+double_free_run : run script_double_free_run R.Unlimited 10000 (shaped 4096 4096) ≡ record { outcome = Panicked (P.User 42); trace = (line 1 144 0 Granted) ∷ (line 2 64 144 Granted) ∷ (line 3 64 144 Granted) ∷ []; lines = (116 ∷ 104 ∷ 101 ∷ 32 ∷ 112 ∷ 108 ∷ 97 ∷ 99 ∷ 101 ∷ 115 ∷ 32 ∷ 97 ∷ 114 ∷ 101 ∷ 32 ∷ 116 ∷ 104 ∷ 101 ∷ 32 ∷ 115 ∷ 97 ∷ 109 ∷ 101 ∷ 44 ∷ 32 ∷ 116 ∷ 104 ∷ 101 ∷ 32 ∷ 97 ∷ 108 ∷ 108 ∷ 111 ∷ 99 ∷ 97 ∷ 116 ∷ 105 ∷ 111 ∷ 110 ∷ 32 ∷ 110 ∷ 117 ∷ 109 ∷ 98 ∷ 101 ∷ 114 ∷ 115 ∷ 32 ∷ 97 ∷ 114 ∷ 101 ∷ 110 ∷ 39 ∷ 116 ∷ []) ∷ []; notes = []; steps = 5 }
+unfolding everything
+double_free_run = refl
+
+abbrev script_grow_then_append_refused_run : Script
+script_grow_then_append_refused_run = record { classes = []; procedures = (record { parameters = []; body = record { locals = (OfPointer None) ∷ (OfPointer None) ∷ OfNumber ∷ []; statements = rolled ((Statement-F.NewText (Held (H.Local 0)) (Constant (pos 5)) GivesNull) ∷ (Statement-F.Append (InCell (Held (H.Local 0))) (Quoted 0)) ∷ (Statement-F.ReallocText (Held (H.Local 1)) (Held (H.Local 0)) (Constant (pos 9))) ∷ (Statement-F.GetMaximum 2 (InCell (Held (H.Local 1)))) ∷ (Statement-F.PrintNumber (Variable 2)) ∷ (Statement-F.Append (InCell (Held (H.Local 1))) (Quoted 1)) ∷ (Statement-F.PrintText (Of (InCell (Held (H.Local 1))))) ∷ (Statement-F.Free (Held (H.Local 1))) ∷ []) } }) ∷ []; operations = []; literals = (104 ∷ 101 ∷ 97 ∷ 112 ∷ []) ∷ (32 ∷ 102 ∷ 117 ∷ 108 ∷ 108 ∷ []) ∷ []; main = 0 }
+
+grow_then_append_refused_run : run script_grow_then_append_refused_run (R.Number 3) 10000 (shaped 4096 4096) ≡ record { outcome = Panicked (P.Workbench 1); trace = (line 1 144 0 Granted) ∷ (line 2 32 144 Granted) ∷ (line 3 48 144 Simulated) ∷ []; lines = []; notes = []; steps = 4 }
+unfolding everything
+grow_then_append_refused_run = refl
+
+abbrev script_grow_then_append_run : Script
+script_grow_then_append_run = record { classes = []; procedures = (record { parameters = []; body = record { locals = (OfPointer None) ∷ (OfPointer None) ∷ OfNumber ∷ []; statements = rolled ((Statement-F.NewText (Held (H.Local 0)) (Constant (pos 5)) GivesNull) ∷ (Statement-F.Append (InCell (Held (H.Local 0))) (Quoted 0)) ∷ (Statement-F.ReallocText (Held (H.Local 1)) (Held (H.Local 0)) (Constant (pos 9))) ∷ (Statement-F.GetMaximum 2 (InCell (Held (H.Local 1)))) ∷ (Statement-F.PrintNumber (Variable 2)) ∷ (Statement-F.Append (InCell (Held (H.Local 1))) (Quoted 1)) ∷ (Statement-F.PrintText (Of (InCell (Held (H.Local 1))))) ∷ (Statement-F.Free (Held (H.Local 1))) ∷ []) } }) ∷ []; operations = []; literals = (104 ∷ 101 ∷ 97 ∷ 112 ∷ []) ∷ (32 ∷ 102 ∷ 117 ∷ 108 ∷ 108 ∷ []) ∷ []; main = 0 }
+
+grow_then_append_run : run script_grow_then_append_run R.Unlimited 10000 (shaped 4096 4096) ≡ record { outcome = Ended None []; trace = (line 1 144 0 Granted) ∷ (line 2 32 144 Granted) ∷ (line 3 48 144 Granted) ∷ []; lines = (49 ∷ 52 ∷ []) ∷ (104 ∷ 101 ∷ 97 ∷ 112 ∷ 32 ∷ 102 ∷ 117 ∷ 108 ∷ 108 ∷ []) ∷ []; notes = []; steps = 8 }
+unfolding everything
+grow_then_append_run = refl
+
+abbrev script_hole_reused_run : Script
+script_hole_reused_run = record { classes = []; procedures = (record { parameters = []; body = record { locals = (OfPointer None) ∷ (OfPointer None) ∷ (OfPointer None) ∷ OfNumber ∷ []; statements = rolled ((Statement-F.Alloc (Held (H.Local 0)) (Constant (pos 48)) GivesNull) ∷ (Statement-F.Alloc (Held (H.Local 1)) (Constant (pos 16)) GivesNull) ∷ (Statement-F.Store (Held (H.Local 1)) (Constant (pos 0)) (Constant (pos 7))) ∷ (Statement-F.Alloc (Held (H.Local 2)) (Constant (pos 16)) GivesNull) ∷ (Statement-F.Free (Held (H.Local 0))) ∷ (Statement-F.Realloc (Held (H.Local 1)) (Held (H.Local 1)) (Constant (pos 40)) GivesNull) ∷ (Statement-F.Load 3 (Held (H.Local 1)) (Constant (pos 0))) ∷ (Statement-F.PrintNumber (Variable 3)) ∷ (Statement-F.SetNull (Held (H.Local 0))) ∷ (Statement-F.Realloc (Held (H.Local 0)) (Held (H.Local 0)) (Constant (pos 16)) GivesNull) ∷ (Statement-F.Free (Held (H.Local 0))) ∷ (Statement-F.Free (Held (H.Local 2))) ∷ (Statement-F.Free (Held (H.Local 1))) ∷ []) } }) ∷ []; operations = []; literals = []; main = 0 }
+
+hole_reused_run : run script_hole_reused_run R.Unlimited 10000 (shaped 4096 4096) ≡ record { outcome = Ended None []; trace = (line 1 144 0 Granted) ∷ (line 2 64 144 Granted) ∷ (line 3 32 208 Granted) ∷ (line 4 32 240 Granted) ∷ (line 5 64 144 Granted) ∷ (line 6 32 208 Granted) ∷ []; lines = (55 ∷ []) ∷ []; notes = []; steps = 13 }
+unfolding everything
+hole_reused_run = refl
+
+abbrev script_leak_under_failure_in_a_large_heap_run : Script
+script_leak_under_failure_in_a_large_heap_run = record { classes = []; procedures = (record { parameters = []; body = record { locals = (OfPointer None) ∷ []; statements = rolled ((Statement-F.Alloc (Held (H.Local 0)) (Constant (pos 16)) GivesNull) ∷ (Statement-F.Realloc (Held (H.Local 0)) (Held (H.Local 0)) (Constant (pos 32)) GivesNull) ∷ (Statement-F.Free (Held (H.Local 0))) ∷ []) } }) ∷ []; operations = []; literals = []; main = 0 }
+
+leak_under_failure_in_a_large_heap_run : run script_leak_under_failure_in_a_large_heap_run R.Unlimited 10000 (shaped 4096 4096) ≡ record { outcome = Ended None []; trace = (line 1 144 0 Granted) ∷ (line 2 32 144 Granted) ∷ (line 3 48 144 Granted) ∷ []; lines = []; notes = []; steps = 3 }
+unfolding everything
+leak_under_failure_in_a_large_heap_run = refl
+
+abbrev script_leak_under_failure_run : Script
+script_leak_under_failure_run = record { classes = []; procedures = (record { parameters = []; body = record { locals = (OfPointer None) ∷ []; statements = rolled ((Statement-F.Alloc (Held (H.Local 0)) (Constant (pos 16)) GivesNull) ∷ (Statement-F.Realloc (Held (H.Local 0)) (Held (H.Local 0)) (Constant (pos 32)) GivesNull) ∷ (Statement-F.Free (Held (H.Local 0))) ∷ []) } }) ∷ []; operations = []; literals = []; main = 0 }
+
+leak_under_failure_run : run script_leak_under_failure_run (R.Number 3) 10000 (shaped 4096 4096) ≡ record { outcome = Ended None ((record { number = 2; length = 32; place = 144 }) ∷ []); trace = (line 1 144 0 Granted) ∷ (line 2 32 144 Granted) ∷ (line 3 48 144 Simulated) ∷ []; lines = []; notes = []; steps = 3 }
+unfolding everything
+leak_under_failure_run = refl
+
+abbrev script_notes_with_a_step_of_64_run : Script
+script_notes_with_a_step_of_64_run = record { classes = []; procedures = (record { parameters = []; body = record { locals = (OfPointer None) ∷ (OfPointer None) ∷ []; statements = rolled ((Statement-F.Alloc (Held (H.Local 0)) (Constant (pos 40)) GivesNull) ∷ (Statement-F.Store (Held (H.Local 0)) (Constant (pos 9)) (Constant (negsuc 0))) ∷ Statement-F.NoteHeap ∷ (Statement-F.Alloc (Held (H.Local 1)) (Constant (pos 5000)) GivesNull) ∷ Statement-F.NoteHeap ∷ (Statement-F.Free (Held (H.Local 1))) ∷ Statement-F.NoteAvailable ∷ Statement-F.NoteCompress ∷ Statement-F.NoteHeap ∷ (Statement-F.Free (Held (H.Local 0))) ∷ []) } }) ∷ []; operations = []; literals = []; main = 0 }
+
+notes_with_a_step_of_64_run : run script_notes_with_a_step_of_64_run R.Unlimited 10000 (shaped 4096 64) ≡ record { outcome = Ended None []; trace = (line 1 144 0 Granted) ∷ (line 2 64 144 Granted) ∷ (line 3 5024 208 Granted) ∷ []; lines = []; notes = (Heap 2 208 4096) ∷ (Heap 3 5232 5248) ∷ (Available 5040 5040) ∷ (Compress 1152) ∷ (Heap 2 208 4096) ∷ []; steps = 10 }
+unfolding everything
+notes_with_a_step_of_64_run = refl
+
+abbrev script_notes_run : Script
+script_notes_run = record { classes = []; procedures = (record { parameters = []; body = record { locals = (OfPointer None) ∷ (OfPointer None) ∷ []; statements = rolled ((Statement-F.Alloc (Held (H.Local 0)) (Constant (pos 40)) GivesNull) ∷ (Statement-F.Store (Held (H.Local 0)) (Constant (pos 9)) (Constant (negsuc 0))) ∷ Statement-F.NoteHeap ∷ (Statement-F.Alloc (Held (H.Local 1)) (Constant (pos 5000)) GivesNull) ∷ Statement-F.NoteHeap ∷ (Statement-F.Free (Held (H.Local 1))) ∷ Statement-F.NoteAvailable ∷ Statement-F.NoteCompress ∷ Statement-F.NoteHeap ∷ (Statement-F.Free (Held (H.Local 0))) ∷ []) } }) ∷ []; operations = []; literals = []; main = 0 }
+
+notes_run : run script_notes_run R.Unlimited 10000 (shaped 4096 4096) ≡ record { outcome = Ended None []; trace = (line 1 144 0 Granted) ∷ (line 2 64 144 Granted) ∷ (line 3 5024 208 Granted) ∷ []; lines = []; notes = (Heap 2 208 4096) ∷ (Heap 3 5232 8192) ∷ (Available 7984 7984) ∷ (Compress 4096) ∷ (Heap 2 208 4096) ∷ []; steps = 10 }
+unfolding everything
+notes_run = refl
+
+abbrev script_named_file_run : Script
+script_named_file_run = record { classes = []; procedures = (record { parameters = []; body = record { locals = (OfPointer None) ∷ (OfPointer None) ∷ (OfPointer None) ∷ []; statements = rolled ((Statement-F.PrintText (Quoted 0)) ∷ (Statement-F.Alloc (Held (H.Local 0)) (Constant (pos 10)) GivesNull) ∷ (Statement-F.Alloc (Held (H.Local 1)) (Constant (pos 100)) GivesNull) ∷ (Statement-F.Free (Held (H.Local 0))) ∷ (Statement-F.Alloc (Held (H.Local 2)) (Constant (pos 16)) GivesNull) ∷ (Statement-F.Free (Held (H.Local 1))) ∷ []) } }) ∷ []; operations = []; literals = (116 ∷ 104 ∷ 114 ∷ 101 ∷ 101 ∷ 32 ∷ 114 ∷ 101 ∷ 113 ∷ 117 ∷ 101 ∷ 115 ∷ 116 ∷ 115 ∷ []) ∷ []; main = 0 }
+
+named_file_run : run script_named_file_run R.Unlimited 10000 (shaped 4096 4096) ≡ record { outcome = Ended None ((record { number = 4; length = 32; place = 144 }) ∷ []); trace = (line 1 144 0 Granted) ∷ (line 2 32 144 Granted) ∷ (line 3 128 176 Granted) ∷ (line 4 32 144 Granted) ∷ []; lines = (116 ∷ 104 ∷ 114 ∷ 101 ∷ 101 ∷ 32 ∷ 114 ∷ 101 ∷ 113 ∷ 117 ∷ 101 ∷ 115 ∷ 116 ∷ 115 ∷ []) ∷ []; notes = []; steps = 6 }
+unfolding everything
+named_file_run = refl
+
 abbrev script_empty_main_run : Script
 script_empty_main_run = record { classes = []; procedures = (record { parameters = []; body = record { locals = []; statements = [] } }) ∷ []; operations = []; literals = []; main = 0 }
 
@@ -148,6 +274,412 @@ script_stale_pointer_freed_after_reuse_run = record { classes = []; procedures =
 stale_pointer_freed_after_reuse_run : run script_stale_pointer_freed_after_reuse_run R.Unlimited 10000 (shaped 4096 4096) ≡ record { outcome = Panicked (P.User 42); trace = (line 1 144 0 Granted) ∷ (line 2 32 144 Granted) ∷ (line 3 32 144 Granted) ∷ []; lines = []; notes = []; steps = 4 }
 unfolding everything
 stale_pointer_freed_after_reuse_run = refl
+
+abbrev script_cell_in_a_mark_run : Script
+script_cell_in_a_mark_run = record { classes = []; procedures = (record { parameters = []; body = record { locals = (OfPointer None) ∷ (OfPointer None) ∷ []; statements = rolled ((Statement-F.Alloc (Held (H.Local 0)) (Constant (pos 1)) GivesNull) ∷ Statement-F.Mark ∷ (Statement-F.Alloc (Held (H.Local 1)) (Constant (pos 1)) GivesNull) ∷ (Statement-F.Check (Constant (pos 1))) ∷ (Statement-F.CheckAll (Constant (pos 2))) ∷ (Statement-F.MarkEnd (Constant (pos 0))) ∷ []) } }) ∷ []; operations = []; literals = []; main = 0 }
+
+cell_in_a_mark_run : run script_cell_in_a_mark_run R.Unlimited 10000 (shaped 4096 4096) ≡ record { outcome = Panicked (P.Alloc 176); trace = (line 1 144 0 Granted) ∷ (line 2 32 144 Granted) ∷ (line 3 32 176 Granted) ∷ []; lines = []; notes = []; steps = 6 }
+unfolding everything
+cell_in_a_mark_run = refl
+
+abbrev script_failing_requests_run : Script
+script_failing_requests_run = record { classes = []; procedures = (record { parameters = []; body = record { locals = (OfPointer None) ∷ (OfPointer None) ∷ []; statements = rolled ((Statement-F.FailNext (Constant (pos 2))) ∷ (Statement-F.Alloc (Held (H.Local 0)) (Constant (pos 1)) GivesNull) ∷ (Statement-F.Alloc (Held (H.Local 1)) (Constant (pos 1)) GivesNull) ∷ (Statement-F.FailEvery (Constant (pos 1))) ∷ (Statement-F.Realloc (Held (H.Local 1)) (Held (H.Local 1)) (Constant (pos 17)) GivesNull) ∷ Statement-F.FailNone ∷ (Statement-F.Realloc (Held (H.Local 0)) (Held (H.Local 0)) (Constant (pos 17)) GivesNull) ∷ (Statement-F.Free (Held (H.Local 0))) ∷ []) } }) ∷ []; operations = []; literals = []; main = 0 }
+
+failing_requests_run : run script_failing_requests_run R.Unlimited 10000 (shaped 4096 4096) ≡ record { outcome = Ended None []; trace = (line 1 144 0 Granted) ∷ (line 2 32 144 Granted) ∷ (line 3 32 176 Simulated) ∷ (line 4 48 176 Simulated) ∷ (line 5 48 144 Granted) ∷ []; lines = []; notes = []; steps = 8 }
+unfolding everything
+failing_requests_run = refl
+
+abbrev script_name_in_a_cell_run : Script
+script_name_in_a_cell_run = record { classes = []; procedures = (record { parameters = []; body = record { locals = (OfPointer None) ∷ OfNumber ∷ []; statements = rolled ((Statement-F.NewText (Held (H.Local 0)) (Constant (pos 4)) GivesNull) ∷ (Statement-F.GetMaximum 1 (InCell (Held (H.Local 0)))) ∷ (Statement-F.PrintNumber (Variable 1)) ∷ (Statement-F.Append (InCell (Held (H.Local 0))) (Quoted 0)) ∷ (Statement-F.ReallocText (Held (H.Local 0)) (Held (H.Local 0)) (Constant (pos 10))) ∷ (Statement-F.Append (InCell (Held (H.Local 0))) (Quoted 1)) ∷ (Statement-F.PrintText (Of (InCell (Held (H.Local 0))))) ∷ (Statement-F.Free (Held (H.Local 0))) ∷ []) } }) ∷ []; operations = []; literals = (83 ∷ 121 ∷ 109 ∷ []) ∷ (98 ∷ 105 ∷ 97 ∷ 110 ∷ 32 ∷ 79 ∷ 83 ∷ []) ∷ []; main = 0 }
+
+name_in_a_cell_run : run script_name_in_a_cell_run R.Unlimited 10000 (shaped 4096 4096) ≡ record { outcome = Ended None []; trace = (line 1 144 0 Granted) ∷ (line 2 32 144 Granted) ∷ (line 3 48 144 Granted) ∷ []; lines = (54 ∷ []) ∷ (83 ∷ 121 ∷ 109 ∷ 98 ∷ 105 ∷ 97 ∷ 110 ∷ 32 ∷ 79 ∷ 83 ∷ []) ∷ []; notes = []; steps = 8 }
+unfolding everything
+name_in_a_cell_run = refl
+
+abbrev script_numbers_run : Script
+script_numbers_run = record { classes = []; procedures = (record { parameters = []; body = record { locals = OfNumber ∷ OfNumber ∷ []; statements = rolled ((Statement-F.PrintNumber (Variable 0)) ∷ (Statement-F.SetNumber 0 (Constant (pos 3))) ∷ (Statement-F.Add 0 (Constant (negsuc 0))) ∷ (Statement-F.SetNumber 1 (Constant (pos 40))) ∷ (Statement-F.Add 1 (Variable 0)) ∷ (Statement-F.PrintNumber (Variable 1)) ∷ []) } }) ∷ []; operations = []; literals = []; main = 0 }
+
+numbers_run : run script_numbers_run R.Unlimited 10000 (shaped 4096 4096) ≡ record { outcome = Ended None []; trace = (line 1 144 0 Granted) ∷ []; lines = (48 ∷ []) ∷ (52 ∷ 50 ∷ []) ∷ []; notes = []; steps = 6 }
+unfolding everything
+numbers_run = refl
+
+abbrev script_pointer_to_a_moved_cell_run : Script
+script_pointer_to_a_moved_cell_run = record { classes = []; procedures = (record { parameters = []; body = record { locals = (OfPointer None) ∷ (OfPointer None) ∷ (OfPointer None) ∷ []; statements = rolled ((Statement-F.Alloc (Held (H.Local 0)) (Constant (pos 16)) GivesNull) ∷ (Statement-F.Alloc (Held (H.Local 1)) (Constant (pos 16)) GivesNull) ∷ (Statement-F.Set (Held (H.Local 2)) (Held (H.Local 0))) ∷ (Statement-F.Realloc (Held (H.Local 0)) (Held (H.Local 0)) (Constant (pos 32)) GivesNull) ∷ (Statement-F.Free (Held (H.Local 1))) ∷ (Statement-F.SetNull (Held (H.Local 1))) ∷ (Statement-F.Free (Held (H.Local 1))) ∷ (Statement-F.Free (Held (H.Local 2))) ∷ []) } }) ∷ []; operations = []; literals = []; main = 0 }
+
+pointer_to_a_moved_cell_run : run script_pointer_to_a_moved_cell_run R.Unlimited 10000 (shaped 4096 4096) ≡ record { outcome = Panicked (P.User 42); trace = (line 1 144 0 Granted) ∷ (line 2 32 144 Granted) ∷ (line 3 32 176 Granted) ∷ (line 4 48 208 Granted) ∷ []; lines = []; notes = []; steps = 8 }
+unfolding everything
+pointer_to_a_moved_cell_run = refl
+
+abbrev script_two_cells_run : Script
+script_two_cells_run = record { classes = []; procedures = (record { parameters = []; body = record { locals = (OfPointer None) ∷ (OfPointer None) ∷ []; statements = rolled ((Statement-F.Alloc (Held (H.Local 0)) (Constant (pos 10)) GivesNull) ∷ (Statement-F.Alloc (Held (H.Local 1)) (Constant (pos 100)) GivesNull) ∷ (Statement-F.Free (Held (H.Local 0))) ∷ (Statement-F.PrintText (Quoted 0)) ∷ []) } }) ∷ []; operations = []; literals = (111 ∷ 110 ∷ 101 ∷ 32 ∷ 105 ∷ 115 ∷ 32 ∷ 108 ∷ 101 ∷ 102 ∷ 116 ∷ []) ∷ []; main = 0 }
+
+two_cells_run : run script_two_cells_run R.Unlimited 10000 (shaped 4096 4096) ≡ record { outcome = Ended None ((record { number = 3; length = 128; place = 176 }) ∷ []); trace = (line 1 144 0 Granted) ∷ (line 2 32 144 Granted) ∷ (line 3 128 176 Granted) ∷ []; lines = (111 ∷ 110 ∷ 101 ∷ 32 ∷ 105 ∷ 115 ∷ 32 ∷ 108 ∷ 101 ∷ 102 ∷ 116 ∷ []) ∷ []; notes = []; steps = 4 }
+unfolding everything
+two_cells_run = refl
+
+abbrev script_views_of_a_date_run : Script
+script_views_of_a_date_run = record { classes = []; procedures = (record { parameters = []; body = record { locals = (OfBuffer 8) ∷ OfView ∷ OfView ∷ []; statements = rolled ((Statement-F.Copy (OwnBuffer 0) (Quoted 0)) ∷ (Statement-F.Left 1 (Of (OwnBuffer 0)) (Constant (pos 4))) ∷ (Statement-F.Right 2 (Of (OwnBuffer 0)) (Constant (pos 2))) ∷ (Statement-F.PrintText (ViewOf 1)) ∷ (Statement-F.PrintText (ViewOf 2)) ∷ (Statement-F.Mid 2 (Of (OwnBuffer 0)) (Constant (pos 4)) (Constant (pos 2))) ∷ (Statement-F.Copy (OwnBuffer 0) (Quoted 1)) ∷ (Statement-F.PrintText (ViewOf 1)) ∷ (Statement-F.PrintText (ViewOf 2)) ∷ []) } }) ∷ []; operations = []; literals = (50 ∷ 48 ∷ 48 ∷ 51 ∷ 49 ∷ 50 ∷ 50 ∷ 52 ∷ []) ∷ (49 ∷ 57 ∷ 57 ∷ 57 ∷ []) ∷ []; main = 0 }
+
+views_of_a_date_run : run script_views_of_a_date_run R.Unlimited 10000 (shaped 4096 4096) ≡ record { outcome = Ended None []; trace = (line 1 144 0 Granted) ∷ []; lines = (50 ∷ 48 ∷ 48 ∷ 51 ∷ []) ∷ (50 ∷ 52 ∷ []) ∷ (49 ∷ 57 ∷ 57 ∷ 57 ∷ []) ∷ (46 ∷ 46 ∷ []) ∷ []; notes = []; steps = 9 }
+unfolding everything
+views_of_a_date_run = refl
+
+abbrev script_weather_in_a_buffer_run : Script
+script_weather_in_a_buffer_run = record { classes = []; procedures = (record { parameters = []; body = record { locals = (OfBuffer 12) ∷ OfNumber ∷ []; statements = rolled ((Statement-F.Copy (OwnBuffer 0) (Quoted 0)) ∷ (Statement-F.Insert (OwnBuffer 0) (Constant (pos 0)) (Quoted 1)) ∷ (Statement-F.DeleteText (OwnBuffer 0) (Constant (pos 0)) (Constant (pos 1))) ∷ (Statement-F.Append (OwnBuffer 0) (Quoted 2)) ∷ (Statement-F.Insert (OwnBuffer 0) (Constant (pos 4)) (Quoted 3)) ∷ (Statement-F.PrintText (Of (OwnBuffer 0))) ∷ (Statement-F.SetLength (OwnBuffer 0) (Constant (pos 4))) ∷ (Statement-F.GetLength 1 (Of (OwnBuffer 0))) ∷ (Statement-F.PrintNumber (Variable 1)) ∷ (Statement-F.GetMaximum 1 (OwnBuffer 0)) ∷ (Statement-F.PrintNumber (Variable 1)) ∷ []) } }) ∷ []; operations = []; literals = (99 ∷ 111 ∷ 108 ∷ 100 ∷ []) ∷ (115 ∷ []) ∷ (32 ∷ 100 ∷ 97 ∷ 121 ∷ []) ∷ (101 ∷ 114 ∷ []) ∷ []; main = 0 }
+
+weather_in_a_buffer_run : run script_weather_in_a_buffer_run R.Unlimited 10000 (shaped 4096 4096) ≡ record { outcome = Ended None []; trace = (line 1 144 0 Granted) ∷ []; lines = (99 ∷ 111 ∷ 108 ∷ 100 ∷ 101 ∷ 114 ∷ 32 ∷ 100 ∷ 97 ∷ 121 ∷ []) ∷ (52 ∷ []) ∷ (49 ∷ 50 ∷ []) ∷ []; notes = []; steps = 11 }
+unfolding everything
+weather_in_a_buffer_run = refl
+
+abbrev script_words_of_a_table_run : Script
+script_words_of_a_table_run = record { classes = []; procedures = (record { parameters = []; body = record { locals = (OfPointer None) ∷ OfNumber ∷ OfNumber ∷ []; statements = rolled ((Statement-F.Alloc (Held (H.Local 0)) (Constant (pos 10)) GivesNull) ∷ (Statement-F.AllocLen 1 (Held (H.Local 0))) ∷ (Statement-F.PrintNumber (Variable 1)) ∷ (Statement-F.Store (Held (H.Local 0)) (Constant (pos 3)) (Constant (negsuc 6))) ∷ (Statement-F.Realloc (Held (H.Local 0)) (Held (H.Local 0)) (Constant (pos 40)) GivesNull) ∷ (Statement-F.AllocLen 1 (Held (H.Local 0))) ∷ (Statement-F.PrintNumber (Variable 1)) ∷ (Statement-F.Load 2 (Held (H.Local 0)) (Constant (pos 3))) ∷ (Statement-F.PrintNumber (Variable 2)) ∷ (Statement-F.Load 2 (Held (H.Local 0)) (Constant (pos 11))) ∷ (Statement-F.PrintNumber (Variable 2)) ∷ (Statement-F.Free (Held (H.Local 0))) ∷ []) } }) ∷ []; operations = []; literals = []; main = 0 }
+
+words_of_a_table_run : run script_words_of_a_table_run R.Unlimited 10000 (shaped 4096 4096) ≡ record { outcome = Ended None []; trace = (line 1 144 0 Granted) ∷ (line 2 32 144 Granted) ∷ (line 3 64 144 Granted) ∷ []; lines = (49 ∷ 54 ∷ []) ∷ (52 ∷ 56 ∷ []) ∷ (45 ∷ 55 ∷ []) ∷ (48 ∷ []) ∷ []; notes = []; steps = 12 }
+unfolding everything
+words_of_a_table_run = refl
+
+abbrev script_cell_behind_a_pointer_made_null_leaks_run : Script
+script_cell_behind_a_pointer_made_null_leaks_run = record { classes = []; procedures = (record { parameters = []; body = record { locals = (OfPointer None) ∷ []; statements = rolled ((Statement-F.Alloc (Held (H.Local 0)) (Constant (pos 1)) GivesNull) ∷ (Statement-F.SetNull (Held (H.Local 0))) ∷ (Statement-F.Free (Held (H.Local 0))) ∷ []) } }) ∷ []; operations = []; literals = []; main = 0 }
+
+cell_behind_a_pointer_made_null_leaks_run : run script_cell_behind_a_pointer_made_null_leaks_run R.Unlimited 10000 (shaped 4096 4096) ≡ record { outcome = Ended None ((record { number = 2; length = 32; place = 144 }) ∷ []); trace = (line 1 144 0 Granted) ∷ (line 2 32 144 Granted) ∷ []; lines = []; notes = []; steps = 3 }
+unfolding everything
+cell_behind_a_pointer_made_null_leaks_run = refl
+
+abbrev script_check_finds_a_cell_of_its_level_run : Script
+script_check_finds_a_cell_of_its_level_run = record { classes = []; procedures = (record { parameters = []; body = record { locals = (OfPointer None) ∷ (OfPointer None) ∷ []; statements = rolled ((Statement-F.Alloc (Held (H.Local 0)) (Constant (pos 1)) GivesNull) ∷ Statement-F.Mark ∷ (Statement-F.Alloc (Held (H.Local 1)) (Constant (pos 1)) GivesNull) ∷ (Statement-F.Check (Constant (pos 0))) ∷ []) } }) ∷ []; operations = []; literals = []; main = 0 }
+
+check_finds_a_cell_of_its_level_run : run script_check_finds_a_cell_of_its_level_run R.Unlimited 10000 (shaped 4096 4096) ≡ record { outcome = Panicked (P.Alloc 176); trace = (line 1 144 0 Granted) ∷ (line 2 32 144 Granted) ∷ (line 3 32 176 Granted) ∷ []; lines = []; notes = []; steps = 4 }
+unfolding everything
+check_finds_a_cell_of_its_level_run = refl
+
+abbrev script_check_leaves_other_levels_alone_run : Script
+script_check_leaves_other_levels_alone_run = record { classes = []; procedures = (record { parameters = []; body = record { locals = (OfPointer None) ∷ []; statements = rolled ((Statement-F.Alloc (Held (H.Local 0)) (Constant (pos 1)) GivesNull) ∷ Statement-F.Mark ∷ (Statement-F.Check (Constant (pos 1))) ∷ []) } }) ∷ []; operations = []; literals = []; main = 0 }
+
+check_leaves_other_levels_alone_run : run script_check_leaves_other_levels_alone_run R.Unlimited 10000 (shaped 4096 4096) ≡ record { outcome = Panicked (P.Alloc 0); trace = (line 1 144 0 Granted) ∷ (line 2 32 144 Granted) ∷ []; lines = []; notes = []; steps = 3 }
+unfolding everything
+check_leaves_other_levels_alone_run = refl
+
+abbrev script_check_of_all_levels_finds_no_cell_run : Script
+script_check_of_all_levels_finds_no_cell_run = record { classes = []; procedures = (record { parameters = []; body = record { locals = []; statements = rolled ((Statement-F.CheckAll (Constant (pos 1))) ∷ []) } }) ∷ []; operations = []; literals = []; main = 0 }
+
+check_of_all_levels_finds_no_cell_run : run script_check_of_all_levels_finds_no_cell_run R.Unlimited 10000 (shaped 4096 4096) ≡ record { outcome = Panicked (P.Alloc 0); trace = (line 1 144 0 Granted) ∷ []; lines = []; notes = []; steps = 1 }
+unfolding everything
+check_of_all_levels_finds_no_cell_run = refl
+
+abbrev script_check_of_all_levels_names_the_lowest_cell_run : Script
+script_check_of_all_levels_names_the_lowest_cell_run = record { classes = []; procedures = (record { parameters = []; body = record { locals = (OfPointer None) ∷ (OfPointer None) ∷ []; statements = rolled ((Statement-F.Alloc (Held (H.Local 0)) (Constant (pos 1)) GivesNull) ∷ Statement-F.Mark ∷ (Statement-F.Alloc (Held (H.Local 1)) (Constant (pos 1)) GivesNull) ∷ (Statement-F.CheckAll (Constant (pos 1))) ∷ []) } }) ∷ []; operations = []; literals = []; main = 0 }
+
+check_of_all_levels_names_the_lowest_cell_run : run script_check_of_all_levels_names_the_lowest_cell_run R.Unlimited 10000 (shaped 4096 4096) ≡ record { outcome = Panicked (P.Alloc 144); trace = (line 1 144 0 Granted) ∷ (line 2 32 144 Granted) ∷ (line 3 32 176 Granted) ∷ []; lines = []; notes = []; steps = 4 }
+unfolding everything
+check_of_all_levels_names_the_lowest_cell_run = refl
+
+abbrev script_check_of_fewer_than_none_run : Script
+script_check_of_fewer_than_none_run = record { classes = []; procedures = (record { parameters = []; body = record { locals = OfNumber ∷ []; statements = rolled ((Statement-F.Add 0 (Constant (negsuc 0))) ∷ (Statement-F.Check (Variable 0)) ∷ []) } }) ∷ []; operations = []; literals = []; main = 0 }
+
+check_of_fewer_than_none_run : run script_check_of_fewer_than_none_run R.Unlimited 10000 (shaped 4096 4096) ≡ record { outcome = Panicked (P.Workbench 9); trace = (line 1 144 0 Granted) ∷ []; lines = []; notes = []; steps = 2 }
+unfolding everything
+check_of_fewer_than_none_run = refl
+
+abbrev script_every_none_to_fail_run : Script
+script_every_none_to_fail_run = record { classes = []; procedures = (record { parameters = []; body = record { locals = []; statements = rolled ((Statement-F.FailEvery (Constant (pos 0))) ∷ []) } }) ∷ []; operations = []; literals = []; main = 0 }
+
+every_none_to_fail_run : run script_every_none_to_fail_run R.Unlimited 10000 (shaped 4096 4096) ≡ record { outcome = Panicked (P.Workbench 9); trace = (line 1 144 0 Granted) ∷ []; lines = []; notes = []; steps = 1 }
+unfolding everything
+every_none_to_fail_run = refl
+
+abbrev script_every_second_request_fails_run : Script
+script_every_second_request_fails_run = record { classes = []; procedures = (record { parameters = []; body = record { locals = (OfPointer None) ∷ (OfPointer None) ∷ (OfPointer None) ∷ (OfPointer None) ∷ []; statements = rolled ((Statement-F.FailEvery (Constant (pos 2))) ∷ (Statement-F.Alloc (Held (H.Local 0)) (Constant (pos 1)) GivesNull) ∷ (Statement-F.Alloc (Held (H.Local 1)) (Constant (pos 1)) GivesNull) ∷ (Statement-F.Alloc (Held (H.Local 2)) (Constant (pos 1)) GivesNull) ∷ (Statement-F.Alloc (Held (H.Local 3)) (Constant (pos 1)) GivesNull) ∷ (Statement-F.Free (Held (H.Local 0))) ∷ (Statement-F.Free (Held (H.Local 1))) ∷ (Statement-F.Free (Held (H.Local 2))) ∷ (Statement-F.Free (Held (H.Local 3))) ∷ []) } }) ∷ []; operations = []; literals = []; main = 0 }
+
+every_second_request_fails_run : run script_every_second_request_fails_run R.Unlimited 10000 (shaped 4096 4096) ≡ record { outcome = Ended None []; trace = (line 1 144 0 Granted) ∷ (line 2 32 144 Granted) ∷ (line 3 32 176 Simulated) ∷ (line 4 32 176 Granted) ∷ (line 5 32 208 Simulated) ∷ []; lines = []; notes = []; steps = 9 }
+unfolding everything
+every_second_request_fails_run = refl
+
+abbrev script_failures_are_switched_off_run : Script
+script_failures_are_switched_off_run = record { classes = []; procedures = (record { parameters = []; body = record { locals = (OfPointer None) ∷ []; statements = rolled ((Statement-F.FailEvery (Constant (pos 1))) ∷ (Statement-F.Alloc (Held (H.Local 0)) (Constant (pos 1)) GivesNull) ∷ (Statement-F.Alloc (Held (H.Local 0)) (Constant (pos 1)) GivesNull) ∷ Statement-F.FailNone ∷ (Statement-F.Alloc (Held (H.Local 0)) (Constant (pos 1)) GivesNull) ∷ (Statement-F.Free (Held (H.Local 0))) ∷ []) } }) ∷ []; operations = []; literals = []; main = 0 }
+
+failures_are_switched_off_run : run script_failures_are_switched_off_run R.Unlimited 10000 (shaped 4096 4096) ≡ record { outcome = Ended None []; trace = (line 1 144 0 Granted) ∷ (line 2 32 144 Simulated) ∷ (line 3 32 144 Simulated) ∷ (line 4 32 144 Granted) ∷ []; lines = []; notes = []; steps = 6 }
+unfolding everything
+failures_are_switched_off_run = refl
+
+abbrev script_first_attempt_fails_run : Script
+script_first_attempt_fails_run = record { classes = []; procedures = (record { parameters = []; body = record { locals = (OfPointer None) ∷ []; statements = rolled ((Statement-F.Alloc (Held (H.Local 0)) (Constant (pos 1)) GivesNull) ∷ (Statement-F.Free (Held (H.Local 0))) ∷ []) } }) ∷ []; operations = []; literals = []; main = 0 }
+
+first_attempt_fails_run : run script_first_attempt_fails_run (R.Number 1) 10000 (shaped 4096 4096) ≡ record { outcome = NoCleanup; trace = (line 1 144 0 Simulated) ∷ []; lines = []; notes = []; steps = 0 }
+unfolding everything
+first_attempt_fails_run = refl
+
+abbrev script_growth_with_a_number_fails_run : Script
+script_growth_with_a_number_fails_run = record { classes = []; procedures = (record { parameters = []; body = record { locals = (OfPointer None) ∷ (OfPointer None) ∷ []; statements = rolled ((Statement-F.Alloc (Held (H.Local 0)) (Constant (pos 1)) GivesNull) ∷ (Statement-F.Realloc (Held (H.Local 1)) (Held (H.Local 0)) (Constant (pos 17)) GivesNull) ∷ (Statement-F.Free (Held (H.Local 0))) ∷ (Statement-F.Free (Held (H.Local 1))) ∷ []) } }) ∷ []; operations = []; literals = []; main = 0 }
+
+growth_with_a_number_fails_run : run script_growth_with_a_number_fails_run (R.Number 3) 10000 (shaped 4096 4096) ≡ record { outcome = Ended None []; trace = (line 1 144 0 Granted) ∷ (line 2 32 144 Granted) ∷ (line 3 48 144 Simulated) ∷ []; lines = []; notes = []; steps = 4 }
+unfolding everything
+growth_with_a_number_fails_run = refl
+
+abbrev script_mark_end_finds_no_cell_run : Script
+script_mark_end_finds_no_cell_run = record { classes = []; procedures = (record { parameters = []; body = record { locals = []; statements = rolled (Statement-F.Mark ∷ (Statement-F.MarkEnd (Constant (pos 1))) ∷ []) } }) ∷ []; operations = []; literals = []; main = 0 }
+
+mark_end_finds_no_cell_run : run script_mark_end_finds_no_cell_run R.Unlimited 10000 (shaped 4096 4096) ≡ record { outcome = Panicked (P.Alloc 0); trace = (line 1 144 0 Granted) ∷ []; lines = []; notes = []; steps = 2 }
+unfolding everything
+mark_end_finds_no_cell_run = refl
+
+abbrev script_mark_end_finds_too_few_cells_run : Script
+script_mark_end_finds_too_few_cells_run = record { classes = []; procedures = (record { parameters = []; body = record { locals = (OfPointer None) ∷ (OfPointer None) ∷ []; statements = rolled ((Statement-F.Alloc (Held (H.Local 0)) (Constant (pos 1)) GivesNull) ∷ Statement-F.Mark ∷ (Statement-F.Alloc (Held (H.Local 1)) (Constant (pos 1)) GivesNull) ∷ (Statement-F.MarkEnd (Constant (pos 2))) ∷ []) } }) ∷ []; operations = []; literals = []; main = 0 }
+
+mark_end_finds_too_few_cells_run : run script_mark_end_finds_too_few_cells_run R.Unlimited 10000 (shaped 4096 4096) ≡ record { outcome = Panicked (P.Alloc 176); trace = (line 1 144 0 Granted) ∷ (line 2 32 144 Granted) ∷ (line 3 32 176 Granted) ∷ []; lines = []; notes = []; steps = 4 }
+unfolding everything
+mark_end_finds_too_few_cells_run = refl
+
+abbrev script_mark_end_of_fewer_than_none_run : Script
+script_mark_end_of_fewer_than_none_run = record { classes = []; procedures = (record { parameters = []; body = record { locals = []; statements = rolled ((Statement-F.MarkEnd (Constant (negsuc 0))) ∷ []) } }) ∷ []; operations = []; literals = []; main = 0 }
+
+mark_end_of_fewer_than_none_run : run script_mark_end_of_fewer_than_none_run R.Unlimited 10000 (shaped 4096 4096) ≡ record { outcome = Panicked (P.Workbench 9); trace = (line 1 144 0 Granted) ∷ []; lines = []; notes = []; steps = 1 }
+unfolding everything
+mark_end_of_fewer_than_none_run = refl
+
+abbrev script_mark_end_without_a_mark_run : Script
+script_mark_end_without_a_mark_run = record { classes = []; procedures = (record { parameters = []; body = record { locals = (OfPointer None) ∷ []; statements = rolled ((Statement-F.Alloc (Held (H.Local 0)) (Constant (pos 1)) GivesNull) ∷ (Statement-F.MarkEnd (Constant (pos 1))) ∷ []) } }) ∷ []; operations = []; literals = []; main = 0 }
+
+mark_end_without_a_mark_run : run script_mark_end_without_a_mark_run R.Unlimited 10000 (shaped 4096 4096) ≡ record { outcome = Panicked (P.Workbench 6); trace = (line 1 144 0 Granted) ∷ (line 2 32 144 Granted) ∷ []; lines = []; notes = []; steps = 2 }
+unfolding everything
+mark_end_without_a_mark_run = refl
+
+abbrev script_mark_left_open_at_the_end_run : Script
+script_mark_left_open_at_the_end_run = record { classes = []; procedures = (record { parameters = []; body = record { locals = (OfPointer None) ∷ []; statements = rolled (Statement-F.Mark ∷ (Statement-F.Alloc (Held (H.Local 0)) (Constant (pos 1)) GivesNull) ∷ (Statement-F.Free (Held (H.Local 0))) ∷ []) } }) ∷ []; operations = []; literals = []; main = 0 }
+
+mark_left_open_at_the_end_run : run script_mark_left_open_at_the_end_run R.Unlimited 10000 (shaped 4096 4096) ≡ record { outcome = Ended None []; trace = (line 1 144 0 Granted) ∷ (line 2 32 144 Granted) ∷ []; lines = []; notes = []; steps = 3 }
+unfolding everything
+mark_left_open_at_the_end_run = refl
+
+abbrev script_marks_and_checks_that_hold_run : Script
+script_marks_and_checks_that_hold_run = record { classes = []; procedures = (record { parameters = []; body = record { locals = (OfPointer None) ∷ (OfPointer None) ∷ []; statements = rolled ((Statement-F.CheckAll (Constant (pos 0))) ∷ (Statement-F.Alloc (Held (H.Local 0)) (Constant (pos 1)) GivesNull) ∷ (Statement-F.Check (Constant (pos 1))) ∷ Statement-F.Mark ∷ (Statement-F.Check (Constant (pos 0))) ∷ (Statement-F.Alloc (Held (H.Local 1)) (Constant (pos 1)) GivesNull) ∷ (Statement-F.Check (Constant (pos 1))) ∷ (Statement-F.CheckAll (Constant (pos 2))) ∷ (Statement-F.MarkEnd (Constant (pos 1))) ∷ (Statement-F.Check (Constant (pos 2))) ∷ (Statement-F.Free (Held (H.Local 0))) ∷ (Statement-F.Free (Held (H.Local 1))) ∷ (Statement-F.CheckAll (Constant (pos 0))) ∷ []) } }) ∷ []; operations = []; literals = []; main = 0 }
+
+marks_and_checks_that_hold_run : run script_marks_and_checks_that_hold_run R.Unlimited 10000 (shaped 4096 4096) ≡ record { outcome = Ended None []; trace = (line 1 144 0 Granted) ∷ (line 2 32 144 Granted) ∷ (line 3 32 176 Granted) ∷ []; lines = []; notes = []; steps = 13 }
+unfolding everything
+marks_and_checks_that_hold_run = refl
+
+abbrev script_moved_cell_keeps_its_level_run : Script
+script_moved_cell_keeps_its_level_run = record { classes = []; procedures = (record { parameters = []; body = record { locals = (OfPointer None) ∷ (OfPointer None) ∷ []; statements = rolled ((Statement-F.Alloc (Held (H.Local 0)) (Constant (pos 16)) GivesNull) ∷ (Statement-F.Alloc (Held (H.Local 1)) (Constant (pos 16)) GivesNull) ∷ Statement-F.Mark ∷ (Statement-F.Realloc (Held (H.Local 0)) (Held (H.Local 0)) (Constant (pos 48)) GivesNull) ∷ (Statement-F.Check (Constant (pos 0))) ∷ (Statement-F.MarkEnd (Constant (pos 0))) ∷ (Statement-F.Check (Constant (pos 2))) ∷ (Statement-F.Free (Held (H.Local 0))) ∷ (Statement-F.Free (Held (H.Local 1))) ∷ []) } }) ∷ []; operations = []; literals = []; main = 0 }
+
+moved_cell_keeps_its_level_run : run script_moved_cell_keeps_its_level_run R.Unlimited 10000 (shaped 4096 4096) ≡ record { outcome = Ended None []; trace = (line 1 144 0 Granted) ∷ (line 2 32 144 Granted) ∷ (line 3 32 176 Granted) ∷ (line 4 64 208 Granted) ∷ []; lines = []; notes = []; steps = 9 }
+unfolding everything
+moved_cell_keeps_its_level_run = refl
+
+abbrev script_new_setting_counts_anew_run : Script
+script_new_setting_counts_anew_run = record { classes = []; procedures = (record { parameters = []; body = record { locals = (OfPointer None) ∷ (OfPointer None) ∷ (OfPointer None) ∷ []; statements = rolled ((Statement-F.FailEvery (Constant (pos 2))) ∷ (Statement-F.Alloc (Held (H.Local 0)) (Constant (pos 1)) GivesNull) ∷ (Statement-F.FailNext (Constant (pos 2))) ∷ (Statement-F.Alloc (Held (H.Local 1)) (Constant (pos 1)) GivesNull) ∷ (Statement-F.Alloc (Held (H.Local 2)) (Constant (pos 1)) GivesNull) ∷ (Statement-F.Alloc (Held (H.Local 2)) (Constant (pos 1)) GivesNull) ∷ (Statement-F.Free (Held (H.Local 0))) ∷ (Statement-F.Free (Held (H.Local 1))) ∷ (Statement-F.Free (Held (H.Local 2))) ∷ []) } }) ∷ []; operations = []; literals = []; main = 0 }
+
+new_setting_counts_anew_run : run script_new_setting_counts_anew_run R.Unlimited 10000 (shaped 4096 4096) ≡ record { outcome = Ended None []; trace = (line 1 144 0 Granted) ∷ (line 2 32 144 Granted) ∷ (line 3 32 176 Granted) ∷ (line 4 32 208 Simulated) ∷ (line 5 32 208 Granted) ∷ []; lines = []; notes = []; steps = 9 }
+unfolding everything
+new_setting_counts_anew_run = refl
+
+abbrev script_next_but_none_to_fail_run : Script
+script_next_but_none_to_fail_run = record { classes = []; procedures = (record { parameters = []; body = record { locals = []; statements = rolled ((Statement-F.FailNext (Constant (pos 0))) ∷ []) } }) ∷ []; operations = []; literals = []; main = 0 }
+
+next_but_none_to_fail_run : run script_next_but_none_to_fail_run R.Unlimited 10000 (shaped 4096 4096) ≡ record { outcome = Panicked (P.Workbench 9); trace = (line 1 144 0 Granted) ∷ []; lines = []; notes = []; steps = 1 }
+unfolding everything
+next_but_none_to_fail_run = refl
+
+abbrev script_number_past_the_last_attempt_run : Script
+script_number_past_the_last_attempt_run = record { classes = []; procedures = (record { parameters = []; body = record { locals = (OfPointer None) ∷ []; statements = rolled ((Statement-F.Alloc (Held (H.Local 0)) (Constant (pos 1)) GivesNull) ∷ (Statement-F.Free (Held (H.Local 0))) ∷ []) } }) ∷ []; operations = []; literals = []; main = 0 }
+
+number_past_the_last_attempt_run : run script_number_past_the_last_attempt_run (R.Number 16777216) 10000 (shaped 4096 4096) ≡ record { outcome = Ended None []; trace = (line 1 144 0 Granted) ∷ (line 2 32 144 Granted) ∷ []; lines = []; notes = []; steps = 2 }
+unfolding everything
+number_past_the_last_attempt_run = refl
+
+abbrev script_number_zero_fails_nothing_run : Script
+script_number_zero_fails_nothing_run = record { classes = []; procedures = (record { parameters = []; body = record { locals = (OfPointer None) ∷ []; statements = rolled ((Statement-F.Alloc (Held (H.Local 0)) (Constant (pos 1)) GivesNull) ∷ (Statement-F.Free (Held (H.Local 0))) ∷ []) } }) ∷ []; operations = []; literals = []; main = 0 }
+
+number_zero_fails_nothing_run : run script_number_zero_fails_nothing_run (R.Number 0) 10000 (shaped 4096 4096) ≡ record { outcome = Ended None []; trace = (line 1 144 0 Granted) ∷ (line 2 32 144 Granted) ∷ []; lines = []; notes = []; steps = 2 }
+unfolding everything
+number_zero_fails_nothing_run = refl
+
+abbrev script_numbers_are_set_and_added_run : Script
+script_numbers_are_set_and_added_run = record { classes = []; procedures = (record { parameters = []; body = record { locals = OfNumber ∷ OfNumber ∷ []; statements = rolled ((Statement-F.PrintNumber (Variable 0)) ∷ (Statement-F.SetNumber 0 (Constant (pos 5))) ∷ (Statement-F.Add 0 (Constant (negsuc 6))) ∷ (Statement-F.PrintNumber (Variable 0)) ∷ (Statement-F.SetNumber 1 (Variable 0)) ∷ (Statement-F.Add 1 (Variable 1)) ∷ (Statement-F.PrintNumber (Variable 1)) ∷ (Statement-F.PrintNumber (Constant (negsuc 11))) ∷ []) } }) ∷ []; operations = []; literals = []; main = 0 }
+
+numbers_are_set_and_added_run : run script_numbers_are_set_and_added_run R.Unlimited 10000 (shaped 4096 4096) ≡ record { outcome = Ended None []; trace = (line 1 144 0 Granted) ∷ []; lines = (48 ∷ []) ∷ (45 ∷ 50 ∷ []) ∷ (45 ∷ 52 ∷ []) ∷ (45 ∷ 49 ∷ 50 ∷ []) ∷ []; notes = []; steps = 8 }
+unfolding everything
+numbers_are_set_and_added_run = refl
+
+abbrev script_reallocating_a_freed_cell_run : Script
+script_reallocating_a_freed_cell_run = record { classes = []; procedures = (record { parameters = []; body = record { locals = (OfPointer None) ∷ []; statements = rolled ((Statement-F.Alloc (Held (H.Local 0)) (Constant (pos 16)) GivesNull) ∷ (Statement-F.Free (Held (H.Local 0))) ∷ (Statement-F.Realloc (Held (H.Local 0)) (Held (H.Local 0)) (Constant (negsuc 0)) GivesNull) ∷ []) } }) ∷ []; operations = []; literals = []; main = 0 }
+
+reallocating_a_freed_cell_run : run script_reallocating_a_freed_cell_run R.Unlimited 10000 (shaped 4096 4096) ≡ record { outcome = Panicked (P.User 42); trace = (line 1 144 0 Granted) ∷ (line 2 32 144 Granted) ∷ []; lines = []; notes = []; steps = 3 }
+unfolding everything
+reallocating_a_freed_cell_run = refl
+
+abbrev script_reallocating_null_allocates_run : Script
+script_reallocating_null_allocates_run = record { classes = []; procedures = (record { parameters = []; body = record { locals = (OfPointer None) ∷ (OfPointer None) ∷ []; statements = rolled ((Statement-F.Realloc (Held (H.Local 1)) (Held (H.Local 0)) (Constant (pos 40)) GivesNull) ∷ (Statement-F.Store (Held (H.Local 1)) (Constant (pos 11)) (Constant (pos 3))) ∷ (Statement-F.Free (Held (H.Local 1))) ∷ []) } }) ∷ []; operations = []; literals = []; main = 0 }
+
+reallocating_null_allocates_run : run script_reallocating_null_allocates_run R.Unlimited 10000 (shaped 4096 4096) ≡ record { outcome = Ended None []; trace = (line 1 144 0 Granted) ∷ (line 2 64 144 Granted) ∷ []; lines = []; notes = []; steps = 3 }
+unfolding everything
+reallocating_null_allocates_run = refl
+
+abbrev script_reallocating_null_refused_gives_null_run : Script
+script_reallocating_null_refused_gives_null_run = record { classes = []; procedures = (record { parameters = []; body = record { locals = (OfPointer None) ∷ (OfPointer None) ∷ []; statements = rolled ((Statement-F.Alloc (Held (H.Local 1)) (Constant (pos 1)) GivesNull) ∷ (Statement-F.FailNext (Constant (pos 1))) ∷ (Statement-F.Realloc (Held (H.Local 1)) (Held (H.Local 0)) (Constant (pos 40)) GivesNull) ∷ (Statement-F.Free (Held (H.Local 1))) ∷ []) } }) ∷ []; operations = []; literals = []; main = 0 }
+
+reallocating_null_refused_gives_null_run : run script_reallocating_null_refused_gives_null_run R.Unlimited 10000 (shaped 4096 4096) ≡ record { outcome = Ended None ((record { number = 2; length = 32; place = 144 }) ∷ []); trace = (line 1 144 0 Granted) ∷ (line 2 32 144 Granted) ∷ (line 3 64 176 Simulated) ∷ []; lines = []; notes = []; steps = 4 }
+unfolding everything
+reallocating_null_refused_gives_null_run = refl
+
+abbrev script_reallocating_past_one_mebibyte_run : Script
+script_reallocating_past_one_mebibyte_run = record { classes = []; procedures = (record { parameters = []; body = record { locals = (OfPointer None) ∷ (OfPointer None) ∷ []; statements = rolled ((Statement-F.Realloc (Held (H.Local 1)) (Held (H.Local 0)) (Constant (pos 1048577)) GivesNull) ∷ []) } }) ∷ []; operations = []; literals = []; main = 0 }
+
+reallocating_past_one_mebibyte_run : run script_reallocating_past_one_mebibyte_run R.Unlimited 10000 (shaped 4096 4096) ≡ record { outcome = Panicked (P.Workbench 9); trace = (line 1 144 0 Granted) ∷ []; lines = []; notes = []; steps = 1 }
+unfolding everything
+reallocating_past_one_mebibyte_run = refl
+
+abbrev script_reallocating_to_less_than_nothing_run : Script
+script_reallocating_to_less_than_nothing_run = record { classes = []; procedures = (record { parameters = []; body = record { locals = (OfPointer None) ∷ []; statements = rolled ((Statement-F.Alloc (Held (H.Local 0)) (Constant (pos 16)) GivesNull) ∷ (Statement-F.Realloc (Held (H.Local 0)) (Held (H.Local 0)) (Constant (negsuc 0)) GivesNull) ∷ []) } }) ∷ []; operations = []; literals = []; main = 0 }
+
+reallocating_to_less_than_nothing_run : run script_reallocating_to_less_than_nothing_run R.Unlimited 10000 (shaped 4096 4096) ≡ record { outcome = Panicked (P.Workbench 9); trace = (line 1 144 0 Granted) ∷ (line 2 32 144 Granted) ∷ []; lines = []; notes = []; steps = 2 }
+unfolding everything
+reallocating_to_less_than_nothing_run = refl
+
+abbrev script_refused_growth_keeps_the_cell_run : Script
+script_refused_growth_keeps_the_cell_run = record { classes = []; procedures = (record { parameters = []; body = record { locals = (OfPointer None) ∷ (OfPointer None) ∷ OfNumber ∷ []; statements = rolled ((Statement-F.Alloc (Held (H.Local 0)) (Constant (pos 16)) GivesNull) ∷ (Statement-F.Store (Held (H.Local 0)) (Constant (pos 0)) (Constant (pos 9))) ∷ (Statement-F.FailNext (Constant (pos 1))) ∷ (Statement-F.Realloc (Held (H.Local 1)) (Held (H.Local 0)) (Constant (pos 32)) GivesNull) ∷ (Statement-F.Load 2 (Held (H.Local 0)) (Constant (pos 0))) ∷ (Statement-F.PrintNumber (Variable 2)) ∷ (Statement-F.Free (Held (H.Local 0))) ∷ (Statement-F.Free (Held (H.Local 1))) ∷ []) } }) ∷ []; operations = []; literals = []; main = 0 }
+
+refused_growth_keeps_the_cell_run : run script_refused_growth_keeps_the_cell_run R.Unlimited 10000 (shaped 4096 4096) ≡ record { outcome = Ended None []; trace = (line 1 144 0 Granted) ∷ (line 2 32 144 Granted) ∷ (line 3 48 144 Simulated) ∷ []; lines = (57 ∷ []) ∷ []; notes = []; steps = 8 }
+unfolding everything
+refused_growth_keeps_the_cell_run = refl
+
+abbrev script_refused_growth_over_its_own_pointer_leaks_run : Script
+script_refused_growth_over_its_own_pointer_leaks_run = record { classes = []; procedures = (record { parameters = []; body = record { locals = (OfPointer None) ∷ []; statements = rolled ((Statement-F.Alloc (Held (H.Local 0)) (Constant (pos 16)) GivesNull) ∷ (Statement-F.FailNext (Constant (pos 1))) ∷ (Statement-F.Realloc (Held (H.Local 0)) (Held (H.Local 0)) (Constant (pos 32)) GivesNull) ∷ (Statement-F.Free (Held (H.Local 0))) ∷ []) } }) ∷ []; operations = []; literals = []; main = 0 }
+
+refused_growth_over_its_own_pointer_leaks_run : run script_refused_growth_over_its_own_pointer_leaks_run R.Unlimited 10000 (shaped 4096 4096) ≡ record { outcome = Ended None ((record { number = 2; length = 32; place = 144 }) ∷ []); trace = (line 1 144 0 Granted) ∷ (line 2 32 144 Granted) ∷ (line 3 48 144 Simulated) ∷ []; lines = []; notes = []; steps = 4 }
+unfolding everything
+refused_growth_over_its_own_pointer_leaks_run = refl
+
+abbrev script_second_next_request_fails_run : Script
+script_second_next_request_fails_run = record { classes = []; procedures = (record { parameters = []; body = record { locals = (OfPointer None) ∷ (OfPointer None) ∷ (OfPointer None) ∷ []; statements = rolled ((Statement-F.FailNext (Constant (pos 2))) ∷ (Statement-F.Alloc (Held (H.Local 0)) (Constant (pos 1)) GivesNull) ∷ (Statement-F.Alloc (Held (H.Local 1)) (Constant (pos 1)) GivesNull) ∷ (Statement-F.Alloc (Held (H.Local 2)) (Constant (pos 1)) GivesNull) ∷ (Statement-F.Free (Held (H.Local 0))) ∷ (Statement-F.Free (Held (H.Local 1))) ∷ (Statement-F.Free (Held (H.Local 2))) ∷ []) } }) ∷ []; operations = []; literals = []; main = 0 }
+
+second_next_request_fails_run : run script_second_next_request_fails_run R.Unlimited 10000 (shaped 4096 4096) ≡ record { outcome = Ended None []; trace = (line 1 144 0 Granted) ∷ (line 2 32 144 Granted) ∷ (line 3 32 176 Simulated) ∷ (line 4 32 176 Granted) ∷ []; lines = []; notes = []; steps = 7 }
+unfolding everything
+second_next_request_fails_run = refl
+
+abbrev script_setting_and_number_refuse_one_after_the_other_run : Script
+script_setting_and_number_refuse_one_after_the_other_run = record { classes = []; procedures = (record { parameters = []; body = record { locals = (OfPointer None) ∷ []; statements = rolled ((Statement-F.FailNext (Constant (pos 1))) ∷ (Statement-F.Alloc (Held (H.Local 0)) (Constant (pos 1)) GivesNull) ∷ (Statement-F.Alloc (Held (H.Local 0)) (Constant (pos 1)) GivesNull) ∷ (Statement-F.Alloc (Held (H.Local 0)) (Constant (pos 1)) GivesNull) ∷ (Statement-F.Free (Held (H.Local 0))) ∷ []) } }) ∷ []; operations = []; literals = []; main = 0 }
+
+setting_and_number_refuse_one_after_the_other_run : run script_setting_and_number_refuse_one_after_the_other_run (R.Number 3) 10000 (shaped 4096 4096) ≡ record { outcome = Ended None []; trace = (line 1 144 0 Granted) ∷ (line 2 32 144 Simulated) ∷ (line 3 32 144 Simulated) ∷ (line 4 32 144 Granted) ∷ []; lines = []; notes = []; steps = 5 }
+unfolding everything
+setting_and_number_refuse_one_after_the_other_run = refl
+
+abbrev script_setting_counts_what_the_number_refuses_run : Script
+script_setting_counts_what_the_number_refuses_run = record { classes = []; procedures = (record { parameters = []; body = record { locals = (OfPointer None) ∷ []; statements = rolled ((Statement-F.FailNext (Constant (pos 2))) ∷ (Statement-F.Alloc (Held (H.Local 0)) (Constant (pos 1)) GivesNull) ∷ (Statement-F.Alloc (Held (H.Local 0)) (Constant (pos 1)) GivesNull) ∷ (Statement-F.Alloc (Held (H.Local 0)) (Constant (pos 1)) GivesNull) ∷ (Statement-F.Free (Held (H.Local 0))) ∷ []) } }) ∷ []; operations = []; literals = []; main = 0 }
+
+setting_counts_what_the_number_refuses_run : run script_setting_counts_what_the_number_refuses_run (R.Number 2) 10000 (shaped 4096 4096) ≡ record { outcome = Ended None []; trace = (line 1 144 0 Granted) ∷ (line 2 32 144 Simulated) ∷ (line 3 32 144 Simulated) ∷ (line 4 32 144 Granted) ∷ []; lines = []; notes = []; steps = 5 }
+unfolding everything
+setting_counts_what_the_number_refuses_run = refl
+
+abbrev script_setting_is_asked_before_the_limit_run : Script
+script_setting_is_asked_before_the_limit_run = record { classes = []; procedures = (record { parameters = []; body = record { locals = (OfPointer None) ∷ []; statements = rolled ((Statement-F.FailNext (Constant (pos 1))) ∷ (Statement-F.Alloc (Held (H.Local 0)) (Constant (pos 1)) GivesNull) ∷ (Statement-F.Alloc (Held (H.Local 0)) (Constant (pos 1)) GivesNull) ∷ (Statement-F.Free (Held (H.Local 0))) ∷ []) } }) ∷ []; operations = []; literals = []; main = 0 }
+
+setting_is_asked_before_the_limit_run : run script_setting_is_asked_before_the_limit_run (R.Limit 175) 10000 (shaped 4096 4096) ≡ record { outcome = Ended None []; trace = (line 1 144 0 Granted) ∷ (line 2 32 144 Simulated) ∷ (line 3 32 144 Refused) ∷ []; lines = []; notes = []; steps = 4 }
+unfolding everything
+setting_is_asked_before_the_limit_run = refl
+
+abbrev script_shrinking_is_no_attempt_run : Script
+script_shrinking_is_no_attempt_run = record { classes = []; procedures = (record { parameters = []; body = record { locals = (OfPointer None) ∷ (OfPointer None) ∷ []; statements = rolled ((Statement-F.Alloc (Held (H.Local 0)) (Constant (pos 32)) GivesNull) ∷ (Statement-F.FailNext (Constant (pos 1))) ∷ (Statement-F.Realloc (Held (H.Local 0)) (Held (H.Local 0)) (Constant (pos 5)) GivesNull) ∷ (Statement-F.Realloc (Held (H.Local 1)) (Held (H.Local 0)) (Constant (pos 17)) GivesNull) ∷ (Statement-F.Free (Held (H.Local 0))) ∷ []) } }) ∷ []; operations = []; literals = []; main = 0 }
+
+shrinking_is_no_attempt_run : run script_shrinking_is_no_attempt_run R.Unlimited 10000 (shaped 4096 4096) ≡ record { outcome = Ended None []; trace = (line 1 144 0 Granted) ∷ (line 2 48 144 Granted) ∷ (line 3 48 144 Simulated) ∷ []; lines = []; notes = []; steps = 5 }
+unfolding everything
+shrinking_is_no_attempt_run = refl
+
+abbrev script_stale_pointer_can_be_copied_run : Script
+script_stale_pointer_can_be_copied_run = record { classes = []; procedures = (record { parameters = []; body = record { locals = (OfPointer None) ∷ (OfPointer None) ∷ []; statements = rolled ((Statement-F.Alloc (Held (H.Local 0)) (Constant (pos 1)) GivesNull) ∷ (Statement-F.Free (Held (H.Local 0))) ∷ (Statement-F.Set (Held (H.Local 1)) (Held (H.Local 0))) ∷ (Statement-F.SetNull (Held (H.Local 0))) ∷ (Statement-F.Free (Held (H.Local 0))) ∷ (Statement-F.Free (Held (H.Local 1))) ∷ []) } }) ∷ []; operations = []; literals = []; main = 0 }
+
+stale_pointer_can_be_copied_run : run script_stale_pointer_can_be_copied_run R.Unlimited 10000 (shaped 4096 4096) ≡ record { outcome = Panicked (P.User 42); trace = (line 1 144 0 Granted) ∷ (line 2 32 144 Granted) ∷ []; lines = []; notes = []; steps = 6 }
+unfolding everything
+stale_pointer_can_be_copied_run = refl
+
+abbrev script_sum_below_the_least_number_run : Script
+script_sum_below_the_least_number_run = record { classes = []; procedures = (record { parameters = []; body = record { locals = OfNumber ∷ []; statements = rolled ((Statement-F.SetNumber 0 (Constant (negsuc 999999998))) ∷ (Statement-F.Add 0 (Variable 0)) ∷ (Statement-F.Add 0 (Constant (negsuc 147483649))) ∷ (Statement-F.PrintNumber (Variable 0)) ∷ (Statement-F.Add 0 (Constant (negsuc 0))) ∷ []) } }) ∷ []; operations = []; literals = []; main = 0 }
+
+sum_below_the_least_number_run : run script_sum_below_the_least_number_run R.Unlimited 10000 (shaped 4096 4096) ≡ record { outcome = Panicked (P.Workbench 9); trace = (line 1 144 0 Granted) ∷ []; lines = (45 ∷ 50 ∷ 49 ∷ 52 ∷ 55 ∷ 52 ∷ 56 ∷ 51 ∷ 54 ∷ 52 ∷ 56 ∷ []) ∷ []; notes = []; steps = 5 }
+unfolding everything
+sum_below_the_least_number_run = refl
+
+abbrev script_sum_of_the_ends_is_in_range_run : Script
+script_sum_of_the_ends_is_in_range_run = record { classes = []; procedures = (record { parameters = []; body = record { locals = OfNumber ∷ OfNumber ∷ []; statements = rolled ((Statement-F.SetNumber 0 (Constant (pos 999999999))) ∷ (Statement-F.Add 0 (Variable 0)) ∷ (Statement-F.Add 0 (Constant (pos 147483649))) ∷ (Statement-F.Add 1 (Constant (negsuc 0))) ∷ (Statement-F.Add 0 (Variable 1)) ∷ (Statement-F.PrintNumber (Variable 0)) ∷ []) } }) ∷ []; operations = []; literals = []; main = 0 }
+
+sum_of_the_ends_is_in_range_run : run script_sum_of_the_ends_is_in_range_run R.Unlimited 10000 (shaped 4096 4096) ≡ record { outcome = Ended None []; trace = (line 1 144 0 Granted) ∷ []; lines = (50 ∷ 49 ∷ 52 ∷ 55 ∷ 52 ∷ 56 ∷ 51 ∷ 54 ∷ 52 ∷ 54 ∷ []) ∷ []; notes = []; steps = 6 }
+unfolding everything
+sum_of_the_ends_is_in_range_run = refl
+
+abbrev script_sum_past_the_greatest_number_run : Script
+script_sum_past_the_greatest_number_run = record { classes = []; procedures = (record { parameters = []; body = record { locals = OfNumber ∷ []; statements = rolled ((Statement-F.SetNumber 0 (Constant (pos 999999999))) ∷ (Statement-F.Add 0 (Variable 0)) ∷ (Statement-F.Add 0 (Constant (pos 147483649))) ∷ (Statement-F.PrintNumber (Variable 0)) ∷ (Statement-F.Add 0 (Constant (pos 1))) ∷ []) } }) ∷ []; operations = []; literals = []; main = 0 }
+
+sum_past_the_greatest_number_run : run script_sum_past_the_greatest_number_run R.Unlimited 10000 (shaped 4096 4096) ≡ record { outcome = Panicked (P.Workbench 9); trace = (line 1 144 0 Granted) ∷ []; lines = (50 ∷ 49 ∷ 52 ∷ 55 ∷ 52 ∷ 56 ∷ 51 ∷ 54 ∷ 52 ∷ 55 ∷ []) ∷ []; notes = []; steps = 5 }
+unfolding everything
+sum_past_the_greatest_number_run = refl
+
+abbrev script_tail_of_a_shrunk_cell_is_reused_run : Script
+script_tail_of_a_shrunk_cell_is_reused_run = record { classes = []; procedures = (record { parameters = []; body = record { locals = (OfPointer None) ∷ (OfPointer None) ∷ (OfPointer None) ∷ []; statements = rolled ((Statement-F.Alloc (Held (H.Local 0)) (Constant (pos 64)) GivesNull) ∷ (Statement-F.Alloc (Held (H.Local 1)) (Constant (pos 1)) GivesNull) ∷ (Statement-F.Realloc (Held (H.Local 0)) (Held (H.Local 0)) (Constant (pos 16)) GivesNull) ∷ (Statement-F.Alloc (Held (H.Local 2)) (Constant (pos 32)) GivesNull) ∷ (Statement-F.Free (Held (H.Local 0))) ∷ (Statement-F.Free (Held (H.Local 1))) ∷ (Statement-F.Free (Held (H.Local 2))) ∷ []) } }) ∷ []; operations = []; literals = []; main = 0 }
+
+tail_of_a_shrunk_cell_is_reused_run : run script_tail_of_a_shrunk_cell_is_reused_run R.Unlimited 10000 (shaped 4096 4096) ≡ record { outcome = Ended None []; trace = (line 1 144 0 Granted) ∷ (line 2 80 144 Granted) ∷ (line 3 32 224 Granted) ∷ (line 4 48 176 Granted) ∷ []; lines = []; notes = []; steps = 7 }
+unfolding everything
+tail_of_a_shrunk_cell_is_reused_run = refl
+
+abbrev script_two_pointers_name_one_cell_run : Script
+script_two_pointers_name_one_cell_run = record { classes = []; procedures = (record { parameters = []; body = record { locals = (OfPointer None) ∷ (OfPointer None) ∷ OfNumber ∷ []; statements = rolled ((Statement-F.Alloc (Held (H.Local 0)) (Constant (pos 8)) GivesNull) ∷ (Statement-F.Set (Held (H.Local 1)) (Held (H.Local 0))) ∷ (Statement-F.Store (Held (H.Local 1)) (Constant (pos 0)) (Constant (negsuc 4))) ∷ (Statement-F.Load 2 (Held (H.Local 0)) (Constant (pos 0))) ∷ (Statement-F.PrintNumber (Variable 2)) ∷ (Statement-F.Free (Held (H.Local 1))) ∷ (Statement-F.Load 2 (Held (H.Local 0)) (Constant (pos 0))) ∷ []) } }) ∷ []; operations = []; literals = []; main = 0 }
+
+two_pointers_name_one_cell_run : run script_two_pointers_name_one_cell_run R.Unlimited 10000 (shaped 4096 4096) ≡ record { outcome = Panicked (P.Workbench 1); trace = (line 1 144 0 Granted) ∷ (line 2 32 144 Granted) ∷ []; lines = (45 ∷ 53 ∷ []) ∷ []; notes = []; steps = 7 }
+unfolding everything
+two_pointers_name_one_cell_run = refl
+
+abbrev script_usable_length_is_rounded_up_run : Script
+script_usable_length_is_rounded_up_run = record { classes = []; procedures = (record { parameters = []; body = record { locals = (OfPointer None) ∷ OfNumber ∷ []; statements = rolled ((Statement-F.Alloc (Held (H.Local 0)) (Constant (pos 1)) GivesNull) ∷ (Statement-F.AllocLen 1 (Held (H.Local 0))) ∷ (Statement-F.PrintNumber (Variable 1)) ∷ (Statement-F.Realloc (Held (H.Local 0)) (Held (H.Local 0)) (Constant (pos 17)) GivesNull) ∷ (Statement-F.AllocLen 1 (Held (H.Local 0))) ∷ (Statement-F.PrintNumber (Variable 1)) ∷ (Statement-F.Realloc (Held (H.Local 0)) (Held (H.Local 0)) (Constant (pos 16)) GivesNull) ∷ (Statement-F.AllocLen 1 (Held (H.Local 0))) ∷ (Statement-F.PrintNumber (Variable 1)) ∷ (Statement-F.Realloc (Held (H.Local 0)) (Held (H.Local 0)) (Constant (pos 0)) GivesNull) ∷ (Statement-F.AllocLen 1 (Held (H.Local 0))) ∷ (Statement-F.PrintNumber (Variable 1)) ∷ (Statement-F.Free (Held (H.Local 0))) ∷ []) } }) ∷ []; operations = []; literals = []; main = 0 }
+
+usable_length_is_rounded_up_run : run script_usable_length_is_rounded_up_run R.Unlimited 10000 (shaped 4096 4096) ≡ record { outcome = Ended None []; trace = (line 1 144 0 Granted) ∷ (line 2 32 144 Granted) ∷ (line 3 48 144 Granted) ∷ []; lines = (49 ∷ 54 ∷ []) ∷ (51 ∷ 50 ∷ []) ∷ (49 ∷ 54 ∷ []) ∷ (48 ∷ []) ∷ []; notes = []; steps = 13 }
+unfolding everything
+usable_length_is_rounded_up_run = refl
+
+abbrev script_usable_length_of_a_freed_cell_run : Script
+script_usable_length_of_a_freed_cell_run = record { classes = []; procedures = (record { parameters = []; body = record { locals = (OfPointer None) ∷ OfNumber ∷ []; statements = rolled ((Statement-F.Alloc (Held (H.Local 0)) (Constant (pos 1)) GivesNull) ∷ (Statement-F.Free (Held (H.Local 0))) ∷ (Statement-F.AllocLen 1 (Held (H.Local 0))) ∷ []) } }) ∷ []; operations = []; literals = []; main = 0 }
+
+usable_length_of_a_freed_cell_run : run script_usable_length_of_a_freed_cell_run R.Unlimited 10000 (shaped 4096 4096) ≡ record { outcome = Panicked (P.User 42); trace = (line 1 144 0 Granted) ∷ (line 2 32 144 Granted) ∷ []; lines = []; notes = []; steps = 3 }
+unfolding everything
+usable_length_of_a_freed_cell_run = refl
+
+abbrev script_usable_length_of_null_run : Script
+script_usable_length_of_null_run = record { classes = []; procedures = (record { parameters = []; body = record { locals = (OfPointer None) ∷ OfNumber ∷ []; statements = rolled ((Statement-F.AllocLen 1 (Held (H.Local 0))) ∷ []) } }) ∷ []; operations = []; literals = []; main = 0 }
+
+usable_length_of_null_run : run script_usable_length_of_null_run R.Unlimited 10000 (shaped 4096 4096) ≡ record { outcome = Panicked (P.User 42); trace = (line 1 144 0 Granted) ∷ []; lines = []; notes = []; steps = 1 }
+unfolding everything
+usable_length_of_null_run = refl
+
+abbrev script_word_before_the_first_run : Script
+script_word_before_the_first_run = record { classes = []; procedures = (record { parameters = []; body = record { locals = (OfPointer None) ∷ OfNumber ∷ []; statements = rolled ((Statement-F.Alloc (Held (H.Local 0)) (Constant (pos 1)) GivesNull) ∷ (Statement-F.SetNumber 1 (Constant (negsuc 0))) ∷ (Statement-F.Store (Held (H.Local 0)) (Variable 1) (Constant (pos 1))) ∷ []) } }) ∷ []; operations = []; literals = []; main = 0 }
+
+word_before_the_first_run : run script_word_before_the_first_run R.Unlimited 10000 (shaped 4096 4096) ≡ record { outcome = Panicked (P.Workbench 9); trace = (line 1 144 0 Granted) ∷ (line 2 32 144 Granted) ∷ []; lines = []; notes = []; steps = 3 }
+unfolding everything
+word_before_the_first_run = refl
+
+abbrev script_word_behind_the_last_run : Script
+script_word_behind_the_last_run = record { classes = []; procedures = (record { parameters = []; body = record { locals = (OfPointer None) ∷ OfNumber ∷ []; statements = rolled ((Statement-F.Alloc (Held (H.Local 0)) (Constant (pos 1)) GivesNull) ∷ (Statement-F.Load 1 (Held (H.Local 0)) (Constant (pos 3))) ∷ (Statement-F.Load 1 (Held (H.Local 0)) (Constant (pos 4))) ∷ []) } }) ∷ []; operations = []; literals = []; main = 0 }
+
+word_behind_the_last_run : run script_word_behind_the_last_run R.Unlimited 10000 (shaped 4096 4096) ≡ record { outcome = Panicked (P.Workbench 9); trace = (line 1 144 0 Granted) ∷ (line 2 32 144 Granted) ∷ []; lines = []; notes = []; steps = 3 }
+unfolding everything
+word_behind_the_last_run = refl
+
+abbrev script_word_of_no_cell_run : Script
+script_word_of_no_cell_run = record { classes = []; procedures = (record { parameters = []; body = record { locals = (OfPointer None) ∷ OfNumber ∷ []; statements = rolled ((Statement-F.Load 1 (Held (H.Local 0)) (Constant (negsuc 0))) ∷ []) } }) ∷ []; operations = []; literals = []; main = 0 }
+
+word_of_no_cell_run : run script_word_of_no_cell_run R.Unlimited 10000 (shaped 4096 4096) ≡ record { outcome = Panicked (P.Workbench 1); trace = (line 1 144 0 Granted) ∷ []; lines = []; notes = []; steps = 1 }
+unfolding everything
+word_of_no_cell_run = refl
+
+abbrev script_words_of_a_grown_cell_are_zero_run : Script
+script_words_of_a_grown_cell_are_zero_run = record { classes = []; procedures = (record { parameters = []; body = record { locals = (OfPointer None) ∷ (OfPointer None) ∷ OfNumber ∷ []; statements = rolled ((Statement-F.Alloc (Held (H.Local 0)) (Constant (pos 16)) GivesNull) ∷ (Statement-F.Alloc (Held (H.Local 1)) (Constant (pos 32)) GivesNull) ∷ (Statement-F.Store (Held (H.Local 1)) (Constant (pos 3)) (Constant (pos 7))) ∷ (Statement-F.Store (Held (H.Local 0)) (Constant (pos 3)) (Constant (negsuc 0))) ∷ (Statement-F.Free (Held (H.Local 1))) ∷ (Statement-F.Realloc (Held (H.Local 0)) (Held (H.Local 0)) (Constant (pos 64)) GivesNull) ∷ (Statement-F.Load 2 (Held (H.Local 0)) (Constant (pos 3))) ∷ (Statement-F.PrintNumber (Variable 2)) ∷ (Statement-F.Load 2 (Held (H.Local 0)) (Constant (pos 11))) ∷ (Statement-F.PrintNumber (Variable 2)) ∷ (Statement-F.Free (Held (H.Local 0))) ∷ []) } }) ∷ []; operations = []; literals = []; main = 0 }
+
+words_of_a_grown_cell_are_zero_run : run script_words_of_a_grown_cell_are_zero_run R.Unlimited 10000 (shaped 4096 4096) ≡ record { outcome = Ended None []; trace = (line 1 144 0 Granted) ∷ (line 2 32 144 Granted) ∷ (line 3 48 176 Granted) ∷ (line 4 80 144 Granted) ∷ []; lines = (45 ∷ 49 ∷ []) ∷ (48 ∷ []) ∷ []; notes = []; steps = 11 }
+unfolding everything
+words_of_a_grown_cell_are_zero_run = refl
+
+abbrev script_words_of_a_shrunk_cell_are_gone_run : Script
+script_words_of_a_shrunk_cell_are_gone_run = record { classes = []; procedures = (record { parameters = []; body = record { locals = (OfPointer None) ∷ OfNumber ∷ []; statements = rolled ((Statement-F.Alloc (Held (H.Local 0)) (Constant (pos 32)) GivesNull) ∷ (Statement-F.Store (Held (H.Local 0)) (Constant (pos 7)) (Constant (pos 5))) ∷ (Statement-F.Realloc (Held (H.Local 0)) (Held (H.Local 0)) (Constant (pos 16)) GivesNull) ∷ (Statement-F.Realloc (Held (H.Local 0)) (Held (H.Local 0)) (Constant (pos 32)) GivesNull) ∷ (Statement-F.Load 1 (Held (H.Local 0)) (Constant (pos 7))) ∷ (Statement-F.PrintNumber (Variable 1)) ∷ (Statement-F.Free (Held (H.Local 0))) ∷ []) } }) ∷ []; operations = []; literals = []; main = 0 }
+
+words_of_a_shrunk_cell_are_gone_run : run script_words_of_a_shrunk_cell_are_gone_run R.Unlimited 10000 (shaped 4096 4096) ≡ record { outcome = Ended None []; trace = (line 1 144 0 Granted) ∷ (line 2 48 144 Granted) ∷ (line 3 48 144 Granted) ∷ []; lines = (48 ∷ []) ∷ []; notes = []; steps = 7 }
+unfolding everything
+words_of_a_shrunk_cell_are_gone_run = refl
 
 abbrev script_empty_main_json_run : Script
 script_empty_main_json_run = record { classes = []; procedures = (record { parameters = []; body = record { locals = []; statements = [] } }) ∷ []; operations = []; literals = []; main = 0 }
@@ -282,62 +814,6 @@ push_that_cannot_grow_keeps_its_item_run : run script_push_that_cannot_grow_keep
 unfolding everything
 push_that_cannot_grow_keeps_its_item_run = refl
 
-abbrev script_buffer_edits_one_after_another_run : Script
-script_buffer_edits_one_after_another_run = record { classes = []; procedures = (record { parameters = []; body = record { locals = (OfBuffer 8) ∷ OfView ∷ []; statements = rolled ((Statement-F.Copy (OwnBuffer 0) (Quoted 0)) ∷ (Statement-F.Insert (OwnBuffer 0) (Constant (pos 1)) (Quoted 1)) ∷ (Statement-F.DeleteText (OwnBuffer 0) (Constant (pos 4)) (Constant (pos 99))) ∷ (Statement-F.Right 1 (Of (OwnBuffer 0)) (Constant (pos 2))) ∷ (Statement-F.Append (OwnBuffer 0) (ViewOf 1)) ∷ (Statement-F.SetLength (OwnBuffer 0) (Constant (pos 8))) ∷ (Statement-F.PrintText (Of (OwnBuffer 0))) ∷ []) } }) ∷ []; operations = []; literals = (97 ∷ 98 ∷ 99 ∷ 100 ∷ []) ∷ (88 ∷ 89 ∷ []) ∷ []; main = 0 }
-
-buffer_edits_one_after_another_run : run script_buffer_edits_one_after_another_run R.Unlimited 10000 (shaped 4096 4096) ≡ record { outcome = Ended None []; trace = (line 1 144 0 Granted) ∷ []; lines = (97 ∷ 88 ∷ 89 ∷ 98 ∷ 89 ∷ 98 ∷ 46 ∷ 46 ∷ []) ∷ []; notes = []; steps = 7 }
-unfolding everything
-buffer_edits_one_after_another_run = refl
-
-abbrev script_refused_text_growth_keeps_the_text_run : Script
-script_refused_text_growth_keeps_the_text_run = record { classes = []; procedures = (record { parameters = []; body = record { locals = (OfPointer None) ∷ (OfPointer None) ∷ []; statements = rolled ((Statement-F.NewText (Held (H.Local 0)) (Constant (pos 4)) GivesNull) ∷ (Statement-F.Append (InCell (Held (H.Local 0))) (Quoted 0)) ∷ (Statement-F.FailNext (Constant (pos 1))) ∷ (Statement-F.ReallocText (Held (H.Local 1)) (Held (H.Local 0)) (Constant (pos 20))) ∷ (Statement-F.PrintText (Of (InCell (Held (H.Local 0))))) ∷ (Statement-F.Free (Held (H.Local 0))) ∷ []) } }) ∷ []; operations = []; literals = (97 ∷ 98 ∷ 99 ∷ []) ∷ []; main = 0 }
-
-refused_text_growth_keeps_the_text_run : run script_refused_text_growth_keeps_the_text_run R.Unlimited 10000 (shaped 4096 4096) ≡ record { outcome = Ended None []; trace = (line 1 144 0 Granted) ∷ (line 2 32 144 Granted) ∷ (line 3 64 144 Simulated) ∷ []; lines = (97 ∷ 98 ∷ 99 ∷ []) ∷ []; notes = []; steps = 6 }
-unfolding everything
-refused_text_growth_keeps_the_text_run = refl
-
-abbrev script_text_longer_than_its_maximum_run : Script
-script_text_longer_than_its_maximum_run = record { classes = []; procedures = (record { parameters = []; body = record { locals = (OfPointer None) ∷ OfNumber ∷ OfView ∷ []; statements = rolled ((Statement-F.NewText (Held (H.Local 0)) (Constant (pos 4)) GivesNull) ∷ (Statement-F.GetMaximum 1 (InCell (Held (H.Local 0)))) ∷ (Statement-F.PrintNumber (Variable 1)) ∷ (Statement-F.Append (InCell (Held (H.Local 0))) (Quoted 0)) ∷ (Statement-F.Append (InCell (Held (H.Local 0))) (Quoted 1)) ∷ []) } }) ∷ []; operations = []; literals = (97 ∷ 98 ∷ 99 ∷ 100 ∷ 101 ∷ 102 ∷ []) ∷ (103 ∷ []) ∷ []; main = 0 }
-
-text_longer_than_its_maximum_run : run script_text_longer_than_its_maximum_run R.Unlimited 10000 (shaped 4096 4096) ≡ record { outcome = Panicked (P.User 11); trace = (line 1 144 0 Granted) ∷ (line 2 32 144 Granted) ∷ []; lines = (54 ∷ []) ∷ []; notes = []; steps = 5 }
-unfolding everything
-text_longer_than_its_maximum_run = refl
-
-abbrev script_text_made_shorter_than_its_length_run : Script
-script_text_made_shorter_than_its_length_run = record { classes = []; procedures = (record { parameters = []; body = record { locals = (OfPointer None) ∷ (OfPointer None) ∷ []; statements = rolled ((Statement-F.NewText (Held (H.Local 0)) (Constant (pos 4)) GivesNull) ∷ (Statement-F.Append (InCell (Held (H.Local 0))) (Quoted 0)) ∷ (Statement-F.ReallocText (Held (H.Local 1)) (Held (H.Local 0)) (Constant (pos 2))) ∷ []) } }) ∷ []; operations = []; literals = (97 ∷ 98 ∷ 99 ∷ []) ∷ []; main = 0 }
-
-text_made_shorter_than_its_length_run : run script_text_made_shorter_than_its_length_run R.Unlimited 10000 (shaped 4096 4096) ≡ record { outcome = Panicked (P.Workbench 8); trace = (line 1 144 0 Granted) ∷ (line 2 32 144 Granted) ∷ []; lines = []; notes = []; steps = 3 }
-unfolding everything
-text_made_shorter_than_its_length_run = refl
-
-abbrev script_view_of_a_freed_text_run : Script
-script_view_of_a_freed_text_run = record { classes = []; procedures = (record { parameters = []; body = record { locals = (OfPointer None) ∷ OfView ∷ []; statements = rolled ((Statement-F.NewText (Held (H.Local 0)) (Constant (pos 4)) GivesNull) ∷ (Statement-F.Mid 1 (Of (InCell (Held (H.Local 0)))) (Constant (pos 0)) (Constant (pos 0))) ∷ (Statement-F.Free (Held (H.Local 0))) ∷ (Statement-F.PrintText (ViewOf 1)) ∷ []) } }) ∷ []; operations = []; literals = []; main = 0 }
-
-view_of_a_freed_text_run : run script_view_of_a_freed_text_run R.Unlimited 10000 (shaped 4096 4096) ≡ record { outcome = Panicked (P.Workbench 1); trace = (line 1 144 0 Granted) ∷ (line 2 32 144 Granted) ∷ []; lines = []; notes = []; steps = 4 }
-unfolding everything
-view_of_a_freed_text_run = refl
-
-abbrev script_view_of_an_empty_view_is_still_the_same_text_run : Script
-script_view_of_an_empty_view_is_still_the_same_text_run = record { classes = []; procedures = (record { parameters = []; body = record { locals = OfView ∷ OfView ∷ (OfBuffer 4) ∷ []; statements = rolled ((Statement-F.Copy (OwnBuffer 2) (Quoted 0)) ∷ (Statement-F.Left 0 (Of (OwnBuffer 2)) (Constant (pos 0))) ∷ (Statement-F.Left 1 (ViewOf 0) (Constant (pos 0))) ∷ (Statement-F.Insert (OwnBuffer 2) (Constant (pos 0)) (ViewOf 1)) ∷ []) } }) ∷ []; operations = []; literals = (97 ∷ 98 ∷ []) ∷ []; main = 0 }
-
-view_of_an_empty_view_is_still_the_same_text_run : run script_view_of_an_empty_view_is_still_the_same_text_run R.Unlimited 10000 (shaped 4096 4096) ≡ record { outcome = Panicked (P.Workbench 9); trace = (line 1 144 0 Granted) ∷ []; lines = []; notes = []; steps = 4 }
-unfolding everything
-view_of_an_empty_view_is_still_the_same_text_run = refl
-
-abbrev script_view_of_nothing_run : Script
-script_view_of_nothing_run = record { classes = []; procedures = (record { parameters = []; body = record { locals = OfView ∷ OfView ∷ (OfBuffer 4) ∷ []; statements = rolled ((Statement-F.Left 1 (ViewOf 0) (Constant (pos 0))) ∷ (Statement-F.Insert (OwnBuffer 2) (Constant (pos 0)) (ViewOf 1)) ∷ (Statement-F.PrintText (Of (OwnBuffer 2))) ∷ (Statement-F.Left 1 (ViewOf 0) (Constant (pos 1))) ∷ []) } }) ∷ []; operations = []; literals = []; main = 0 }
-
-view_of_nothing_run : run script_view_of_nothing_run R.Unlimited 10000 (shaped 4096 4096) ≡ record { outcome = Panicked (P.User 10); trace = (line 1 144 0 Granted) ∷ []; lines = [] ∷ []; notes = []; steps = 4 }
-unfolding everything
-view_of_nothing_run = refl
-
-abbrev script_view_position_past_the_text_run : Script
-script_view_position_past_the_text_run = record { classes = []; procedures = (record { parameters = []; body = record { locals = (OfPointer None) ∷ OfNumber ∷ OfView ∷ []; statements = rolled ((Statement-F.NewText (Held (H.Local 0)) (Constant (pos 4)) GivesNull) ∷ (Statement-F.GetMaximum 1 (InCell (Held (H.Local 0)))) ∷ (Statement-F.PrintNumber (Variable 1)) ∷ (Statement-F.Append (InCell (Held (H.Local 0))) (Quoted 0)) ∷ (Statement-F.Mid 2 (Of (InCell (Held (H.Local 0)))) (Constant (pos 7)) (Constant (pos 0))) ∷ []) } }) ∷ []; operations = []; literals = (97 ∷ 98 ∷ 99 ∷ 100 ∷ 101 ∷ 102 ∷ []) ∷ []; main = 0 }
-
-view_position_past_the_text_run : run script_view_position_past_the_text_run R.Unlimited 10000 (shaped 4096 4096) ≡ record { outcome = Panicked (P.User 10); trace = (line 1 144 0 Granted) ∷ (line 2 32 144 Granted) ∷ []; lines = (54 ∷ []) ∷ []; notes = []; steps = 5 }
-unfolding everything
-view_position_past_the_text_run = refl
-
 abbrev script_budget_ends_before_the_frames_do_run : Script
 script_budget_ends_before_the_frames_do_run = record { classes = []; procedures = (record { parameters = []; body = record { locals = []; statements = rolled ((Statement-F.Call 0 []) ∷ []) } }) ∷ (record { parameters = []; body = record { locals = []; statements = rolled ((Statement-F.Call 0 []) ∷ []) } }) ∷ []; operations = []; literals = []; main = 1 }
 
@@ -456,76 +932,6 @@ script_items_left_at_the_plain_end_of_a_trap_run = record { classes = []; proced
 items_left_at_the_plain_end_of_a_trap_run : run script_items_left_at_the_plain_end_of_a_trap_run R.Unlimited 10000 (shaped 4096 4096) ≡ record { outcome = Panicked (P.Workbench 5); trace = (line 1 144 0 Granted) ∷ (line 2 32 144 Granted) ∷ []; lines = []; notes = []; steps = 3 }
 unfolding everything
 items_left_at_the_plain_end_of_a_trap_run = refl
-
-abbrev script_cell_for_zero_bytes_run : Script
-script_cell_for_zero_bytes_run = record { classes = []; procedures = (record { parameters = []; body = record { locals = (OfPointer None) ∷ OfNumber ∷ []; statements = rolled ((Statement-F.Alloc (Held (H.Local 0)) (Constant (pos 0)) GivesNull) ∷ (Statement-F.AllocLen 1 (Held (H.Local 0))) ∷ (Statement-F.PrintNumber (Variable 1)) ∷ (Statement-F.Free (Held (H.Local 0))) ∷ []) } }) ∷ []; operations = []; literals = []; main = 0 }
-
-cell_for_zero_bytes_run : run script_cell_for_zero_bytes_run R.Unlimited 10000 (shaped 4096 4096) ≡ record { outcome = Ended None []; trace = (line 1 144 0 Granted) ∷ (line 2 16 144 Granted) ∷ []; lines = (48 ∷ []) ∷ []; notes = []; steps = 4 }
-unfolding everything
-cell_for_zero_bytes_run = refl
-
-abbrev script_fail_next_fires_once_run : Script
-script_fail_next_fires_once_run = record { classes = []; procedures = (record { parameters = []; body = record { locals = (OfPointer None) ∷ []; statements = rolled ((Statement-F.FailNext (Constant (pos 1))) ∷ (Statement-F.Alloc (Held (H.Local 0)) (Constant (pos 16)) GivesNull) ∷ (Statement-F.Alloc (Held (H.Local 0)) (Constant (pos 16)) GivesNull) ∷ (Statement-F.Free (Held (H.Local 0))) ∷ []) } }) ∷ []; operations = []; literals = []; main = 0 }
-
-fail_next_fires_once_run : run script_fail_next_fires_once_run R.Unlimited 10000 (shaped 4096 4096) ≡ record { outcome = Ended None []; trace = (line 1 144 0 Granted) ∷ (line 2 32 144 Simulated) ∷ (line 3 32 144 Granted) ∷ []; lines = []; notes = []; steps = 4 }
-unfolding everything
-fail_next_fires_once_run = refl
-
-abbrev script_growth_past_the_hole_moves_run : Script
-script_growth_past_the_hole_moves_run = record { classes = []; procedures = (record { parameters = []; body = record { locals = (OfPointer None) ∷ (OfPointer None) ∷ (OfPointer None) ∷ []; statements = rolled ((Statement-F.Alloc (Held (H.Local 0)) (Constant (pos 16)) GivesNull) ∷ (Statement-F.Alloc (Held (H.Local 1)) (Constant (pos 16)) GivesNull) ∷ (Statement-F.Alloc (Held (H.Local 2)) (Constant (pos 16)) GivesNull) ∷ (Statement-F.Free (Held (H.Local 1))) ∷ (Statement-F.Realloc (Held (H.Local 0)) (Held (H.Local 0)) (Constant (pos 49)) GivesNull) ∷ Statement-F.NoteHeap ∷ []) } }) ∷ []; operations = []; literals = []; main = 0 }
-
-growth_past_the_hole_moves_run : run script_growth_past_the_hole_moves_run R.Unlimited 10000 (shaped 4096 4096) ≡ record { outcome = Ended None ((record { number = 4; length = 32; place = 208 }) ∷ (record { number = 5; length = 80; place = 240 }) ∷ []); trace = (line 1 144 0 Granted) ∷ (line 2 32 144 Granted) ∷ (line 3 32 176 Granted) ∷ (line 4 32 208 Granted) ∷ (line 5 80 240 Granted) ∷ []; lines = []; notes = (Heap 3 256 4096) ∷ []; steps = 6 }
-unfolding everything
-growth_past_the_hole_moves_run = refl
-
-abbrev script_growth_that_exactly_fills_the_hole_run : Script
-script_growth_that_exactly_fills_the_hole_run = record { classes = []; procedures = (record { parameters = []; body = record { locals = (OfPointer None) ∷ (OfPointer None) ∷ (OfPointer None) ∷ []; statements = rolled ((Statement-F.Alloc (Held (H.Local 0)) (Constant (pos 16)) GivesNull) ∷ (Statement-F.Alloc (Held (H.Local 1)) (Constant (pos 16)) GivesNull) ∷ (Statement-F.Alloc (Held (H.Local 2)) (Constant (pos 16)) GivesNull) ∷ (Statement-F.Free (Held (H.Local 1))) ∷ (Statement-F.Store (Held (H.Local 0)) (Constant (pos 3)) (Constant (pos 7))) ∷ (Statement-F.Realloc (Held (H.Local 0)) (Held (H.Local 0)) (Constant (pos 48)) GivesNull) ∷ Statement-F.NoteHeap ∷ []) } }) ∷ []; operations = []; literals = []; main = 0 }
-
-growth_that_exactly_fills_the_hole_run : run script_growth_that_exactly_fills_the_hole_run R.Unlimited 10000 (shaped 4096 4096) ≡ record { outcome = Ended None ((record { number = 2; length = 64; place = 144 }) ∷ (record { number = 4; length = 32; place = 208 }) ∷ []); trace = (line 1 144 0 Granted) ∷ (line 2 32 144 Granted) ∷ (line 3 32 176 Granted) ∷ (line 4 32 208 Granted) ∷ (line 5 64 144 Granted) ∷ []; lines = []; notes = (Heap 3 240 4096) ∷ []; steps = 7 }
-unfolding everything
-growth_that_exactly_fills_the_hole_run = refl
-
-abbrev script_mark_end_finds_live_cells_run : Script
-script_mark_end_finds_live_cells_run = record { classes = []; procedures = (record { parameters = []; body = record { locals = (OfPointer None) ∷ (OfPointer None) ∷ []; statements = rolled (Statement-F.Mark ∷ (Statement-F.Alloc (Held (H.Local 0)) (Constant (pos 16)) GivesNull) ∷ (Statement-F.Alloc (Held (H.Local 1)) (Constant (pos 16)) GivesNull) ∷ (Statement-F.MarkEnd (Constant (pos 0))) ∷ []) } }) ∷ []; operations = []; literals = []; main = 0 }
-
-mark_end_finds_live_cells_run : run script_mark_end_finds_live_cells_run R.Unlimited 10000 (shaped 4096 4096) ≡ record { outcome = Panicked (P.Alloc 144); trace = (line 1 144 0 Granted) ∷ (line 2 32 144 Granted) ∷ (line 3 32 176 Granted) ∷ []; lines = []; notes = []; steps = 4 }
-unfolding everything
-mark_end_finds_live_cells_run = refl
-
-abbrev script_mark_end_hands_cells_to_the_outer_level_run : Script
-script_mark_end_hands_cells_to_the_outer_level_run = record { classes = []; procedures = (record { parameters = []; body = record { locals = (OfPointer None) ∷ (OfPointer None) ∷ []; statements = rolled (Statement-F.Mark ∷ (Statement-F.Alloc (Held (H.Local 0)) (Constant (pos 16)) GivesNull) ∷ (Statement-F.Alloc (Held (H.Local 1)) (Constant (pos 16)) GivesNull) ∷ (Statement-F.MarkEnd (Constant (pos 2))) ∷ (Statement-F.Check (Constant (pos 2))) ∷ (Statement-F.Free (Held (H.Local 0))) ∷ (Statement-F.Free (Held (H.Local 1))) ∷ []) } }) ∷ []; operations = []; literals = []; main = 0 }
-
-mark_end_hands_cells_to_the_outer_level_run : run script_mark_end_hands_cells_to_the_outer_level_run R.Unlimited 10000 (shaped 4096 4096) ≡ record { outcome = Ended None []; trace = (line 1 144 0 Granted) ∷ (line 2 32 144 Granted) ∷ (line 3 32 176 Granted) ∷ []; lines = []; notes = []; steps = 7 }
-unfolding everything
-mark_end_hands_cells_to_the_outer_level_run = refl
-
-abbrev script_moved_cell_leaves_a_stale_pointer_run : Script
-script_moved_cell_leaves_a_stale_pointer_run = record { classes = []; procedures = (record { parameters = []; body = record { locals = (OfPointer None) ∷ (OfPointer None) ∷ (OfPointer None) ∷ OfNumber ∷ []; statements = rolled ((Statement-F.Alloc (Held (H.Local 0)) (Constant (pos 16)) GivesNull) ∷ (Statement-F.Store (Held (H.Local 0)) (Constant (pos 0)) (Constant (pos 77))) ∷ (Statement-F.Alloc (Held (H.Local 1)) (Constant (pos 16)) GivesNull) ∷ (Statement-F.Realloc (Held (H.Local 2)) (Held (H.Local 0)) (Constant (pos 32)) GivesNull) ∷ (Statement-F.Load 3 (Held (H.Local 2)) (Constant (pos 0))) ∷ (Statement-F.PrintNumber (Variable 3)) ∷ (Statement-F.Load 3 (Held (H.Local 0)) (Constant (pos 0))) ∷ []) } }) ∷ []; operations = []; literals = []; main = 0 }
-
-moved_cell_leaves_a_stale_pointer_run : run script_moved_cell_leaves_a_stale_pointer_run R.Unlimited 10000 (shaped 4096 4096) ≡ record { outcome = Panicked (P.Workbench 1); trace = (line 1 144 0 Granted) ∷ (line 2 32 144 Granted) ∷ (line 3 32 176 Granted) ∷ (line 4 48 208 Granted) ∷ []; lines = (55 ∷ 55 ∷ []) ∷ []; notes = []; steps = 7 }
-unfolding everything
-moved_cell_leaves_a_stale_pointer_run = refl
-
-abbrev script_nested_marks_hand_cells_outward_run : Script
-script_nested_marks_hand_cells_outward_run = record { classes = []; procedures = (record { parameters = []; body = record { locals = (OfPointer None) ∷ (OfPointer None) ∷ []; statements = rolled (Statement-F.Mark ∷ Statement-F.Mark ∷ (Statement-F.Alloc (Held (H.Local 0)) (Constant (pos 1)) GivesNull) ∷ (Statement-F.MarkEnd (Constant (pos 1))) ∷ (Statement-F.Check (Constant (pos 1))) ∷ (Statement-F.Alloc (Held (H.Local 1)) (Constant (pos 1)) GivesNull) ∷ (Statement-F.MarkEnd (Constant (pos 2))) ∷ (Statement-F.Check (Constant (pos 2))) ∷ []) } }) ∷ []; operations = []; literals = []; main = 0 }
-
-nested_marks_hand_cells_outward_run : run script_nested_marks_hand_cells_outward_run R.Unlimited 10000 (shaped 4096 4096) ≡ record { outcome = Ended None ((record { number = 2; length = 32; place = 144 }) ∷ (record { number = 3; length = 32; place = 176 }) ∷ []); trace = (line 1 144 0 Granted) ∷ (line 2 32 144 Granted) ∷ (line 3 32 176 Granted) ∷ []; lines = []; notes = []; steps = 8 }
-unfolding everything
-nested_marks_hand_cells_outward_run = refl
-
-abbrev script_refused_top_cell_stays_and_leaks_run : Script
-script_refused_top_cell_stays_and_leaks_run = record { classes = []; procedures = (record { parameters = []; body = record { locals = (OfPointer None) ∷ (OfPointer None) ∷ (OfPointer None) ∷ []; statements = rolled ((Statement-F.Alloc (Held (H.Local 0)) (Constant (pos 48)) GivesNull) ∷ (Statement-F.Alloc (Held (H.Local 1)) (Constant (pos 16)) GivesNull) ∷ (Statement-F.Free (Held (H.Local 0))) ∷ (Statement-F.Realloc (Held (H.Local 2)) (Held (H.Local 1)) (Constant (pos 48)) GivesNull) ∷ (Statement-F.Free (Held (H.Local 2))) ∷ []) } }) ∷ []; operations = []; literals = []; main = 0 }
-
-refused_top_cell_stays_and_leaks_run : run script_refused_top_cell_stays_and_leaks_run (R.Limit 256) 10000 (shaped 4096 4096) ≡ record { outcome = Ended None ((record { number = 3; length = 32; place = 208 }) ∷ []); trace = (line 1 144 0 Granted) ∷ (line 2 64 144 Granted) ∷ (line 3 32 208 Granted) ∷ (line 4 64 208 Refused) ∷ []; lines = []; notes = []; steps = 5 }
-unfolding everything
-refused_top_cell_stays_and_leaks_run = refl
-
-abbrev script_second_attempt_fails_run : Script
-script_second_attempt_fails_run = record { classes = []; procedures = (record { parameters = []; body = record { locals = (OfPointer None) ∷ (OfPointer None) ∷ (OfPointer None) ∷ []; statements = rolled ((Statement-F.Alloc (Held (H.Local 0)) (Constant (pos 10)) GivesNull) ∷ (Statement-F.Alloc (Held (H.Local 1)) (Constant (pos 100)) GivesNull) ∷ (Statement-F.Free (Held (H.Local 0))) ∷ (Statement-F.Alloc (Held (H.Local 2)) (Constant (pos 16)) GivesNull) ∷ (Statement-F.Free (Held (H.Local 1))) ∷ (Statement-F.Free (Held (H.Local 2))) ∷ []) } }) ∷ []; operations = []; literals = []; main = 0 }
-
-second_attempt_fails_run : run script_second_attempt_fails_run (R.Number 2) 10000 (shaped 4096 4096) ≡ record { outcome = Ended None []; trace = (line 1 144 0 Granted) ∷ (line 2 32 144 Simulated) ∷ (line 3 128 144 Granted) ∷ (line 4 32 272 Granted) ∷ []; lines = []; notes = []; steps = 6 }
-unfolding everything
-second_attempt_fails_run = refl
 
 abbrev script_cell_for_zero_bytes_size : Script
 script_cell_for_zero_bytes_size = record { classes = []; procedures = (record { parameters = []; body = record { locals = (OfPointer None) ∷ OfNumber ∷ []; statements = rolled ((Statement-F.Alloc (Held (H.Local 0)) (Constant (pos 0)) GivesNull) ∷ (Statement-F.AllocLen 1 (Held (H.Local 0))) ∷ (Statement-F.PrintNumber (Variable 1)) ∷ (Statement-F.Free (Held (H.Local 0))) ∷ []) } }) ∷ []; operations = []; literals = []; main = 0 }
@@ -673,3 +1079,367 @@ script_limit_zero_run = record { classes = []; procedures = (record { parameters
 limit_zero_run : run script_limit_zero_run (R.Limit 0) 10000 (shaped 4096 4096) ≡ record { outcome = NoCleanup; trace = (line 1 144 0 Refused) ∷ []; lines = []; notes = []; steps = 0 }
 unfolding everything
 limit_zero_run = refl
+
+abbrev script_cell_for_zero_bytes_run : Script
+script_cell_for_zero_bytes_run = record { classes = []; procedures = (record { parameters = []; body = record { locals = (OfPointer None) ∷ OfNumber ∷ []; statements = rolled ((Statement-F.Alloc (Held (H.Local 0)) (Constant (pos 0)) GivesNull) ∷ (Statement-F.AllocLen 1 (Held (H.Local 0))) ∷ (Statement-F.PrintNumber (Variable 1)) ∷ (Statement-F.Free (Held (H.Local 0))) ∷ []) } }) ∷ []; operations = []; literals = []; main = 0 }
+
+cell_for_zero_bytes_run : run script_cell_for_zero_bytes_run R.Unlimited 10000 (shaped 4096 4096) ≡ record { outcome = Ended None []; trace = (line 1 144 0 Granted) ∷ (line 2 16 144 Granted) ∷ []; lines = (48 ∷ []) ∷ []; notes = []; steps = 4 }
+unfolding everything
+cell_for_zero_bytes_run = refl
+
+abbrev script_fail_next_fires_once_run : Script
+script_fail_next_fires_once_run = record { classes = []; procedures = (record { parameters = []; body = record { locals = (OfPointer None) ∷ []; statements = rolled ((Statement-F.FailNext (Constant (pos 1))) ∷ (Statement-F.Alloc (Held (H.Local 0)) (Constant (pos 16)) GivesNull) ∷ (Statement-F.Alloc (Held (H.Local 0)) (Constant (pos 16)) GivesNull) ∷ (Statement-F.Free (Held (H.Local 0))) ∷ []) } }) ∷ []; operations = []; literals = []; main = 0 }
+
+fail_next_fires_once_run : run script_fail_next_fires_once_run R.Unlimited 10000 (shaped 4096 4096) ≡ record { outcome = Ended None []; trace = (line 1 144 0 Granted) ∷ (line 2 32 144 Simulated) ∷ (line 3 32 144 Granted) ∷ []; lines = []; notes = []; steps = 4 }
+unfolding everything
+fail_next_fires_once_run = refl
+
+abbrev script_growth_past_the_hole_moves_run : Script
+script_growth_past_the_hole_moves_run = record { classes = []; procedures = (record { parameters = []; body = record { locals = (OfPointer None) ∷ (OfPointer None) ∷ (OfPointer None) ∷ []; statements = rolled ((Statement-F.Alloc (Held (H.Local 0)) (Constant (pos 16)) GivesNull) ∷ (Statement-F.Alloc (Held (H.Local 1)) (Constant (pos 16)) GivesNull) ∷ (Statement-F.Alloc (Held (H.Local 2)) (Constant (pos 16)) GivesNull) ∷ (Statement-F.Free (Held (H.Local 1))) ∷ (Statement-F.Realloc (Held (H.Local 0)) (Held (H.Local 0)) (Constant (pos 49)) GivesNull) ∷ Statement-F.NoteHeap ∷ []) } }) ∷ []; operations = []; literals = []; main = 0 }
+
+growth_past_the_hole_moves_run : run script_growth_past_the_hole_moves_run R.Unlimited 10000 (shaped 4096 4096) ≡ record { outcome = Ended None ((record { number = 4; length = 32; place = 208 }) ∷ (record { number = 5; length = 80; place = 240 }) ∷ []); trace = (line 1 144 0 Granted) ∷ (line 2 32 144 Granted) ∷ (line 3 32 176 Granted) ∷ (line 4 32 208 Granted) ∷ (line 5 80 240 Granted) ∷ []; lines = []; notes = (Heap 3 256 4096) ∷ []; steps = 6 }
+unfolding everything
+growth_past_the_hole_moves_run = refl
+
+abbrev script_growth_that_exactly_fills_the_hole_run : Script
+script_growth_that_exactly_fills_the_hole_run = record { classes = []; procedures = (record { parameters = []; body = record { locals = (OfPointer None) ∷ (OfPointer None) ∷ (OfPointer None) ∷ []; statements = rolled ((Statement-F.Alloc (Held (H.Local 0)) (Constant (pos 16)) GivesNull) ∷ (Statement-F.Alloc (Held (H.Local 1)) (Constant (pos 16)) GivesNull) ∷ (Statement-F.Alloc (Held (H.Local 2)) (Constant (pos 16)) GivesNull) ∷ (Statement-F.Free (Held (H.Local 1))) ∷ (Statement-F.Store (Held (H.Local 0)) (Constant (pos 3)) (Constant (pos 7))) ∷ (Statement-F.Realloc (Held (H.Local 0)) (Held (H.Local 0)) (Constant (pos 48)) GivesNull) ∷ Statement-F.NoteHeap ∷ []) } }) ∷ []; operations = []; literals = []; main = 0 }
+
+growth_that_exactly_fills_the_hole_run : run script_growth_that_exactly_fills_the_hole_run R.Unlimited 10000 (shaped 4096 4096) ≡ record { outcome = Ended None ((record { number = 2; length = 64; place = 144 }) ∷ (record { number = 4; length = 32; place = 208 }) ∷ []); trace = (line 1 144 0 Granted) ∷ (line 2 32 144 Granted) ∷ (line 3 32 176 Granted) ∷ (line 4 32 208 Granted) ∷ (line 5 64 144 Granted) ∷ []; lines = []; notes = (Heap 3 240 4096) ∷ []; steps = 7 }
+unfolding everything
+growth_that_exactly_fills_the_hole_run = refl
+
+abbrev script_mark_end_finds_live_cells_run : Script
+script_mark_end_finds_live_cells_run = record { classes = []; procedures = (record { parameters = []; body = record { locals = (OfPointer None) ∷ (OfPointer None) ∷ []; statements = rolled (Statement-F.Mark ∷ (Statement-F.Alloc (Held (H.Local 0)) (Constant (pos 16)) GivesNull) ∷ (Statement-F.Alloc (Held (H.Local 1)) (Constant (pos 16)) GivesNull) ∷ (Statement-F.MarkEnd (Constant (pos 0))) ∷ []) } }) ∷ []; operations = []; literals = []; main = 0 }
+
+mark_end_finds_live_cells_run : run script_mark_end_finds_live_cells_run R.Unlimited 10000 (shaped 4096 4096) ≡ record { outcome = Panicked (P.Alloc 144); trace = (line 1 144 0 Granted) ∷ (line 2 32 144 Granted) ∷ (line 3 32 176 Granted) ∷ []; lines = []; notes = []; steps = 4 }
+unfolding everything
+mark_end_finds_live_cells_run = refl
+
+abbrev script_mark_end_hands_cells_to_the_outer_level_run : Script
+script_mark_end_hands_cells_to_the_outer_level_run = record { classes = []; procedures = (record { parameters = []; body = record { locals = (OfPointer None) ∷ (OfPointer None) ∷ []; statements = rolled (Statement-F.Mark ∷ (Statement-F.Alloc (Held (H.Local 0)) (Constant (pos 16)) GivesNull) ∷ (Statement-F.Alloc (Held (H.Local 1)) (Constant (pos 16)) GivesNull) ∷ (Statement-F.MarkEnd (Constant (pos 2))) ∷ (Statement-F.Check (Constant (pos 2))) ∷ (Statement-F.Free (Held (H.Local 0))) ∷ (Statement-F.Free (Held (H.Local 1))) ∷ []) } }) ∷ []; operations = []; literals = []; main = 0 }
+
+mark_end_hands_cells_to_the_outer_level_run : run script_mark_end_hands_cells_to_the_outer_level_run R.Unlimited 10000 (shaped 4096 4096) ≡ record { outcome = Ended None []; trace = (line 1 144 0 Granted) ∷ (line 2 32 144 Granted) ∷ (line 3 32 176 Granted) ∷ []; lines = []; notes = []; steps = 7 }
+unfolding everything
+mark_end_hands_cells_to_the_outer_level_run = refl
+
+abbrev script_moved_cell_leaves_a_stale_pointer_run : Script
+script_moved_cell_leaves_a_stale_pointer_run = record { classes = []; procedures = (record { parameters = []; body = record { locals = (OfPointer None) ∷ (OfPointer None) ∷ (OfPointer None) ∷ OfNumber ∷ []; statements = rolled ((Statement-F.Alloc (Held (H.Local 0)) (Constant (pos 16)) GivesNull) ∷ (Statement-F.Store (Held (H.Local 0)) (Constant (pos 0)) (Constant (pos 77))) ∷ (Statement-F.Alloc (Held (H.Local 1)) (Constant (pos 16)) GivesNull) ∷ (Statement-F.Realloc (Held (H.Local 2)) (Held (H.Local 0)) (Constant (pos 32)) GivesNull) ∷ (Statement-F.Load 3 (Held (H.Local 2)) (Constant (pos 0))) ∷ (Statement-F.PrintNumber (Variable 3)) ∷ (Statement-F.Load 3 (Held (H.Local 0)) (Constant (pos 0))) ∷ []) } }) ∷ []; operations = []; literals = []; main = 0 }
+
+moved_cell_leaves_a_stale_pointer_run : run script_moved_cell_leaves_a_stale_pointer_run R.Unlimited 10000 (shaped 4096 4096) ≡ record { outcome = Panicked (P.Workbench 1); trace = (line 1 144 0 Granted) ∷ (line 2 32 144 Granted) ∷ (line 3 32 176 Granted) ∷ (line 4 48 208 Granted) ∷ []; lines = (55 ∷ 55 ∷ []) ∷ []; notes = []; steps = 7 }
+unfolding everything
+moved_cell_leaves_a_stale_pointer_run = refl
+
+abbrev script_nested_marks_hand_cells_outward_run : Script
+script_nested_marks_hand_cells_outward_run = record { classes = []; procedures = (record { parameters = []; body = record { locals = (OfPointer None) ∷ (OfPointer None) ∷ []; statements = rolled (Statement-F.Mark ∷ Statement-F.Mark ∷ (Statement-F.Alloc (Held (H.Local 0)) (Constant (pos 1)) GivesNull) ∷ (Statement-F.MarkEnd (Constant (pos 1))) ∷ (Statement-F.Check (Constant (pos 1))) ∷ (Statement-F.Alloc (Held (H.Local 1)) (Constant (pos 1)) GivesNull) ∷ (Statement-F.MarkEnd (Constant (pos 2))) ∷ (Statement-F.Check (Constant (pos 2))) ∷ []) } }) ∷ []; operations = []; literals = []; main = 0 }
+
+nested_marks_hand_cells_outward_run : run script_nested_marks_hand_cells_outward_run R.Unlimited 10000 (shaped 4096 4096) ≡ record { outcome = Ended None ((record { number = 2; length = 32; place = 144 }) ∷ (record { number = 3; length = 32; place = 176 }) ∷ []); trace = (line 1 144 0 Granted) ∷ (line 2 32 144 Granted) ∷ (line 3 32 176 Granted) ∷ []; lines = []; notes = []; steps = 8 }
+unfolding everything
+nested_marks_hand_cells_outward_run = refl
+
+abbrev script_refused_top_cell_stays_and_leaks_run : Script
+script_refused_top_cell_stays_and_leaks_run = record { classes = []; procedures = (record { parameters = []; body = record { locals = (OfPointer None) ∷ (OfPointer None) ∷ (OfPointer None) ∷ []; statements = rolled ((Statement-F.Alloc (Held (H.Local 0)) (Constant (pos 48)) GivesNull) ∷ (Statement-F.Alloc (Held (H.Local 1)) (Constant (pos 16)) GivesNull) ∷ (Statement-F.Free (Held (H.Local 0))) ∷ (Statement-F.Realloc (Held (H.Local 2)) (Held (H.Local 1)) (Constant (pos 48)) GivesNull) ∷ (Statement-F.Free (Held (H.Local 2))) ∷ []) } }) ∷ []; operations = []; literals = []; main = 0 }
+
+refused_top_cell_stays_and_leaks_run : run script_refused_top_cell_stays_and_leaks_run (R.Limit 256) 10000 (shaped 4096 4096) ≡ record { outcome = Ended None ((record { number = 3; length = 32; place = 208 }) ∷ []); trace = (line 1 144 0 Granted) ∷ (line 2 64 144 Granted) ∷ (line 3 32 208 Granted) ∷ (line 4 64 208 Refused) ∷ []; lines = []; notes = []; steps = 5 }
+unfolding everything
+refused_top_cell_stays_and_leaks_run = refl
+
+abbrev script_second_attempt_fails_run : Script
+script_second_attempt_fails_run = record { classes = []; procedures = (record { parameters = []; body = record { locals = (OfPointer None) ∷ (OfPointer None) ∷ (OfPointer None) ∷ []; statements = rolled ((Statement-F.Alloc (Held (H.Local 0)) (Constant (pos 10)) GivesNull) ∷ (Statement-F.Alloc (Held (H.Local 1)) (Constant (pos 100)) GivesNull) ∷ (Statement-F.Free (Held (H.Local 0))) ∷ (Statement-F.Alloc (Held (H.Local 2)) (Constant (pos 16)) GivesNull) ∷ (Statement-F.Free (Held (H.Local 1))) ∷ (Statement-F.Free (Held (H.Local 2))) ∷ []) } }) ∷ []; operations = []; literals = []; main = 0 }
+
+second_attempt_fails_run : run script_second_attempt_fails_run (R.Number 2) 10000 (shaped 4096 4096) ≡ record { outcome = Ended None []; trace = (line 1 144 0 Granted) ∷ (line 2 32 144 Simulated) ∷ (line 3 128 144 Granted) ∷ (line 4 32 272 Granted) ∷ []; lines = []; notes = []; steps = 6 }
+unfolding everything
+second_attempt_fails_run = refl
+
+abbrev script_append_past_the_end_of_the_buffer_run : Script
+script_append_past_the_end_of_the_buffer_run = record { classes = []; procedures = (record { parameters = []; body = record { locals = (OfBuffer 3) ∷ []; statements = rolled ((Statement-F.Append (OwnBuffer 0) (Quoted 0)) ∷ (Statement-F.Append (OwnBuffer 0) (Quoted 1)) ∷ []) } }) ∷ []; operations = []; literals = (97 ∷ 98 ∷ []) ∷ (99 ∷ 100 ∷ []) ∷ []; main = 0 }
+
+append_past_the_end_of_the_buffer_run : run script_append_past_the_end_of_the_buffer_run R.Unlimited 10000 (shaped 4096 4096) ≡ record { outcome = Panicked (P.User 11); trace = (line 1 144 0 Granted) ∷ []; lines = []; notes = []; steps = 2 }
+unfolding everything
+append_past_the_end_of_the_buffer_run = refl
+
+abbrev script_buffer_is_copied_appended_and_inserted_run : Script
+script_buffer_is_copied_appended_and_inserted_run = record { classes = []; procedures = (record { parameters = []; body = record { locals = (OfBuffer 10) ∷ OfNumber ∷ []; statements = rolled ((Statement-F.GetMaximum 1 (OwnBuffer 0)) ∷ (Statement-F.PrintNumber (Variable 1)) ∷ (Statement-F.PrintText (Of (OwnBuffer 0))) ∷ (Statement-F.Copy (OwnBuffer 0) (Quoted 0)) ∷ (Statement-F.Insert (OwnBuffer 0) (Constant (pos 0)) (Quoted 1)) ∷ (Statement-F.Insert (OwnBuffer 0) (Constant (pos 4)) (Quoted 2)) ∷ (Statement-F.Append (OwnBuffer 0) (Quoted 3)) ∷ (Statement-F.GetLength 1 (Of (OwnBuffer 0))) ∷ (Statement-F.PrintNumber (Variable 1)) ∷ (Statement-F.PrintText (Of (OwnBuffer 0))) ∷ (Statement-F.Copy (OwnBuffer 0) (Quoted 4)) ∷ (Statement-F.GetLength 1 (Of (OwnBuffer 0))) ∷ (Statement-F.PrintNumber (Variable 1)) ∷ []) } }) ∷ []; operations = []; literals = (98 ∷ 99 ∷ 100 ∷ []) ∷ (97 ∷ []) ∷ (122 ∷ []) ∷ (33 ∷ []) ∷ [] ∷ []; main = 0 }
+
+buffer_is_copied_appended_and_inserted_run : run script_buffer_is_copied_appended_and_inserted_run R.Unlimited 10000 (shaped 4096 4096) ≡ record { outcome = Ended None []; trace = (line 1 144 0 Granted) ∷ []; lines = (49 ∷ 48 ∷ []) ∷ [] ∷ (54 ∷ []) ∷ (97 ∷ 98 ∷ 99 ∷ 100 ∷ 122 ∷ 33 ∷ []) ∷ (48 ∷ []) ∷ []; notes = []; steps = 13 }
+unfolding everything
+buffer_is_copied_appended_and_inserted_run = refl
+
+abbrev script_cell_text_appended_to_itself_run : Script
+script_cell_text_appended_to_itself_run = record { classes = []; procedures = (record { parameters = []; body = record { locals = (OfPointer None) ∷ OfView ∷ []; statements = rolled ((Statement-F.NewText (Held (H.Local 0)) (Constant (pos 6)) GivesNull) ∷ (Statement-F.Copy (InCell (Held (H.Local 0))) (Quoted 0)) ∷ (Statement-F.Append (InCell (Held (H.Local 0))) (Of (InCell (Held (H.Local 0))))) ∷ (Statement-F.PrintText (Of (InCell (Held (H.Local 0))))) ∷ (Statement-F.Right 1 (Of (InCell (Held (H.Local 0)))) (Constant (pos 2))) ∷ (Statement-F.Copy (InCell (Held (H.Local 0))) (ViewOf 1)) ∷ (Statement-F.PrintText (Of (InCell (Held (H.Local 0))))) ∷ (Statement-F.Free (Held (H.Local 0))) ∷ []) } }) ∷ []; operations = []; literals = (97 ∷ 98 ∷ 99 ∷ []) ∷ []; main = 0 }
+
+cell_text_appended_to_itself_run : run script_cell_text_appended_to_itself_run R.Unlimited 10000 (shaped 4096 4096) ≡ record { outcome = Ended None []; trace = (line 1 144 0 Granted) ∷ (line 2 32 144 Granted) ∷ []; lines = (97 ∷ 98 ∷ 99 ∷ 97 ∷ 98 ∷ 99 ∷ []) ∷ (98 ∷ 99 ∷ []) ∷ []; notes = []; steps = 8 }
+unfolding everything
+cell_text_appended_to_itself_run = refl
+
+abbrev script_copy_longer_than_the_buffer_run : Script
+script_copy_longer_than_the_buffer_run = record { classes = []; procedures = (record { parameters = []; body = record { locals = (OfBuffer 3) ∷ []; statements = rolled ((Statement-F.Copy (OwnBuffer 0) (Quoted 0)) ∷ (Statement-F.PrintText (Of (OwnBuffer 0))) ∷ (Statement-F.Copy (OwnBuffer 0) (Quoted 1)) ∷ []) } }) ∷ []; operations = []; literals = (97 ∷ 98 ∷ 99 ∷ []) ∷ (97 ∷ 98 ∷ 99 ∷ 100 ∷ []) ∷ []; main = 0 }
+
+copy_longer_than_the_buffer_run : run script_copy_longer_than_the_buffer_run R.Unlimited 10000 (shaped 4096 4096) ≡ record { outcome = Panicked (P.User 11); trace = (line 1 144 0 Granted) ∷ []; lines = (97 ∷ 98 ∷ 99 ∷ []) ∷ []; notes = []; steps = 3 }
+unfolding everything
+copy_longer_than_the_buffer_run = refl
+
+abbrev script_deletion_of_fewer_than_none_run : Script
+script_deletion_of_fewer_than_none_run = record { classes = []; procedures = (record { parameters = []; body = record { locals = (OfBuffer 8) ∷ []; statements = rolled ((Statement-F.Copy (OwnBuffer 0) (Quoted 0)) ∷ (Statement-F.DeleteText (OwnBuffer 0) (Constant (pos 9)) (Constant (negsuc 0))) ∷ []) } }) ∷ []; operations = []; literals = (97 ∷ 98 ∷ 99 ∷ []) ∷ []; main = 0 }
+
+deletion_of_fewer_than_none_run : run script_deletion_of_fewer_than_none_run R.Unlimited 10000 (shaped 4096 4096) ≡ record { outcome = Panicked (P.Workbench 9); trace = (line 1 144 0 Granted) ∷ []; lines = []; notes = []; steps = 2 }
+unfolding everything
+deletion_of_fewer_than_none_run = refl
+
+abbrev script_deletion_stops_at_the_end_run : Script
+script_deletion_stops_at_the_end_run = record { classes = []; procedures = (record { parameters = []; body = record { locals = (OfBuffer 8) ∷ []; statements = rolled ((Statement-F.Copy (OwnBuffer 0) (Quoted 0)) ∷ (Statement-F.DeleteText (OwnBuffer 0) (Constant (pos 1)) (Constant (pos 2))) ∷ (Statement-F.PrintText (Of (OwnBuffer 0))) ∷ (Statement-F.DeleteText (OwnBuffer 0) (Constant (pos 4)) (Constant (pos 5))) ∷ (Statement-F.PrintText (Of (OwnBuffer 0))) ∷ (Statement-F.DeleteText (OwnBuffer 0) (Constant (pos 2)) (Constant (pos 99))) ∷ (Statement-F.PrintText (Of (OwnBuffer 0))) ∷ (Statement-F.DeleteText (OwnBuffer 0) (Constant (pos 3)) (Constant (pos 0))) ∷ []) } }) ∷ []; operations = []; literals = (97 ∷ 98 ∷ 99 ∷ 100 ∷ 101 ∷ 102 ∷ []) ∷ []; main = 0 }
+
+deletion_stops_at_the_end_run : run script_deletion_stops_at_the_end_run R.Unlimited 10000 (shaped 4096 4096) ≡ record { outcome = Panicked (P.User 10); trace = (line 1 144 0 Granted) ∷ []; lines = (97 ∷ 100 ∷ 101 ∷ 102 ∷ []) ∷ (97 ∷ 100 ∷ 101 ∷ 102 ∷ []) ∷ (97 ∷ 100 ∷ []) ∷ []; notes = []; steps = 8 }
+unfolding everything
+deletion_stops_at_the_end_run = refl
+
+abbrev script_growing_a_cell_as_a_text_run : Script
+script_growing_a_cell_as_a_text_run = record { classes = []; procedures = (record { parameters = []; body = record { locals = (OfPointer None) ∷ []; statements = rolled ((Statement-F.Alloc (Held (H.Local 0)) (Constant (pos 1)) GivesNull) ∷ (Statement-F.ReallocText (Held (H.Local 0)) (Held (H.Local 0)) (Constant (pos 9))) ∷ []) } }) ∷ []; operations = []; literals = []; main = 0 }
+
+growing_a_cell_as_a_text_run : run script_growing_a_cell_as_a_text_run R.Unlimited 10000 (shaped 4096 4096) ≡ record { outcome = Panicked (P.Workbench 2); trace = (line 1 144 0 Granted) ∷ (line 2 32 144 Granted) ∷ []; lines = []; notes = []; steps = 2 }
+unfolding everything
+growing_a_cell_as_a_text_run = refl
+
+abbrev script_growing_a_text_as_a_cell_run : Script
+script_growing_a_text_as_a_cell_run = record { classes = []; procedures = (record { parameters = []; body = record { locals = (OfPointer None) ∷ []; statements = rolled ((Statement-F.NewText (Held (H.Local 0)) (Constant (pos 1)) GivesNull) ∷ (Statement-F.Realloc (Held (H.Local 0)) (Held (H.Local 0)) (Constant (negsuc 0)) GivesNull) ∷ []) } }) ∷ []; operations = []; literals = []; main = 0 }
+
+growing_a_text_as_a_cell_run : run script_growing_a_text_as_a_cell_run R.Unlimited 10000 (shaped 4096 4096) ≡ record { outcome = Panicked (P.Workbench 2); trace = (line 1 144 0 Granted) ∷ (line 2 32 144 Granted) ∷ []; lines = []; notes = []; steps = 2 }
+unfolding everything
+growing_a_text_as_a_cell_run = refl
+
+abbrev script_growing_a_text_past_one_mebibyte_run : Script
+script_growing_a_text_past_one_mebibyte_run = record { classes = []; procedures = (record { parameters = []; body = record { locals = (OfPointer None) ∷ []; statements = rolled ((Statement-F.NewText (Held (H.Local 0)) (Constant (pos 1)) GivesNull) ∷ (Statement-F.ReallocText (Held (H.Local 0)) (Held (H.Local 0)) (Constant (pos 524287))) ∷ []) } }) ∷ []; operations = []; literals = []; main = 0 }
+
+growing_a_text_past_one_mebibyte_run : run script_growing_a_text_past_one_mebibyte_run R.Unlimited 10000 (shaped 4096 4096) ≡ record { outcome = Panicked (P.Workbench 9); trace = (line 1 144 0 Granted) ∷ (line 2 32 144 Granted) ∷ []; lines = []; notes = []; steps = 2 }
+unfolding everything
+growing_a_text_past_one_mebibyte_run = refl
+
+abbrev script_growing_no_text_run : Script
+script_growing_no_text_run = record { classes = []; procedures = (record { parameters = []; body = record { locals = (OfPointer None) ∷ []; statements = rolled ((Statement-F.ReallocText (Held (H.Local 0)) (Held (H.Local 0)) (Constant (negsuc 0))) ∷ []) } }) ∷ []; operations = []; literals = []; main = 0 }
+
+growing_no_text_run : run script_growing_no_text_run R.Unlimited 10000 (shaped 4096 4096) ≡ record { outcome = Panicked (P.Workbench 1); trace = (line 1 144 0 Granted) ∷ []; lines = []; notes = []; steps = 1 }
+unfolding everything
+growing_no_text_run = refl
+
+abbrev script_grown_text_moves_with_its_units_run : Script
+script_grown_text_moves_with_its_units_run = record { classes = []; procedures = (record { parameters = []; body = record { locals = (OfPointer None) ∷ (OfPointer None) ∷ OfNumber ∷ []; statements = rolled ((Statement-F.NewText (Held (H.Local 0)) (Constant (pos 4)) GivesNull) ∷ (Statement-F.Alloc (Held (H.Local 1)) (Constant (pos 1)) GivesNull) ∷ (Statement-F.Append (InCell (Held (H.Local 0))) (Quoted 0)) ∷ (Statement-F.ReallocText (Held (H.Local 0)) (Held (H.Local 0)) (Constant (pos 20))) ∷ (Statement-F.Append (InCell (Held (H.Local 0))) (Quoted 1)) ∷ (Statement-F.PrintText (Of (InCell (Held (H.Local 0))))) ∷ (Statement-F.GetMaximum 2 (InCell (Held (H.Local 0)))) ∷ (Statement-F.PrintNumber (Variable 2)) ∷ (Statement-F.Free (Held (H.Local 1))) ∷ (Statement-F.Free (Held (H.Local 0))) ∷ []) } }) ∷ []; operations = []; literals = (97 ∷ 98 ∷ 99 ∷ []) ∷ (100 ∷ 101 ∷ 102 ∷ 103 ∷ []) ∷ []; main = 0 }
+
+grown_text_moves_with_its_units_run : run script_grown_text_moves_with_its_units_run R.Unlimited 10000 (shaped 4096 4096) ≡ record { outcome = Ended None []; trace = (line 1 144 0 Granted) ∷ (line 2 32 144 Granted) ∷ (line 3 32 176 Granted) ∷ (line 4 64 208 Granted) ∷ []; lines = (97 ∷ 98 ∷ 99 ∷ 100 ∷ 101 ∷ 102 ∷ 103 ∷ []) ∷ (50 ∷ 50 ∷ []) ∷ []; notes = []; steps = 10 }
+unfolding everything
+grown_text_moves_with_its_units_run = refl
+
+abbrev script_insert_asks_for_the_position_first_run : Script
+script_insert_asks_for_the_position_first_run = record { classes = []; procedures = (record { parameters = []; body = record { locals = (OfBuffer 3) ∷ []; statements = rolled ((Statement-F.Copy (OwnBuffer 0) (Quoted 0)) ∷ (Statement-F.Insert (OwnBuffer 0) (Constant (pos 4)) (Quoted 1)) ∷ []) } }) ∷ []; operations = []; literals = (97 ∷ 98 ∷ 99 ∷ []) ∷ (102 ∷ 97 ∷ 114 ∷ 32 ∷ 116 ∷ 111 ∷ 111 ∷ 32 ∷ 108 ∷ 111 ∷ 110 ∷ 103 ∷ []) ∷ []; main = 0 }
+
+insert_asks_for_the_position_first_run : run script_insert_asks_for_the_position_first_run R.Unlimited 10000 (shaped 4096 4096) ≡ record { outcome = Panicked (P.User 10); trace = (line 1 144 0 Granted) ∷ []; lines = []; notes = []; steps = 2 }
+unfolding everything
+insert_asks_for_the_position_first_run = refl
+
+abbrev script_insert_before_the_first_unit_run : Script
+script_insert_before_the_first_unit_run = record { classes = []; procedures = (record { parameters = []; body = record { locals = (OfBuffer 3) ∷ []; statements = rolled ((Statement-F.Insert (OwnBuffer 0) (Constant (negsuc 0)) (Quoted 0)) ∷ []) } }) ∷ []; operations = []; literals = (97 ∷ []) ∷ []; main = 0 }
+
+insert_before_the_first_unit_run : run script_insert_before_the_first_unit_run R.Unlimited 10000 (shaped 4096 4096) ≡ record { outcome = Panicked (P.Workbench 9); trace = (line 1 144 0 Granted) ∷ []; lines = []; notes = []; steps = 1 }
+unfolding everything
+insert_before_the_first_unit_run = refl
+
+abbrev script_insert_of_a_text_into_itself_run : Script
+script_insert_of_a_text_into_itself_run = record { classes = []; procedures = (record { parameters = []; body = record { locals = (OfBuffer 8) ∷ []; statements = rolled ((Statement-F.Copy (OwnBuffer 0) (Quoted 0)) ∷ (Statement-F.Insert (OwnBuffer 0) (Constant (pos 99)) (Of (OwnBuffer 0))) ∷ []) } }) ∷ []; operations = []; literals = (97 ∷ 98 ∷ []) ∷ []; main = 0 }
+
+insert_of_a_text_into_itself_run : run script_insert_of_a_text_into_itself_run R.Unlimited 10000 (shaped 4096 4096) ≡ record { outcome = Panicked (P.Workbench 9); trace = (line 1 144 0 Granted) ∷ []; lines = []; notes = []; steps = 2 }
+unfolding everything
+insert_of_a_text_into_itself_run = refl
+
+abbrev script_insert_of_a_text_under_another_name_run : Script
+script_insert_of_a_text_under_another_name_run = record { classes = []; procedures = (record { parameters = []; body = record { locals = (OfPointer None) ∷ (OfPointer None) ∷ []; statements = rolled ((Statement-F.NewText (Held (H.Local 0)) (Constant (pos 4)) GivesNull) ∷ (Statement-F.Set (Held (H.Local 1)) (Held (H.Local 0))) ∷ (Statement-F.Insert (InCell (Held (H.Local 0))) (Constant (pos 0)) (Of (InCell (Held (H.Local 1))))) ∷ []) } }) ∷ []; operations = []; literals = []; main = 0 }
+
+insert_of_a_text_under_another_name_run : run script_insert_of_a_text_under_another_name_run R.Unlimited 10000 (shaped 4096 4096) ≡ record { outcome = Panicked (P.Workbench 9); trace = (line 1 144 0 Granted) ∷ (line 2 32 144 Granted) ∷ []; lines = []; notes = []; steps = 3 }
+unfolding everything
+insert_of_a_text_under_another_name_run = refl
+
+abbrev script_insert_past_the_maximum_run : Script
+script_insert_past_the_maximum_run = record { classes = []; procedures = (record { parameters = []; body = record { locals = (OfBuffer 3) ∷ []; statements = rolled ((Statement-F.Copy (OwnBuffer 0) (Quoted 0)) ∷ (Statement-F.Insert (OwnBuffer 0) (Constant (pos 3)) (Quoted 1)) ∷ []) } }) ∷ []; operations = []; literals = (97 ∷ 98 ∷ 99 ∷ []) ∷ (100 ∷ []) ∷ []; main = 0 }
+
+insert_past_the_maximum_run : run script_insert_past_the_maximum_run R.Unlimited 10000 (shaped 4096 4096) ≡ record { outcome = Panicked (P.User 11); trace = (line 1 144 0 Granted) ∷ []; lines = []; notes = []; steps = 2 }
+unfolding everything
+insert_past_the_maximum_run = refl
+
+abbrev script_left_longer_than_the_text_run : Script
+script_left_longer_than_the_text_run = record { classes = []; procedures = (record { parameters = []; body = record { locals = OfView ∷ []; statements = rolled ((Statement-F.Left 0 (Quoted 0) (Constant (pos 3))) ∷ (Statement-F.PrintText (ViewOf 0)) ∷ (Statement-F.Left 0 (Quoted 1) (Constant (pos 4))) ∷ []) } }) ∷ []; operations = []; literals = (97 ∷ 98 ∷ 99 ∷ []) ∷ (97 ∷ 98 ∷ 99 ∷ []) ∷ []; main = 0 }
+
+left_longer_than_the_text_run : run script_left_longer_than_the_text_run R.Unlimited 10000 (shaped 4096 4096) ≡ record { outcome = Panicked (P.User 10); trace = (line 1 144 0 Granted) ∷ []; lines = (97 ∷ 98 ∷ 99 ∷ []) ∷ []; notes = []; steps = 3 }
+unfolding everything
+left_longer_than_the_text_run = refl
+
+abbrev script_length_below_zero_run : Script
+script_length_below_zero_run = record { classes = []; procedures = (record { parameters = []; body = record { locals = (OfBuffer 4) ∷ []; statements = rolled ((Statement-F.SetLength (OwnBuffer 0) (Constant (negsuc 0))) ∷ []) } }) ∷ []; operations = []; literals = []; main = 0 }
+
+length_below_zero_run : run script_length_below_zero_run R.Unlimited 10000 (shaped 4096 4096) ≡ record { outcome = Panicked (P.Workbench 9); trace = (line 1 144 0 Granted) ∷ []; lines = []; notes = []; steps = 1 }
+unfolding everything
+length_below_zero_run = refl
+
+abbrev script_maximum_of_a_freed_text_run : Script
+script_maximum_of_a_freed_text_run = record { classes = []; procedures = (record { parameters = []; body = record { locals = (OfPointer None) ∷ OfNumber ∷ []; statements = rolled ((Statement-F.NewText (Held (H.Local 0)) (Constant (pos 4)) GivesNull) ∷ (Statement-F.Free (Held (H.Local 0))) ∷ (Statement-F.GetMaximum 1 (InCell (Held (H.Local 0)))) ∷ []) } }) ∷ []; operations = []; literals = []; main = 0 }
+
+maximum_of_a_freed_text_run : run script_maximum_of_a_freed_text_run R.Unlimited 10000 (shaped 4096 4096) ≡ record { outcome = Panicked (P.Workbench 1); trace = (line 1 144 0 Granted) ∷ (line 2 32 144 Granted) ∷ []; lines = []; notes = []; steps = 3 }
+unfolding everything
+maximum_of_a_freed_text_run = refl
+
+abbrev script_mid_before_the_beginning_run : Script
+script_mid_before_the_beginning_run = record { classes = []; procedures = (record { parameters = []; body = record { locals = OfView ∷ []; statements = rolled ((Statement-F.Mid 0 (Quoted 0) (Constant (negsuc 0)) (Constant (pos 1))) ∷ []) } }) ∷ []; operations = []; literals = (97 ∷ 98 ∷ 99 ∷ []) ∷ []; main = 0 }
+
+mid_before_the_beginning_run : run script_mid_before_the_beginning_run R.Unlimited 10000 (shaped 4096 4096) ≡ record { outcome = Panicked (P.Workbench 9); trace = (line 1 144 0 Granted) ∷ []; lines = []; notes = []; steps = 1 }
+unfolding everything
+mid_before_the_beginning_run = refl
+
+abbrev script_mid_past_the_end_run : Script
+script_mid_past_the_end_run = record { classes = []; procedures = (record { parameters = []; body = record { locals = OfView ∷ []; statements = rolled ((Statement-F.Mid 0 (Quoted 0) (Constant (pos 3)) (Constant (pos 0))) ∷ (Statement-F.Mid 0 (Quoted 1) (Constant (pos 2)) (Constant (pos 2))) ∷ []) } }) ∷ []; operations = []; literals = (97 ∷ 98 ∷ 99 ∷ []) ∷ (97 ∷ 98 ∷ 99 ∷ []) ∷ []; main = 0 }
+
+mid_past_the_end_run : run script_mid_past_the_end_run R.Unlimited 10000 (shaped 4096 4096) ≡ record { outcome = Panicked (P.User 10); trace = (line 1 144 0 Granted) ∷ []; lines = []; notes = []; steps = 2 }
+unfolding everything
+mid_past_the_end_run = refl
+
+abbrev script_print_stops_at_eighty_units_run : Script
+script_print_stops_at_eighty_units_run = record { classes = []; procedures = (record { parameters = []; body = record { locals = (OfBuffer 90) ∷ []; statements = rolled ((Statement-F.PrintText (Quoted 0)) ∷ (Statement-F.SetLength (OwnBuffer 0) (Constant (pos 90))) ∷ (Statement-F.PrintText (Of (OwnBuffer 0))) ∷ []) } }) ∷ []; operations = []; literals = (48 ∷ 49 ∷ 50 ∷ 51 ∷ 52 ∷ 53 ∷ 54 ∷ 55 ∷ 56 ∷ 57 ∷ 48 ∷ 49 ∷ 50 ∷ 51 ∷ 52 ∷ 53 ∷ 54 ∷ 55 ∷ 56 ∷ 57 ∷ 48 ∷ 49 ∷ 50 ∷ 51 ∷ 52 ∷ 53 ∷ 54 ∷ 55 ∷ 56 ∷ 57 ∷ 48 ∷ 49 ∷ 50 ∷ 51 ∷ 52 ∷ 53 ∷ 54 ∷ 55 ∷ 56 ∷ 57 ∷ 48 ∷ 49 ∷ 50 ∷ 51 ∷ 52 ∷ 53 ∷ 54 ∷ 55 ∷ 56 ∷ 57 ∷ 48 ∷ 49 ∷ 50 ∷ 51 ∷ 52 ∷ 53 ∷ 54 ∷ 55 ∷ 56 ∷ 57 ∷ 48 ∷ 49 ∷ 50 ∷ 51 ∷ 52 ∷ 53 ∷ 54 ∷ 55 ∷ 56 ∷ 57 ∷ 48 ∷ 49 ∷ 50 ∷ 51 ∷ 52 ∷ 53 ∷ 54 ∷ 55 ∷ 56 ∷ 57 ∷ 48 ∷ 49 ∷ 50 ∷ 51 ∷ 52 ∷ []) ∷ []; main = 0 }
+
+print_stops_at_eighty_units_run : run script_print_stops_at_eighty_units_run R.Unlimited 10000 (shaped 4096 4096) ≡ record { outcome = Ended None []; trace = (line 1 144 0 Granted) ∷ []; lines = (48 ∷ 49 ∷ 50 ∷ 51 ∷ 52 ∷ 53 ∷ 54 ∷ 55 ∷ 56 ∷ 57 ∷ 48 ∷ 49 ∷ 50 ∷ 51 ∷ 52 ∷ 53 ∷ 54 ∷ 55 ∷ 56 ∷ 57 ∷ 48 ∷ 49 ∷ 50 ∷ 51 ∷ 52 ∷ 53 ∷ 54 ∷ 55 ∷ 56 ∷ 57 ∷ 48 ∷ 49 ∷ 50 ∷ 51 ∷ 52 ∷ 53 ∷ 54 ∷ 55 ∷ 56 ∷ 57 ∷ 48 ∷ 49 ∷ 50 ∷ 51 ∷ 52 ∷ 53 ∷ 54 ∷ 55 ∷ 56 ∷ 57 ∷ 48 ∷ 49 ∷ 50 ∷ 51 ∷ 52 ∷ 53 ∷ 54 ∷ 55 ∷ 56 ∷ 57 ∷ 48 ∷ 49 ∷ 50 ∷ 51 ∷ 52 ∷ 53 ∷ 54 ∷ 55 ∷ 56 ∷ 57 ∷ 48 ∷ 49 ∷ 50 ∷ 51 ∷ 52 ∷ 53 ∷ 54 ∷ 55 ∷ 56 ∷ 57 ∷ []) ∷ (46 ∷ 46 ∷ 46 ∷ 46 ∷ 46 ∷ 46 ∷ 46 ∷ 46 ∷ 46 ∷ 46 ∷ 46 ∷ 46 ∷ 46 ∷ 46 ∷ 46 ∷ 46 ∷ 46 ∷ 46 ∷ 46 ∷ 46 ∷ 46 ∷ 46 ∷ 46 ∷ 46 ∷ 46 ∷ 46 ∷ 46 ∷ 46 ∷ 46 ∷ 46 ∷ 46 ∷ 46 ∷ 46 ∷ 46 ∷ 46 ∷ 46 ∷ 46 ∷ 46 ∷ 46 ∷ 46 ∷ 46 ∷ 46 ∷ 46 ∷ 46 ∷ 46 ∷ 46 ∷ 46 ∷ 46 ∷ 46 ∷ 46 ∷ 46 ∷ 46 ∷ 46 ∷ 46 ∷ 46 ∷ 46 ∷ 46 ∷ 46 ∷ 46 ∷ 46 ∷ 46 ∷ 46 ∷ 46 ∷ 46 ∷ 46 ∷ 46 ∷ 46 ∷ 46 ∷ 46 ∷ 46 ∷ 46 ∷ 46 ∷ 46 ∷ 46 ∷ 46 ∷ 46 ∷ 46 ∷ 46 ∷ 46 ∷ 46 ∷ []) ∷ []; notes = []; steps = 3 }
+unfolding everything
+print_stops_at_eighty_units_run = refl
+
+abbrev script_refused_growth_of_a_text_in_place_run : Script
+script_refused_growth_of_a_text_in_place_run = record { classes = []; procedures = (record { parameters = []; body = record { locals = (OfPointer None) ∷ (OfPointer None) ∷ []; statements = rolled ((Statement-F.NewText (Held (H.Local 0)) (Constant (pos 4)) GivesNull) ∷ (Statement-F.Append (InCell (Held (H.Local 0))) (Quoted 0)) ∷ (Statement-F.ReallocText (Held (H.Local 1)) (Held (H.Local 0)) (Constant (pos 20))) ∷ (Statement-F.PrintText (Of (InCell (Held (H.Local 0))))) ∷ (Statement-F.Free (Held (H.Local 0))) ∷ (Statement-F.Free (Held (H.Local 1))) ∷ []) } }) ∷ []; operations = []; literals = (97 ∷ 98 ∷ 99 ∷ []) ∷ []; main = 0 }
+
+refused_growth_of_a_text_in_place_run : run script_refused_growth_of_a_text_in_place_run (R.Number 3) 10000 (shaped 4096 4096) ≡ record { outcome = Ended None []; trace = (line 1 144 0 Granted) ∷ (line 2 32 144 Granted) ∷ (line 3 64 144 Simulated) ∷ []; lines = (97 ∷ 98 ∷ 99 ∷ []) ∷ []; notes = []; steps = 6 }
+unfolding everything
+refused_growth_of_a_text_in_place_run = refl
+
+abbrev script_refused_text_is_null_run : Script
+script_refused_text_is_null_run = record { classes = []; procedures = (record { parameters = []; body = record { locals = (OfPointer None) ∷ OfNumber ∷ []; statements = rolled ((Statement-F.FailNext (Constant (pos 1))) ∷ (Statement-F.NewText (Held (H.Local 0)) (Constant (pos 4)) GivesNull) ∷ (Statement-F.GetLength 1 (Of (InCell (Held (H.Local 0))))) ∷ []) } }) ∷ []; operations = []; literals = []; main = 0 }
+
+refused_text_is_null_run : run script_refused_text_is_null_run R.Unlimited 10000 (shaped 4096 4096) ≡ record { outcome = Panicked (P.Workbench 1); trace = (line 1 144 0 Granted) ∷ (line 2 32 144 Simulated) ∷ []; lines = []; notes = []; steps = 3 }
+unfolding everything
+refused_text_is_null_run = refl
+
+abbrev script_right_longer_than_the_text_run : Script
+script_right_longer_than_the_text_run = record { classes = []; procedures = (record { parameters = []; body = record { locals = OfView ∷ []; statements = rolled ((Statement-F.Right 0 (Quoted 0) (Constant (pos 3))) ∷ (Statement-F.Right 0 (ViewOf 0) (Constant (pos 4))) ∷ []) } }) ∷ []; operations = []; literals = (97 ∷ 98 ∷ 99 ∷ []) ∷ []; main = 0 }
+
+right_longer_than_the_text_run : run script_right_longer_than_the_text_run R.Unlimited 10000 (shaped 4096 4096) ≡ record { outcome = Panicked (P.User 10); trace = (line 1 144 0 Granted) ∷ []; lines = []; notes = []; steps = 2 }
+unfolding everything
+right_longer_than_the_text_run = refl
+
+abbrev script_shortened_text_keeps_no_unit_run : Script
+script_shortened_text_keeps_no_unit_run = record { classes = []; procedures = (record { parameters = []; body = record { locals = (OfBuffer 4) ∷ []; statements = rolled ((Statement-F.Copy (OwnBuffer 0) (Quoted 0)) ∷ (Statement-F.SetLength (OwnBuffer 0) (Constant (pos 1))) ∷ (Statement-F.SetLength (OwnBuffer 0) (Constant (pos 3))) ∷ (Statement-F.PrintText (Of (OwnBuffer 0))) ∷ (Statement-F.SetLength (OwnBuffer 0) (Constant (pos 5))) ∷ []) } }) ∷ []; operations = []; literals = (97 ∷ 98 ∷ 99 ∷ 100 ∷ []) ∷ []; main = 0 }
+
+shortened_text_keeps_no_unit_run : run script_shortened_text_keeps_no_unit_run R.Unlimited 10000 (shaped 4096 4096) ≡ record { outcome = Panicked (P.User 11); trace = (line 1 144 0 Granted) ∷ []; lines = (97 ∷ 46 ∷ 46 ∷ []) ∷ []; notes = []; steps = 5 }
+unfolding everything
+shortened_text_keeps_no_unit_run = refl
+
+abbrev script_shrunk_text_loses_room_run : Script
+script_shrunk_text_loses_room_run = record { classes = []; procedures = (record { parameters = []; body = record { locals = (OfPointer None) ∷ OfNumber ∷ []; statements = rolled ((Statement-F.NewText (Held (H.Local 0)) (Constant (pos 20)) GivesNull) ∷ (Statement-F.Copy (InCell (Held (H.Local 0))) (Quoted 0)) ∷ (Statement-F.ReallocText (Held (H.Local 0)) (Held (H.Local 0)) (Constant (pos 6))) ∷ (Statement-F.GetMaximum 1 (InCell (Held (H.Local 0)))) ∷ (Statement-F.PrintNumber (Variable 1)) ∷ (Statement-F.Append (InCell (Held (H.Local 0))) (Quoted 1)) ∷ []) } }) ∷ []; operations = []; literals = (97 ∷ 98 ∷ 99 ∷ 100 ∷ 101 ∷ 102 ∷ []) ∷ (103 ∷ []) ∷ []; main = 0 }
+
+shrunk_text_loses_room_run : run script_shrunk_text_loses_room_run R.Unlimited 10000 (shaped 4096 4096) ≡ record { outcome = Panicked (P.User 11); trace = (line 1 144 0 Granted) ∷ (line 2 64 144 Granted) ∷ []; lines = (54 ∷ []) ∷ []; notes = []; steps = 6 }
+unfolding everything
+shrunk_text_loses_room_run = refl
+
+abbrev script_source_is_looked_at_before_the_position_run : Script
+script_source_is_looked_at_before_the_position_run = record { classes = []; procedures = (record { parameters = []; body = record { locals = (OfPointer None) ∷ (OfBuffer 4) ∷ []; statements = rolled ((Statement-F.Insert (OwnBuffer 1) (Constant (negsuc 0)) (Of (InCell (Held (H.Local 0))))) ∷ []) } }) ∷ []; operations = []; literals = []; main = 0 }
+
+source_is_looked_at_before_the_position_run : run script_source_is_looked_at_before_the_position_run R.Unlimited 10000 (shaped 4096 4096) ≡ record { outcome = Panicked (P.Workbench 1); trace = (line 1 144 0 Granted) ∷ []; lines = []; notes = []; steps = 1 }
+unfolding everything
+source_is_looked_at_before_the_position_run = refl
+
+abbrev script_target_is_looked_at_before_the_source_run : Script
+script_target_is_looked_at_before_the_source_run = record { classes = []; procedures = (record { parameters = []; body = record { locals = (OfPointer None) ∷ (OfPointer None) ∷ []; statements = rolled ((Statement-F.Alloc (Held (H.Local 0)) (Constant (pos 1)) GivesNull) ∷ (Statement-F.Copy (InCell (Held (H.Local 0))) (Of (InCell (Held (H.Local 1))))) ∷ []) } }) ∷ []; operations = []; literals = []; main = 0 }
+
+target_is_looked_at_before_the_source_run : run script_target_is_looked_at_before_the_source_run R.Unlimited 10000 (shaped 4096 4096) ≡ record { outcome = Panicked (P.Workbench 2); trace = (line 1 144 0 Granted) ∷ (line 2 32 144 Granted) ∷ []; lines = []; notes = []; steps = 2 }
+unfolding everything
+target_is_looked_at_before_the_source_run = refl
+
+abbrev script_text_appended_to_itself_run : Script
+script_text_appended_to_itself_run = record { classes = []; procedures = (record { parameters = []; body = record { locals = (OfBuffer 8) ∷ OfView ∷ []; statements = rolled ((Statement-F.Copy (OwnBuffer 0) (Quoted 0)) ∷ (Statement-F.Append (OwnBuffer 0) (Of (OwnBuffer 0))) ∷ (Statement-F.PrintText (Of (OwnBuffer 0))) ∷ (Statement-F.Mid 1 (Of (OwnBuffer 0)) (Constant (pos 1)) (Constant (pos 2))) ∷ (Statement-F.Copy (OwnBuffer 0) (ViewOf 1)) ∷ (Statement-F.PrintText (Of (OwnBuffer 0))) ∷ (Statement-F.Append (OwnBuffer 0) (ViewOf 1)) ∷ (Statement-F.PrintText (Of (OwnBuffer 0))) ∷ []) } }) ∷ []; operations = []; literals = (97 ∷ 98 ∷ []) ∷ []; main = 0 }
+
+text_appended_to_itself_run : run script_text_appended_to_itself_run R.Unlimited 10000 (shaped 4096 4096) ≡ record { outcome = Ended None []; trace = (line 1 144 0 Granted) ∷ []; lines = (97 ∷ 98 ∷ 97 ∷ 98 ∷ []) ∷ (98 ∷ 97 ∷ []) ∷ (98 ∷ 97 ∷ 97 ∷ 46 ∷ []) ∷ []; notes = []; steps = 8 }
+unfolding everything
+text_appended_to_itself_run = refl
+
+abbrev script_text_at_null_run : Script
+script_text_at_null_run = record { classes = []; procedures = (record { parameters = []; body = record { locals = (OfPointer None) ∷ []; statements = rolled ((Statement-F.Append (InCell (Held (H.Local 0))) (Quoted 0)) ∷ []) } }) ∷ []; operations = []; literals = (97 ∷ []) ∷ []; main = 0 }
+
+text_at_null_run : run script_text_at_null_run R.Unlimited 10000 (shaped 4096 4096) ≡ record { outcome = Panicked (P.Workbench 1); trace = (line 1 144 0 Granted) ∷ []; lines = []; notes = []; steps = 1 }
+unfolding everything
+text_at_null_run = refl
+
+abbrev script_text_copied_between_cells_and_buffers_run : Script
+script_text_copied_between_cells_and_buffers_run = record { classes = []; procedures = (record { parameters = []; body = record { locals = (OfPointer None) ∷ (OfPointer None) ∷ (OfBuffer 4) ∷ []; statements = rolled ((Statement-F.NewText (Held (H.Local 0)) (Constant (pos 6)) GivesNull) ∷ (Statement-F.NewText (Held (H.Local 1)) (Constant (pos 6)) GivesNull) ∷ (Statement-F.Copy (InCell (Held (H.Local 0))) (Quoted 0)) ∷ (Statement-F.Copy (InCell (Held (H.Local 1))) (Of (InCell (Held (H.Local 0))))) ∷ (Statement-F.DeleteText (InCell (Held (H.Local 1))) (Constant (pos 0)) (Constant (pos 2))) ∷ (Statement-F.Copy (OwnBuffer 2) (Of (InCell (Held (H.Local 1))))) ∷ (Statement-F.Append (InCell (Held (H.Local 1))) (Of (OwnBuffer 2))) ∷ []) } }) ∷ []; operations = []; literals = (97 ∷ 98 ∷ 99 ∷ 100 ∷ 101 ∷ 102 ∷ []) ∷ []; main = 0 }
+
+text_copied_between_cells_and_buffers_run : run script_text_copied_between_cells_and_buffers_run R.Unlimited 10000 (shaped 4096 4096) ≡ record { outcome = Panicked (P.User 11); trace = (line 1 144 0 Granted) ∷ (line 2 32 144 Granted) ∷ (line 3 32 176 Granted) ∷ []; lines = []; notes = []; steps = 7 }
+unfolding everything
+text_copied_between_cells_and_buffers_run = refl
+
+abbrev script_text_counts_in_marks_and_leaks_run : Script
+script_text_counts_in_marks_and_leaks_run = record { classes = []; procedures = (record { parameters = []; body = record { locals = (OfPointer None) ∷ []; statements = rolled (Statement-F.Mark ∷ (Statement-F.NewText (Held (H.Local 0)) (Constant (pos 4)) GivesNull) ∷ (Statement-F.MarkEnd (Constant (pos 1))) ∷ (Statement-F.SetNull (Held (H.Local 0))) ∷ []) } }) ∷ []; operations = []; literals = []; main = 0 }
+
+text_counts_in_marks_and_leaks_run : run script_text_counts_in_marks_and_leaks_run R.Unlimited 10000 (shaped 4096 4096) ≡ record { outcome = Ended None ((record { number = 2; length = 32; place = 144 }) ∷ []); trace = (line 1 144 0 Granted) ∷ (line 2 32 144 Granted) ∷ []; lines = []; notes = []; steps = 4 }
+unfolding everything
+text_counts_in_marks_and_leaks_run = refl
+
+abbrev script_text_in_a_cell_is_edited_run : Script
+script_text_in_a_cell_is_edited_run = record { classes = []; procedures = (record { parameters = []; body = record { locals = (OfPointer None) ∷ OfNumber ∷ []; statements = rolled ((Statement-F.NewText (Held (H.Local 0)) (Constant (pos 0)) GivesNull) ∷ (Statement-F.GetMaximum 1 (InCell (Held (H.Local 0)))) ∷ (Statement-F.PrintNumber (Variable 1)) ∷ (Statement-F.AllocLen 1 (Held (H.Local 0))) ∷ (Statement-F.PrintNumber (Variable 1)) ∷ (Statement-F.Copy (InCell (Held (H.Local 0))) (Quoted 0)) ∷ (Statement-F.Insert (InCell (Held (H.Local 0))) (Constant (pos 1)) (Quoted 1)) ∷ (Statement-F.Insert (InCell (Held (H.Local 0))) (Constant (pos 0)) (Quoted 2)) ∷ (Statement-F.Append (InCell (Held (H.Local 0))) (Quoted 3)) ∷ (Statement-F.PrintText (Of (InCell (Held (H.Local 0))))) ∷ (Statement-F.DeleteText (InCell (Held (H.Local 0))) (Constant (pos 1)) (Constant (pos 2))) ∷ (Statement-F.PrintText (Of (InCell (Held (H.Local 0))))) ∷ (Statement-F.SetLength (InCell (Held (H.Local 0))) (Constant (pos 5))) ∷ (Statement-F.PrintText (Of (InCell (Held (H.Local 0))))) ∷ (Statement-F.SetLength (InCell (Held (H.Local 0))) (Constant (pos 1))) ∷ (Statement-F.Append (InCell (Held (H.Local 0))) (Quoted 4)) ∷ (Statement-F.GetLength 1 (Of (InCell (Held (H.Local 0))))) ∷ (Statement-F.PrintNumber (Variable 1)) ∷ (Statement-F.PrintText (Of (InCell (Held (H.Local 0))))) ∷ (Statement-F.Free (Held (H.Local 0))) ∷ []) } }) ∷ []; operations = []; literals = (98 ∷ 100 ∷ []) ∷ (99 ∷ []) ∷ (97 ∷ []) ∷ (101 ∷ 102 ∷ []) ∷ (122 ∷ []) ∷ []; main = 0 }
+
+text_in_a_cell_is_edited_run : run script_text_in_a_cell_is_edited_run R.Unlimited 10000 (shaped 4096 4096) ≡ record { outcome = Ended None []; trace = (line 1 144 0 Granted) ∷ (line 2 32 144 Granted) ∷ []; lines = (54 ∷ []) ∷ (49 ∷ 54 ∷ []) ∷ (97 ∷ 98 ∷ 99 ∷ 100 ∷ 101 ∷ 102 ∷ []) ∷ (97 ∷ 100 ∷ 101 ∷ 102 ∷ []) ∷ (97 ∷ 100 ∷ 101 ∷ 102 ∷ 46 ∷ []) ∷ (50 ∷ []) ∷ (97 ∷ 122 ∷ []) ∷ []; notes = []; steps = 20 }
+unfolding everything
+text_in_a_cell_is_edited_run = refl
+
+abbrev script_text_in_a_cell_of_words_run : Script
+script_text_in_a_cell_of_words_run = record { classes = []; procedures = (record { parameters = []; body = record { locals = (OfPointer None) ∷ []; statements = rolled ((Statement-F.Alloc (Held (H.Local 0)) (Constant (pos 16)) GivesNull) ∷ (Statement-F.PrintText (Of (InCell (Held (H.Local 0))))) ∷ []) } }) ∷ []; operations = []; literals = []; main = 0 }
+
+text_in_a_cell_of_words_run : run script_text_in_a_cell_of_words_run R.Unlimited 10000 (shaped 4096 4096) ≡ record { outcome = Panicked (P.Workbench 2); trace = (line 1 144 0 Granted) ∷ (line 2 32 144 Granted) ∷ []; lines = []; notes = []; steps = 2 }
+unfolding everything
+text_in_a_cell_of_words_run = refl
+
+abbrev script_text_of_fewer_than_no_units_run : Script
+script_text_of_fewer_than_no_units_run = record { classes = []; procedures = (record { parameters = []; body = record { locals = (OfPointer None) ∷ []; statements = rolled ((Statement-F.NewText (Held (H.Local 0)) (Constant (negsuc 0)) GivesNull) ∷ []) } }) ∷ []; operations = []; literals = []; main = 0 }
+
+text_of_fewer_than_no_units_run : run script_text_of_fewer_than_no_units_run R.Unlimited 10000 (shaped 4096 4096) ≡ record { outcome = Panicked (P.Workbench 9); trace = (line 1 144 0 Granted) ∷ []; lines = []; notes = []; steps = 1 }
+unfolding everything
+text_of_fewer_than_no_units_run = refl
+
+abbrev script_text_past_one_mebibyte_run : Script
+script_text_past_one_mebibyte_run = record { classes = []; procedures = (record { parameters = []; body = record { locals = (OfPointer None) ∷ []; statements = rolled ((Statement-F.NewText (Held (H.Local 0)) (Constant (pos 524286)) GivesNull) ∷ (Statement-F.NewText (Held (H.Local 0)) (Constant (pos 524287)) GivesNull) ∷ []) } }) ∷ []; operations = []; literals = []; main = 0 }
+
+text_past_one_mebibyte_run : run script_text_past_one_mebibyte_run R.Unlimited 10000 (shaped 4096 4096) ≡ record { outcome = Panicked (P.Workbench 9); trace = (line 1 144 0 Granted) ∷ (line 2 1048592 144 Granted) ∷ []; lines = []; notes = []; steps = 2 }
+unfolding everything
+text_past_one_mebibyte_run = refl
+
+abbrev script_view_follows_its_text_run : Script
+script_view_follows_its_text_run = record { classes = []; procedures = (record { parameters = []; body = record { locals = (OfBuffer 8) ∷ OfView ∷ OfNumber ∷ []; statements = rolled ((Statement-F.Copy (OwnBuffer 0) (Quoted 0)) ∷ (Statement-F.Mid 1 (Of (OwnBuffer 0)) (Constant (pos 2)) (Constant (pos 3))) ∷ (Statement-F.Copy (OwnBuffer 0) (Quoted 1)) ∷ (Statement-F.PrintText (ViewOf 1)) ∷ (Statement-F.GetLength 2 (ViewOf 1)) ∷ (Statement-F.PrintNumber (Variable 2)) ∷ []) } }) ∷ []; operations = []; literals = (97 ∷ 98 ∷ 99 ∷ 100 ∷ 101 ∷ 102 ∷ []) ∷ (120 ∷ 121 ∷ 122 ∷ 119 ∷ []) ∷ []; main = 0 }
+
+view_follows_its_text_run : run script_view_follows_its_text_run R.Unlimited 10000 (shaped 4096 4096) ≡ record { outcome = Ended None []; trace = (line 1 144 0 Granted) ∷ []; lines = (122 ∷ 119 ∷ 46 ∷ []) ∷ (51 ∷ []) ∷ []; notes = []; steps = 6 }
+unfolding everything
+view_follows_its_text_run = refl
+
+abbrev script_view_of_a_moved_text_run : Script
+script_view_of_a_moved_text_run = record { classes = []; procedures = (record { parameters = []; body = record { locals = (OfPointer None) ∷ (OfPointer None) ∷ OfView ∷ []; statements = rolled ((Statement-F.NewText (Held (H.Local 0)) (Constant (pos 4)) GivesNull) ∷ (Statement-F.Alloc (Held (H.Local 1)) (Constant (pos 1)) GivesNull) ∷ (Statement-F.Append (InCell (Held (H.Local 0))) (Quoted 0)) ∷ (Statement-F.Left 2 (Of (InCell (Held (H.Local 0)))) (Constant (pos 2))) ∷ (Statement-F.ReallocText (Held (H.Local 0)) (Held (H.Local 0)) (Constant (pos 20))) ∷ (Statement-F.PrintText (Of (InCell (Held (H.Local 0))))) ∷ (Statement-F.PrintText (ViewOf 2)) ∷ []) } }) ∷ []; operations = []; literals = (97 ∷ 98 ∷ 99 ∷ []) ∷ []; main = 0 }
+
+view_of_a_moved_text_run : run script_view_of_a_moved_text_run R.Unlimited 10000 (shaped 4096 4096) ≡ record { outcome = Panicked (P.Workbench 1); trace = (line 1 144 0 Granted) ∷ (line 2 32 144 Granted) ∷ (line 3 32 176 Granted) ∷ (line 4 64 208 Granted) ∷ []; lines = (97 ∷ 98 ∷ 99 ∷ []) ∷ []; notes = []; steps = 7 }
+unfolding everything
+view_of_a_moved_text_run = refl
+
+abbrev script_view_of_a_text_grown_in_place_run : Script
+script_view_of_a_text_grown_in_place_run = record { classes = []; procedures = (record { parameters = []; body = record { locals = (OfPointer None) ∷ OfView ∷ []; statements = rolled ((Statement-F.NewText (Held (H.Local 0)) (Constant (pos 4)) GivesNull) ∷ (Statement-F.Append (InCell (Held (H.Local 0))) (Quoted 0)) ∷ (Statement-F.Left 1 (Of (InCell (Held (H.Local 0)))) (Constant (pos 2))) ∷ (Statement-F.ReallocText (Held (H.Local 0)) (Held (H.Local 0)) (Constant (pos 20))) ∷ (Statement-F.Append (InCell (Held (H.Local 0))) (Quoted 1)) ∷ (Statement-F.PrintText (ViewOf 1)) ∷ (Statement-F.PrintText (Of (InCell (Held (H.Local 0))))) ∷ (Statement-F.Free (Held (H.Local 0))) ∷ []) } }) ∷ []; operations = []; literals = (97 ∷ 98 ∷ 99 ∷ []) ∷ (100 ∷ 101 ∷ 102 ∷ 103 ∷ 104 ∷ 105 ∷ 106 ∷ 107 ∷ 108 ∷ []) ∷ []; main = 0 }
+
+view_of_a_text_grown_in_place_run : run script_view_of_a_text_grown_in_place_run R.Unlimited 10000 (shaped 4096 4096) ≡ record { outcome = Ended None []; trace = (line 1 144 0 Granted) ∷ (line 2 32 144 Granted) ∷ (line 3 64 144 Granted) ∷ []; lines = (97 ∷ 98 ∷ []) ∷ (97 ∷ 98 ∷ 99 ∷ 100 ∷ 101 ∷ 102 ∷ 103 ∷ 104 ∷ 105 ∷ 106 ∷ 107 ∷ 108 ∷ []) ∷ []; notes = []; steps = 8 }
+unfolding everything
+view_of_a_text_grown_in_place_run = refl
+
+abbrev script_views_of_buffers_views_and_literals_run : Script
+script_views_of_buffers_views_and_literals_run = record { classes = []; procedures = (record { parameters = []; body = record { locals = (OfBuffer 8) ∷ OfView ∷ OfNumber ∷ []; statements = rolled ((Statement-F.Copy (OwnBuffer 0) (Quoted 0)) ∷ (Statement-F.Left 1 (Of (OwnBuffer 0)) (Constant (pos 2))) ∷ (Statement-F.PrintText (ViewOf 1)) ∷ (Statement-F.Right 1 (Of (OwnBuffer 0)) (Constant (pos 2))) ∷ (Statement-F.PrintText (ViewOf 1)) ∷ (Statement-F.Mid 1 (Of (OwnBuffer 0)) (Constant (pos 2)) (Constant (pos 3))) ∷ (Statement-F.PrintText (ViewOf 1)) ∷ (Statement-F.Right 1 (ViewOf 1) (Constant (pos 1))) ∷ (Statement-F.PrintText (ViewOf 1)) ∷ (Statement-F.Mid 1 (Quoted 1) (Constant (pos 3)) (Constant (pos 3))) ∷ (Statement-F.PrintText (ViewOf 1)) ∷ (Statement-F.GetLength 2 (ViewOf 1)) ∷ (Statement-F.PrintNumber (Variable 2)) ∷ []) } }) ∷ []; operations = []; literals = (97 ∷ 98 ∷ 99 ∷ 100 ∷ 101 ∷ 102 ∷ []) ∷ (108 ∷ 105 ∷ 116 ∷ 101 ∷ 114 ∷ 97 ∷ 108 ∷ []) ∷ []; main = 0 }
+
+views_of_buffers_views_and_literals_run : run script_views_of_buffers_views_and_literals_run R.Unlimited 10000 (shaped 4096 4096) ≡ record { outcome = Ended None []; trace = (line 1 144 0 Granted) ∷ []; lines = (97 ∷ 98 ∷ []) ∷ (101 ∷ 102 ∷ []) ∷ (99 ∷ 100 ∷ 101 ∷ []) ∷ (101 ∷ []) ∷ (101 ∷ 114 ∷ 97 ∷ []) ∷ (51 ∷ []) ∷ []; notes = []; steps = 13 }
+unfolding everything
+views_of_buffers_views_and_literals_run = refl
+
+abbrev script_word_of_a_text_run : Script
+script_word_of_a_text_run = record { classes = []; procedures = (record { parameters = []; body = record { locals = (OfPointer None) ∷ OfNumber ∷ []; statements = rolled ((Statement-F.NewText (Held (H.Local 0)) (Constant (pos 4)) GivesNull) ∷ (Statement-F.Load 1 (Held (H.Local 0)) (Constant (pos 99))) ∷ []) } }) ∷ []; operations = []; literals = []; main = 0 }
+
+word_of_a_text_run : run script_word_of_a_text_run R.Unlimited 10000 (shaped 4096 4096) ≡ record { outcome = Panicked (P.Workbench 2); trace = (line 1 144 0 Granted) ∷ (line 2 32 144 Granted) ∷ []; lines = []; notes = []; steps = 2 }
+unfolding everything
+word_of_a_text_run = refl

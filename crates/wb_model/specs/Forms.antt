@@ -1,10 +1,10 @@
 -- The form of a line: the first key whose text and letters fit its words.
-use Rattle.std.specs.Prelude.{ℕ, List, [], ◌∷◌, Option, Some, None, Bool, true, false, ◌==◌, map}
+use Rattle.std.specs.Prelude.{ℕ, ℤ, pos, List, [], ◌∷◌, Option, Some, None, Bool, true, false, ◌==◌, map}
 use Rattle.std.specs.Option.{option_map}
 use Rattle.std.specs.Str.{bytes_eq}
 use Rattle.wb_model.specs.declared.lines.Key.{Key}
 use Rattle.wb_model.specs.declared.lines.Letter.{Letter}
-use Rattle.wb_model.specs.declared.lines.Letter.TheVariants.{Declared, Pointer, Value, Printed}
+use Rattle.wb_model.specs.declared.lines.Letter.TheVariants.{Declared, Pointer, Value, Variable, Target, Source, Size, Writable, Readable, ViewName, Printed}
 use Rattle.wb_model.specs.declared.lines.Operand.{Operand}
 use Rattle.wb_model.specs.declared.lines.Operand.TheVariants.{Name, Number, Literal}
 use Rattle.wb_model.specs.declared.lines.Form.{Form}
@@ -31,16 +31,38 @@ role_of_form Skip = role.Skip
 role_of_form Unknown = role.Unknown
 role_of_form (Line key operands) = role_of key
 
-abbrev pub number_or_literal : Option (Operand (List ℕ)) → List ℕ → Option (Operand (List ℕ))
-number_or_literal (Some number) word = Some number
-number_or_literal None word = option_map Literal (literal_of word)
+abbrev pub either : Option (Operand (List ℕ)) → Option (Operand (List ℕ)) → Option (Operand (List ℕ))
+either (Some operand) other = Some operand
+either None other = other
+
+-- the name that a word is, and its like
+abbrev pub name_word : List ℕ → Option (Operand (List ℕ))
+name_word word = option_map Name (used_name word)
+
+abbrev pub number_word : List ℕ → Option (Operand (List ℕ))
+number_word word = option_map Number (number_of word)
+
+-- a number that isn't negative
+abbrev pub size_of : Option ℤ → Option (Operand (List ℕ))
+size_of (Some (pos n)) = Some (Number (pos n))
+size_of _ = None
+
+abbrev pub literal_word : List ℕ → Option (Operand (List ℕ))
+literal_word word = option_map Literal (literal_of word)
 
 -- what a word is where a letter stands
 abbrev pub operand_of : Letter → List ℕ → Option (Operand (List ℕ))
 operand_of Declared word = option_map Name (declared_name word)
-operand_of Pointer word = option_map Name (used_name word)
-operand_of Value word = option_map Number (number_of word)
-operand_of Printed word = number_or_literal (option_map Number (number_of word)) word
+operand_of Pointer word = name_word word
+operand_of Value word = either (number_word word) (name_word word)
+operand_of Variable word = name_word word
+operand_of Target word = name_word word
+operand_of Source word = either (number_word word) (name_word word)
+operand_of Size word = size_of (number_of word)
+operand_of Writable word = name_word word
+operand_of Readable word = either (name_word word) (literal_word word)
+operand_of ViewName word = name_word word
+operand_of Printed word = either (number_word word) (either (name_word word) (literal_word word))
 
 abbrev pub onto : Option (Operand (List ℕ)) → Option (List (Operand (List ℕ))) → Option (List (Operand (List ℕ)))
 onto None rest = None

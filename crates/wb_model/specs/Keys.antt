@@ -2,22 +2,55 @@
 -- the grammar of blocks.
 use Rattle.std.specs.Prelude.{ℕ, List, [], ◌∷◌, codes}
 use Rattle.wb_model.specs.declared.lines.Key.{Key}
-use Rattle.wb_model.specs.declared.lines.Key.TheVariants.{Proc, Ptr, Alloc, Free, Store, Print, Heap, Available, Compress, End}
+use Rattle.wb_model.specs.declared.lines.Key.TheVariants.{Proc, Ptr, Int, Buf, View, Alloc, Realloc, Free, AllocLen, Store, Load, Set, Null, Add, Mark, MarkEnd, Check, CheckAll, FailNext, FailEvery, FailNone, HNew, HRealloc, Copy, Append, Insert, DelText, SetLength, Left, Right, Mid, GetLen, GetMax, Print, Heap, Available, Compress, End}
 use Rattle.wb_model.specs.declared.lines.Letter.{Letter}
-use Rattle.wb_model.specs.declared.lines.Letter.TheVariants.{Declared, Pointer, Value, Printed}
+use Rattle.wb_model.specs.declared.lines.Letter.TheVariants.{Declared, Pointer, Value, Variable, Target, Source, Size, Writable, Readable, ViewName, Printed}
 use Rattle.wb_model.specs.declared.lines.Role.{Role}
 use Rattle.wb_model.specs.declared.lines.Role.TheVariants as role
 
 -- Opened only where a line is read, so that no other goal grows with the number of keys.
 unfoldable pub keys : List Key
-keys = Proc ∷ Ptr ∷ Alloc ∷ Free ∷ Store ∷ Print ∷ Heap ∷ Available ∷ Compress ∷ End ∷ []
+keys =
+    Proc ∷ Ptr ∷ Int ∷ Buf ∷ View ∷ Alloc ∷ Realloc ∷ Free ∷ AllocLen ∷ Store ∷ Load ∷ Set
+    ∷ Null ∷ Add ∷ Mark ∷ MarkEnd ∷ Check ∷ CheckAll ∷ FailNext ∷ FailEvery ∷ FailNone
+    ∷ HNew ∷ HRealloc ∷ Copy ∷ Append ∷ Insert ∷ DelText ∷ SetLength ∷ Left ∷ Right ∷ Mid ∷ GetLen ∷ GetMax
+    ∷ Print ∷ Heap ∷ Available ∷ Compress ∷ End
+    ∷ []
 
 abbrev pub text_of : Key → List ℕ
 text_of Proc = codes "proc"
 text_of Ptr = codes "ptr"
+text_of Int = codes "int"
+text_of Buf = codes "buf"
+text_of View = codes "view"
 text_of Alloc = codes "alloc"
+text_of Realloc = codes "realloc"
 text_of Free = codes "free"
+text_of AllocLen = codes "alloclen"
 text_of Store = codes "store"
+text_of Load = codes "load"
+text_of Set = codes "set"
+text_of Null = codes "null"
+text_of Add = codes "add"
+text_of Mark = codes "mark"
+text_of MarkEnd = codes "markend"
+text_of Check = codes "check"
+text_of CheckAll = codes "checkall"
+text_of FailNext = codes "failnext"
+text_of FailEvery = codes "failevery"
+text_of FailNone = codes "failnone"
+text_of HNew = codes "hnew"
+text_of HRealloc = codes "hrealloc"
+text_of Copy = codes "copy"
+text_of Append = codes "append"
+text_of Insert = codes "insert"
+text_of DelText = codes "deltext"
+text_of SetLength = codes "setlength"
+text_of Left = codes "left"
+text_of Right = codes "right"
+text_of Mid = codes "mid"
+text_of GetLen = codes "getlen"
+text_of GetMax = codes "getmax"
 text_of Print = codes "print"
 text_of Heap = codes "heap"
 text_of Available = codes "available"
@@ -27,9 +60,37 @@ text_of End = codes "end"
 abbrev pub letters_of : Key → List Letter
 letters_of Proc = Declared ∷ []
 letters_of Ptr = Declared ∷ []
+letters_of Int = Declared ∷ []
+letters_of Buf = Declared ∷ Size ∷ []
+letters_of View = Declared ∷ []
 letters_of Alloc = Pointer ∷ Value ∷ []
+letters_of Realloc = Pointer ∷ Pointer ∷ Value ∷ []
 letters_of Free = Pointer ∷ []
+letters_of AllocLen = Variable ∷ Pointer ∷ []
 letters_of Store = Pointer ∷ Value ∷ Value ∷ []
+letters_of Load = Variable ∷ Pointer ∷ Value ∷ []
+letters_of Set = Target ∷ Source ∷ []
+letters_of Null = Pointer ∷ []
+letters_of Add = Variable ∷ Value ∷ []
+letters_of Mark = []
+letters_of MarkEnd = Value ∷ []
+letters_of Check = Value ∷ []
+letters_of CheckAll = Value ∷ []
+letters_of FailNext = Value ∷ []
+letters_of FailEvery = Value ∷ []
+letters_of FailNone = []
+letters_of HNew = Pointer ∷ Value ∷ []
+letters_of HRealloc = Pointer ∷ Pointer ∷ Value ∷ []
+letters_of Copy = Writable ∷ Readable ∷ []
+letters_of Append = Writable ∷ Readable ∷ []
+letters_of Insert = Writable ∷ Value ∷ Readable ∷ []
+letters_of DelText = Writable ∷ Value ∷ Value ∷ []
+letters_of SetLength = Writable ∷ Value ∷ []
+letters_of Left = ViewName ∷ Readable ∷ Value ∷ []
+letters_of Right = ViewName ∷ Readable ∷ Value ∷ []
+letters_of Mid = ViewName ∷ Readable ∷ Value ∷ Value ∷ []
+letters_of GetLen = Variable ∷ Readable ∷ []
+letters_of GetMax = Variable ∷ Writable ∷ []
 letters_of Print = Printed ∷ []
 letters_of Heap = []
 letters_of Available = []
@@ -39,9 +100,37 @@ letters_of End = []
 abbrev pub role_of : Key → Role
 role_of Proc = role.Procedure
 role_of Ptr = role.Declaration
+role_of Int = role.Declaration
+role_of Buf = role.Declaration
+role_of View = role.Declaration
 role_of Alloc = role.Plain
+role_of Realloc = role.Plain
 role_of Free = role.Plain
+role_of AllocLen = role.Plain
 role_of Store = role.Plain
+role_of Load = role.Plain
+role_of Set = role.Plain
+role_of Null = role.Plain
+role_of Add = role.Plain
+role_of Mark = role.Plain
+role_of MarkEnd = role.Plain
+role_of Check = role.Plain
+role_of CheckAll = role.Plain
+role_of FailNext = role.Plain
+role_of FailEvery = role.Plain
+role_of FailNone = role.Plain
+role_of HNew = role.Plain
+role_of HRealloc = role.Plain
+role_of Copy = role.Plain
+role_of Append = role.Plain
+role_of Insert = role.Plain
+role_of DelText = role.Plain
+role_of SetLength = role.Plain
+role_of Left = role.Plain
+role_of Right = role.Plain
+role_of Mid = role.Plain
+role_of GetLen = role.Plain
+role_of GetMax = role.Plain
 role_of Print = role.Plain
 role_of Heap = role.Plain
 role_of Available = role.Plain

@@ -2,11 +2,13 @@ pub mod Account
 pub mod Agreement
 pub mod Attempts
 pub mod CellRow
+pub mod Debug
 pub mod Forms
 pub mod Grammar
 pub mod Heap
 pub mod Keeping
 pub mod Keys
+pub mod Kinds
 pub mod LimitedHeap
 pub mod Lines
 pub mod Meaning
@@ -25,6 +27,7 @@ pub mod Space
 pub mod Spelling
 pub mod State
 pub mod Statements
+pub mod TextCells
 pub mod Texts
 pub mod Trees
 pub mod Words

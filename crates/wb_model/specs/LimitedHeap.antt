@@ -1,13 +1,14 @@
 -- A heap of cells of words with a limit: what contracts see of the heap, and what a grant and a release make of it.
-use Rattle.std.specs.Prelude.{ℕ, ◌+◌, ◌-◌, ◌*◌, ◌/◌, ◌%◌, ◌≡◌, ◌≤◌, List, [], replicate, min, max, length, true, nat_le, Option, find, All}
+use Rattle.std.specs.Prelude.{ℕ, ◌+◌, ◌-◌, ◌*◌, ◌/◌, ◌%◌, ◌≡◌, ◌≤◌, List, [], replicate, min, max, length, true, nat_le, nat_lt, nat_eq, Option, find, All, if◌then◌else◌}
 use Rattle.wb_model.specs.declared.heap.TheConstants.{CEILING}
 use Rattle.wb_model.specs.declared.heap.Header.{Header}
 use Rattle.wb_model.specs.declared.heap.Ptr.{Ptr}
 use Rattle.wb_model.specs.declared.heap.Kind.{Kind}
 use Rattle.wb_model.specs.declared.heap.Shape.{Shape}
-use Rattle.wb_model.specs.Row.{Cell, IsRow, headers, end_of, usable_of, place_of, inserted, without, top_of}
+use Rattle.wb_model.specs.Row.{Cell, IsRow, headers, end_of, usable_of, pointer_to, place_of, inserted, without, top_of}
+use Rattle.wb_model.specs.Heap.{realloc_place}
 use Rattle.wb_model.specs.Space.{Space, space_below, bound_below, committed_by, compressed_to, free_runs, is_shape}
-use Rattle.wb_model.specs.CellRow.{with_payload}
+use Rattle.wb_model.specs.CellRow.{with_payload, with_level, resized_words}
 
 pub record LimitedHeap : Type 0 where
   pub row : List (Cell (List ℕ))
@@ -54,9 +55,57 @@ heap_with heap length kind number level =
 abbrev pub heap_without : LimitedHeap → Ptr → LimitedHeap
 heap_without heap p = record heap { row = without p heap.row }
 
+-- where a cell goes that is to be longer
+abbrev pub place_to_grow : LimitedHeap → Header → ℕ → ℕ
+place_to_grow heap h length = realloc_place (headers heap.row) h length
+
+-- the pointer to it there: a cell that moved has the attempt's number
+abbrev pub grown_pointer : LimitedHeap → Header → ℕ → ℕ → Ptr
+grown_pointer heap h length number =
+    record { place = place_to_grow heap h length; number = if nat_eq (place_to_grow heap h length) h.place then h.number else number }
+
+-- the cell there: what it holds is filled up with zeros, and kind and level stay
+abbrev pub grown_cell : LimitedHeap → Cell (List ℕ) → ℕ → ℕ → Cell (List ℕ)
+grown_cell heap c length number =
+    let p = grown_pointer heap c.head length number in
+    record { head = record c.head { place = p.place; length = length; number = p.number }; content = resized_words length c.content }
+
+-- the committed length once the cell is longer
+abbrev pub committed_grown : LimitedHeap → Header → ℕ → ℕ
+committed_grown heap h length = committed_by (space_in heap) heap.committed (place_to_grow heap h length + length)
+
+-- the heap once a cell was made longer
+abbrev pub heap_grown : LimitedHeap → Cell (List ℕ) → ℕ → ℕ → LimitedHeap
+heap_grown heap c length number =
+    record heap {
+      row = inserted (grown_cell heap c length number) (without (pointer_to c.head) heap.row);
+      committed = committed_grown heap c.head length;
+      held = max heap.held (committed_grown heap c.head length);
+    }
+
+-- the heap once a cell was made no longer: its tail is free, and what stood there is dropped
+abbrev pub heap_shortened : LimitedHeap → Cell (List ℕ) → ℕ → LimitedHeap
+heap_shortened heap c length =
+    record heap {
+      row = inserted (record { head = record c.head { length = length }; content = resized_words length c.content }) (without (pointer_to c.head) heap.row);
+    }
+
+-- the heap once a cell was reallocated
+abbrev pub heap_reallocated : LimitedHeap → Cell (List ℕ) → ℕ → ℕ → LimitedHeap
+heap_reallocated heap c length number =
+    if nat_lt c.head.length length then heap_grown heap c length number else heap_shortened heap c length
+
+-- and the pointer to it
+abbrev pub reallocated_pointer : LimitedHeap → Header → ℕ → ℕ → Ptr
+reallocated_pointer heap h length number = if nat_lt h.length length then grown_pointer heap h length number else pointer_to h
+
 -- the heap once the words of one cell were replaced
 abbrev pub heap_changed : LimitedHeap → Ptr → List ℕ → LimitedHeap
 heap_changed heap p words = record heap { row = with_payload p words heap.row }
+
+-- the heap once one cell belongs to another level
+abbrev pub heap_leveled : LimitedHeap → Ptr → ℕ → LimitedHeap
+heap_leveled heap p level = record heap { row = with_level p level heap.row }
 
 -- the committed length once the heap gave up what lies above its last cell
 abbrev pub compressed_length : LimitedHeap → ℕ

@@ -1,11 +1,15 @@
 -- The names of a script: which lines declare and use them, and the first line whose names keep no rule.
-use Rattle.std.specs.Prelude.{ℕ, List, [], ◌∷◌, ◌++◌, Option, Some, None, Bool, false, ◌||◌, is_none, is_some, nat_le, nat_lt, unwrap_or, length}
+use Rattle.std.specs.Prelude.{ℕ, pos, List, [], ◌∷◌, ◌++◌, Option, Some, None, Bool, false, ◌||◌, is_none, is_some, nat_le, nat_lt, length}
 use Rattle.std.specs.List.{list_any}
 use Rattle.std.specs.Str.{bytes_eq}
+use Rattle.wb_model.specs.declared.lines.Key.{Key}
+use Rattle.wb_model.specs.declared.lines.Key.TheVariants as key
+use Rattle.wb_model.specs.declared.lines.Kind.{Kind}
+use Rattle.wb_model.specs.declared.lines.Kind.TheVariants as kind
 use Rattle.wb_model.specs.declared.lines.Letter.{Letter}
 use Rattle.wb_model.specs.declared.lines.Letter.TheVariants as letter
 use Rattle.wb_model.specs.declared.lines.Operand.{Operand}
-use Rattle.wb_model.specs.declared.lines.Operand.TheVariants.{Name, Literal}
+use Rattle.wb_model.specs.declared.lines.Operand.TheVariants.{Name, Number, Literal}
 use Rattle.wb_model.specs.declared.lines.Form.{Form}
 use Rattle.wb_model.specs.declared.lines.Form.TheVariants.{Line}
 use Rattle.wb_model.specs.declared.lines.Role.{Role}
@@ -27,7 +31,8 @@ name_declared letter.Declared (Name name) = Some name
 name_declared _ _ = None
 
 abbrev pub name_used : Pick
-name_used letter.Pointer (Name name) = Some name
+name_used letter.Declared _ = None
+name_used _ (Name name) = Some name
 name_used _ _ = None
 
 abbrev pub name_in : Pick
@@ -51,23 +56,41 @@ abbrev pub picked : Pick → Form Text → List Text
 picked pick (Line key operands) = picked_of pick (letters_of key) operands
 picked pick _ = []
 
--- what the lines so far declare: the procedures, the locals of the body that stands open or was the last, and the literals
+-- what the local holds that a line of a key declares
+abbrev pub kind_of : Key → Option Kind
+kind_of key.Ptr = Some kind.Pointer
+kind_of key.Int = Some kind.Number
+kind_of key.Buf = Some kind.Buffer
+kind_of key.View = Some kind.View
+kind_of _ = None
+
+abbrev pub kind_in : Form Text → Option Kind
+kind_in (Line key operands) = kind_of key
+kind_in _ = None
+
+abbrev pub with_one : {X : Type 0} → List X → Option X → List X
+with_one xs (Some x) = xs ++ x ∷ []
+with_one xs None = xs
+
+-- what the lines so far declare: the procedures, the locals of the body that stands open or was the last, each with what it
+-- holds, and the literals
 pub record Known : Type 0 where
   pub procedures : List Text
   pub locals : List Text
+  pub kinds : List Kind
   pub literals : List Text
 
 abbrev pub nothing_known : Known
-nothing_known = record { procedures = []; locals = []; literals = [] }
+nothing_known = record { procedures = []; locals = []; kinds = []; literals = [] }
 
-abbrev pub known_with : Role → List Text → List Text → Known → Known
-known_with Procedure names literals known = record { procedures = known.procedures ++ names; locals = []; literals = known.literals ++ literals }
-known_with Declaration names literals known = record { procedures = known.procedures; locals = known.locals ++ names; literals = known.literals ++ literals }
-known_with _ names literals known = record { procedures = known.procedures; locals = known.locals; literals = known.literals ++ literals }
+abbrev pub known_with : Role → List Text → Option Kind → List Text → Known → Known
+known_with Procedure names kind literals known = record { procedures = known.procedures ++ names; locals = []; kinds = []; literals = known.literals ++ literals }
+known_with Declaration names kind literals known = record { procedures = known.procedures; locals = known.locals ++ names; kinds = with_one known.kinds kind; literals = known.literals ++ literals }
+known_with _ names kind literals known = record { procedures = known.procedures; locals = known.locals; kinds = known.kinds; literals = known.literals ++ literals }
 
 -- with one more line
 abbrev pub known_after : Known → Form Text → Known
-known_after known form = known_with (role_of_form form) (picked name_declared form) (picked literal_in form) known
+known_after known form = known_with (role_of_form form) (picked name_declared form) (kind_in form) (picked literal_in form) known
 
 -- the index of the first declaration of a name
 abbrev pub place_of : List Text → Text → Option ℕ
@@ -92,9 +115,14 @@ is_one_more Procedure known = nat_le 256 (length known.procedures)
 is_one_more Declaration known = nat_le 32 (length known.locals)
 is_one_more _ known = false
 
+-- a text that may have more than 256 units
+abbrev pub is_large : Form Text → Bool
+is_large (Line key.Buf (name ∷ Number (pos max) ∷ [])) = nat_lt 256 max
+is_large _ = false
+
 -- a line that passes a limit: names have at most 32 bytes
 abbrev pub passes_limit : Known → Form Text → Bool
-passes_limit known form = list_any (λ n. nat_lt 32 (length n)) (picked name_in form) || is_one_more (role_of_form form) known
+passes_limit known form = list_any (λ n. nat_lt 32 (length n)) (picked name_in form) || (is_one_more (role_of_form form) known || is_large form)
 
 -- the index of the first line that a test refuses, by what stands declared before it
 abbrev pub first_refused : (Known → Form Text → Bool) → List (Form Text) → Option ℕ
@@ -103,7 +131,3 @@ first_refused bad forms = first_bad known_after bad nothing_known forms
 -- what all lines declare
 abbrev pub known_of : List (Form Text) → Known
 known_of forms = state_after known_after nothing_known forms
-
--- the index of a name's first declaration, for a name that is declared
-abbrev pub index_in : List Text → Text → ℕ
-index_in names name = unwrap_or (place_of names name) 0

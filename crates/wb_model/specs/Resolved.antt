@@ -1,36 +1,52 @@
--- The lines of a script with indexes for names and literals.
-use Rattle.std.specs.Prelude.{ℕ, List, [], ◌∷◌, length}
+-- The lines of a script with what their names and literals stand for.
+use Rattle.std.specs.Prelude.{ℕ, List, [], ◌∷◌, Option, Some, None, length, slice_get}
+use Rattle.wb_model.specs.declared.lines.Kind.{Kind}
+use Rattle.wb_model.specs.declared.lines.Kind.TheVariants as kind
 use Rattle.wb_model.specs.declared.lines.Letter.{Letter}
 use Rattle.wb_model.specs.declared.lines.Letter.TheVariants as letter
+use Rattle.wb_model.specs.declared.lines.Meant.{Meant}
+use Rattle.wb_model.specs.declared.lines.Meant.TheVariants as meant
 use Rattle.wb_model.specs.declared.lines.Operand.{Operand}
 use Rattle.wb_model.specs.declared.lines.Operand.TheVariants.{Name, Number, Literal}
 use Rattle.wb_model.specs.declared.lines.Form.{Form}
 use Rattle.wb_model.specs.declared.lines.Form.TheVariants.{Skip, Unknown, Line}
 use Rattle.wb_model.specs.declared.lines.Role.{Role}
 use Rattle.wb_model.specs.Keys.{letters_of, role_of}
-use Rattle.wb_model.specs.Names.{Text, Known, nothing_known, known_after, space_of, index_in}
+use Rattle.wb_model.specs.Names.{Text, Known, nothing_known, known_after, space_of, place_of}
 use Rattle.wb_model.specs.Passes.{each_with}
 
--- A declared name is the next of its space, and a used one has its declaration's index.
-abbrev pub name_index : Known → Role → Letter → Text → ℕ
-name_index known role letter.Declared name = length (space_of role known)
-name_index known role _ name = index_in known.locals name
+-- the local with an index, by what it holds
+abbrev pub local_meant : ℕ → Option Kind → Meant
+local_meant index (Some kind.Pointer) = meant.Pointer index
+local_meant index (Some kind.Number) = meant.Number index
+local_meant index (Some kind.Buffer) = meant.Buffer index
+local_meant index (Some kind.View) = meant.View index
+local_meant index None = meant.Nothing
+
+abbrev pub meant_at : List Kind → Option ℕ → Meant
+meant_at kinds (Some index) = local_meant index (slice_get kinds index)
+meant_at kinds None = meant.Nothing
+
+-- A declared name is the next of its space, and a used one is its first declaration's.
+abbrev pub name_meant : Known → Role → Letter → Text → Meant
+name_meant known role letter.Declared name = meant.Declared (length (space_of role known))
+name_meant known role _ name = meant_at known.kinds (place_of known.locals name)
 
 -- Literals have their indexes over the whole script; no line has two.
-abbrev pub resolved_operand : Known → Role → Letter → Operand Text → Operand ℕ
-resolved_operand known role letter (Name name) = Name (name_index known role letter name)
+abbrev pub resolved_operand : Known → Role → Letter → Operand Text → Operand Meant
+resolved_operand known role letter (Name name) = Name (name_meant known role letter name)
 resolved_operand known role letter (Number z) = Number z
-resolved_operand known role letter (Literal text) = Literal (length known.literals)
+resolved_operand known role letter (Literal text) = Literal (meant.Literal (length known.literals))
 
-abbrev pub resolved_operands : Known → Role → List Letter → List (Operand Text) → List (Operand ℕ)
+abbrev pub resolved_operands : Known → Role → List Letter → List (Operand Text) → List (Operand Meant)
 resolved_operands known role (letter ∷ letters) (operand ∷ operands) = resolved_operand known role letter operand ∷ resolved_operands known role letters operands
 resolved_operands known role _ _ = []
 
 -- a line, by what stands declared before it
-abbrev pub resolved_line : Known → Form Text → Form ℕ
+abbrev pub resolved_line : Known → Form Text → Form Meant
 resolved_line known Skip = Skip
 resolved_line known Unknown = Unknown
 resolved_line known (Line key operands) = Line key (resolved_operands known (role_of key) (letters_of key) operands)
 
-abbrev pub resolved : List (Form Text) → List (Form ℕ)
+abbrev pub resolved : List (Form Text) → List (Form Meant)
 resolved forms = each_with known_after resolved_line nothing_known forms

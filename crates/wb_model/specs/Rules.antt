@@ -43,6 +43,11 @@ after_attempt never = never
 after_attempt (next k) = count_down k
 after_attempt (each k left) = turn_round k left
 
+-- the setting once it has counted so many attempts
+abbrev pub after_attempts : ℕ → Setting → Setting
+after_attempts zero s = s
+after_attempts (suc n) s = after_attempts n (after_attempt s)
+
 -- what an attempt asks for, and whether the script's own setting refuses it
 pub record Request : Type 0 where
   pub length : ℕ

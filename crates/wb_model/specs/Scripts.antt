@@ -8,6 +8,7 @@ use Rattle.wb_model.specs.declared.lines.Form.{Form}
 use Rattle.wb_model.specs.declared.script.Script.{Script}
 use Rattle.wb_model.specs.Forms.{forms_of, role_of_form}
 use Rattle.wb_model.specs.Grammar.{IsGrammatical}
+use Rattle.wb_model.specs.Kinds.{has_wrong_kind}
 use Rattle.wb_model.specs.Lines.{lines_of, first_foreign_line, is_too_long}
 use Rattle.wb_model.specs.Names.{Text, first_refused, uses_unknown, declares_again, passes_limit, known_of, place_of}
 use Rattle.wb_model.specs.Resolved.{resolved}
@@ -44,10 +45,15 @@ pub record IsWellFormed (bytes : List ℕ) : Type 0 where
   pub text : IsText bytes
   pub grammar : AreLines (lines_of bytes)
 
--- the tree that lines without a fault in their names and limits have
-pub record IsTreeOf (forms : List (Form Text)) (script : Script) : Type 0 where
+-- the names of lines are declared, each once, and their operands are of the right kinds
+pub record IsNamed (forms : List (Form Text)) : Type 0 where
   pub known : first_refused uses_unknown forms ≡ None
   pub once : first_refused declares_again forms ≡ None
+  pub right : first_refused has_wrong_kind forms ≡ None
+
+-- the tree that lines without a fault in their names, kinds and limits have
+pub record IsTreeOf (forms : List (Form Text)) (script : Script) : Type 0 where
+  pub named : IsNamed forms
   pub main : main_of forms ≡ Some script.main
   pub within : first_refused passes_limit forms ≡ None
   pub classes : script.classes ≡ []
@@ -68,16 +74,16 @@ line_of index = option_map suc index
 abbrev pub IsLinesFault : List (Form Text) → ScriptFault → Type 0
 IsLinesFault forms (UnknownName n) = line_of (first_refused uses_unknown forms) ≡ Some n
 IsLinesFault forms (DoubleName n) = (first_refused uses_unknown forms ≡ None) × (line_of (first_refused declares_again forms) ≡ Some n)
-IsLinesFault forms NoMain = (first_refused uses_unknown forms ≡ None) × (first_refused declares_again forms ≡ None) × (main_of forms ≡ None)
-IsLinesFault forms (TooMany n) = (first_refused uses_unknown forms ≡ None) × (first_refused declares_again forms ≡ None) × (main_of forms ≡ None → ⊥) × (line_of (first_refused passes_limit forms) ≡ Some n)
+IsLinesFault forms (WrongKind n) = (first_refused uses_unknown forms ≡ None) × (first_refused declares_again forms ≡ None) × (line_of (first_refused has_wrong_kind forms) ≡ Some n)
+IsLinesFault forms NoMain = IsNamed forms × (main_of forms ≡ None)
+IsLinesFault forms (TooMany n) = IsNamed forms × (main_of forms ≡ None → ⊥) × (line_of (first_refused passes_limit forms) ≡ Some n)
 IsLinesFault forms _ = ⊥
 
--- The first fault of bytes, with its line. No line that has come has an operand of a wrong kind, or may leave where it must not.
+-- The first fault of bytes, with its line. No line that has come may leave where it must not.
 abbrev pub IsFaultOf : List ℕ → ScriptFault → Type 0
 IsFaultOf bytes TooLong = is_too_long bytes ≡ true
 IsFaultOf bytes (NotAscii n) = (is_too_long bytes ≡ false) × (first_foreign_line bytes ≡ Some n)
 IsFaultOf bytes (Grammar n) = IsText bytes × IsGrammarLine (lines_of bytes) n
-IsFaultOf bytes (WrongKind n) = ⊥
 IsFaultOf bytes (MayLeave n) = ⊥
 IsFaultOf bytes NoMemory = ⊥
 IsFaultOf bytes fault = IsWellFormed bytes × IsLinesFault (forms_of (lines_of bytes)) fault

@@ -6,49 +6,106 @@ use Rattle.wb_model.specs.declared.script.Script.{Script}
 use Rattle.wb_model.specs.declared.script.Body.{Body}
 use Rattle.wb_model.specs.declared.script.Procedure.{Procedure}
 use Rattle.wb_model.specs.declared.script.Local.{Local}
-use Rattle.wb_model.specs.declared.script.Local.TheVariants.{OfPointer}
+use Rattle.wb_model.specs.declared.script.Local.TheVariants.{OfPointer, OfNumber, OfBuffer, OfView}
 use Rattle.wb_model.specs.declared.script.Holder.TheVariants as H
 use Rattle.wb_model.specs.declared.script.Pointer.{Pointer}
 use Rattle.wb_model.specs.declared.script.Pointer.TheVariants.{Held}
 use Rattle.wb_model.specs.declared.script.Number.{Number}
-use Rattle.wb_model.specs.declared.script.Number.TheVariants.{Constant}
+use Rattle.wb_model.specs.declared.script.Number.TheVariants.{Constant, Variable}
+use Rattle.wb_model.specs.declared.script.Writable.{Writable}
+use Rattle.wb_model.specs.declared.script.Writable.TheVariants.{OwnBuffer, InCell}
 use Rattle.wb_model.specs.declared.script.Readable.{Readable}
-use Rattle.wb_model.specs.declared.script.Readable.TheVariants.{Quoted}
+use Rattle.wb_model.specs.declared.script.Readable.TheVariants.{Of, ViewOf, Quoted}
 use Rattle.wb_model.specs.declared.script.Refusal.TheVariants.{GivesNull}
 use Rattle.wb_model.specs.declared.script.Statement.{Statement}
 use Rattle.wb_model.specs.declared.script.Statement.TheOpen.{Statement-F}
 use Rattle.wb_model.specs.declared.script.Statement.TheViews.{out-Statement}
 
--- no class has come, so a pointer local has none
+-- No class has come, so a pointer local has none. A text of a local's own has at most 256 units.
 abbrev pub is_local : Local → Bool
 is_local (OfPointer None) = true
+is_local OfNumber = true
+is_local (OfBuffer max) = nat_le max 256
+is_local OfView = true
 is_local _ = false
 
 abbrev pub is_pointer_local : Option Local → Bool
 is_pointer_local (Some (OfPointer class)) = true
 is_pointer_local _ = false
 
+abbrev pub is_number_local : Option Local → Bool
+is_number_local (Some OfNumber) = true
+is_number_local _ = false
+
+abbrev pub is_buffer_local : Option Local → Bool
+is_buffer_local (Some (OfBuffer max)) = true
+is_buffer_local _ = false
+
+abbrev pub is_view_local : Option Local → Bool
+is_view_local (Some OfView) = true
+is_view_local _ = false
+
 abbrev pub is_pointer : List Local → Pointer → Bool
 is_pointer locals (Held (H.Local i)) = is_pointer_local (slice_get locals i)
 is_pointer locals _ = false
 
--- one to nine digits
-abbrev pub is_number : Number → Bool
-is_number (Constant (pos n)) = nat_le n 999999999
-is_number (Constant (negsuc n)) = nat_lt n 999999999
-is_number _ = false
+-- a local that holds a number
+abbrev pub is_variable : List Local → ℕ → Bool
+is_variable locals i = is_number_local (slice_get locals i)
 
-abbrev pub is_readable : ℕ → Readable → Bool
-is_readable literals (Quoted i) = nat_lt i literals
-is_readable literals _ = false
+-- one to nine digits, or a local that holds a number
+abbrev pub is_number : List Local → Number → Bool
+is_number locals (Constant (pos n)) = nat_le n 999999999
+is_number locals (Constant (negsuc n)) = nat_lt n 999999999
+is_number locals (Variable i) = is_variable locals i
+
+-- a text of a local's own, or the cell of a pointer
+abbrev pub is_writable : List Local → Writable → Bool
+is_writable locals (OwnBuffer i) = is_buffer_local (slice_get locals i)
+is_writable locals (InCell p) = is_pointer locals p
+
+-- a local that holds a view
+abbrev pub is_view : List Local → ℕ → Bool
+is_view locals i = is_view_local (slice_get locals i)
+
+abbrev pub is_readable : ℕ → List Local → Readable → Bool
+is_readable literals locals (Of w) = is_writable locals w
+is_readable literals locals (ViewOf i) = is_view locals i
+is_readable literals locals (Quoted i) = nat_lt i literals
 
 -- a statement, over so many literals and these locals
 abbrev pub is_statement : ℕ → List Local → Statement-F Statement → Bool
-is_statement literals locals (Statement-F.Alloc p v GivesNull) = is_pointer locals p && is_number v
+is_statement literals locals (Statement-F.Alloc p v GivesNull) = is_pointer locals p && is_number locals v
+is_statement literals locals (Statement-F.Realloc p q v GivesNull) = is_pointer locals p && (is_pointer locals q && is_number locals v)
 is_statement literals locals (Statement-F.Free p) = is_pointer locals p
-is_statement literals locals (Statement-F.PrintText t) = is_readable literals t
-is_statement literals locals (Statement-F.PrintNumber v) = is_number v
-is_statement literals locals (Statement-F.Store p v w) = is_pointer locals p && (is_number v && is_number w)
+is_statement literals locals (Statement-F.AllocLen x p) = is_variable locals x && is_pointer locals p
+is_statement literals locals (Statement-F.Store p v w) = is_pointer locals p && (is_number locals v && is_number locals w)
+is_statement literals locals (Statement-F.Load x p v) = is_variable locals x && (is_pointer locals p && is_number locals v)
+is_statement literals locals (Statement-F.Set p q) = is_pointer locals p && is_pointer locals q
+is_statement literals locals (Statement-F.SetNumber x v) = is_variable locals x && is_number locals v
+is_statement literals locals (Statement-F.SetNull p) = is_pointer locals p
+is_statement literals locals (Statement-F.Add x v) = is_variable locals x && is_number locals v
+is_statement literals locals Statement-F.Mark = true
+is_statement literals locals (Statement-F.MarkEnd v) = is_number locals v
+is_statement literals locals (Statement-F.Check v) = is_number locals v
+is_statement literals locals (Statement-F.CheckAll v) = is_number locals v
+is_statement literals locals (Statement-F.FailNext v) = is_number locals v
+is_statement literals locals (Statement-F.FailEvery v) = is_number locals v
+is_statement literals locals Statement-F.FailNone = true
+is_statement literals locals (Statement-F.NewText p v GivesNull) = is_pointer locals p && is_number locals v
+is_statement literals locals (Statement-F.ReallocText p q v) = is_pointer locals p && (is_pointer locals q && is_number locals v)
+is_statement literals locals (Statement-F.Copy d t) = is_writable locals d && is_readable literals locals t
+is_statement literals locals (Statement-F.Append d t) = is_writable locals d && is_readable literals locals t
+is_statement literals locals (Statement-F.Insert d v t) = is_writable locals d && (is_number locals v && is_readable literals locals t)
+is_statement literals locals (Statement-F.DeleteText d v w) = is_writable locals d && (is_number locals v && is_number locals w)
+is_statement literals locals (Statement-F.SetLength d v) = is_writable locals d && is_number locals v
+is_statement literals locals (Statement-F.Left x t v) = is_view locals x && (is_readable literals locals t && is_number locals v)
+is_statement literals locals (Statement-F.Right x t v) = is_view locals x && (is_readable literals locals t && is_number locals v)
+is_statement literals locals (Statement-F.Mid x t v w) = is_view locals x && (is_readable literals locals t && (is_number locals v && is_number locals w))
+is_statement literals locals (Statement-F.GetLength x t) = is_variable locals x && is_readable literals locals t
+is_statement literals locals (Statement-F.GetMaximum x d) = is_variable locals x && is_writable locals d
+is_statement literals locals (Statement-F.PrintText t) = is_readable literals locals t
+is_statement literals locals (Statement-F.PrintNumber v) = is_number locals v
 is_statement literals locals Statement-F.NoteHeap = true
 is_statement literals locals Statement-F.NoteAvailable = true
 is_statement literals locals Statement-F.NoteCompress = true

@@ -1,10 +1,37 @@
 -- Texts as lists of units, with a maximum.
-use Rattle.std.specs.Prelude.{ℕ, ◌+◌, ◌-◌, List, ◌++◌, nat_lt, nat_le, ◌||◌, if◌then◌else◌, Result, Ok, Err, length, take, drop, replicate}
+use Rattle.std.specs.Prelude.{ℕ, ◌+◌, ◌-◌, ◌^◌, ◌<◌, ◌≤◌, List, ◌++◌, nat_lt, nat_le, ◌||◌, if◌then◌else◌, Result, Ok, Err, length, take, drop, replicate, All}
 use Rattle.wb_model.specs.declared.heap.Panic.{Panic}
 use Rattle.wb_model.specs.declared.heap.Panic.TheVariants.{User}
+use Rattle.wb_model.specs.declared.text.View.{View}
 
+-- a text and the number of units that it may have
+pub record Buffer : Type 0 where
+  pub max : ℕ
+  pub units : List ℕ
+
+-- units are numbers of 16 bits
+abbrev pub AreUnits : List ℕ → Type 0
+AreUnits us = All (λ u. u < 2 ^ 16) us
+
+-- what holds of each buffer
+pub record IsBuffer (b : Buffer) : Type 0 where
+  pub fits : length b.units ≤ b.max
+  pub most : b.max ≤ 256
+  pub are_units : AreUnits b.units
+
+-- the units that an edit leaves, or its refusal
 abbrev pub Edited : Type 0
 Edited = Result (List ℕ) Panic
+
+-- a buffer after an edit; a refusal leaves it as it was
+abbrev pub edited : Buffer → Edited → Buffer
+edited b (Ok us) = record b { units = us }
+edited b (Err panic) = b
+
+-- what an edit answers
+abbrev pub answer_of : Edited → Result (Unit {0}) Panic
+answer_of (Ok us) = Ok tt
+answer_of (Err panic) = Err panic
 
 -- USER 11 where a text is longer than its maximum
 abbrev pub at_most : ℕ → List ℕ → Edited
@@ -36,6 +63,11 @@ right_part len n = if nat_le n len then Ok (record { from = len - n; count = n }
 
 abbrev pub mid_part : ℕ → ℕ → ℕ → Result Part Panic
 mid_part len at n = if nat_lt len at || nat_lt (len - at) n then Err (User 10) else Ok (record { from = at; count = n })
+
+-- a part of a view, as a view of the same base
+abbrev pub view_of_part : View → Result Part Panic → Result View Panic
+view_of_part v (Ok p) = Ok (record { base = v.base; position = v.position + p.from; length = p.count })
+view_of_part v (Err panic) = Err panic
 
 -- the units of a part, zeros past the end
 abbrev pub units_of_part : List ℕ → ℕ → ℕ → List ℕ

@@ -1,7 +1,9 @@
--- The lines of a script's tree, with indexes for names and literals.
-use Rattle.std.specs.Prelude.{ℕ, suc, List, [], ◌∷◌, ◌++◌, Option, Some, None, map}
-use Rattle.wb_model.specs.declared.lines.Key.TheVariants.{Proc, Ptr, Alloc, Free, Store, Print, Heap, Available, Compress, End}
+-- The lines of a script's tree, with what their names and literals stand for.
+use Rattle.std.specs.Prelude.{ℕ, suc, pos, List, [], ◌∷◌, ◌++◌, Option, Some, None, map}
+use Rattle.wb_model.specs.declared.lines.Key.TheVariants as key
 use Rattle.wb_model.specs.declared.lines.Key.{Key}
+use Rattle.wb_model.specs.declared.lines.Meant.{Meant}
+use Rattle.wb_model.specs.declared.lines.Meant.TheVariants as meant
 use Rattle.wb_model.specs.declared.lines.Operand.{Operand}
 use Rattle.wb_model.specs.declared.lines.Operand.TheVariants.{Name, Number, Literal}
 use Rattle.wb_model.specs.declared.lines.Form.{Form}
@@ -11,21 +13,23 @@ use Rattle.wb_model.specs.declared.script.Body.{Body}
 use Rattle.wb_model.specs.declared.script.Procedure.{Procedure}
 use Rattle.wb_model.specs.declared.script.Parameter.{Parameter}
 use Rattle.wb_model.specs.declared.script.Local.{Local}
-use Rattle.wb_model.specs.declared.script.Local.TheVariants.{OfPointer}
+use Rattle.wb_model.specs.declared.script.Local.TheVariants.{OfPointer, OfNumber, OfBuffer, OfView}
 use Rattle.wb_model.specs.declared.script.Holder.TheVariants as H
 use Rattle.wb_model.specs.declared.script.Pointer.{Pointer}
 use Rattle.wb_model.specs.declared.script.Pointer.TheVariants.{Held}
 use Rattle.wb_model.specs.declared.script.Number as N
-use Rattle.wb_model.specs.declared.script.Number.TheVariants.{Constant}
+use Rattle.wb_model.specs.declared.script.Number.TheVariants.{Constant, Variable}
+use Rattle.wb_model.specs.declared.script.Writable.{Writable}
+use Rattle.wb_model.specs.declared.script.Writable.TheVariants.{OwnBuffer, InCell}
 use Rattle.wb_model.specs.declared.script.Readable.{Readable}
-use Rattle.wb_model.specs.declared.script.Readable.TheVariants.{Quoted}
+use Rattle.wb_model.specs.declared.script.Readable.TheVariants.{Of, ViewOf, Quoted}
 use Rattle.wb_model.specs.declared.script.Refusal.TheVariants.{GivesNull}
 use Rattle.wb_model.specs.declared.script.Statement.{Statement}
 use Rattle.wb_model.specs.declared.script.Statement.TheOpen.{Statement-F}
 use Rattle.wb_model.specs.declared.script.Statement.TheViews.{out-Statement}
 
 abbrev pub Indexed : Type 0
-Indexed = Form ℕ
+Indexed = Form Meant
 
 -- a line that counts; blank lines and comments don't
 abbrev pub counted : Indexed → List Indexed
@@ -34,52 +38,92 @@ counted line = line ∷ []
 
 -- The operand that spells a pointer, a number or a text to print; none where no line spells it yet.
 abbrev pub Spelled : Type 0
-Spelled = Option (Operand ℕ)
+Spelled = Option (Operand Meant)
 
 abbrev pub pointer_operand : Pointer → Spelled
-pointer_operand (Held (H.Local i)) = Some (Name i)
+pointer_operand (Held (H.Local i)) = Some (Name (meant.Pointer i))
 pointer_operand _ = None
+
+abbrev pub variable_operand : ℕ → Spelled
+variable_operand i = Some (Name (meant.Number i))
 
 abbrev pub number_operand : N.Number → Spelled
 number_operand (Constant z) = Some (Number z)
-number_operand _ = None
+number_operand (Variable i) = variable_operand i
+
+abbrev pub writable_operand : Writable → Spelled
+writable_operand (OwnBuffer i) = Some (Name (meant.Buffer i))
+writable_operand (InCell p) = pointer_operand p
+
+abbrev pub view_operand : ℕ → Spelled
+view_operand i = Some (Name (meant.View i))
 
 abbrev pub text_operand : Readable → Spelled
-text_operand (Quoted i) = Some (Literal i)
-text_operand _ = None
+text_operand (Of w) = writable_operand w
+text_operand (ViewOf i) = view_operand i
+text_operand (Quoted i) = Some (Literal (meant.Literal i))
 
-abbrev pub and_operand : Spelled → Option (List (Operand ℕ)) → Option (List (Operand ℕ))
+abbrev pub and_operand : Spelled → Option (List (Operand Meant)) → Option (List (Operand Meant))
 and_operand (Some operand) (Some operands) = Some (operand ∷ operands)
 and_operand _ _ = None
 
-abbrev pub operands : List Spelled → Option (List (Operand ℕ))
-operands [] = Some []
-operands (operand ∷ rest) = and_operand operand (operands rest)
+abbrev pub all_spelled : List Spelled → Option (List (Operand Meant))
+all_spelled [] = Some []
+all_spelled (operand ∷ rest) = and_operand operand (all_spelled rest)
 
-abbrev pub line_or_unknown : Key → Option (List (Operand ℕ)) → Indexed
+abbrev pub line_or_unknown : Key → Option (List (Operand Meant)) → Indexed
 line_or_unknown key (Some operands) = Line key operands
 line_or_unknown key None = Unknown
 
 abbrev pub line : Key → List Spelled → Indexed
-line key words = line_or_unknown key (operands words)
+line k words = line_or_unknown k (all_spelled words)
 
 -- The line of a statement. One that no line spells yet has a line of no script.
 abbrev pub statement_line : Statement-F Statement → Indexed
-statement_line (Statement-F.Alloc p v GivesNull) = line Alloc (pointer_operand p ∷ number_operand v ∷ [])
-statement_line (Statement-F.Free p) = line Free (pointer_operand p ∷ [])
-statement_line (Statement-F.PrintNumber v) = line Print (number_operand v ∷ [])
-statement_line (Statement-F.PrintText t) = line Print (text_operand t ∷ [])
-statement_line (Statement-F.Store p v w) = line Store (pointer_operand p ∷ number_operand v ∷ number_operand w ∷ [])
-statement_line Statement-F.NoteHeap = line Heap []
-statement_line Statement-F.NoteAvailable = line Available []
-statement_line Statement-F.NoteCompress = line Compress []
+statement_line (Statement-F.Alloc p v GivesNull) = line key.Alloc (pointer_operand p ∷ number_operand v ∷ [])
+statement_line (Statement-F.Realloc p q v GivesNull) = line key.Realloc (pointer_operand p ∷ pointer_operand q ∷ number_operand v ∷ [])
+statement_line (Statement-F.Free p) = line key.Free (pointer_operand p ∷ [])
+statement_line (Statement-F.AllocLen x p) = line key.AllocLen (variable_operand x ∷ pointer_operand p ∷ [])
+statement_line (Statement-F.Store p v w) = line key.Store (pointer_operand p ∷ number_operand v ∷ number_operand w ∷ [])
+statement_line (Statement-F.Load x p v) = line key.Load (variable_operand x ∷ pointer_operand p ∷ number_operand v ∷ [])
+statement_line (Statement-F.Set p q) = line key.Set (pointer_operand p ∷ pointer_operand q ∷ [])
+statement_line (Statement-F.SetNumber x v) = line key.Set (variable_operand x ∷ number_operand v ∷ [])
+statement_line (Statement-F.SetNull p) = line key.Null (pointer_operand p ∷ [])
+statement_line (Statement-F.Add x v) = line key.Add (variable_operand x ∷ number_operand v ∷ [])
+statement_line Statement-F.Mark = line key.Mark []
+statement_line (Statement-F.MarkEnd v) = line key.MarkEnd (number_operand v ∷ [])
+statement_line (Statement-F.Check v) = line key.Check (number_operand v ∷ [])
+statement_line (Statement-F.CheckAll v) = line key.CheckAll (number_operand v ∷ [])
+statement_line (Statement-F.FailNext v) = line key.FailNext (number_operand v ∷ [])
+statement_line (Statement-F.FailEvery v) = line key.FailEvery (number_operand v ∷ [])
+statement_line Statement-F.FailNone = line key.FailNone []
+statement_line (Statement-F.NewText p v GivesNull) = line key.HNew (pointer_operand p ∷ number_operand v ∷ [])
+statement_line (Statement-F.ReallocText p q v) = line key.HRealloc (pointer_operand p ∷ pointer_operand q ∷ number_operand v ∷ [])
+statement_line (Statement-F.Copy d t) = line key.Copy (writable_operand d ∷ text_operand t ∷ [])
+statement_line (Statement-F.Append d t) = line key.Append (writable_operand d ∷ text_operand t ∷ [])
+statement_line (Statement-F.Insert d v t) = line key.Insert (writable_operand d ∷ number_operand v ∷ text_operand t ∷ [])
+statement_line (Statement-F.DeleteText d v w) = line key.DelText (writable_operand d ∷ number_operand v ∷ number_operand w ∷ [])
+statement_line (Statement-F.SetLength d v) = line key.SetLength (writable_operand d ∷ number_operand v ∷ [])
+statement_line (Statement-F.Left y t v) = line key.Left (view_operand y ∷ text_operand t ∷ number_operand v ∷ [])
+statement_line (Statement-F.Right y t v) = line key.Right (view_operand y ∷ text_operand t ∷ number_operand v ∷ [])
+statement_line (Statement-F.Mid y t v w) = line key.Mid (view_operand y ∷ text_operand t ∷ number_operand v ∷ number_operand w ∷ [])
+statement_line (Statement-F.GetLength x t) = line key.GetLen (variable_operand x ∷ text_operand t ∷ [])
+statement_line (Statement-F.GetMaximum x d) = line key.GetMax (variable_operand x ∷ writable_operand d ∷ [])
+statement_line (Statement-F.PrintText t) = line key.Print (text_operand t ∷ [])
+statement_line (Statement-F.PrintNumber v) = line key.Print (number_operand v ∷ [])
+statement_line Statement-F.NoteHeap = line key.Heap []
+statement_line Statement-F.NoteAvailable = line key.Available []
+statement_line Statement-F.NoteCompress = line key.Compress []
 statement_line _ = Unknown
 
 abbrev pub statement_lines : List Statement → List Indexed
 statement_lines statements = map (λ s. statement_line (out-Statement s)) statements
 
 abbrev pub local_line : ℕ → Local → Indexed
-local_line index (OfPointer None) = Line Ptr (Name index ∷ [])
+local_line index (OfPointer None) = Line key.Ptr (Name (meant.Declared index) ∷ [])
+local_line index OfNumber = Line key.Int (Name (meant.Declared index) ∷ [])
+local_line index (OfBuffer max) = Line key.Buf (Name (meant.Declared index) ∷ Number (pos max) ∷ [])
+local_line index OfView = Line key.View (Name (meant.Declared index) ∷ [])
 local_line index _ = Unknown
 
 -- the declarations of locals, from an index on
@@ -88,14 +132,14 @@ local_lines index [] = []
 local_lines index (local ∷ locals) = local_line index local ∷ local_lines (suc index) locals
 
 abbrev pub head_line : ℕ → List Parameter → Indexed
-head_line index [] = Line Proc (Name index ∷ [])
+head_line index [] = Line key.Proc (Name (meant.Declared index) ∷ [])
 head_line index _ = Unknown
 
 abbrev pub body_lines : Body → List Indexed
 body_lines body = local_lines 0 body.locals ++ statement_lines body.statements
 
 abbrev pub procedure_lines : ℕ → Procedure → List Indexed
-procedure_lines index p = head_line index p.parameters ∷ (body_lines p.body ++ Line End [] ∷ [])
+procedure_lines index p = head_line index p.parameters ∷ (body_lines p.body ++ Line key.End [] ∷ [])
 
 -- the procedures, from an index on
 abbrev pub procedures_lines : ℕ → List Procedure → List Indexed

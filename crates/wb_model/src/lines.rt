@@ -8,9 +8,37 @@ use crate::items::Items;
 pub enum Key {
     Proc,
     Ptr,
+    Int,
+    Buf,
+    View,
     Alloc,
+    Realloc,
     Free,
+    AllocLen,
     Store,
+    Load,
+    Set,
+    Null,
+    Add,
+    Mark,
+    MarkEnd,
+    Check,
+    CheckAll,
+    FailNext,
+    FailEvery,
+    FailNone,
+    HNew,
+    HRealloc,
+    Copy,
+    Append,
+    Insert,
+    DelText,
+    SetLength,
+    Left,
+    Right,
+    Mid,
+    GetLen,
+    GetMax,
     Print,
     Heap,
     Available,
@@ -23,22 +51,64 @@ pub enum Key {
 pub enum Letter {
     /// A name that the line declares.
     Declared,
-    /// A pointer.
+    /// The name of a pointer.
     Pointer,
-    /// A number.
+    /// A number, or the name of a local that holds one.
     Value,
-    /// A number or a literal.
+    /// The name of a local that holds a number.
+    Variable,
+    /// What a `set` writes: the name of a pointer, or of a local that holds a number.
+    Target,
+    /// What a `set` reads: a number, or a name of either kind.
+    Source,
+    /// The greatest length of a text: a number from 0 on.
+    Size,
+    /// A text that can be changed: the name of a text of the body's own, or of a pointer to one.
+    Writable,
+    /// A text that can be read: the name of one that can be changed or of a view, or a literal.
+    Readable,
+    /// The name of a view.
+    ViewName,
+    /// A number, the name of a local that holds one, or a text that can be read.
     Printed,
 }
 
-/// A word behind the key. `N` is a name or the text of a literal: the bytes, or the index of what they
-/// stand for.
+/// What a local holds.
+#[derive(Clone, Copy, Debug, PartialEq, Eq)]
+pub enum Kind {
+    Pointer,
+    Number,
+    /// A text of its own.
+    Buffer,
+    View,
+}
+
+/// A word behind the key. `N` is a name or the text of a literal: the bytes, or what they stand for.
 #[derive(Clone, Copy, Debug)]
 pub enum Operand<N> {
     Name(N),
     Number(i32),
     /// Without its quotes.
     Literal(N),
+}
+
+/// What a name or a literal stands for. Locals count from 0 in their body, procedures and literals in the
+/// script.
+#[derive(Clone, Copy, Debug)]
+pub enum Meant {
+    /// The next one of the procedures, or of the locals of the body: the line declares it.
+    Declared(usize),
+    /// A local that holds a pointer.
+    Pointer(usize),
+    /// A local that holds a number.
+    Number(usize),
+    /// A local that holds a text.
+    Buffer(usize),
+    /// A local that holds a view.
+    View(usize),
+    Literal(usize),
+    /// Nothing: the name is declared nowhere.
+    Nothing,
 }
 
 /// What a line says.

@@ -1,10 +1,11 @@
-//! Each call of the lists once, on its happy path.
+//! Each call of the lists once, on its happy path, and the parts of a view.
 
-use crate::heap::{Answer, Attempt};
+use crate::heap::{Answer, Attempt, Panic};
 use crate::items::Items;
 use crate::line::Line;
 use crate::memory::NoMemory;
 use crate::run::Trace;
+use crate::text::{Base, View};
 use arrayvec::ArrayVec;
 use std::alloc::AllocError;
 use std::test::Fail;
@@ -27,6 +28,8 @@ fn a_trace_is_read_in_order(rt: HostRuntime) -> Result<(), Fail> {
     assert_eq!(rt; trace.get(1).copied(), Some(attempt(2)));
     assert!(rt; trace.get(2).is_none());
     assert!(rt; trace.as_slice() == [attempt(1), attempt(2)].as_slice());
+    assert_eq!(rt; trace.pop(), Some(attempt(2)));
+    assert!(rt; trace.as_slice() == [attempt(1)].as_slice());
     Ok(())
 }
 
@@ -43,5 +46,30 @@ fn a_line_holds_its_bytes(rt: HostRuntime) -> Result<(), Fail> {
     bytes.push(b'a');
     let _line = Line::new(bytes);
     assert!(rt; NoMemory::from(AllocError) == NoMemory);
+    Ok(())
+}
+
+#[test]
+fn parts_of_a_view(rt: HostRuntime) -> Result<(), Fail> {
+    let view = View {
+        base: Base::Local(3),
+        position: 10,
+        length: 6,
+    };
+    let part = |position, length| {
+        Ok(View {
+            base: Base::Local(3),
+            position,
+            length,
+        })
+    };
+    assert_eq!(rt; view.left(2), part(10, 2));
+    assert_eq!(rt; view.right(2), part(14, 2));
+    assert_eq!(rt; view.mid(1, 5), part(11, 5));
+    assert_eq!(rt; view.mid(6, 0), part(16, 0));
+    assert_eq!(rt; view.left(7), Err(Panic::User(10)));
+    assert_eq!(rt; view.right(7), Err(Panic::User(10)));
+    assert_eq!(rt; view.mid(1, 6), Err(Panic::User(10)));
+    assert_eq!(rt; view.mid(7, 0), Err(Panic::User(10)));
     Ok(())
 }
