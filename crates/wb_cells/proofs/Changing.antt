@@ -102,10 +102,10 @@ pub payload_some : (p : Ptr) (row : List (Cell (List ℕ))) (i : ℕ) → i < le
 payload_some p row i lt none = let e = ap (λ o. length (content_or_nil o)) none in omega (arith, e, lt)
 
 module _ (p : Ptr) (words : List ℕ) (segments : List Segment) (spare : List ℕ) (cell : IsCell p words segments spare) where
-  abbrev before : List ℕ
+  abbrev pub before : List ℕ
   before = words_of 0 cell.front (next spare cell.front cell.kind cell.level p.number cell.body cell.back)
 
-  abbrev after : List ℕ
+  abbrev pub after : List ℕ
   after = past spare cell.front cell.kind cell.level p.number cell.body cell.back
 
   pub length-before : length before ≡ p.place / 16 * 4

@@ -55,8 +55,8 @@ rounds_of words starts top first laid p cell prior before after rounds =
     (subst (λ z. Links words first (gaps_from 0 z)) cell.is (links_laid words starts top first laid)) prior before after
     (subst (λ n. Rounds words first n prior before after) cell.here rounds)
 
--- words and bits round the hole that a released cell and the free cells at its sides leave
-pub record IsHollow (words : List ℕ) (bits : List Bool) (top first : ℕ) (p : Ptr) (segments : List Segment) (start end before next : ℕ) : Type 0 where
+-- words and bits round a hole, and the cells that are left
+pub record IsHollow (words : List ℕ) (bits : List Bool) (top first : ℕ) (cells : List (Cell (List ℕ))) (start end before next : ℕ) : Type 0 where
   pub low : List Segment
   pub high : List Segment
   pub spare : List ℕ
@@ -65,7 +65,6 @@ pub record IsHollow (words : List ℕ) (bits : List Bool) (top first : ℕ) (p :
   pub unset : ℕ
   pub here : start ≡ total low
   pub long : start + 4 * length junk ≡ end
-  pub least : 4 ≤ length junk
   pub rounded : length junk % 4 ≡ 0
   pub spelled : words ≡ words_of 0 low from ++ (junk ++ (words_of end high NO_PLACE ++ spare))
   pub linked : first ≡ first_free 0 low from
@@ -79,9 +78,10 @@ pub record IsHollow (words : List ℕ) (bits : List Bool) (top first : ℕ) (p :
   pub merged_high : AreMerged high
   pub closed : (body : List ℕ) (ys : List Segment) → BeginsLive ys → AreMerged ys → AreMerged (low ++ free body ∷ ys)
   pub begins : (high ≡ []) ⊎ BeginsLive high
-  pub row : without p (row_from 0 segments) ≡ row_from 0 low ++ row_from end high
+  pub row : cells ≡ row_from 0 low ++ row_from end high
   pub below : total low < NO_PLACE
 
+-- the hole that a released cell and the free cells at its sides leave
 module _ (words : List ℕ) (starts : List Bool) (top first : ℕ) (laid : IsLaid words starts top first) (p : Ptr) (cell : IsCell p words laid.segments laid.spare)
     (prior before after : ℕ) (round : AreNeighbours cell.front (live cell.kind cell.level p.number cell.body ∷ cell.back) prior before after) where
   abbrev own : Segment
@@ -135,7 +135,7 @@ module _ (words : List ℕ) (starts : List Bool) (top first : ℕ) (laid : IsLai
   run a m b =
       sym (replicate-append-replicate a (suc m + b) false) ∙ ap (λ bs. replicate a false ++ bs) (sym (replicate-append-replicate (suc m) b false))
 
-  pub hollow : IsHollow words (slice_set starts (p.place / 16) false) top first p laid.segments
+  pub hollow : IsHollow words (slice_set starts (p.place / 16) false) top first (without p (row_from 0 laid.segments))
       (cond (touches words before p.place) before p.place) (cond (nat_eq after end) (end_at words after) end)
       (cond (touches words before p.place) prior before) (cond (nat_eq after end) (slice_index words (after / 16 * 4 + 2)) after)
   hollow =
@@ -165,7 +165,6 @@ module _ (words : List ℕ) (starts : List Bool) (top first : ℕ) (laid : IsLai
         unset = laid.unset;
         here = d.here;
         long = omega (arith, count, d.long, u.long);
-        least = omega (arith, count);
         rounded = omega (arith, count, w.0, d.rounded, u.rounded);
         spelled = cell.spelled ∙ rw (d.spelled, at, u.spelled) (simp append_assoc);
         linked = laid.linked ∙ ap (λ z. first_free 0 z NO_PLACE) cell.is ∙ first_free-append cell.front (own ∷ cell.back) 0 NO_PLACE
@@ -229,25 +228,25 @@ module _ (words : List ℕ) (starts : List Bool) (top first : ℕ) (laid : IsLai
 
   -- the hole as the code finds it
   pub hollow_is : (hole : Hole) → hole ≡ hole_of words p.place (record { prior = prior; before = before; after = after }) →
-      IsHollow words (slice_set starts (p.place / 16) false) top first p laid.segments hole.start hole.end hole.before hole.next
+      IsHollow words (slice_set starts (p.place / 16) false) top first (without p (row_from 0 laid.segments)) hole.start hole.end hole.before hole.next
   hollow_is hole is =
       let at : end_at words p.place ≡ end = ap (λ n. p.place + n) size_live in
-      let h : IsHollow words (slice_set starts (p.place / 16) false) top first p laid.segments
+      let h : IsHollow words (slice_set starts (p.place / 16) false) top first (without p (row_from 0 laid.segments))
       (cond (touches words before p.place) before p.place) (cond (nat_eq after (end_at words p.place)) (end_at words after) (end_at words p.place))
       (cond (touches words before p.place) prior before) (cond (nat_eq after (end_at words p.place)) (slice_index words (after / 16 * 4 + 2)) after) = rw at hollow in
-      subst (λ q. IsHollow words (slice_set starts (p.place / 16) false) top first p laid.segments q.start q.end q.before q.next) (sym is) h
+      subst (λ q. IsHollow words (slice_set starts (p.place / 16) false) top first (without p (row_from 0 laid.segments)) q.start q.end q.before q.next) (sym is) h
 
 -- the bounds of a hole
-module _ (words : List ℕ) (bits : List Bool) (top first : ℕ) (p : Ptr) (segments : List Segment) (start end before next : ℕ)
-    (hole : IsHollow words bits top first p segments start end before next) where
+module _ (words : List ℕ) (bits : List Bool) (top first : ℕ) (cells : List (Cell (List ℕ))) (start end before next : ℕ)
+    (hole : IsHollow words bits top first cells start end before next) where
   abbrev rest : List ℕ
   rest = words_of end hole.high NO_PLACE ++ hole.spare
 
   count : length words ≡ length (words_of 0 hole.low hole.from) + (length hole.junk + length rest)
   count = ap length hole.spelled ∙ length-append (words_of 0 hole.low hole.from) (hole.junk ++ rest) ∙ ap (λ n. length (words_of 0 hole.low hole.from) + n) (length-append hole.junk rest)
 
-  pub hole_start : start / 16 * 4 + 4 ≤ length words
-  hole_start = omega (arith, count, length-words_of hole.low 0 hole.from, hole.here, hole.least, total-whole hole.low hole.whole_low)
+  pub hole_start : start ≢ end → start / 16 * 4 + 4 ≤ length words
+  hole_start some = omega (arith, count, length-words_of hole.low 0 hole.from, hole.here, hole.long, hole.rounded, some, total-whole hole.low hole.whole_low)
 
   pub hole_order : start ≤ end
   hole_order = omega (arith, hole.long)

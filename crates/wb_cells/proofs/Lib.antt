@@ -19,3 +19,6 @@ pub mod Closing
 pub mod Sound
 pub mod Packing
 pub mod Gaps
+pub mod Behind
+pub mod Levels
+pub mod Resizing

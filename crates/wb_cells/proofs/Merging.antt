@@ -94,7 +94,7 @@ last_free-free [] body at none = omega arith
 last_free-free (live kind level number body' ∷ xs) body at none = last_free-free xs body (at + (16 + 4 * length body')) none ∙ omega arith
 last_free-free (free body' ∷ xs) body at none = last_free-free xs body (at + (16 + 4 * length body')) at ∙ omega arith
 
-last_free-live : (xs : List Segment) (kind : Kind) (level number : ℕ) (body : List ℕ) (at none : ℕ) → last_free at (xs ++ live kind level number body ∷ []) none ≡ last_free at xs none
+pub last_free-live : (xs : List Segment) (kind : Kind) (level number : ℕ) (body : List ℕ) (at none : ℕ) → last_free at (xs ++ live kind level number body ∷ []) none ≡ last_free at xs none
 last_free-live [] kind level number body at none = refl
 last_free-live (live kind' level' number' body' ∷ xs) kind level number body at none = last_free-live xs kind level number body (at + (16 + 4 * length body')) none
 last_free-live (free body' ∷ xs) kind level number body at none = last_free-live xs kind level number body (at + (16 + 4 * length body')) at

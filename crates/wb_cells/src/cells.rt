@@ -3,7 +3,7 @@
 
 ghost use Rattle.std.specs.Prelude.{◌≡◌, ◌≢◌, ◌+◌, ◌*◌, ◌%◌, ◌<◌, ◌≤◌, [], ◌++◌, max, length, take, drop, slice_index, slice_set, All, OnOk, OnErr, option_map, IsSome};
 ghost use Rattle.wb_chunk.specs.Halves.{half_of, with_half};
-ghost use Rattle.wb_model.specs.CellRow.{CellRow, IsGap, IsSoundCells, payload_of, with_payload};
+ghost use Rattle.wb_model.specs.CellRow.{CellRow, FitsInPlace, IsGap, IsSoundCells, payload_of, room_behind, with_length, with_level, with_payload};
 ghost use Rattle.wb_model.specs.LimitedHeap.{next_live_of, zero_words};
 ghost use Rattle.wb_model.specs.Row.{IsLeastPlace, cell_at, headers, inserted, place_of, top_of, without};
 
@@ -140,6 +140,31 @@ impl Cells {
         self.starts.set(ptr.place / 16, false);
     }
 
+    /// Gives the cell that the pointer names another length where it stands. What it gains is zeros; what it loses, or
+    /// leaves of a free cell behind it, becomes one free cell, or part of the space above the last live cell. It takes no
+    /// memory, and walks the free cells below the place.
+    pub fn resize(&mut self, ptr: Ptr, length: u32)
+        requires live { IsSome (cell_at ptr self.old.row) }
+        requires rounded { length % 16 ≡ 0 }
+        requires least { 16 ≤ length }
+        requires within { ptr.place + length ≤ self.old.held }
+        requires fits { FitsInPlace ptr length (headers self.old.row) }
+        ensures resized { self.new ≡ record self.old { row = with_length ptr length self.old.row } }
+        ensures sound { IsSoundCells self.new }
+    {
+        let old = free_list::length_at(&self.words, ptr.place);
+        let around = free_list::around(&self.words, self.ends.first, ptr.place);
+        let mut hole = free_list::hole_behind(&self.words, ptr.place, around);
+        hole.start = ptr.place + length;
+        self.words.set_word(ptr.place / 16 * 4, length);
+        self.words.zero(
+            (ptr.place + old) / 16 * 4,
+            length.saturating_sub(old) / 16 * 4,
+        );
+        let ends = free_list::close(&mut self.words, self.ends, hole);
+        self.ends = ends;
+    }
+
     /// The header of the cell that the pointer names, or `None` where no live cell begins at its place or that cell has
     /// another number. It reads one bit and four words, however many cells there are.
     pub fn header(&self, ptr: Ptr) -> Option<Header>
@@ -169,6 +194,28 @@ impl Cells {
             Some(start) => Some(layout::header_at(&self.words, 16 * start)),
             None => None,
         }
+    }
+
+    /// The free bytes between the cell that the pointer names and the next live one, or `None` where it is the last.
+    pub fn room_after(&self, ptr: Ptr) -> Option<u32>
+        requires { IsSome (cell_at ptr self.now.row) }
+        ensures room { result ≡ room_behind ptr (headers self.now.row) }
+        ensures sound { IsSoundCells self.now }
+    {
+        let end = ptr.place + free_list::length_at(&self.words, ptr.place);
+        match self.next_live(end) {
+            Some(next) => Some(next.place - end),
+            None => None,
+        }
+    }
+
+    /// Puts the cell that the pointer names under another nesting level of heap marks.
+    pub fn set_level(&mut self, ptr: Ptr, level: u32)
+        requires { IsSome (cell_at ptr self.old.row) }
+        ensures changed { self.new ≡ record self.old { row = with_level ptr level self.old.row } }
+        ensures sound { IsSoundCells self.new }
+    {
+        self.words.set_word(ptr.place / 16 * 4 + 2, level);
     }
 
     /// The word at an index of a payload. An index within a payload says that the pointer names a cell.

@@ -3,7 +3,7 @@
 
 ghost use Rattle.std.specs.Prelude.{◌≡◌, ◌≢◌, ◌+◌, ◌*◌, ◌/◌, ◌%◌, ◌<◌, ◌≤◌, ◌⊎◌, [], ◌++◌, List, length, slice_index, slice_set, if◌then◌else◌, nat_eq};
 ghost use Rattle.wb_cells.specs.FreeList.{Gap, Links, NO_PLACE, fit_among, AreBelow, AreFrom, last_place, IsRound, IsWithin, linked_first, linked_words, next_past, parted_words};
-ghost use Rattle.wb_cells.specs.Holes.{IsOpenable, IsOpened, IsRaised, hole_of, closed_words, closed_ends};
+ghost use Rattle.wb_cells.specs.Holes.{IsOpenable, IsOpened, IsRaised, hole_of, hole_past, closed_words, closed_ends};
 
 use crate::layout::{self, NONE};
 use wb_chunk::Chunk;
@@ -139,7 +139,7 @@ pub fn open(words: &mut Chunk, ends: Ends, place: u32, bytes: u32) -> Ends
     }
 }
 
-/// The bytes of a released cell and of the free cells that touch it.
+/// Bytes that belong to no cell, from the end of one live cell to the start of another or to the top.
 #[derive(Clone, Copy, Debug)]
 pub struct Hole {
     pub start: u32,
@@ -150,6 +150,29 @@ pub struct Hole {
     pub next: u32,
 }
 
+/// The free bytes behind a live cell, up to the next live one.
+pub fn hole_behind(words: &Chunk, place: u32, around: Neighbours) -> Hole
+    requires cell { IsWithin words.now place }
+    requires above { around.after ≡ place + slice_index words.now (place / 16 * 4) → IsWithin words.now around.after }
+    ensures { result ≡ hole_past words.now place around }
+{
+    let end = place + length_at(words, place);
+    if around.after == end {
+        return Hole {
+            start: end,
+            end: around.after + length_at(words, around.after),
+            before: around.before,
+            next: link_at(words, around.after),
+        };
+    }
+    Hole {
+        start: end,
+        end,
+        before: around.before,
+        next: around.after,
+    }
+}
+
 /// The hole that a released cell leaves.
 pub fn hole_left(words: &Chunk, place: u32, around: Neighbours) -> Hole
     requires cell { IsWithin words.now place }
@@ -157,16 +180,8 @@ pub fn hole_left(words: &Chunk, place: u32, around: Neighbours) -> Hole
     requires above { around.after ≡ place + slice_index words.now (place / 16 * 4) → IsWithin words.now around.after }
     ensures { result ≡ hole_of words.now place around }
 {
-    let mut hole = Hole {
-        start: place,
-        end: place + length_at(words, place),
-        before: around.before,
-        next: around.after,
-    };
-    if hole.next == hole.end {
-        hole.end = hole.next + length_at(words, around.after);
-        hole.next = link_at(words, around.after);
-    }
+    let mut hole = hole_behind(words, place, around);
+    hole.start = place;
     if around.before != NONE && around.before + length_at(words, around.before) == place {
         hole.start = around.before;
         hole.before = around.prior;
@@ -174,11 +189,12 @@ pub fn hole_left(words: &Chunk, place: u32, around: Neighbours) -> Hole
     hole
 }
 
-/// Makes a hole a free cell, or lowers the top where no live cell follows it.
+/// Makes a hole a free cell, or nothing where it has no bytes. Where no live cell follows it, its start becomes the
+/// top, which may then be higher than it was.
 pub fn close(words: &mut Chunk, ends: Ends, hole: Hole) -> Ends
     requires before { hole.before ≢ NO_PLACE → hole.before / 16 * 4 + 4 ≤ length words.old }
-    requires start { hole.start / 16 * 4 + 4 ≤ length words.old }
-    requires order { hole.start ≤ hole.end }
+    requires start { hole.end ≢ ends.top → hole.start ≢ hole.end → hole.start / 16 * 4 + 4 ≤ length words.old }
+    requires order { hole.end ≢ ends.top → hole.start ≤ hole.end }
     ensures words { words.new ≡ closed_words words.old ends.top hole }
     ensures ends { result ≡ closed_ends ends.first ends.top hole }
     ensures count { length words.new ≡ length words.old }
@@ -189,9 +205,13 @@ pub fn close(words: &mut Chunk, ends: Ends, hole: Hole) -> Ends
             first: link(words, ends.first, hole.before, NONE),
         };
     }
-    layout::write_header(words, hole.start, hole.end - hole.start, 0, hole.next, 0);
+    let mut next = hole.next;
+    if hole.start != hole.end {
+        layout::write_header(words, hole.start, hole.end - hole.start, 0, hole.next, 0);
+        next = hole.start;
+    }
     Ends {
         top: ends.top,
-        first: link(words, ends.first, hole.before, hole.start),
+        first: link(words, ends.first, hole.before, next),
     }
 }

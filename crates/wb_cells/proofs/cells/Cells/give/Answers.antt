@@ -6,7 +6,7 @@ use Rattle.wb_cells.proofs.Laying.{spelled-laid}
 use Rattle.wb_cells.proofs.Linking.{gaps_from, links_laid}
 use Rattle.wb_cells.proofs.Changing.{valid, some_cell, payload_within}
 use Rattle.wb_cells.proofs.Giving.{rounds_of, within_live, within_before, within_after, hollow_is, hole_start, hole_order, hole_before}
-use Rattle.wb_cells.proofs.Closing.{closed_hole}
+use Rattle.wb_cells.proofs.Closing.{closed_hole, numbered-without}
 use Rattle.wb_cells.proofs.Sound.{sound_laid}
 use Rattle.wb_cells.proofs.cells.Cells.give.Goals as goal
 
@@ -45,7 +45,7 @@ close-ends-requires-clause-before c =
     let around = c.around-around.result in
     let round = rounds_of _ _ _ _ c.self.invariant c.args.ptr v.cell around.prior around.before around.after c.around-around.ensures.round in
     let hollow = hollow_is _ _ _ _ c.self.invariant c.args.ptr v.cell around.prior around.before around.after round c.hole_left-hole.result c.hole_left-hole.ensures in
-    hole_before _ _ _ _ _ _ _ _ _ _ hollow
+    hole_before _ _ _ _ _ _ _ _ _ hollow
 
 pub close-ends-requires-clause-start : goal.close-ends-requires-clause-start
 close-ends-requires-clause-start c =
@@ -53,7 +53,7 @@ close-ends-requires-clause-start c =
     let around = c.around-around.result in
     let round = rounds_of _ _ _ _ c.self.invariant c.args.ptr v.cell around.prior around.before around.after c.around-around.ensures.round in
     let hollow = hollow_is _ _ _ _ c.self.invariant c.args.ptr v.cell around.prior around.before around.after round c.hole_left-hole.result c.hole_left-hole.ensures in
-    hole_start _ _ _ _ _ _ _ _ _ _ hollow
+    λ some. hole_start _ _ _ _ _ _ _ _ _ hollow
 
 pub close-ends-requires-clause-order : goal.close-ends-requires-clause-order
 close-ends-requires-clause-order c =
@@ -61,7 +61,7 @@ close-ends-requires-clause-order c =
     let around = c.around-around.result in
     let round = rounds_of _ _ _ _ c.self.invariant c.args.ptr v.cell around.prior around.before around.after c.around-around.ensures.round in
     let hollow = hollow_is _ _ _ _ c.self.invariant c.args.ptr v.cell around.prior around.before around.after round c.hole_left-hole.result c.hole_left-hole.ensures in
-    hole_order _ _ _ _ _ _ _ _ _ _ hollow
+    λ some. hole_order _ _ _ _ _ _ _ _ _ hollow
 
 pub set-requires : goal.set-requires
 set-requires c =
@@ -75,10 +75,10 @@ invariant_of-self c =
     let round = rounds_of _ _ _ _ c.self.invariant c.args.ptr v.cell around.prior around.before around.after c.around-around.ensures.round in
     let hollow = hollow_is _ _ _ _ c.self.invariant c.args.ptr v.cell around.prior around.before around.after round c.hole_left-hole.result c.hole_left-hole.ensures in
     let laid = c.self.invariant in
-    let left = closed_hole _ _ _ _ _ _ (length c.self.inside.words) c.hole_left-hole.result hollow in
+    let left = closed_hole _ _ _ _ _ (length c.self.inside.words) c.hole_left-hole.result hollow in
     let bits = length-set c.self.inside.starts (c.args.ptr.place / 16) false in
     rw (c.close-ends.ensures.words, c.close-ends.ensures.ends, c.set.ensures)
-    (left.laid (sym (ap length c.close-ends.ensures.words) ∙ c.close-ends.ensures.count) laid.numbered (omega (arith, laid.covered, bits)) laid.rounded laid.bounded)
+    (left.laid (sym (ap length c.close-ends.ensures.words) ∙ c.close-ends.ensures.count) (numbered-without _ _ laid.numbered) (omega (arith, laid.covered, bits)) laid.rounded laid.bounded)
 
 pub returns-clause-given : goal.returns-clause-given
 returns-clause-given c =
@@ -87,7 +87,7 @@ returns-clause-given c =
     let round = rounds_of _ _ _ _ c.self.invariant c.args.ptr v.cell around.prior around.before around.after c.around-around.ensures.round in
     let hollow = hollow_is _ _ _ _ c.self.invariant c.args.ptr v.cell around.prior around.before around.after round c.hole_left-hole.result c.hole_left-hole.ensures in
     let laid = c.self.invariant in
-    let left = closed_hole _ _ _ _ _ _ (length c.self.inside.words) c.hole_left-hole.result hollow in
+    let left = closed_hole _ _ _ _ _ (length c.self.inside.words) c.hole_left-hole.result hollow in
     let row : spelled c.close-ends.new.words c.close-ends.result.top ≡ without c.args.ptr c.args.self.now.row =
     rw (c.close-ends.ensures.words, c.close-ends.ensures.ends) left.row
     ∙ ap (without c.args.ptr) (sym (spelled-laid _ _ _ _ laid) ∙ ap (λ v. v.row) c.self.view_is) in

@@ -1,0 +1,79 @@
+use Rattle.std.proofs.Common.{◌≡◌, ◌+◌, ◌*◌, ◌≤◌, length, refl, ap, ◌∙◌, arith}
+use Rattle.std.proofs.lemmas.List.{length-set}
+use Rattle.wb_model.specs.CellRow.{with_length}
+use Rattle.wb_model.specs.Spelling.{spelled}
+use Rattle.wb_cells.proofs.Linking.{gaps_from, links_laid}
+use Rattle.wb_cells.proofs.Changing.{valid, some_cell}
+use Rattle.wb_cells.proofs.Giving.{rounds_of, within_live, within_after}
+use Rattle.wb_cells.proofs.Resizing.{lengthened_words, resized}
+use Rattle.wb_cells.proofs.Sound.{sound_laid}
+use Rattle.wb_cells.proofs.cells.Cells.resize.Goals as goal
+
+pub around-around-requires-clause-linked : goal.around-around-requires-clause-linked
+around-around-requires-clause-linked c = (gaps_from 0 c.self.invariant.segments, links_laid _ _ _ _ c.self.invariant)
+
+pub hole_behind-hole-requires-clause-cell : goal.hole_behind-hole-requires-clause-cell
+hole_behind-hole-requires-clause-cell c =
+    let v = valid _ _ _ _ c.self.invariant c.args.ptr c.args.self.now.row (ap (λ v. v.row) c.self.view_is) (some_cell c.args.ptr c.args.self.now.row c.requires.live) in
+    let around = c.around-around.result in
+    let round = rounds_of _ _ _ _ c.self.invariant c.args.ptr v.cell around.prior around.before around.after c.around-around.ensures.round in
+    within_live _ _ _ _ c.self.invariant c.args.ptr v.cell around.prior around.before around.after round
+
+pub hole_behind-hole-requires-clause-above : goal.hole_behind-hole-requires-clause-above
+hole_behind-hole-requires-clause-above c =
+    let v = valid _ _ _ _ c.self.invariant c.args.ptr c.args.self.now.row (ap (λ v. v.row) c.self.view_is) (some_cell c.args.ptr c.args.self.now.row c.requires.live) in
+    let around = c.around-around.result in
+    let round = rounds_of _ _ _ _ c.self.invariant c.args.ptr v.cell around.prior around.before around.after c.around-around.ensures.round in
+    within_after _ _ _ _ c.self.invariant c.args.ptr v.cell around.prior around.before around.after round
+
+pub zero-requires : goal.zero-requires
+zero-requires c =
+    let within : c.args.ptr.place + c.args.length ≤ 4 * length c.self.inside.words = omega (arith, c.requires.within, ap (λ v. v.held) c.self.view_is) in
+    let r = resized _ _ _ _ c.self.invariant c.args.ptr c.args.self.now.row (ap (λ v. v.row) c.self.view_is) (some_cell c.args.ptr c.args.self.now.row c.requires.live)
+    c.around-around.result c.around-around.ensures.round c.args.length c.requires.rounded c.requires.least within c.requires.fits
+    c.length_at-old.result c.length_at-old.ensures c.hole_behind-hole.result c.hole_behind-hole.ensures in
+    rw (c.set_word.ensures, length-set, c.saturating_sub.ensures) r.zeros
+
+pub close-ends-requires-clause-start : goal.close-ends-requires-clause-start
+close-ends-requires-clause-start c =
+    let within : c.args.ptr.place + c.args.length ≤ 4 * length c.self.inside.words = omega (arith, c.requires.within, ap (λ v. v.held) c.self.view_is) in
+    let r = resized _ _ _ _ c.self.invariant c.args.ptr c.args.self.now.row (ap (λ v. v.row) c.self.view_is) (some_cell c.args.ptr c.args.self.now.row c.requires.live)
+    c.around-around.result c.around-around.ensures.round c.args.length c.requires.rounded c.requires.least within c.requires.fits
+    c.length_at-old.result c.length_at-old.ensures c.hole_behind-hole.result c.hole_behind-hole.ensures in
+    rw (c.zero.ensures, c.set_word.ensures, c.saturating_sub.ensures) r.start
+
+pub close-ends-requires-clause-order : goal.close-ends-requires-clause-order
+close-ends-requires-clause-order c =
+    let within : c.args.ptr.place + c.args.length ≤ 4 * length c.self.inside.words = omega (arith, c.requires.within, ap (λ v. v.held) c.self.view_is) in
+    let r = resized _ _ _ _ c.self.invariant c.args.ptr c.args.self.now.row (ap (λ v. v.row) c.self.view_is) (some_cell c.args.ptr c.args.self.now.row c.requires.live)
+    c.around-around.result c.around-around.ensures.round c.args.length c.requires.rounded c.requires.least within c.requires.fits
+    c.length_at-old.result c.length_at-old.ensures c.hole_behind-hole.result c.hole_behind-hole.ensures in
+    r.order
+
+pub invariant_of-self : goal.invariant_of-self
+invariant_of-self c =
+    let within : c.args.ptr.place + c.args.length ≤ 4 * length c.self.inside.words = omega (arith, c.requires.within, ap (λ v. v.held) c.self.view_is) in
+    let r = resized _ _ _ _ c.self.invariant c.args.ptr c.args.self.now.row (ap (λ v. v.row) c.self.view_is) (some_cell c.args.ptr c.args.self.now.row c.requires.live)
+    c.around-around.result c.around-around.ensures.round c.args.length c.requires.rounded c.requires.least within c.requires.fits
+    c.length_at-old.result c.length_at-old.ensures c.hole_behind-hole.result c.hole_behind-hole.ensures in
+    let bytes : c.zero.new.self ≡ lengthened_words c.self.inside.words c.args.ptr.place c.length_at-old.result c.args.length =
+    rw (c.zero.ensures, c.set_word.ensures, c.saturating_sub.ensures) refl in
+    let count : length c.close-ends.new.words ≡ length c.self.inside.words = c.close-ends.ensures.count ∙ ap length bytes ∙ r.count in
+    rw (c.close-ends.ensures.words, c.close-ends.ensures.ends, bytes) (r.laid (rw (c.close-ends.ensures.words, bytes) at count))
+
+pub returns-clause-resized : goal.returns-clause-resized
+returns-clause-resized c =
+    let within : c.args.ptr.place + c.args.length ≤ 4 * length c.self.inside.words = omega (arith, c.requires.within, ap (λ v. v.held) c.self.view_is) in
+    let r = resized _ _ _ _ c.self.invariant c.args.ptr c.args.self.now.row (ap (λ v. v.row) c.self.view_is) (some_cell c.args.ptr c.args.self.now.row c.requires.live)
+    c.around-around.result c.around-around.ensures.round c.args.length c.requires.rounded c.requires.least within c.requires.fits
+    c.length_at-old.result c.length_at-old.ensures c.hole_behind-hole.result c.hole_behind-hole.ensures in
+    let bytes : c.zero.new.self ≡ lengthened_words c.self.inside.words c.args.ptr.place c.length_at-old.result c.args.length =
+    rw (c.zero.ensures, c.set_word.ensures, c.saturating_sub.ensures) refl in
+    let row : spelled c.close-ends.new.words c.close-ends.result.top ≡ with_length c.args.ptr c.args.length c.args.self.now.row =
+    rw (c.close-ends.ensures.words, c.close-ends.ensures.ends, bytes) r.spells in
+    let held : 4 * length c.close-ends.new.words ≡ c.args.self.now.held =
+    ap (λ n. 4 * n) (c.close-ends.ensures.count ∙ ap length bytes ∙ r.count) ∙ ap (λ v. v.held) c.self.view_is in
+    λ i. record { row = row i; held = held i }
+
+pub returns-clause-sound : goal.returns-clause-sound
+returns-clause-sound c = sound_laid _ _ _ _ (invariant_of-self c)
