@@ -1,12 +1,11 @@
 -- How many live cells there are, and their lengths together, over what is done to rows.
-use Rattle.std.proofs.Common.{◌≡◌, ◌≢◌, ℕ, zero, suc, ◌+◌, ◌*◌, ◌≤◌, ◌<◌, Bool, true, false, not, cond, List, [], ◌∷◌, length, get_or, All, AllPairs, Option, Some, None, refl, sym, ◌∙◌, ap, subst, arith}
+use Rattle.std.proofs.Common.{◌≡◌, ◌≢◌, ℕ, suc, ◌+◌, ◌*◌, ◌≤◌, Bool, true, false, not, cond, List, [], ◌∷◌, length, All, AllPairs, Some, refl, sym, ◌∙◌, ap, arith}
 use Rattle.std.specs.Prelude.{nat_lt, nat_eq}
 use Rattle.std.proofs.lemmas.Bool.{eqb-true, ne_eqb, and_parts, and_right}
-use Rattle.wb_model.specs.declared.heap.Header.{Header}
 use Rattle.wb_model.specs.declared.heap.Ptr.{Ptr}
-use Rattle.wb_model.specs.Row.{Cell, headers, is_at, cell_at, inserted, without, IsSpacedFrom, IsRow, total_length, top_of, changed}
+use Rattle.wb_model.specs.Row.{Cell, headers, is_at, cell_at, inserted, without, IsSpacedFrom, total_length, changed}
 use Rattle.wb_model.specs.LimitedHeap.{LimitedHeap, IsSoundHeap}
-use Rattle.wb_model.specs.Space.{free_runs}
+use Rattle.wb_model.specs.CellRow.{with_level}
 use Rattle.wb_model.proofs.FreeRuns.{total_length-cons, free_runs-are}
 use Rattle.wb_model.proofs.LimitedHeaps.{top_of-committed}
 
@@ -75,6 +74,26 @@ length-changed p f (c ∷ cs) = by (is_at p c.head) (length-changed p f cs)
     by : (b : Bool) → length (changed p f cs) ≡ length cs → length (cond b (record c { content = f c.content } ∷ cs) (c ∷ changed p f cs)) ≡ length (c ∷ cs)
     by true rest = refl
     by false rest = omega (arith, rest)
+
+-- and so does another level
+pub length-leveled : (p : Ptr) (level : ℕ) (row : List (Cell (List ℕ))) → length (with_level p level row) ≡ length row
+length-leveled p level [] = refl
+length-leveled p level (c ∷ cs) = by (is_at p c.head) (length-leveled p level cs)
+  where
+    by : (b : Bool) → length (with_level p level cs) ≡ length cs →
+        length (cond b (record c { head = record c.head { level = level } } ∷ cs) (c ∷ with_level p level cs)) ≡ length (c ∷ cs)
+    by true rest = refl
+    by false rest = omega (arith, rest)
+
+pub total-leveled : (p : Ptr) (level : ℕ) (row : List (Cell (List ℕ))) → total_length (headers (with_level p level row)) ≡ total_length (headers row)
+total-leveled p level [] = refl
+total-leveled p level (c ∷ cs) = by (is_at p c.head) (total-leveled p level cs)
+  where
+    by : (b : Bool) → total_length (headers (with_level p level cs)) ≡ total_length (headers cs) →
+        total_length (headers (cond b (record c { head = record c.head { level = level } } ∷ cs) (c ∷ with_level p level cs))) ≡ total_length (c.head ∷ headers cs)
+    by true rest = total_length-cons (record c.head { level = level }) (headers cs) ∙ sym (total_length-cons c.head (headers cs))
+    by false rest =
+        total_length-cons c.head (headers (with_level p level cs)) ∙ ap (λ n. c.head.length + n) rest ∙ sym (total_length-cons c.head (headers cs))
 
 -- the lengths of the live cells lie below the committed length, and each is 16 at least
 pub total-within : (heap : LimitedHeap) → IsSoundHeap heap → total_length (headers heap.row) ≤ heap.committed

@@ -3,14 +3,15 @@ use Rattle.std.proofs.Common.{◌≡◌, ◌≢◌, ℕ, ◌+◌, ◌-◌, ◌�
 use Rattle.wb_model.specs.declared.heap.Header.{Header}
 use Rattle.wb_model.specs.declared.heap.Kind.{Kind}
 use Rattle.wb_model.specs.declared.heap.Ptr.{Ptr}
-use Rattle.wb_model.specs.CellRow.{CellRow, payload_of, with_payload}
-use Rattle.wb_model.specs.LimitedHeap.{LimitedHeap, IsCellLength, IsSoundHeap, place_in, fresh_cell, committed_with, compressed_length, heap_with, heap_without}
-use Rattle.wb_model.specs.Row.{Cell, headers, cell_at, inserted, without, total_length, top_of}
+use Rattle.wb_model.specs.CellRow.{CellRow, payload_of, with_payload, with_level}
+use Rattle.wb_model.specs.LimitedHeap.{LimitedHeap, IsCellLength, IsSoundHeap, place_in, fresh_cell, committed_with, compressed_length, heap_with}
+use Rattle.wb_model.specs.Row.{Cell, headers, cell_at, inserted, without, total_length}
 use Rattle.wb_model.proofs.LimitedHeaps.{IsSoundHeap-heap_with, IsSoundHeap-heap_without, IsSoundHeap-heap_changed, IsSoundHeap-heap_compressed}
+use Rattle.wb_model.proofs.ReallocatedHeaps.{IsSoundHeap-heap_leveled}
 use Rattle.wb_model.proofs.Rows.{headers-changed}
 use Rattle.wb_rheap.specs.declared.heap.Heap.TheInside.{Inside}
 use Rattle.wb_rheap.specs.Heap.{heap_of, IsKept}
-use Rattle.wb_rheap.proofs.Counters.{AreLess, without-less, inserted-more, length-changed}
+use Rattle.wb_rheap.proofs.Counters.{AreLess, without-less, inserted-more, length-changed, length-leveled, total-leveled}
 
 -- another payload of the same length
 pub changed-kept : (inside : Inside) (cells : CellRow) (p : Ptr) (words : List ℕ) →
@@ -21,6 +22,16 @@ changed-kept inside cells p words is same kept =
       sound = IsSoundHeap-heap_changed (heap_of inside) p words same kept.sound;
       counted = kept.counted ∙ sym (length-changed p (λ _. words) inside.cells.row);
       totalled = kept.totalled ∙ ap total_length (sym (headers-changed p (λ _. words) inside.cells.row));
+    })
+
+-- another level of one cell
+pub leveled-kept : (inside : Inside) (cells : CellRow) (p : Ptr) (level : ℕ) → cells ≡ record inside.cells { row = with_level p level inside.cells.row } →
+    IsKept inside → IsKept (record inside { cells = cells })
+leveled-kept inside cells p level is kept =
+    subst (λ (x : CellRow). IsKept (record inside { cells = x })) (sym is) (record {
+      sound = IsSoundHeap-heap_leveled (heap_of inside) p level kept.sound;
+      counted = kept.counted ∙ sym (length-leveled p level inside.cells.row);
+      totalled = kept.totalled ∙ sym (total-leveled p level inside.cells.row);
     })
 
 -- a cell that a pointer names

@@ -1,5 +1,5 @@
 -- The longest free run, gathered from cell to cell.
-use Rattle.std.proofs.Common.{◌≡◌, ℕ, ◌+◌, ◌-◌, ◌≤◌, List, [], ◌∷◌, max, None, ap, ◌∙◌, sym, arith, subst}
+use Rattle.std.proofs.Common.{◌≡◌, ℕ, ◌-◌, ◌≤◌, List, max, None, ap, ◌∙◌, sym, arith, subst}
 use Rattle.wb_model.specs.declared.heap.Header.{Header}
 use Rattle.wb_model.specs.LimitedHeap.{next_live_of}
 use Rattle.wb_model.specs.Row.{end_of, IsSpacedFrom, top_from, top_of}

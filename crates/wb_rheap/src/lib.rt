@@ -6,6 +6,7 @@
 
 pub mod fault;
 pub mod heap;
+mod moves;
 mod room;
 mod runs;
 mod space;

@@ -1,9 +1,12 @@
 //! Memory of the workbench itself for the simulated chunk.
 
-ghost use Rattle.std.specs.Prelude.{◌≡◌, ◌≤◌, ◌%◌, max, IsOk, OnOk, OnErr};
+ghost use Rattle.std.specs.Prelude.{◌≡◌, ◌≢◌, ◌≤◌, ◌<◌, ◌%◌, ◌↔◌, true, max, IfOk, IfErr, IsOk, OnOk, OnErr};
+ghost use Rattle.wb_model.specs.Space.{is_shape, space_below, bound_below, committed_by};
 
+use crate::fault::HeapFault;
+use crate::space;
 use wb_cells::cells::Cells;
-use wb_model::heap::CEILING;
+use wb_model::heap::{CEILING, Shape};
 use wb_model::memory::NoMemory;
 
 /// Holds so many bytes at least, and takes no memory where they are held.
@@ -18,4 +21,38 @@ pub fn hold(cells: &mut Cells, bytes: u32) -> Result<(), NoMemory>
         return Ok(());
     }
     cells.reserve(bytes)
+}
+
+/// Asks the limit for a cell with this end, and answers the committed length that the cell needs, which is held then.
+///
+/// `TooShort` exactly where the end passes the limit, and else `NoMemory` at worst, and not even that where that length
+/// is held already.
+pub fn hold_for(
+    cells: &mut Cells,
+    limit: u32,
+    shape: Shape,
+    committed: u32,
+    end: u32,
+) -> Result<u32, HeapFault>
+    requires limit { limit ≤ CEILING }
+    requires shape { is_shape shape ≡ true }
+    requires aligned { committed % 16 ≡ 0 }
+    requires within { committed ≤ bound_below limit }
+    requires rounded { end % 16 ≡ 0 }
+    ensures committed { IfOk result (λ bytes. bytes ≡ committed_by (space_below (bound_below limit) shape) committed end) }
+    ensures covers { IfOk result (λ bytes. end ≤ bytes) }
+    ensures fits { OnOk result (end ≤ limit) }
+    ensures held { IfOk result (λ bytes. cells.new ≡ record cells.old { held = max cells.old.held bytes }) }
+
+    ensures short { (result ≡ Err HeapFault.TooShort) ↔ (limit < end) }
+    ensures no_other { IfErr result (λ fault. fault ≢ HeapFault.TooShort → fault ≡ HeapFault.NoMemory) }
+    ensures no_growth { committed_by (space_below (bound_below limit) shape) committed end ≤ cells.old.held → result ≢ Err HeapFault.NoMemory }
+    ensures err { OnErr result (cells.new ≡ cells.old) }
+{
+    if limit < end {
+        return Err(HeapFault::TooShort);
+    }
+    let bytes = space::committed_for(limit, shape, committed, end);
+    hold(cells, bytes)?;
+    Ok(bytes)
 }

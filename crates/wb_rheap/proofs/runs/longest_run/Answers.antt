@@ -1,4 +1,4 @@
-use Rattle.std.proofs.Common.{◌-◌, max, sym, ◌∙◌, arith, subst}
+use Rattle.std.proofs.Common.{sym, ◌∙◌, arith, subst}
 use Rattle.wb_model.specs.Row.{headers, end_of}
 use Rattle.wb_model.proofs.Onward.{onward_next, onward_fewer}
 use Rattle.wb_rheap.proofs.LongestRuns.{IsSoFar, at_first, passed, past_all}

@@ -1,0 +1,75 @@
+//! A cell that becomes longer, where it stands or elsewhere. Where it goes, and whether it may, is not decided here.
+
+ghost use Rattle.std.specs.Prelude.{◌≡◌, ◌≢◌, ◌+◌, ◌-◌, ◌/◌, ◌%◌, ◌<◌, ◌≤◌, All, Some, IsSome, option_map, length, nat_eq, if◌then◌else◌};
+ghost use Rattle.wb_model.specs.CellRow.{FitsInPlace, IsGap, payload_of, resized_words};
+ghost use Rattle.wb_model.specs.LimitedHeap.{IsFilled};
+ghost use Rattle.wb_model.specs.Row.{IsRow, IsSpacedFrom, cell_at, headers, inserted, pointer_to, without};
+
+use wb_cells::cells::Cells;
+use wb_model::heap::{Header, Ptr};
+
+/// Makes a live cell longer at a place, and answers the pointer that names it then. At its own place it keeps its
+/// number; elsewhere it takes the given one.
+pub fn lengthen(cells: &mut Cells, cell: Header, place: u32, length: u32, number: u32) -> Ptr
+    requires live { option_map (λ c. c.head) (cell_at (pointer_to cell) cells.old.row) ≡ Some cell }
+    requires longer { cell.length < length }
+    requires rounded { length % 16 ≡ 0 }
+    requires within { place + length ≤ cells.old.held }
+    requires stays { place ≡ cell.place → FitsInPlace (pointer_to cell) length (headers cells.old.row) }
+    requires moves { place ≢ cell.place → IsGap (headers cells.old.row) place length }
+    requires numbered { 1 ≤ number }
+    requires unused { All (λ h. h.number ≢ number) (headers cells.old.row) }
+    requires row { IsRow (headers cells.old.row) }
+    requires filled { All IsFilled cells.old.row }
+    ensures pointer { result ≡ record { place = place; number = if nat_eq place cell.place then cell.number else number } }
+    ensures longer { cells.new ≡ record cells.old {
+      row = inserted (record {
+        head = record cell { place = place; length = length; number = result.number };
+        content = resized_words length (payload_of (pointer_to cell) cells.old.row);
+      }) (without (pointer_to cell) cells.old.row);
+    } }
+{
+    let ptr = Ptr {
+        place: cell.place,
+        number: cell.number,
+    };
+    if place == cell.place {
+        cells.resize(ptr, length);
+        return ptr;
+    }
+    let moved = Header {
+        place,
+        length,
+        kind: cell.kind,
+        level: cell.level,
+        number,
+    };
+    move_to(cells, ptr, (cell.length - 16) / 4, moved);
+    Ptr { place, number }
+}
+
+/// Puts the cell that a pointer names elsewhere, under a header of a greater length. Its words go with it, and zeros
+/// fill up the rest.
+fn move_to(cells: &mut Cells, ptr: Ptr, words: u32, moved: Header)
+    requires live { IsSome (cell_at ptr cells.old.row) }
+    requires whole { words ≡ length (payload_of ptr cells.old.row) }
+    requires rounded { moved.length % 16 ≡ 0 }
+    requires least { 16 ≤ moved.length }
+    requires longer { words ≤ moved.length / 4 - 4 }
+    requires within { moved.place + moved.length ≤ cells.old.held }
+    requires gap { IsGap (headers cells.old.row) moved.place moved.length }
+    requires numbered { 1 ≤ moved.number }
+    requires unused { All (λ h. h.number ≢ moved.number) (headers cells.old.row) }
+    requires spaced { IsSpacedFrom 0 (headers cells.old.row) }
+    ensures { cells.new ≡ record cells.old {
+      row = inserted (record { head = moved; content = resized_words moved.length (payload_of ptr cells.old.row) }) (without ptr cells.old.row);
+    } }
+{
+    cells.take(moved.place, moved.length, moved);
+    let to = Ptr {
+        place: moved.place,
+        number: moved.number,
+    };
+    cells.copy_payload(ptr, to, words);
+    cells.give(ptr);
+}
