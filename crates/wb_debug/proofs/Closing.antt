@@ -1,0 +1,40 @@
+-- What the end of a mark refuses, and what it leaves of the cells.
+use Rattle.std.proofs.Common.{◌≡◌, ◌≢◌, ℕ, ◌-◌, ◌≤◌, suc, length, All, List, [], ◌∷◌, Some, Bool, true, false, cond, ap, ◌∙◌, arith, subst, sym}
+use Rattle.std.specs.Prelude.{◌&&◌, not, nat_eq}
+use Rattle.std.proofs.lemmas.Bool.{ne_eqb}
+use Rattle.std.proofs.lemmas.List.Elements.{All-cons, All-nil}
+use Rattle.wb_model.specs.declared.heap.Panic.{Panic}
+use Rattle.wb_model.specs.declared.heap.Panic.TheVariants.{Workbench}
+use Rattle.wb_model.specs.Debug.{Debug, check_refusal}
+use Rattle.wb_model.specs.Heap.{is_cleanup, lower, lowered, mark_end_refusal}
+use Rattle.wb_model.specs.LimitedHeap.{LimitedHeap, IsSoundHeap}
+use Rattle.wb_model.specs.Row.{Cell, headers}
+use Rattle.wb_debug.specs.declared.debug_heap.DebugHeap.TheInside.{Inside}
+use Rattle.wb_debug.specs.Debug.{IsKept}
+
+-- below the outermost level it refuses what a check does
+pub mark_end-checks : (d e : Debug) (n : ℕ) (panic : Panic) → d ≡ e → d.heap.level ≢ 0 → check_refusal d n ≡ Some panic → mark_end_refusal e.heap n ≡ Some panic
+mark_end-checks d e n panic is deeper refused =
+    subst (λ (x : Debug). mark_end_refusal x.heap n ≡ Some panic) is
+    (ap (λ b. cond b (Some (Workbench 6)) (check_refusal d n)) (ne_eqb d.heap.level 0 deeper) ∙ refused)
+
+-- the cells keep their numbers
+All-lowered : (most level : ℕ) (row : List (Cell (List ℕ))) → All (λ h. h.number ≤ most) (headers row) → All (λ h. h.number ≤ most) (headers (lowered level row))
+All-lowered most level [] all = All-nil _
+All-lowered most level (c ∷ cs) all =
+    All-cons (λ h. h.number ≤ most) (lower level c.head) (headers (lowered level cs)) (by (nat_eq c.head.level level && not (is_cleanup c.head.kind)))
+    (All-lowered most level cs (λ k h lt. all (suc k) h (omega arith)))
+  where
+    by : (b : Bool) → (cond b (record c.head { level = level - 1 }) c.head).number ≤ most
+    by true = all 0 c.head (omega arith)
+    by false = all 0 c.head (omega arith)
+
+pub lowered-kept : (inside : Inside) (heap : LimitedHeap) (level : ℕ) → heap ≡ record inside.heap { row = lowered inside.level inside.heap.row } →
+    IsSoundHeap heap → IsKept inside → IsKept (record inside { heap = heap; level = level })
+lowered-kept inside heap level is sound kept = record {
+  sound = sound;
+  limit = ap (λ (h : LimitedHeap). h.limit) is ∙ kept.limit;
+  numbered = subst (λ (h : LimitedHeap). All (λ g. g.number ≤ length inside.trace) (headers h.row)) (sym is)
+      (All-lowered (length inside.trace) inside.level inside.heap.row kept.numbered);
+  counted = kept.counted;
+}

@@ -1,0 +1,138 @@
+-- What each call leaves of the heap's fields, and what that tells callers.
+use Rattle.std.proofs.Common.{◌≡◌, ◌≢◌, ℕ, suc, ◌+◌, ◌%◌, ◌^◌, ◌<◌, ◌≤◌, ◌↔◌, ◌++◌, IsSome, All, List, [], ◌∷◌, length, length-append, Option, Some, None, IfSome, option_map, find, Bool, true, false, cond, refl, sym, ap, subst, ◌∙◌, arith}
+use Rattle.std.proofs.lemmas.List.{same_from_push}
+use Rattle.std.proofs.lemmas.List.Elements.{All-cons, All-nil}
+use Rattle.std.specs.Option.{option_to_list}
+use Rattle.wb_model.specs.declared.heap.Header.{Header}
+use Rattle.wb_model.specs.declared.heap.Kind.{Kind}
+use Rattle.wb_model.specs.declared.heap.Ptr.{Ptr}
+use Rattle.wb_model.specs.declared.heap.Attempt.{Attempt}
+use Rattle.wb_model.specs.Debug.{Debug, IsLiveIn, IsSoundDebug}
+use Rattle.wb_model.specs.LimitedHeap.{LimitedHeap, IsSoundHeap, heap_with, heap_without, heap_changed, heap_compressed}
+use Rattle.wb_model.specs.Row.{IsSpacedFrom, headers, end_of, is_at, cell_at}
+use Rattle.wb_model.proofs.LimitedHeaps.{All-heap_with, All-heap_without}
+use Rattle.wb_model.proofs.Rows.{headers-changed, head-cell_at}
+use Rattle.wb_debug.specs.declared.debug_heap.DebugHeap.TheInside.{Inside}
+use Rattle.wb_debug.specs.declared.setting.Setting.{Setting}
+use Rattle.wb_debug.specs.Debug.{debug_of, IsKept}
+
+-- each cell of a row
+record IsSpaced (h : Header) : Type 0 where
+  placed : h.place % 16 ≡ 0
+  aligned : h.length % 16 ≡ 0
+  least : 16 ≤ h.length
+  numbered : 1 ≤ h.number
+
+All-spaced : (hs : List Header) (at : ℕ) → IsSpacedFrom at hs → All IsSpaced hs
+All-spaced [] at s = All-nil _
+All-spaced (h ∷ hs) at s =
+    All-cons IsSpaced h hs (record { placed = s.1; aligned = s.2; least = s.3; numbered = s.4 }) (All-spaced hs (end_of h) s.5)
+
+pub kept-sound : (inside : Inside) → IsKept inside → IsSoundDebug (debug_of inside)
+kept-sound inside kept = record {
+  row = kept.sound.row;
+  filled = kept.sound.filled;
+  live = λ k h lt. record {
+    placed = (All-spaced (headers inside.heap.row) 0 kept.sound.row.spaced k h lt).placed;
+    aligned = (All-spaced (headers inside.heap.row) 0 kept.sound.row.spaced k h lt).aligned;
+    least = (All-spaced (headers inside.heap.row) 0 kept.sound.row.spaced k h lt).least;
+    numbered = (All-spaced (headers inside.heap.row) 0 kept.sound.row.spaced k h lt).numbered;
+    counted = kept.numbered k h lt;
+    within = omega (arith, kept.sound.within k h lt, kept.sound.bound, kept.limit);
+  };
+  shape = kept.sound.shape;
+}
+
+-- what a look-up finds
+find-All : (P : Header → Type 0) (test : Header → Bool) (hs : List Header) → All P hs → IfSome (find test hs) P
+find-All P test [] all = tt
+find-All P test (h ∷ hs) all = by (test h) (find-All P test hs (λ k x lt. all (suc k) x (omega arith)))
+  where
+    by : (b : Bool) → IfSome (find test hs) P → IfSome (cond b (Some h) (find test hs)) P
+    by true rest = all 0 h (omega arith)
+    by false rest = rest
+
+pub cell-live : (inside : Inside) (d : Debug) (p : Ptr) → debug_of inside ≡ d → IsKept inside → IfSome (option_map (λ c. c.head) (cell_at p d.heap.row)) (IsLiveIn d)
+cell-live inside d p is kept =
+    subst (λ (x : Debug). IfSome (option_map (λ c. c.head) (cell_at p x.heap.row)) (IsLiveIn x)) is
+    (subst (λ o. IfSome o (IsLiveIn (debug_of inside))) (sym (head-cell_at p inside.heap.row))
+    (find-All (IsLiveIn (debug_of inside)) (is_at p) (headers inside.heap.row) (kept-sound inside kept).live))
+
+-- another heap under the same limit, whose cells are of attempts that were made
+pub heap-kept : (inside : Inside) (heap : LimitedHeap) → heap.limit ≡ inside.heap.limit → All (λ h. h.number ≤ length inside.trace) (headers heap.row) →
+    IsSoundHeap heap → IsKept inside → IsKept (record inside { heap = heap })
+heap-kept inside heap limit numbered sound kept = record { sound = sound; limit = limit ∙ kept.limit; numbered = numbered; counted = kept.counted }
+
+-- another payload
+pub changed-kept : (inside : Inside) (heap : LimitedHeap) (p : Ptr) (words : List ℕ) → heap ≡ heap_changed inside.heap p words → IsSoundHeap heap → IsKept inside →
+    IsKept (record inside { heap = heap })
+changed-kept inside heap p words is sound kept =
+    heap-kept inside heap (ap (λ (h : LimitedHeap). h.limit) is)
+    (subst (λ (h : LimitedHeap). All (λ g. g.number ≤ length inside.trace) (headers h.row)) (sym is)
+    (subst (All (λ g. g.number ≤ length inside.trace)) (sym (headers-changed p (λ _. words) inside.heap.row)) kept.numbered)) sound kept
+
+-- a release
+pub released-kept : (inside : Inside) (heap : LimitedHeap) (p : Ptr) → heap ≡ heap_without inside.heap p → IsSoundHeap heap → IsKept inside →
+    IsKept (record inside { heap = heap })
+released-kept inside heap p is sound kept =
+    heap-kept inside heap (ap (λ (h : LimitedHeap). h.limit) is)
+    (subst (λ (h : LimitedHeap). All (λ g. g.number ≤ length inside.trace) (headers h.row)) (sym is)
+    (All-heap_without (λ g. g.number ≤ length inside.trace) inside.heap p kept.numbered)) sound kept
+
+-- the heap as it was
+pub same-kept : (inside : Inside) (heap : LimitedHeap) → heap ≡ inside.heap → IsKept inside → IsKept (record inside { heap = heap })
+same-kept inside heap is kept = subst (λ (h : LimitedHeap). IsKept (record inside { heap = h })) (sym is) kept
+
+-- another level or setting, and a heap and a trace as they were
+pub set-kept : (inside : Inside) (heap : LimitedHeap) (level : ℕ) (setting : Setting) (trace : List Attempt) → heap ≡ inside.heap → trace ≡ inside.trace → IsKept inside →
+    IsKept (record inside { heap = heap; level = level; setting = setting; trace = trace })
+set-kept inside heap level setting trace is same kept =
+    subst (λ (h : LimitedHeap). IsKept (record inside { heap = h; level = level; setting = setting; trace = trace })) (sym is)
+    (subst (λ (t : List Attempt). IsKept (record inside { level = level; setting = setting; trace = t })) (sym same)
+    (record { sound = kept.sound; limit = kept.limit; numbered = kept.numbered; counted = kept.counted }))
+
+-- an attempt that was counted
+pub counted-kept : (inside : Inside) (heap : LimitedHeap) (setting : Setting) (trace : List Attempt) (line : Attempt) → heap.limit ≡ inside.heap.limit →
+    All (λ h. h.number ≤ length inside.trace + 1) (headers heap.row) → IsSoundHeap heap → trace ≡ inside.trace ++ line ∷ [] → length inside.trace + 1 < 2 ^ 32 →
+    IsKept inside → IsKept (record inside { heap = heap; setting = setting; trace = trace })
+counted-kept inside heap setting trace line limit numbered sound more fits kept =
+    let n : length trace ≡ length inside.trace + 1 = ap length more ∙ length-append inside.trace (line ∷ []) in
+    record {
+      sound = sound;
+      limit = limit ∙ kept.limit;
+      numbered = λ k h lt. omega (arith, numbered k h lt, n);
+      counted = omega (arith, n, fits);
+    }
+
+-- one that was granted
+pub granted-kept : (inside : Inside) (heap : LimitedHeap) (setting : Setting) (trace : List Attempt) (line : Attempt) (bytes : ℕ) (kind : Kind) (number level : ℕ) →
+    heap ≡ heap_with inside.heap bytes kind number level → number ≡ length inside.trace + 1 → IsSoundHeap heap → trace ≡ inside.trace ++ line ∷ [] →
+    length inside.trace + 1 < 2 ^ 32 → IsKept inside → IsKept (record inside { heap = heap; setting = setting; trace = trace })
+granted-kept inside heap setting trace line bytes kind number level is next sound more fits kept =
+    counted-kept inside heap setting trace line (ap (λ (h : LimitedHeap). h.limit) is)
+    (subst (λ (h : LimitedHeap). All (λ g. g.number ≤ length inside.trace + 1) (headers h.row)) (sym is)
+    (All-heap_with (λ g. g.number ≤ length inside.trace + 1) inside.heap bytes kind number level (omega (arith, next)) (λ k h lt. omega (arith, kept.numbered k h lt))))
+    sound more fits kept
+
+-- one that was refused
+pub refused-kept : (inside : Inside) (setting : Setting) (trace : List Attempt) (line : Attempt) → trace ≡ inside.trace ++ line ∷ [] →
+    length inside.trace + 1 < 2 ^ 32 → IsKept inside → IsKept (record inside { setting = setting; trace = trace })
+refused-kept inside setting trace line more fits kept =
+    counted-kept inside inside.heap setting trace line refl (λ k h lt. omega (arith, kept.numbered k h lt)) kept.sound more fits kept
+
+-- the next attempt's number is no live cell's
+pub next-unused : (inside : Inside) (number : ℕ) → number ≡ length inside.trace + 1 → IsKept inside → All (λ h. h.number ≢ number) (headers inside.heap.row)
+next-unused inside number next kept = λ k h lt same. absurd (omega (arith, kept.numbered k h lt, next, same))
+
+-- a line that was taken back
+pub taken-back : (old pushed now : List Attempt) (line : Attempt) (o : Option Attempt) → pushed ≡ old ++ line ∷ [] → pushed ≡ now ++ option_to_list o →
+    (IsSome o ↔ (0 < length pushed)) → now ≡ old
+taken-back old pushed now line None more back some =
+    let none : IsSome {T = Attempt} None = some.1 (omega (arith, ap length more, length-append old (line ∷ []))) in cc
+taken-back old pushed now line (Some x) more back some = sym (same_from_push old now line x (sym more ∙ back)).0
+
+-- a compression
+pub compressed-kept : (inside : Inside) (heap : LimitedHeap) → heap ≡ heap_compressed inside.heap → IsSoundHeap heap → IsKept inside → IsKept (record inside { heap = heap })
+compressed-kept inside heap is sound kept =
+    heap-kept inside heap (ap (λ (h : LimitedHeap). h.limit) is)
+    (subst (λ (h : LimitedHeap). All (λ g. g.number ≤ length inside.trace) (headers h.row)) (sym is) kept.numbered) sound kept

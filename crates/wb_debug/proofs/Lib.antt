@@ -1,0 +1,6 @@
+pub mod Closing
+pub mod Counting
+pub mod Kept
+pub mod Leaks
+pub mod Longer
+pub mod Lowering

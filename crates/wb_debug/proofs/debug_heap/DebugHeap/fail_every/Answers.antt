@@ -1,0 +1,8 @@
+use Rattle.std.proofs.Common.{refl}
+use Rattle.wb_debug.specs.declared.setting.Setting.TheVariants.{Each}
+use Rattle.wb_debug.proofs.Kept.{kept-sound, set-kept}
+use Rattle.wb_debug.proofs.debug_heap.DebugHeap.fail_every.Goals as goal
+
+pub returns-clause-sound : goal.returns-clause-sound
+returns-clause-sound c =
+    kept-sound _ (set-kept c.self.inside c.self.inside.heap c.self.inside.level (Each c.args.n c.args.n) c.self.inside.trace refl refl c.self.invariant)

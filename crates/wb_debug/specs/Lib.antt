@@ -1,0 +1,3 @@
+pub mod Debug
+pub mod Levels
+pub mod Setting

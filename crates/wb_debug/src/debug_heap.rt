@@ -1,0 +1,407 @@
+//! The debug heap and its calls. The cells stand in the crate below.
+
+ghost use Rattle.std.specs.Prelude.{◌≡◌, ◌+◌, ◌*◌, ◌^◌, ◌<◌, ◌≤◌, ◌++◌, ◌↔◌, false, None, Some, length, take, drop, slice_index, slice_set, option_map, IfOk, IfErr, IfSome, IsOk, IsSome, OnOk, OnErr};
+ghost use Rattle.wb_chunk.specs.Halves.{half_of, with_half};
+ghost use Rattle.wb_model.specs.CellRow.{payload_of};
+ghost use Rattle.wb_model.specs.Debug.{IsLiveIn, IsSoundDebug, alloc_made, check_all_refusal, check_refusal, debug_changed, debug_compressed, debug_without, first_debug, leaks_in, note_of_available, note_of_compress, note_of_heap, realloc_made, release_refusal, with_setting};
+ghost use Rattle.wb_model.specs.Heap.{after_mark, after_mark_end, mark_end_refusal};
+ghost use Rattle.wb_model.specs.Row.{cell_at, cell_length, usable_of};
+ghost use Rattle.wb_model.specs.Rules.{each, never, next};
+ghost use Rattle.wb_model.specs.Space.{is_shape};
+
+use crate::fault::DebugFault;
+use crate::marks;
+use crate::marks::Levels;
+use crate::rules::{answer, cell_length, limit_under};
+use crate::setting::Setting;
+use std::alloc::Global;
+use std::marker::Model;
+use wb_model::heap::{Answer, Attempt, Gave, Header, Kind, Panic, Ptr, Rule, Shape};
+use wb_model::items::Items;
+use wb_model::memory::NoMemory;
+use wb_model::run::{Leaks, Note, Trace};
+use wb_rheap::fault::HeapFault;
+use wb_rheap::heap::Heap;
+
+/// A simulated heap that counts attempts, refuses those that are to fail, and checks nested marks.
+///
+/// An attempt to get a cell has a number, from 1 on, also where it is refused; a granted cell bears it. Its place is
+/// chosen first. Then the script's own setting is asked, which counts the attempt; then the rule; then the ceiling.
+/// Each attempt that the ceiling doesn't cut adds its line to the trace. Source: this project's profile.
+#[derive(Drop)]
+pub struct DebugHeap {
+    alloc: Global,
+    /// Its limit is the rule's.
+    heap: Heap,
+    rule: Rule,
+    /// How many marks are open.
+    level: u32,
+    setting: Setting,
+    trace: Trace,
+}
+
+impl Model for DebugHeap {
+    ghost use Rattle.wb_model.specs.Debug.{Debug};
+
+    ghost Value = { Debug };
+
+    ghost use Rattle.wb_debug.specs.Debug.{debug_of, IsKept};
+
+    ghost view = { debug_of };
+
+    ghost invariant = { IsKept };
+}
+
+impl DebugHeap {
+    /// A heap with no cell, before the first attempt.
+    ///
+    /// The rule's limit is in bytes. `BadShape` exactly where no heap may have the shape, and else `NoMemory` at worst.
+    /// Source: this project's profile.
+    pub fn new(alloc: Global, rule: Rule, shape: Shape) -> Result<DebugHeap, DebugFault>
+        ensures ok { IfOk result (λ heap. heap ≡ first_debug rule shape) }
+        ensures shape { (result ≡ Err DebugFault.BadShape) ↔ (is_shape shape ≡ false) }
+        ensures sound { IfOk result IsSoundDebug }
+    {
+        let heap = match Heap::new(alloc, limit_under(rule), shape) {
+            Ok(heap) => heap,
+            Err(HeapFault::BadShape) => return Err(DebugFault::BadShape),
+            Err(_) => return Err(NoMemory.into()),
+        };
+        Ok(DebugHeap {
+            alloc,
+            heap,
+            rule,
+            level: 0,
+            setting: Setting::Never,
+            trace: Items::new(alloc),
+        })
+    }
+
+    /// The live cells but the cleanup stack's, by place: what has leaked, once a run is over.
+    ///
+    /// `NoMemory` where there is no room for the list. Source: this project's profile.
+    pub fn leaks(&self) -> Result<Leaks, NoMemory>
+        ensures { IfOk result (λ leaks. leaks ≡ leaks_in self.now) }
+    {
+        marks::leaks(self.alloc, &self.heap)
+    }
+
+    /// How many attempts were made. Source: this project's profile.
+    pub fn attempts(&self) -> u32
+        ensures { result ≡ length self.now.trace }
+    {
+        self.trace.len() as u32
+    }
+
+    /// The attempts that were made, in order. Source: this project's profile.
+    pub fn trace(&self) -> &Trace
+        ensures { result.now ≡ self.now.trace }
+    {
+        &self.trace
+    }
+
+    /// The same, of a run that is over. Takes no memory.
+    pub fn into_trace(self) -> Trace
+        ensures { result ≡ self.trace }
+    {
+        let DebugHeap {
+            alloc: _,
+            heap: _,
+            rule: _,
+            level: _,
+            setting: _,
+            trace,
+        } = self;
+        trace
+    }
+}
+
+/// Attempts to get a cell, and releases.
+impl DebugHeap {
+    /// An attempt to get a cell for so many bytes, with zeros for its payload.
+    ///
+    /// `Denied` where the setting or the rule refuses it, which counts it. `Ceiling` where neither does and the cell
+    /// would end past the ceiling: nothing is counted, and the heap is as it was; so it is on `NoMemory`. Source:
+    /// Symbian OS v9 SDK reference, RHeap, for the grant and the refusal, and this project's profile for their order.
+    pub fn attempt_alloc(&mut self, bytes: u32, kind: Kind) -> Result<Gave, NoMemory>
+        requires bytes { bytes ≤ 16777216 }
+        requires number { length self.old.trace + 1 < 2 ^ 32 }
+        ensures gave { IfOk result (λ gave. gave ≡ (alloc_made self.old bytes kind).gave) }
+        ensures made { OnOk result (self.new ≡ (alloc_made self.old bytes kind).debug) }
+        ensures err { OnErr result (self.new ≡ self.old) }
+        ensures sound { IsSoundDebug self.new }
+    {
+        let length = cell_length(bytes);
+        let number = self.trace.len() as u32 + 1;
+        let place = self.heap.place_for(length);
+        let Some(answer) = answer(self.setting.due(), self.rule, number, place + length) else {
+            return Ok(Gave::Ceiling);
+        };
+        self.trace.push(Attempt {
+            number,
+            length,
+            place,
+            answer,
+        })?;
+        let gave = match answer {
+            Answer::Granted => match self.heap.alloc(length, kind, number, self.level) {
+                Ok(ptr) => Gave::Granted(ptr),
+                Err(_) => {
+                    self.trace.pop();
+                    return Err(NoMemory);
+                }
+            },
+            Answer::Simulated | Answer::Refused => Gave::Denied,
+        };
+        self.setting = self.setting.counted();
+        Ok(gave)
+    }
+
+    /// Gives the cell that the pointer names another length, for so many bytes.
+    ///
+    /// A cell length that isn't longer is no attempt: it answers `Granted` with the pointer, the tail is free, and what
+    /// stood there is dropped. A longer one is an attempt, and is answered as `attempt_alloc` does. Its place is the
+    /// cell's own where the bytes behind it are free, and else the lowest that fits beside it. What the cell holds is
+    /// kept and followed by zeros; kind and level are kept; a cell that moved bears the attempt's number, so that the old
+    /// pointer is stale. Source: Symbian OS v9 SDK reference, RHeap, for what is kept and for a refusal that leaves the
+    /// cell, and this project's profile for places and numbers.
+    pub fn attempt_realloc(&mut self, ptr: Ptr, bytes: u32) -> Result<Gave, NoMemory>
+        requires live { IsSome (cell_at ptr self.old.heap.row) }
+        requires bytes { bytes ≤ 16777216 }
+        requires number { length self.old.trace + 1 < 2 ^ 32 }
+        ensures gave { IfOk result (λ gave. IfSome (cell_at ptr self.old.heap.row) (λ c. gave ≡ (realloc_made self.old c bytes).gave)) }
+        ensures made { OnOk result (IfSome (cell_at ptr self.old.heap.row) (λ c. self.new ≡ (realloc_made self.old c bytes).debug)) }
+        ensures shorter { IfSome (cell_at ptr self.old.heap.row) (λ c. cell_length bytes ≤ c.head.length → IsOk result) }
+        ensures err { OnErr result (self.new ≡ self.old) }
+        ensures sound { IsSoundDebug self.new }
+    {
+        let length = cell_length(bytes);
+        let number = self.trace.len() as u32 + 1;
+        let cell = self.heap.header(ptr).unwrap();
+        if length <= cell.length {
+            return match self.heap.realloc(ptr, length, number) {
+                Ok(ptr) => Ok(Gave::Granted(ptr)),
+                Err(_) => unreachable!(),
+            };
+        }
+        let place = self.heap.place_for_realloc(ptr, length);
+        let Some(answer) = answer(self.setting.due(), self.rule, number, place + length) else {
+            return Ok(Gave::Ceiling);
+        };
+        self.trace.push(Attempt {
+            number,
+            length,
+            place,
+            answer,
+        })?;
+        let gave = match answer {
+            Answer::Granted => match self.heap.realloc(ptr, length, number) {
+                Ok(ptr) => Gave::Granted(ptr),
+                Err(_) => {
+                    self.trace.pop();
+                    return Err(NoMemory);
+                }
+            },
+            Answer::Simulated | Answer::Refused => Gave::Denied,
+        };
+        self.setting = self.setting.counted();
+        Ok(gave)
+    }
+
+    /// Releases the cell that the pointer names; null is nothing.
+    ///
+    /// `User(42)` exactly where the pointer isn't null and names no live cell, and then the heap is as it was. Source:
+    /// Symbian OS v9 SDK reference, RHeap.
+    pub fn release(&mut self, ptr: Ptr) -> Result<(), Panic>
+        ensures refused { IfErr result (λ panic. release_refusal self.old ptr ≡ Some panic) }
+        ensures fine { OnOk result (release_refusal self.old ptr ≡ None) }
+        ensures released { OnOk result (self.new ≡ debug_without self.old ptr) }
+        ensures err { OnErr result (self.new ≡ self.old) }
+        ensures sound { IsSoundDebug self.new }
+    {
+        let heap = &mut self.heap;
+        if ptr.number == 0 {
+            return Ok(());
+        }
+        match heap.free(ptr) {
+            Ok(()) => Ok(()),
+            Err(_) => Err(Panic::User(42)),
+        }
+    }
+}
+
+/// Nested marks, and the checks that the cells of a level are as many as expected.
+impl DebugHeap {
+    /// Opens a mark: new cells are of a level one deeper. Source: Symbian OS v9 SDK reference, `__UHEAP_MARK`.
+    pub fn mark(&mut self)
+        requires { self.old.heap.level + 1 < 2 ^ 32 }
+        ensures marked { self.new ≡ record self.old { heap = after_mark self.old.heap } }
+        ensures sound { IsSoundDebug self.new }
+    {
+        self.level += 1;
+    }
+
+    /// Closes the innermost mark, where so many live cells are of its level: they take the level below.
+    ///
+    /// `Workbench(6)` where no mark is open, and else what `check` refuses; the heap is then as it was. Source: Symbian OS
+    /// v9 SDK reference, `__UHEAP_MARKEND` and `__UHEAP_MARKENDC`, and this project's profile for the levels.
+    pub fn mark_end(&mut self, n: u32) -> Result<(), Panic>
+        ensures refused { IfErr result (λ panic. mark_end_refusal self.old.heap n ≡ Some panic) }
+        ensures fine { OnOk result (mark_end_refusal self.old.heap n ≡ None) }
+        ensures closed { OnOk result (self.new ≡ record self.old { heap = after_mark_end self.old.heap }) }
+        ensures err { OnErr result (self.new ≡ self.old) }
+        ensures sound { IsSoundDebug self.new }
+    {
+        let level = self.level;
+        if level == 0 {
+            return Err(Panic::Workbench(6));
+        }
+        marks::expect(&self.heap, Levels::One(level), n)?;
+        marks::lower(&mut self.heap, level);
+        self.level = level - 1;
+        Ok(())
+    }
+
+    /// Expects so many live cells of the current level.
+    ///
+    /// Where they are fewer or more, `Alloc` names the place of the lowest, or 0 where there is none. Source: Symbian OS
+    /// v9 SDK reference, `__UHEAP_CHECK`, and this project's profile for the cell that is named.
+    pub fn check(&self, n: u32) -> Result<(), Panic>
+        ensures refused { IfErr result (λ panic. check_refusal self.now n ≡ Some panic) }
+        ensures fine { OnOk result (check_refusal self.now n ≡ None) }
+    {
+        marks::expect(&self.heap, Levels::One(self.level), n)
+    }
+
+    /// Expects so many live cells of all levels. It refuses as `check` does. Source: Symbian OS v9 SDK reference,
+    /// `__UHEAP_CHECKALL`, and this project's profile for the cell that is named.
+    pub fn check_all(&self, n: u32) -> Result<(), Panic>
+        ensures refused { IfErr result (λ panic. check_all_refusal self.now n ≡ Some panic) }
+        ensures fine { OnOk result (check_all_refusal self.now n ≡ None) }
+    {
+        marks::expect(&self.heap, Levels::All, n)
+    }
+}
+
+/// The script's own setting; each call replaces what an earlier one set.
+impl DebugHeap {
+    /// The `n`-th next attempt is to fail, once; `n` counts from 1. Source: Symbian OS v9 SDK reference,
+    /// RHeap::EFailNext.
+    pub fn fail_next(&mut self, n: u32)
+        requires { 1 ≤ n }
+        ensures set { self.new ≡ with_setting self.old (next n) }
+        ensures sound { IsSoundDebug self.new }
+    {
+        self.setting = Setting::Next(n);
+    }
+
+    /// Every `n`-th attempt from now on is to fail; `n` counts from 1. Source: Symbian OS v9 SDK reference,
+    /// RHeap::EDeterministic.
+    pub fn fail_every(&mut self, n: u32)
+        requires { 1 ≤ n }
+        ensures set { self.new ≡ with_setting self.old (each n n) }
+        ensures sound { IsSoundDebug self.new }
+    {
+        self.setting = Setting::Each(n, n);
+    }
+
+    /// No attempt is to fail any more, but for what the rule says. Source: Symbian OS v9 SDK reference, RHeap::ENone.
+    pub fn fail_none(&mut self)
+        ensures set { self.new ≡ with_setting self.old never }
+        ensures sound { IsSoundDebug self.new }
+    {
+        self.setting = Setting::Never;
+    }
+}
+
+/// Notes of the heap; their lengths are in bytes.
+impl DebugHeap {
+    /// The number of live cells, their cell lengths together, and the committed length. Source: Symbian OS v9 SDK
+    /// reference, RHeap, and this project's profile for the committed length.
+    pub fn note_heap(&self) -> Note
+        ensures { result ≡ note_of_heap self.now }
+    {
+        let (count, total) = self.heap.alloc_size();
+        Note::Heap(count, total, self.heap.committed())
+    }
+
+    /// The free bytes below the committed length, and the longest run of them. Source: Symbian OS v9 SDK reference,
+    /// RHeap.
+    pub fn note_available(&self) -> Note
+        ensures { result ≡ note_of_available self.now }
+    {
+        let (total, longest) = self.heap.available();
+        Note::Available(total, longest)
+    }
+
+    /// Gives up committed length above the last live cell, and tells how much. Source: Symbian OS v9 SDK reference,
+    /// RHeap, and this project's profile for the lengths.
+    pub fn note_compress(&mut self) -> Note
+        ensures note { result ≡ note_of_compress self.old }
+        ensures fallen { self.new ≡ debug_compressed self.old }
+        ensures sound { IsSoundDebug self.new }
+    {
+        Note::Compress(self.heap.compress())
+    }
+}
+
+/// Headers, and the words of payloads. Words and their halves are counted from 0; the half 2k is the low half of word k.
+impl DebugHeap {
+    /// The header of the cell that the pointer names, or `None` exactly where it names no live cell. Its payload has a
+    /// word for each four bytes of its usable length. Source: this project's profile.
+    pub fn header(&self, ptr: Ptr) -> Option<Header>
+        ensures header { result ≡ option_map (λ c. c.head) (cell_at ptr self.now.heap.row) }
+        ensures live { IfSome result (IsLiveIn self.now) }
+        ensures payload { IfSome result (λ h. 4 * length (payload_of ptr self.now.heap.row) ≡ usable_of h) }
+        ensures sound { IsSoundDebug self.now }
+    {
+        self.heap.header(ptr)
+    }
+
+    /// A word of a payload. Source: this project's profile.
+    pub fn payload(&self, ptr: Ptr, i: u32) -> u32
+        requires { i < length (payload_of ptr self.now.heap.row) }
+        ensures { result ≡ slice_index (payload_of ptr self.now.heap.row) i }
+    {
+        self.heap.payload(ptr, i)
+    }
+
+    /// Changes a word of a payload, and nothing else. Source: this project's profile.
+    pub fn set_payload(&mut self, ptr: Ptr, i: u32, v: u32)
+        requires { i < length (payload_of ptr self.old.heap.row) }
+        ensures changed { self.new ≡ debug_changed self.old ptr (slice_set (payload_of ptr self.old.heap.row) i v) }
+        ensures sound { IsSoundDebug self.new }
+    {
+        self.heap.set_payload(ptr, i, v);
+    }
+
+    /// A half of a payload's words. Source: this project's profile.
+    pub fn payload_half(&self, ptr: Ptr, i: u32) -> u16
+        requires { i < 2 * length (payload_of ptr self.now.heap.row) }
+        ensures { result ≡ half_of (payload_of ptr self.now.heap.row) i }
+    {
+        self.heap.payload_half(ptr, i)
+    }
+
+    /// Changes a half of a payload's words, and nothing else. Source: this project's profile.
+    pub fn set_payload_half(&mut self, ptr: Ptr, i: u32, v: u16)
+        requires { i < 2 * length (payload_of ptr self.old.heap.row) }
+        ensures changed { self.new ≡ debug_changed self.old ptr (with_half (payload_of ptr self.old.heap.row) i v) }
+        ensures sound { IsSoundDebug self.new }
+    {
+        self.heap.set_payload_half(ptr, i, v);
+    }
+
+    /// Copies the first `n` words of one cell's payload to the front of another's, or of its own. Source: this
+    /// project's profile.
+    pub fn copy_payload(&mut self, from: Ptr, to: Ptr, n: u32)
+        requires from_live { IsSome (cell_at from self.old.heap.row) }
+        requires to_live { IsSome (cell_at to self.old.heap.row) }
+        requires source { n ≤ length (payload_of from self.old.heap.row) }
+        requires target { n ≤ length (payload_of to self.old.heap.row) }
+        ensures changed { self.new ≡ debug_changed self.old to (take n (payload_of from self.old.heap.row) ++ drop n (payload_of to self.old.heap.row)) }
+        ensures sound { IsSoundDebug self.new }
+    {
+        self.heap.copy_payload(from, to, n);
+    }
+}

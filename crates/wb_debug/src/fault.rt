@@ -1,0 +1,23 @@
+//! Why there is no debug heap.
+
+use wb_model::memory::NoMemory;
+
+/// Why a debug heap was not made.
+#[derive(Clone, Copy, Debug, PartialEq, Eq)]
+pub enum DebugFault {
+    /// The workbench's own memory ran out. This is never a refusal of the simulated heap.
+    NoMemory = 1,
+    /// A minimum length or a growth step that no heap may have.
+    BadShape = 2,
+}
+
+impl From<NoMemory> for DebugFault {
+    ghost use Rattle.std.specs.Prelude.{◌≡◌};
+    ghost use Rattle.wb_debug.specs.declared.fault.DebugFault.TheVariants.{NoMemory};
+
+    ghost from_gives = { λ _ fault. fault ≡ NoMemory };
+
+    fn from(_error: NoMemory) -> DebugFault {
+        DebugFault::NoMemory
+    }
+}

@@ -1,0 +1,53 @@
+//! What is answered to an attempt, and how long a cell and a heap may be, in bytes. Nothing here knows a heap.
+
+ghost use Rattle.std.specs.Prelude.{◌≡◌, ◌≤◌, if◌then◌else◌};
+ghost use Rattle.wb_model.specs.LimitedHeap.{IsCellLength};
+ghost use Rattle.wb_model.specs.Row.{cell_length};
+ghost use Rattle.wb_model.specs.Rules.{refusal_of, unless_refused};
+ghost use Rattle.wb_model.specs.Space.{limit_under};
+
+use wb_model::heap::{Answer, CEILING, Rule};
+
+/// What a rule says of an attempt whose cell would end here.
+fn refusal(rule: Rule, number: u32, end: u32) -> Option<Answer>
+    ensures { result ≡ refusal_of rule number end }
+{
+    match rule {
+        Rule::Unlimited => None,
+        Rule::Limit(limit) => (limit < end).then_some(Answer::Refused),
+        Rule::Number(refused) => (refused == number).then_some(Answer::Simulated),
+    }
+}
+
+/// The answer to an attempt whose cell would end here, or none where the ceiling cuts the run. The script's own setting,
+/// which may be due, is asked before the rule.
+pub fn answer(due: bool, rule: Rule, number: u32, end: u32) -> Option<Answer>
+    ensures { result ≡ (if due then Some Answer.Simulated else unless_refused (refusal_of rule number end) end) }
+{
+    if due {
+        return Some(Answer::Simulated);
+    }
+    match refusal(rule, number, end) {
+        Some(answer) => Some(answer),
+        None => (end <= CEILING).then_some(Answer::Granted),
+    }
+}
+
+/// The length that a heap may reach under a rule.
+pub fn limit_under(rule: Rule) -> u32
+    ensures { result ≡ limit_under rule }
+{
+    match rule {
+        Rule::Limit(limit) => limit.min(CEILING),
+        Rule::Unlimited | Rule::Number(_) => CEILING,
+    }
+}
+
+/// The length of the cell for so many bytes.
+pub fn cell_length(bytes: u32) -> u32
+    requires { bytes ≤ 16777216 }
+    ensures exact { result ≡ cell_length bytes }
+    ensures fits { IsCellLength result }
+{
+    16 + 16 * ((bytes + 15) / 16)
+}
