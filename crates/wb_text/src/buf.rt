@@ -1,0 +1,214 @@
+//! The buffer of a stated maximum, TBuf.
+
+ghost use Rattle.std.specs.Prelude.{◌≡◌, ◌+◌, ◌-◌, ◌<◌, ◌≤◌, [], ◌++◌, length, take, drop, replicate, slice_index};
+ghost use Rattle.wb_model.specs.Texts.{AreUnits, IsBuffer, answer_of, at_most, delete_text, edited, insert_text, set_length_text};
+
+use crate::units::Units;
+use arrayvec::ArrayVec;
+use std::marker::Model;
+use wb_model::heap::Panic;
+
+/// A text of at most a stated number of units, up to 256. It takes no memory.
+///
+/// A call that is refused leaves it as it was. Source: Symbian OS v9 SDK reference, 16-bit descriptors.
+#[derive(Debug, Drop)]
+pub struct Buf {
+    max: u32,
+    units: ArrayVec<u16, 256>,
+}
+
+impl Model for Buf {
+    ghost use Rattle.wb_model.specs.Texts.{Buffer, IsBuffer};
+
+    ghost Value = { Buffer };
+
+    ghost view = { λ b. record { max = b.max; units = b.units.items } };
+
+    ghost invariant = { λ b. IsBuffer (record { max = b.max; units = b.units.items }) };
+}
+
+impl Buf {
+    /// The empty text with this maximum.
+    pub fn new(max: u32) -> Buf
+        requires { max ≤ 256 }
+        ensures { result ≡ record { max = max; units = [] } }
+    {
+        Buf {
+            max,
+            units: ArrayVec::new(),
+        }
+    }
+
+    /// How many units the text has.
+    pub fn length(&self) -> u32
+        ensures length { result ≡ length self.now.units }
+        ensures holds { IsBuffer self.now }
+    {
+        self.units.len() as u32
+    }
+
+    /// How many units the text may have.
+    pub fn max(&self) -> u32
+        ensures max { result ≡ self.now.max }
+        ensures holds { IsBuffer self.now }
+    {
+        self.max
+    }
+
+    /// The unit at a place.
+    pub fn unit(&self, at: u32) -> u16
+        requires { at < length self.now.units }
+        ensures { result ≡ slice_index self.now.units at }
+    {
+        self.units[at as usize]
+    }
+
+    /// Puts a text in place of what stands.
+    ///
+    /// `User(11)` where it is longer than the maximum.
+    pub fn copy<U: Units>(&mut self, source: &U) -> Result<(), Panic>
+        requires { U.can_read source.now }
+        ensures text { self.new ≡ edited self.old (at_most self.old.max (U.units source.now)) }
+        ensures answer { result ≡ answer_of (at_most self.old.max (U.units source.now)) }
+    {
+        if self.max < source.length() {
+            return Err(Panic::User(11));
+        }
+        self.units.clear();
+        extend(&mut self.units, source);
+        Ok(())
+    }
+
+    /// Appends a text.
+    ///
+    /// `User(11)` where the whole is longer than the maximum.
+    pub fn append<U: Units>(&mut self, source: &U) -> Result<(), Panic>
+        requires { U.can_read source.now }
+        ensures text { self.new ≡ edited self.old (at_most self.old.max (self.old.units ++ U.units source.now)) }
+        ensures answer { result ≡ answer_of (at_most self.old.max (self.old.units ++ U.units source.now)) }
+    {
+        if self.max - self.length() < source.length() {
+            return Err(Panic::User(11));
+        }
+        extend(&mut self.units, source);
+        Ok(())
+    }
+
+    /// Puts a text in front of the unit at a position, or at the end where the position is the length.
+    ///
+    /// `User(10)` where the position is past the end, then `User(11)` where the whole is longer than the maximum.
+    pub fn insert<U: Units>(&mut self, position: u32, source: &U) -> Result<(), Panic>
+        requires { U.can_read source.now }
+        ensures text { self.new ≡ edited self.old (insert_text self.old.max self.old.units position (U.units source.now)) }
+        ensures answer { result ≡ answer_of (insert_text self.old.max self.old.units position (U.units source.now)) }
+    {
+        let len = self.length();
+        if len < position {
+            return Err(Panic::User(10));
+        }
+        if self.max - len < source.length() {
+            return Err(Panic::User(11));
+        }
+        put_in(&mut self.units, position as usize, source);
+        Ok(())
+    }
+
+    /// Takes out so many units from a position on, or all from there where there are fewer.
+    ///
+    /// `User(10)` where the position is past the end.
+    pub fn delete(&mut self, position: u32, count: u32) -> Result<(), Panic>
+        ensures text { self.new ≡ edited self.old (delete_text self.old.units position count) }
+        ensures answer { result ≡ answer_of (delete_text self.old.units position count) }
+    {
+        let Some(rest) = self.length().checked_sub(position) else {
+            return Err(Panic::User(10));
+        };
+        take_out(&mut self.units, position as usize, count.min(rest) as usize);
+        Ok(())
+    }
+
+    /// Drops the units past a length, or appends zeros up to it.
+    ///
+    /// `User(11)` where the length is above the maximum.
+    pub fn set_length(&mut self, length: u32) -> Result<(), Panic>
+        ensures text { self.new ≡ edited self.old (set_length_text self.old.max self.old.units length) }
+        ensures answer { result ≡ answer_of (set_length_text self.old.max self.old.units length) }
+    {
+        if self.max < length {
+            return Err(Panic::User(11));
+        }
+        self.units.truncate(length as usize);
+        fill_up(&mut self.units, length as usize);
+        Ok(())
+    }
+}
+
+/// The units of a buffer.
+impl Units for Buf {
+    ghost can_read = { λ _. Unit {0} };
+
+    ghost units = { λ b. b.units };
+
+    fn length(&self) -> u32 {
+        self.length()
+    }
+
+    fn unit(&self, at: u32) -> u16 {
+        self.unit(at)
+    }
+}
+
+/// Appends the units of a text.
+fn extend<U: Units>(units: &mut ArrayVec<u16, 256>, source: &U)
+    requires can { U.can_read source.now }
+    requires room { length units.old.items + length (U.units source.now) ≤ 256 }
+    ensures items { units.new.items ≡ units.old.items ++ U.units source.now }
+    ensures are_units { AreUnits units.old.items → AreUnits units.new.items }
+{
+    for at in 0..source.length() {
+        units.push(source.unit(at));
+    }
+}
+
+/// Puts the units of a text in front of those at a place.
+fn put_in<U: Units>(units: &mut ArrayVec<u16, 256>, at: usize, source: &U)
+    requires can { U.can_read source.now }
+    requires within { at ≤ length units.old.items }
+    requires room { length units.old.items + length (U.units source.now) ≤ 256 }
+    ensures items { units.new.items ≡ take at units.old.items ++ U.units source.now ++ drop at units.old.items }
+    ensures are_units { AreUnits units.old.items → AreUnits units.new.items }
+{
+    let len = units.len();
+    extend(units, source);
+    move_back(units.as_mut_slice(), at, len);
+}
+
+/// Takes out so many units from a place on.
+fn take_out(units: &mut ArrayVec<u16, 256>, at: usize, count: usize)
+    requires { at + count ≤ length units.old.items }
+    ensures { units.new.items ≡ take at units.old.items ++ drop (at + count) units.old.items }
+{
+    let len = units.len();
+    move_back(units.as_mut_slice(), at, at + count);
+    units.truncate(len - count);
+}
+
+/// Appends zeros up to a length.
+fn fill_up(units: &mut ArrayVec<u16, 256>, len: usize)
+    requires from { length units.old.items ≤ len }
+    requires most { len ≤ 256 }
+    ensures { units.new.items ≡ units.old.items ++ replicate (len - length units.old.items) 0 }
+{
+    for _ in units.len()..len {
+        units.push(0);
+    }
+}
+
+/// Moves the units from one place up to another behind all others.
+fn move_back(units: &mut [u16], from: usize, to: usize)
+    requires ordered { from ≤ to }
+    requires within { to ≤ length units.old }
+    ensures { units.new ≡ take from units.old ++ drop to units.old ++ take (to - from) (drop from units.old) }
+{
+    units[from..].rotate_left(to - from);
+}

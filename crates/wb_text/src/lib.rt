@@ -1,0 +1,14 @@
+//! 16-bit descriptors that own no memory: buffers of a stated maximum, and views.
+//!
+//! Positions, counts and lengths are in units of 16 bits. Source of the rules of edits: Symbian OS v9 SDK
+//! reference, 16-bit descriptors.
+#![tactic(auto)]
+
+pub mod buf;
+#[cfg(test)]
+mod tests;
+pub mod units;
+
+pub use buf::Buf;
+pub use units::Units;
+pub use wb_model::text::{Base, View};

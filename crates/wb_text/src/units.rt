@@ -1,0 +1,42 @@
+//! Texts that can be read unit by unit.
+
+ghost use Rattle.std.specs.Prelude.{ℕ, ◌≡◌, ◌<◌, ◌^◌, List, length, slice_index};
+
+use wb_model::script::Chars;
+
+/// A text that can be read: a length, and the unit at each place below it.
+pub trait Units {
+    ghost use Rattle.std.specs.Prelude.{ℕ, List};
+
+    /// Whether the text may be read.
+    ghost can_read: { Self → Type 0 };
+
+    /// The units, in order.
+    ghost units: { Self → List ℕ };
+
+    /// How many units there are.
+    fn length(&self) -> u32
+        requires { can_read self.now }
+        ensures { result ≡ length (units self.now) };
+
+    /// The unit at a place.
+    fn unit(&self, at: u32) -> u16
+        requires can { can_read self.now }
+        requires within { at < length (units self.now) }
+        ensures { result ≡ slice_index (units self.now) at };
+}
+
+/// The bytes of a literal, each of them a unit.
+impl Units for Chars {
+    ghost can_read = { λ bytes. length bytes < 2 ^ 32 };
+
+    ghost units = { λ bytes. bytes };
+
+    fn length(&self) -> u32 {
+        self.len() as u32
+    }
+
+    fn unit(&self, at: u32) -> u16 {
+        u16::from(self.as_slice()[at as usize])
+    }
+}
