@@ -1,0 +1,6 @@
+mod Units
+mod Drafts
+mod ReadUnits
+mod WrittenUnits
+mod Edits
+mod Granted

@@ -1,0 +1,171 @@
+-- Halves of words are units, and units are put into a list one after another.
+use Rattle.std.proofs.Common.{◌≡◌, ℕ, zero, suc, ◌+◌, ◌-◌, ◌*◌, ◌/◌, ◌%◌, ◌^◌, ◌<◌, ◌≤◌, ◌⊎◌, inl, inr, min, List, [], ◌∷◌, ◌++◌, Bool, true, false, cond, length, take, drop, set, replicate, refl, sym, ap, ◌∙◌, arith, get_or, append_assoc}
+use Rattle.std.specs.Prelude.{nat_eq}
+use Rattle.std.proofs.lemmas.List.{length-take, length-take-le, length-drop, length-append, drop_more, take_more, set_at, get_or_append_left, get_or-append_right, get_or-take, get_or-drop, get_or_past, ext_get_or, append-nil, take-append-drop, get_or-replicate, length-replicate}
+use Rattle.std.proofs.lemmas.Bool.{cases_lt}
+use Rattle.wb_chunk.specs.Halves.{half_of, with_half}
+use Rattle.wb_model.specs.Spelling.{halves}
+use Rattle.wb_model.specs.Texts.{AreUnits, exactly, units_of_part}
+use Rattle.wb_model.specs.TextCells.{joined}
+use Rattle.wb_model.proofs.TextCells.{IsUnit, length-exactly}
+use Rattle.wb_hbuf.specs.Drafts.{put}
+
+behind-two : (i : ℕ) → suc (suc i) / 2 ≡ suc (i / 2)
+behind-two i = omega arith
+
+same-side : (i : ℕ) → suc (suc i) % 2 ≡ i % 2
+same-side i = omega arith
+
+-- a half of the words is one of the halves
+pub half-is : (ws : List ℕ) (i : ℕ) → half_of ws i ≡ get_or (halves ws) i 0
+half-is [] i = by (nat_eq (i % 2) 0)
+  where
+    by : (b : Bool) → cond b (0 % 2 ^ 16) (0 / 2 ^ 16) ≡ 0
+    by true = refl
+    by false = refl
+half-is (w ∷ ws) zero = refl
+half-is (w ∷ ws) (suc zero) = refl
+half-is (w ∷ ws) (suc (suc i)) = rw (behind-two i, same-side i) (half-is ws i)
+
+-- a half behind the length word
+pub half-behind : (w : ℕ) (ws : List ℕ) (i k : ℕ) → k ≡ suc (suc i) → half_of (w ∷ ws) k ≡ get_or (halves ws) i 0
+half-behind w ws i k e = ap (half_of (w ∷ ws)) e ∙ half-is (w ∷ ws) (suc (suc i))
+
+with_half-behind : (w : ℕ) (ws : List ℕ) (i v : ℕ) → with_half (w ∷ ws) (suc (suc i)) v ≡ w ∷ with_half ws i v
+with_half-behind w ws i v = rw (behind-two i, same-side i)
+
+with_half-is : (us : List ℕ) (i v : ℕ) → length us % 2 ≡ 0 → AreUnits us → i < length us → with_half (joined us) i v ≡ joined (set us i v)
+with_half-is [] i v even all lt = absurd (omega (arith, lt))
+with_half-is (a ∷ []) i v even all lt = absurd (omega (arith, even))
+with_half-is (a ∷ b ∷ us) zero v even all lt =
+    let unit : IsUnit a = all 0 a (omega arith) in
+    let e : (a + b * 2 ^ 16) / 2 ^ 16 * 2 ^ 16 + v ≡ v + b * 2 ^ 16 = omega arith in
+    ap (λ w. w ∷ joined us) e
+with_half-is (a ∷ b ∷ us) (suc zero) v even all lt =
+    let unit : IsUnit a = all 0 a (omega arith) in
+    let e : v * 2 ^ 16 + (a + b * 2 ^ 16) % 2 ^ 16 ≡ a + v * 2 ^ 16 = omega arith in
+    ap (λ w. w ∷ joined us) e
+with_half-is (a ∷ b ∷ us) (suc (suc i)) v even all lt =
+    with_half-behind (a + b * 2 ^ 16) (joined us) i v
+    ∙ ap (λ ws. (a + b * 2 ^ 16) ∷ ws) (with_half-is us i v (omega (arith, even)) (λ k d less. all (suc (suc k)) d (omega (arith, less))) (omega (arith, lt)))
+
+-- a unit is set behind the length word
+pub set-behind : (w : ℕ) (us : List ℕ) (i k v : ℕ) → k ≡ suc (suc i) → length us % 2 ≡ 0 → AreUnits us → i < length us →
+    with_half (w ∷ joined us) k v ≡ w ∷ joined (set us i v)
+set-behind w us i k v e even all lt =
+    ap (λ j. with_half (w ∷ joined us) j v) e ∙ with_half-behind w (joined us) i v ∙ ap (λ ws. w ∷ ws) (with_half-is us i v even all lt)
+
+-- units that are put somewhere
+pub put-none : (at : ℕ) (all : List ℕ) → put at [] all ≡ all
+put-none at all = ap (λ us. us ++ drop (at + 0) all) (append-nil (take at all)) ∙ ap (λ k. take at all ++ drop k all) (let e : at + 0 ≡ at = omega arith in e) ∙ take-append-drop at all
+
+pub length-put : (at : ℕ) (us all : List ℕ) → at + length us ≤ length all → length (put at us all) ≡ length all
+length-put at us all fits =
+    omega (arith, length-append (take at all ++ us) (drop (at + length us) all), length-append (take at all) us, length-take-le at all (omega (arith, fits)), length-drop (at + length us) all)
+
+-- one more of them
+pub put-more : (at : ℕ) (us all : List ℕ) (i k v : ℕ) → k ≡ at + i → i < length us → at + length us ≤ length all → v ≡ get_or us i 0 →
+    set (put at (take i us) all) k v ≡ put at (take (i + 1) us) all
+put-more at us all i k v here lt fits is =
+    let short : length (take i us) ≡ i = length-take-le i us (omega arith) in
+    let longer : length (take (i + 1) us) ≡ i + 1 = length-take-le (i + 1) us (omega arith) in
+    let front : length (take at all ++ take i us) ≡ at + i = omega (arith, length-append (take at all) (take i us), length-take-le at all (omega (arith, fits)), short) in
+    let rest : drop (at + length (take i us)) all ≡ get_or all (at + i) 0 ∷ drop (at + i + 1) all =
+    ap (λ n. drop (at + n) all) short ∙ drop_more all (at + i) 0 (omega (arith, fits, lt)) in
+    let next : at + i + 1 ≡ at + length (take (i + 1) us) = omega (arith, longer) in
+    ap (λ ws. set (take at all ++ take i us ++ ws) k v) rest
+    ∙ set_at (take at all ++ take i us) (get_or all (at + i) 0) (drop (at + i + 1) all) v k (front ∙ sym here)
+    ∙ ap (λ n. take at all ++ take i us ++ v ∷ drop n all) next
+    ∙ ap (λ x. take at all ++ take i us ++ x ∷ drop (at + length (take (i + 1) us)) all) is
+    ∙ sym (append_assoc (take at all ++ take i us) (get_or us i 0 ∷ []) (drop (at + length (take (i + 1) us)) all))
+    ∙ ap (λ ws. ws ++ drop (at + length (take (i + 1) us)) all) (append_assoc (take at all) (take i us) (get_or us i 0 ∷ []) ∙ ap (λ ws. take at all ++ ws) (sym (take_more us i 0 lt)))
+
+-- what stands before and behind them stays
+pub get_or-put_before : (at : ℕ) (us all : List ℕ) (k : ℕ) → at ≤ length all → k < at → get_or (put at us all) k 0 ≡ get_or all k 0
+get_or-put_before at us all k le lt =
+    let front : length (take at all) ≡ at = length-take-le at all le in
+    ap (λ ws. get_or ws k 0) (append_assoc (take at all) us (drop (at + length us) all))
+    ∙ get_or_append_left (take at all) (us ++ drop (at + length us) all) 0 k (omega (arith, front)) ∙ get_or-take at all k 0 lt
+
+pub get_or-put_behind : (at : ℕ) (us all : List ℕ) (k : ℕ) → at ≤ length all → at + length us ≤ k → get_or (put at us all) k 0 ≡ get_or all k 0
+get_or-put_behind at us all k le ge =
+    let front : length (take at all ++ us) ≡ at + length us = omega (arith, length-append (take at all) us, length-take-le at all le) in
+    let same : at + length us + (k - (at + length us)) ≡ k = omega arith in
+    get_or-append_right (take at all ++ us) (drop (at + length us) all) (at + length us) k 0 front ge
+    ∙ get_or-drop (at + length us) all (k - (at + length us)) 0 ∙ ap (λ n. get_or all n 0) same
+
+-- a tail that moves up by some units, its last unit first
+pub put-tail : (t all : List ℕ) (j k c v : ℕ) → k ≡ j + c → j < length t → length t + c ≤ length all → v ≡ get_or t j 0 →
+    set (put (j + 1 + c) (drop (j + 1) t) all) k v ≡ put (j + c) (drop j t) all
+put-tail t all j k c v here lt fits is =
+    let past : j + 1 + c ≡ k + 1 = omega (arith, here) in
+    let front : length (take k all) ≡ k = length-take-le k all (omega (arith, here, fits, lt)) in
+    let before : take (k + 1) all ≡ take k all ++ get_or all k 0 ∷ [] = take_more all k 0 (omega (arith, here, fits, lt)) in
+    let tail : drop j t ≡ v ∷ drop (j + 1) t = drop_more t j 0 lt ∙ ap (λ x. x ∷ drop (j + 1) t) (sym is) in
+    let ends : k + 1 + length (drop (j + 1) t) ≡ k + length (drop j t) = omega (arith, length-drop (j + 1) t, length-drop j t, lt) in
+    let rest = drop (k + length (drop j t)) all in
+    ap (λ n. set (take n all ++ drop (j + 1) t ++ drop (n + length (drop (j + 1) t)) all) k v) past
+    ∙ ap (λ n. set (take (k + 1) all ++ drop (j + 1) t ++ drop n all) k v) ends
+    ∙ ap (λ ws. set (ws ++ drop (j + 1) t ++ rest) k v) before
+    ∙ ap (λ ws. set ws k v) (ap (λ ws. ws ++ rest) (append_assoc (take k all) (get_or all k 0 ∷ []) (drop (j + 1) t)) ∙ append_assoc (take k all) (get_or all k 0 ∷ drop (j + 1) t) rest)
+    ∙ set_at (take k all) (get_or all k 0) (drop (j + 1) t ++ rest) v k front
+    ∙ sym (append_assoc (take k all) (v ∷ drop (j + 1) t) rest)
+    ∙ ap (λ ws. take k all ++ ws ++ rest) (sym tail)
+    ∙ ap (λ n. take n all ++ drop j t ++ drop (n + length (drop j t)) all) here
+
+pub get_or-put_within : (at : ℕ) (us all : List ℕ) (k : ℕ) → at ≤ length all → at ≤ k → k < at + length us → get_or (put at us all) k 0 ≡ get_or us (k - at) 0
+get_or-put_within at us all k le ge lt =
+    let front : length (take at all) ≡ at = length-take-le at all le in
+    ap (λ ws. get_or ws k 0) (append_assoc (take at all) us (drop (at + length us) all))
+    ∙ get_or-append_right (take at all) (us ++ drop (at + length us) all) at k 0 front ge
+    ∙ get_or_append_left us (drop (at + length us) all) 0 (k - at) (omega arith)
+
+-- a list that is cut or filled up
+pub get_or-exactly : (n : ℕ) (t : List ℕ) (k : ℕ) → k < n → get_or (exactly n t) k 0 ≡ get_or t k 0
+get_or-exactly n t k lt = by (cases_lt k (length t))
+  where
+    front : length (take n t) ≡ min n (length t)
+    front = length-take n t
+
+    by : (k < length t) ⊎ (length t ≤ k) → get_or (exactly n t) k 0 ≡ get_or t k 0
+    by (inl within) = get_or_append_left (take n t) (replicate (n - length t) 0) 0 k (omega (arith, front, within, lt)) ∙ get_or-take n t k 0 lt
+    by (inr past) =
+        get_or-append_right (take n t) (replicate (n - length t) 0) (length t) k 0 (omega (arith, front, past, lt)) past
+        ∙ get_or-replicate (n - length t) (k - length t) 0 0 (omega (arith, past, lt)) ∙ sym (get_or_past t k 0 past)
+
+pub get_or-filled : (n : ℕ) (t : List ℕ) (k : ℕ) → length t ≤ k → get_or (exactly n t) k 0 ≡ 0
+get_or-filled n t k past = by (cases_lt k n)
+  where
+    by : (k < n) ⊎ (n ≤ k) → get_or (exactly n t) k 0 ≡ 0
+    by (inl lt) = get_or-exactly n t k lt ∙ get_or_past t k 0 past
+    by (inr ge) = get_or_past (exactly n t) k 0 (omega (arith, length-exactly n t, ge))
+
+-- a unit of a part
+pub get_or-part : (base : List ℕ) (from count i : ℕ) → i < count → get_or (units_of_part base from count) i 0 ≡ get_or base (from + i) 0
+get_or-part base from count i lt = get_or-exactly count (drop from base) i lt ∙ get_or-drop from base i 0
+
+-- the units once a text of so many was cut or grew: what stands past it is zero
+pub settled : (n len : ℕ) (t all : List ℕ) → length t ≡ n → n ≤ length all → len ≤ length all → take n all ≡ t →
+    ((k : ℕ) → n + (len - n) ≤ k → get_or all k 0 ≡ 0) → put n (replicate (len - n) 0) all ≡ exactly (length all) t
+settled n len t all same fits within front behind =
+    ext_get_or 0 _ _ (length-put n (replicate (len - n) 0) all (omega (arith, filled, fits, within)) ∙ sym (length-exactly (length all) t)) each
+  where
+    filled : length (replicate {A = ℕ} (len - n) 0) ≡ len - n
+    filled = length-replicate (len - n) 0
+
+    short : (k : ℕ) → k < n → get_or all k 0 ≡ get_or t k 0
+    short k lt = sym (get_or-take n all k 0 lt) ∙ ap (λ ws. get_or ws k 0) front
+
+    by : (k : ℕ) → k < length all → (k < n) ⊎ (n ≤ k) → (k < n + (len - n)) ⊎ (n + (len - n) ≤ k) →
+        get_or (put n (replicate (len - n) 0) all) k 0 ≡ get_or (exactly (length all) t) k 0
+    by k less (inl lt) _ = get_or-put_before n (replicate (len - n) 0) all k fits lt ∙ short k lt ∙ sym (get_or-exactly (length all) t k less)
+    by k less (inr ge) (inl lt) =
+        get_or-put_within n (replicate (len - n) 0) all k fits ge (omega (arith, filled, lt)) ∙ get_or-replicate (len - n) (k - n) 0 0 (omega (arith, lt, ge))
+        ∙ sym (get_or-filled (length all) t k (omega (arith, same, ge)))
+    by k less (inr ge) (inr past) =
+        get_or-put_behind n (replicate (len - n) 0) all k fits (omega (arith, filled, past)) ∙ behind k past
+        ∙ sym (get_or-filled (length all) t k (omega (arith, same, ge)))
+
+    each : (k : ℕ) → k < length (put n (replicate (len - n) 0) all) → get_or (put n (replicate (len - n) 0) all) k 0 ≡ get_or (exactly (length all) t) k 0
+    each k less =
+        by k (omega (arith, less, length-put n (replicate (len - n) 0) all (omega (arith, filled, fits, within)))) (cases_lt k n) (cases_lt k (n + (len - n)))

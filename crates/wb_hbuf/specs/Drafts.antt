@@ -1,0 +1,48 @@
+-- A text while an edit is at work on it: the length word still tells the text that was, and units are put one after another.
+use Rattle.std.specs.Prelude.{◌≡◌, ℕ, ◌+◌, ◌*◌, ◌^◌, ◌<◌, ◌≤◌, ◌⊎◌, List, ◌∷◌, ◌++◌, length, take, drop, slice_index, Result, Ok, OnOk}
+use Rattle.wb_model.specs.declared.heap.Ptr.{Ptr}
+use Rattle.wb_model.specs.CellRow.{payload_of}
+use Rattle.wb_model.specs.declared.heap.Panic.{Panic}
+use Rattle.wb_model.specs.Texts.{AreUnits, Edited, answer_of}
+use Rattle.wb_model.specs.Debug.{Debug, IsSoundDebug, debug_changed}
+use Rattle.wb_hbuf.specs.declared.sources.Source.{Source}
+use Rattle.wb_hbuf.specs.declared.sources.Source.TheVariants.{Own}
+use Rattle.wb_model.specs.TextCells.{joined, room_in, units_behind, text_at, max_at, IsTextAt, debug_edited}
+
+-- units in place of as many others, from a place on
+abbrev pub put : ℕ → List ℕ → List ℕ → List ℕ
+put at us all = take at all ++ us ++ drop (at + length us) all
+
+-- the words that a pointer names are a length, and units behind it
+pub record HasUnits (p : Ptr) (d : Debug) : Type 0 where
+  pub some : 1 ≤ length (payload_of p d.heap.row)
+  pub within : slice_index (payload_of p d.heap.row) 0 ≤ room_in (length (payload_of p d.heap.row))
+  pub units : AreUnits (units_behind (payload_of p d.heap.row))
+
+-- the length and the maximum of the text in a cell, and what is known before an edit
+pub record IsMeasured (p : Ptr) (d : Debug) (len most : ℕ) : Type 0 where
+  pub length-is : len ≡ length (text_at p d)
+  pub max-is : most ≡ max_at p d
+  pub room : most ≡ room_in (length (payload_of p d.heap.row))
+  pub small : 2 * length (payload_of p d.heap.row) < 2 ^ 32
+  pub units : HasUnits p d
+  pub sound : IsSoundDebug d
+
+-- the heap once the cell has this length word and these units behind it
+pub record IsDraft (p : Ptr) (old new : Debug) (len : ℕ) (us : List ℕ) : Type 0 where
+  pub changed : new ≡ debug_changed old p (len ∷ joined us)
+  pub room : length us ≡ room_in (length (payload_of p old.heap.row))
+  pub units : AreUnits us
+
+-- a text that is read while it is written from a position on: what is read there was not written yet, or isn't the text's
+abbrev pub IsAhead : ℕ → ℕ → Source → Type 0
+IsAhead at len (Own from count) = (at ≤ from) ⊎ (len ≤ at)
+IsAhead at len _ = Unit {0}
+
+-- what an edit leaves and answers
+pub record IsEdited (p : Ptr) (old new : Debug) (outcome : Result (Unit {0}) Panic) (e : Edited) : Type 0 where
+  pub answer : outcome ≡ answer_of e
+  pub changed : new ≡ debug_edited old p e
+  pub text : IsTextAt p new
+  pub now : OnOk outcome (e ≡ Ok (text_at p new))
+  pub sound : IsSoundDebug new

@@ -1,0 +1,284 @@
+//! The calls on texts in cells, and the edit of a buffer that may read one.
+
+ghost use Rattle.std.specs.Prelude.{◌≡◌, ◌+◌, ◌*◌, ◌^◌, ◌<◌, ◌≤◌, [], length, IfOk, IfSome, IsOk, OnErr, OnOk};
+ghost use Rattle.wb_hbuf.specs.Drafts.{IsEdited, IsMeasured};
+ghost use Rattle.wb_hbuf.specs.Sources.{IsApart, IsForeign, IsReadableAlone, IsSource, SuitsEdit, cell_edited, edit_text, source_units};
+ghost use Rattle.wb_model.specs.Debug.{IsSoundDebug, alloc_made, realloc_made};
+ghost use Rattle.wb_model.specs.Reading.{printed, printed_unit};
+ghost use Rattle.wb_model.specs.Row.{cell_at, cell_length};
+ghost use Rattle.wb_model.specs.TextCells.{IsGrantedText, IsRemadeText, IsTextAt, debug_edited, max_at, text_at};
+ghost use Rattle.wb_model.specs.Texts.{answer_of, delete_text, edited, set_length_text};
+
+use crate::reading::{Part, count, foreign_unit};
+use crate::sources::{Edit, Source};
+use crate::writing::{open_gap, settle, write_units};
+use arrayvec::ArrayVec;
+use wb_debug::debug_heap::DebugHeap;
+use wb_model::heap::{Gave, Kind, Panic, Ptr};
+use wb_model::line::Line;
+use wb_model::memory::NoMemory;
+use wb_text::buf::Buf;
+
+/// An attempt to get a cell for an empty text that may have so many units.
+///
+/// `Denied` and `Ceiling` are the heap's answers. `NoMemory` leaves the heap as it was. Source: Symbian OS v9 SDK
+/// reference, HBufC::New, and this project's profile for the length of the cell.
+pub fn make(heap: &mut DebugHeap, n: u32) -> Result<Gave, NoMemory>
+    requires units { n ≤ 524286 }
+    requires number { length heap.old.trace + 1 < 2 ^ 32 }
+    ensures gave { IfOk result (λ gave. gave ≡ (alloc_made heap.old (4 + 2 * n) Kind.Text).gave) }
+    ensures made { OnOk result (heap.new ≡ (alloc_made heap.old (4 + 2 * n) Kind.Text).debug) }
+    ensures empty { IfOk result (IsGrantedText heap.new []) }
+    ensures err { OnErr result (heap.new ≡ heap.old) }
+    ensures sound { IsSoundDebug heap.new }
+{
+    heap.attempt_alloc(4 + 2 * n, Kind::Text)
+}
+
+/// Gives a text another maximum: a reallocation of its cell for so many units, which keeps the text.
+///
+/// Its length may not pass them. `Denied` and `Ceiling` are the heap's answers, and leave the cell as it was.
+/// `NoMemory` leaves the heap as it was, and doesn't come where the cell gets no longer. Source: Symbian OS v9 SDK
+/// reference, HBufC::ReAlloc, and this project's profile for the length of the cell.
+pub fn remake(heap: &mut DebugHeap, ptr: Ptr, n: u32) -> Result<Gave, NoMemory>
+    requires text { IsTextAt ptr heap.old }
+    requires fits { length (text_at ptr heap.old) ≤ n }
+    requires units { n ≤ 524286 }
+    requires number { length heap.old.trace + 1 < 2 ^ 32 }
+    ensures gave { IfOk result (λ gave. IfSome (cell_at ptr heap.old.heap.row) (λ c. gave ≡ (realloc_made heap.old c (4 + 2 * n)).gave)) }
+    ensures made { OnOk result (IfSome (cell_at ptr heap.old.heap.row) (λ c. heap.new ≡ (realloc_made heap.old c (4 + 2 * n)).debug)) }
+    ensures kept { IfOk result (IsRemadeText heap.new ptr (text_at ptr heap.old)) }
+    ensures shorter { IfSome (cell_at ptr heap.old.heap.row) (λ c. cell_length (4 + 2 * n) ≤ c.head.length → IsOk result) }
+    ensures err { OnErr result (heap.new ≡ heap.old) }
+    ensures sound { IsSoundDebug heap.new }
+{
+    heap.attempt_realloc(ptr, 4 + 2 * n)
+}
+
+/// How many units the text in a cell has. Source: Symbian OS v9 SDK reference, 16-bit descriptors.
+pub fn length(heap: &DebugHeap, ptr: Ptr) -> u32
+    requires { IsTextAt ptr heap.now }
+    ensures { result ≡ length (text_at ptr heap.now) }
+{
+    heap.payload(ptr, 0)
+}
+
+/// How many units the text in a cell may have. Source: Symbian OS v9 SDK reference, HBufC::Des, and this project's
+/// profile for the number.
+pub fn max_len(heap: &DebugHeap, ptr: Ptr) -> u32
+    requires { IsTextAt ptr heap.now }
+    ensures { result ≡ max_at ptr heap.now }
+{
+    measure(heap, ptr).max
+}
+
+/// The length of the text in a cell, and its maximum.
+#[derive(Clone, Copy)]
+struct Measured {
+    length: u32,
+    max: u32,
+}
+
+fn measure(heap: &DebugHeap, ptr: Ptr) -> Measured
+    requires { IsTextAt ptr heap.now }
+    ensures { IsMeasured ptr heap.now result.length result.max }
+{
+    match heap.header(ptr) {
+        Some(header) => Measured {
+            length: length(heap, ptr),
+            max: (header.length - 20) / 2,
+        },
+        None => unreachable!(),
+    }
+}
+
+/// Changes the text in a cell by the units of a source, which count as they stood before.
+///
+/// `User(10)` where an insertion's position is past the end, then `User(11)` where the text would be longer than its
+/// maximum. A refusal leaves the heap as it was. Other cells stay. Source: Symbian OS v9 SDK reference, 16-bit
+/// descriptors.
+pub fn edit(heap: &mut DebugHeap, ptr: Ptr, change: Edit, source: Source) -> Result<(), Panic>
+    requires text { IsTextAt ptr heap.old }
+    requires source { IsSource heap.old source }
+    requires apart { IsApart ptr source }
+    requires suits { SuitsEdit change source }
+    ensures answer { result ≡ answer_of (cell_edited heap.old ptr change source.entry) }
+    ensures changed { heap.new ≡ debug_edited heap.old ptr (cell_edited heap.old ptr change source.entry) }
+    ensures text { IsTextAt ptr heap.new }
+    ensures now { OnOk result (cell_edited heap.old ptr change source.entry ≡ Ok (text_at ptr heap.new)) }
+    ensures sound { IsSoundDebug heap.new }
+{
+    match change {
+        Edit::Copy => copy(heap, ptr, source),
+        Edit::Append => append(heap, ptr, source),
+        Edit::Insert(at) => insert(heap, ptr, at, source),
+    }
+}
+
+fn copy(heap: &mut DebugHeap, ptr: Ptr, source: Source) -> Result<(), Panic>
+    requires text { IsTextAt ptr heap.old }
+    requires source { IsSource heap.old source }
+    requires apart { IsApart ptr source }
+    ensures { IsEdited ptr heap.old heap.new result (cell_edited heap.old ptr Edit.Copy source.entry) }
+{
+    let text = measure(heap, ptr);
+    let n = count(source);
+    if text.max < n {
+        return Err(Panic::User(11));
+    }
+    write_units(heap, ptr, 0, source);
+    settle(heap, ptr, n);
+    Ok(())
+}
+
+fn append(heap: &mut DebugHeap, ptr: Ptr, source: Source) -> Result<(), Panic>
+    requires text { IsTextAt ptr heap.old }
+    requires source { IsSource heap.old source }
+    requires apart { IsApart ptr source }
+    ensures { IsEdited ptr heap.old heap.new result (cell_edited heap.old ptr Edit.Append source.entry) }
+{
+    let text = measure(heap, ptr);
+    let n = count(source);
+    if text.max - text.length < n {
+        return Err(Panic::User(11));
+    }
+    write_units(heap, ptr, text.length, source);
+    settle(heap, ptr, text.length + n);
+    Ok(())
+}
+
+fn insert(heap: &mut DebugHeap, ptr: Ptr, at: u32, source: Source) -> Result<(), Panic>
+    requires text { IsTextAt ptr heap.old }
+    requires source { IsSource heap.old source }
+    requires apart { IsApart ptr source }
+    requires foreign { IsForeign source }
+    ensures { IsEdited ptr heap.old heap.new result (cell_edited heap.old ptr (Edit.Insert at) source.entry) }
+{
+    let text = measure(heap, ptr);
+    if text.length < at {
+        return Err(Panic::User(10));
+    }
+    let n = count(source);
+    if text.max - text.length < n {
+        return Err(Panic::User(11));
+    }
+    open_gap(heap, ptr, at, n);
+    write_units(heap, ptr, at, source);
+    settle(heap, ptr, text.length + n);
+    Ok(())
+}
+
+/// Takes so many units from a position on out of the text in a cell, or all from there where there are fewer.
+///
+/// `User(10)` where the position is past the end, and then the heap is as it was. Units past the new end are zero. Other
+/// cells stay. Source: Symbian OS v9 SDK reference, 16-bit descriptors.
+pub fn delete(heap: &mut DebugHeap, ptr: Ptr, position: u32, count: u32) -> Result<(), Panic>
+    requires { IsTextAt ptr heap.old }
+    ensures answer { result ≡ answer_of (delete_text (text_at ptr heap.old) position count) }
+    ensures changed { heap.new ≡ debug_edited heap.old ptr (delete_text (text_at ptr heap.old) position count) }
+    ensures text { IsTextAt ptr heap.new }
+    ensures now { OnOk result (delete_text (text_at ptr heap.old) position count ≡ Ok (text_at ptr heap.new)) }
+    ensures sound { IsSoundDebug heap.new }
+{
+    let text = measure(heap, ptr);
+    if text.length < position {
+        return Err(Panic::User(10));
+    }
+    let count = count.min(text.length - position);
+    let behind = position + count;
+    write_units(
+        heap,
+        ptr,
+        position,
+        Source::Own(behind, text.length - behind),
+    );
+    settle(heap, ptr, text.length - count);
+    Ok(())
+}
+
+/// Gives the text in a cell another length: units past it become zero, and a longer text gains zeros.
+///
+/// `User(11)` where the length is above the maximum, and then the heap is as it was. Other cells stay. Source: Symbian OS
+/// v9 SDK reference, 16-bit descriptors.
+pub fn set_length(heap: &mut DebugHeap, ptr: Ptr, n: u32) -> Result<(), Panic>
+    requires { IsTextAt ptr heap.old }
+    ensures answer { result ≡ answer_of (set_length_text (max_at ptr heap.old) (text_at ptr heap.old) n) }
+    ensures changed { heap.new ≡ debug_edited heap.old ptr (set_length_text (max_at ptr heap.old) (text_at ptr heap.old) n) }
+    ensures text { IsTextAt ptr heap.new }
+    ensures now { OnOk result (set_length_text (max_at ptr heap.old) (text_at ptr heap.old) n ≡ Ok (text_at ptr heap.new)) }
+    ensures sound { IsSoundDebug heap.new }
+{
+    if measure(heap, ptr).max < n {
+        return Err(Panic::User(11));
+    }
+    settle(heap, ptr, n);
+    Ok(())
+}
+
+/// Changes a buffer by the units of a source, which count as they stood before. The heap is where the source's cell
+/// stands.
+///
+/// `User(10)` where an insertion's position is past the end, then `User(11)` where the text would be longer than its
+/// maximum. A refusal leaves the buffer as it was. Source: Symbian OS v9 SDK reference, 16-bit descriptors.
+pub fn edit_buf(heap: &DebugHeap, buf: &mut Buf, change: Edit, source: Source) -> Result<(), Panic>
+    requires source { IsSource heap.now source }
+    requires suits { SuitsEdit change source }
+    ensures text { buf.new ≡ edited buf.old (edit_text change buf.old.max buf.old.units (source_units heap.now buf.old.units source.entry)) }
+    ensures answer { result ≡ answer_of (edit_text change buf.old.max buf.old.units (source_units heap.now buf.old.units source.entry)) }
+{
+    match source {
+        Source::Own(from, count) => {
+            let mut old = Buf::new(buf.max());
+            match old.copy(buf) {
+                Ok(()) => edit_by(
+                    buf,
+                    change,
+                    Part {
+                        heap,
+                        source: Source::Buffer(&old, from, count),
+                    },
+                ),
+                Err(_) => unreachable!(),
+            }
+        }
+        _ => edit_by(buf, change, Part { heap, source }),
+    }
+}
+
+/// Changes a buffer by a part of another text.
+fn edit_by(buf: &mut Buf, change: Edit, part: Part) -> Result<(), Panic>
+    requires { IsReadableAlone part.heap.now part.source }
+    ensures text { buf.new ≡ edited buf.old (edit_text change buf.old.max buf.old.units (source_units part.entry.heap.now [] part.entry.source)) }
+    ensures answer { result ≡ answer_of (edit_text change buf.old.max buf.old.units (source_units part.entry.heap.now [] part.entry.source)) }
+{
+    match change {
+        Edit::Copy => buf.copy(&part),
+        Edit::Append => buf.append(&part),
+        Edit::Insert(at) => buf.insert(at, &part),
+    }
+}
+
+/// What is printed for a unit: itself where it is a printable ASCII character, and a dot where not.
+fn printed_unit(unit: u16) -> u8
+    ensures { result ≡ printed_unit unit }
+{
+    if unit < 32 || 126 < unit {
+        b'.'
+    } else {
+        unit as u8
+    }
+}
+
+/// The line that a source prints: its first 80 units, each that isn't a printable ASCII character as a dot. Source: this
+/// project's profile.
+pub fn print_units(heap: &DebugHeap, source: Source) -> Line
+    requires source { IsSource heap.now source }
+    requires foreign { IsForeign source }
+    ensures { result ≡ printed (source_units heap.now [] source.entry) }
+{
+    let mut line = ArrayVec::new();
+    for i in 0..count(source).min(80) {
+        line.push(printed_unit(foreign_unit(heap, source, i)));
+    }
+    Line::new(line)
+}

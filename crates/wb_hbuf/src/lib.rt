@@ -1,0 +1,15 @@
+//! HBufC: texts in cells of the debug heap.
+//!
+//! The first word of a cell's payload is the text's length; its units follow, two to a word, the lower half first. The
+//! calls stand in `hbuf`, what they read in `sources`; `reading` and `writing` go unit by unit.
+#![tactic(auto)]
+
+pub mod hbuf;
+mod reading;
+pub mod sources;
+#[cfg(test)]
+mod tests;
+mod writing;
+
+pub use hbuf::{delete, edit, edit_buf, length, make, max_len, print_units, remake, set_length};
+pub use sources::{Edit, Source};

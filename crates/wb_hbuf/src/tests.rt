@@ -1,0 +1,230 @@
+//! Worked texts: what scripts make of texts in cells and buffers, and what they must read as then.
+
+ghost use Rattle.std.specs.Prelude.{◌≤◌, IfOk};
+ghost use Rattle.wb_model.specs.TextCells.{IsTextAt};
+
+use crate::hbuf::{delete, edit, edit_buf, length, make, max_len, print_units, remake, set_length};
+use crate::sources::{Edit, Source};
+use std::alloc::{AllocError, Global};
+use std::test::Fail;
+use wb_debug::debug_heap::DebugHeap;
+use wb_model::heap::{Gave, Panic, Ptr, Rule, Shape};
+use wb_model::items::Items;
+use wb_model::line::Line;
+use wb_model::memory::NoMemory;
+use wb_model::script::Chars;
+use wb_text::buf::Buf;
+
+const SHAPE: Shape = Shape { min: 0, step: 4096 };
+
+/// The bytes of a literal.
+fn chars(alloc: Global, bytes: &[u8]) -> Result<Chars, AllocError> {
+    Ok(Items::from_vec(bytes.to_vec(alloc)?))
+}
+
+/// An empty text that may have so many units.
+fn granted(heap: &mut DebugHeap, n: u32) -> Result<Ptr, NoMemory>
+    requires { n ≤ 524286 }
+    ensures { IfOk result (λ ptr. IsTextAt ptr heap.new) }
+{
+    if heap.attempts() == u32::MAX {
+        return Err(NoMemory);
+    }
+    match make(heap, n)? {
+        Gave::Granted(ptr) => Ok(ptr),
+        Gave::Denied | Gave::Ceiling => Err(NoMemory),
+    }
+}
+
+/// The pointer to a text once its cell was reallocated for so many units, and the old one where that was refused.
+fn remade(heap: &mut DebugHeap, ptr: Ptr, n: u32) -> Result<Ptr, NoMemory>
+    requires text { IsTextAt ptr heap.old }
+    requires most { n ≤ 524286 }
+    ensures { IfOk result (λ p. IsTextAt p heap.new) }
+{
+    if heap.attempts() == u32::MAX || n < length(heap, ptr) {
+        return Err(NoMemory);
+    }
+    match remake(heap, ptr, n)? {
+        Gave::Granted(moved) => Ok(moved),
+        Gave::Denied | Gave::Ceiling => Ok(ptr),
+    }
+}
+
+/// What the text in a cell prints.
+fn printed(heap: &DebugHeap, ptr: Ptr) -> Line
+    requires { IsTextAt ptr heap.now }
+{
+    print_units(heap, Source::Cell(ptr, 0, length(heap, ptr)))
+}
+
+#[test]
+fn a_text_is_as_long_as_its_cell_has_room(rt: HostRuntime) -> Result<(), Fail> {
+    let mut heap = DebugHeap::new(rt.alloc(), Rule::Unlimited, SHAPE)?;
+    let letters = chars(rt.alloc(), b"abcdefg")?;
+    let ptr = granted(&mut heap, 4)?;
+    assert_eq!(rt; (length(&heap, ptr), max_len(&heap, ptr)), (0, 6));
+    let first = edit(
+        &mut heap,
+        ptr,
+        Edit::Append,
+        Source::Literal(&letters, 0, 6),
+    );
+    assert_eq!(rt; first, Ok(()));
+    let one_more = edit(
+        &mut heap,
+        ptr,
+        Edit::Append,
+        Source::Literal(&letters, 6, 1),
+    );
+    assert_eq!(rt; one_more, Err(Panic::User(11)));
+    assert_eq!(rt; length(&heap, ptr), 6);
+    assert_eq!(rt; printed(&heap, ptr).as_slice(), b"abcdef".as_slice());
+    Ok(())
+}
+
+#[test]
+fn edits_one_after_another(rt: HostRuntime) -> Result<(), Fail> {
+    let mut heap = DebugHeap::new(rt.alloc(), Rule::Unlimited, SHAPE)?;
+    let small = chars(rt.alloc(), b"abcd")?;
+    let large = chars(rt.alloc(), b"XY")?;
+    let ptr = granted(&mut heap, 8)?;
+    let copied = edit(&mut heap, ptr, Edit::Copy, Source::Literal(&small, 0, 4));
+    assert_eq!(rt; copied, Ok(()));
+    let inserted = edit(
+        &mut heap,
+        ptr,
+        Edit::Insert(1),
+        Source::Literal(&large, 0, 2),
+    );
+    assert_eq!(rt; inserted, Ok(()));
+    assert_eq!(rt; printed(&heap, ptr).as_slice(), b"aXYbcd".as_slice());
+    assert_eq!(rt; delete(&mut heap, ptr, 4, 99), Ok(()));
+    let appended = edit(&mut heap, ptr, Edit::Append, Source::Own(2, 2));
+    assert_eq!(rt; appended, Ok(()));
+    assert_eq!(rt; set_length(&mut heap, ptr, 8), Ok(()));
+    assert_eq!(rt; printed(&heap, ptr).as_slice(), b"aXYbYb..".as_slice());
+    Ok(())
+}
+
+#[test]
+fn edits_of_a_buffer(rt: HostRuntime) -> Result<(), Fail> {
+    let heap = DebugHeap::new(rt.alloc(), Rule::Unlimited, SHAPE)?;
+    let small = chars(rt.alloc(), b"abcd")?;
+    let large = chars(rt.alloc(), b"XY")?;
+    let mut buf = Buf::new(8);
+    let copied = edit_buf(&heap, &mut buf, Edit::Copy, Source::Literal(&small, 0, 4));
+    assert_eq!(rt; copied, Ok(()));
+    let inserted = edit_buf(
+        &heap,
+        &mut buf,
+        Edit::Insert(1),
+        Source::Literal(&large, 0, 2),
+    );
+    assert_eq!(rt; inserted, Ok(()));
+    assert_eq!(rt; buf.delete(4, 99), Ok(()));
+    let appended = edit_buf(&heap, &mut buf, Edit::Append, Source::Own(2, 2));
+    assert_eq!(rt; appended, Ok(()));
+    assert_eq!(rt; buf.set_length(8), Ok(()));
+    let line = print_units(&heap, Source::Buffer(&buf, 0, 8));
+    assert_eq!(rt; line.as_slice(), b"aXYbYb..".as_slice());
+    Ok(())
+}
+
+#[test]
+fn a_text_is_read_as_it_stood(rt: HostRuntime) -> Result<(), Fail> {
+    let mut heap = DebugHeap::new(rt.alloc(), Rule::Unlimited, SHAPE)?;
+    let letters = chars(rt.alloc(), b"abcdef")?;
+    let ptr = granted(&mut heap, 20)?;
+    let copied = edit(&mut heap, ptr, Edit::Copy, Source::Literal(&letters, 0, 6));
+    assert_eq!(rt; copied, Ok(()));
+    let shifted = edit(&mut heap, ptr, Edit::Copy, Source::Own(2, 3));
+    assert_eq!(rt; shifted, Ok(()));
+    assert_eq!(rt; printed(&heap, ptr).as_slice(), b"cde".as_slice());
+    let doubled = edit(&mut heap, ptr, Edit::Append, Source::Own(1, 5));
+    assert_eq!(rt; doubled, Ok(()));
+    assert_eq!(rt; printed(&heap, ptr).as_slice(), b"cdede...".as_slice());
+    Ok(())
+}
+
+#[test]
+fn refusals_in_order(rt: HostRuntime) -> Result<(), Fail> {
+    let mut heap = DebugHeap::new(rt.alloc(), Rule::Unlimited, SHAPE)?;
+    let letters = chars(rt.alloc(), b"abcdefg")?;
+    let ptr = granted(&mut heap, 4)?;
+    let copied = edit(&mut heap, ptr, Edit::Copy, Source::Literal(&letters, 0, 3));
+    assert_eq!(rt; copied, Ok(()));
+    let past = edit(
+        &mut heap,
+        ptr,
+        Edit::Insert(4),
+        Source::Literal(&letters, 0, 7),
+    );
+    assert_eq!(rt; past, Err(Panic::User(10)));
+    let long = edit(
+        &mut heap,
+        ptr,
+        Edit::Insert(3),
+        Source::Literal(&letters, 0, 7),
+    );
+    assert_eq!(rt; long, Err(Panic::User(11)));
+    let copied = edit(&mut heap, ptr, Edit::Copy, Source::Literal(&letters, 0, 7));
+    assert_eq!(rt; copied, Err(Panic::User(11)));
+    assert_eq!(rt; delete(&mut heap, ptr, 4, 0), Err(Panic::User(10)));
+    assert_eq!(rt; set_length(&mut heap, ptr, 7), Err(Panic::User(11)));
+    assert_eq!(rt; printed(&heap, ptr).as_slice(), b"abc".as_slice());
+    Ok(())
+}
+
+#[test]
+fn what_is_cut_off_is_zero(rt: HostRuntime) -> Result<(), Fail> {
+    let mut heap = DebugHeap::new(rt.alloc(), Rule::Unlimited, SHAPE)?;
+    let letters = chars(rt.alloc(), b"abcd")?;
+    let ptr = granted(&mut heap, 4)?;
+    let copied = edit(&mut heap, ptr, Edit::Copy, Source::Literal(&letters, 0, 4));
+    assert_eq!(rt; copied, Ok(()));
+    assert_eq!(rt; set_length(&mut heap, ptr, 1), Ok(()));
+    assert_eq!(rt; set_length(&mut heap, ptr, 3), Ok(()));
+    assert_eq!(rt; printed(&heap, ptr).as_slice(), b"a..".as_slice());
+    Ok(())
+}
+
+#[test]
+fn a_text_in_another_cell_is_read(rt: HostRuntime) -> Result<(), Fail> {
+    let mut heap = DebugHeap::new(rt.alloc(), Rule::Unlimited, SHAPE)?;
+    let letters = chars(rt.alloc(), b"abcd")?;
+    let ptr = granted(&mut heap, 4)?;
+    let copied = edit(&mut heap, ptr, Edit::Copy, Source::Literal(&letters, 0, 4));
+    assert_eq!(rt; copied, Ok(()));
+    let mut buf = Buf::new(8);
+    let appended = edit_buf(&heap, &mut buf, Edit::Append, Source::Cell(ptr, 1, 4));
+    assert_eq!(rt; appended, Ok(()));
+    let line = print_units(&heap, Source::Buffer(&buf, 0, buf.length()));
+    assert_eq!(rt; line.as_slice(), b"bcd.".as_slice());
+    Ok(())
+}
+
+#[test]
+fn a_text_grows_with_its_cell(rt: HostRuntime) -> Result<(), Fail> {
+    let mut heap = DebugHeap::new(rt.alloc(), Rule::Unlimited, SHAPE)?;
+    let letters = chars(rt.alloc(), b"abc")?;
+    heap.fail_next(2);
+    let ptr = granted(&mut heap, 4)?;
+    let appended = edit(
+        &mut heap,
+        ptr,
+        Edit::Append,
+        Source::Literal(&letters, 0, 3),
+    );
+    assert_eq!(rt; appended, Ok(()));
+    let refused = remade(&mut heap, ptr, 20)?;
+    assert_eq!(rt; (refused, max_len(&heap, refused)), (ptr, 6));
+    assert_eq!(rt; printed(&heap, refused).as_slice(), b"abc".as_slice());
+    let longer = remade(&mut heap, refused, 20)?;
+    assert_eq!(rt; (longer, max_len(&heap, longer)), (ptr, 22));
+    assert_eq!(rt; printed(&heap, longer).as_slice(), b"abc".as_slice());
+    let shorter = remade(&mut heap, longer, 3)?;
+    assert_eq!(rt; (shorter, max_len(&heap, shorter)), (ptr, 6));
+    assert_eq!(rt; printed(&heap, shorter).as_slice(), b"abc".as_slice());
+    Ok(())
+}
