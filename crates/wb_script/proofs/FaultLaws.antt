@@ -7,6 +7,7 @@ use Rattle.wb_model.specs.declared.fault.ScriptFault.TheVariants.{TooLong, NotAs
 use Rattle.wb_model.specs.declared.lines.Form.{Form}
 use Rattle.wb_model.specs.declared.script.Script.{Script}
 use Rattle.wb_model.specs.Forms.{forms_of}
+use Rattle.wb_model.specs.Kinds.{has_wrong_kind}
 use Rattle.wb_model.specs.Lines.{lines_of, first_foreign_line, is_too_long}
 use Rattle.wb_model.specs.Names.{Text, first_refused, uses_unknown, declares_again, passes_limit}
 use Rattle.wb_model.specs.Scripts.{AreLines, AreFirstLines, IsGrammarLine, IsText, IsWellFormed, IsTreeOf, IsScriptOf, IsLinesFault, IsFaultOf, main_of, line_of}
@@ -36,14 +37,18 @@ no_grammar_line lines n are line =
     let behind : n ≡ length lines + 1 → ⊥ = λ is. line.unfinished is are in
     omega (arith, past, behind, line.within)
 
--- the fault that the checks of names and limits find
+-- the fault that the checks of names, kinds and limits find
 abbrev with_main : Option ℕ → List (Form Text) → Option ScriptFault
 with_main None forms = Some NoMain
 with_main (Some main) forms = option_map TooMany (line_of (first_refused passes_limit forms))
 
+abbrev with_wrong : Option ℕ → List (Form Text) → Option ScriptFault
+with_wrong (Some index) forms = Some (WrongKind (suc index))
+with_wrong None forms = with_main (main_of forms) forms
+
 abbrev with_double : Option ℕ → List (Form Text) → Option ScriptFault
 with_double (Some index) forms = Some (DoubleName (suc index))
-with_double None forms = with_main (main_of forms) forms
+with_double None forms = with_wrong (first_refused has_wrong_kind forms) forms
 
 abbrev with_unknown : Option ℕ → List (Form Text) → Option ScriptFault
 with_unknown (Some index) forms = Some (UnknownName (suc index))
@@ -63,8 +68,11 @@ lines_fault_is forms (UnknownName n) is =
 lines_fault_is forms (DoubleName n) (known, is) =
     let (index, at, same) = found_line (first_refused declares_again forms) n is in
     rw (known, at) (ap (λ k. Some (DoubleName k)) same)
-lines_fault_is forms NoMain (known, once, none) = rw (known, once, none) refl
-lines_fault_is forms (TooMany n) (known, once, some, is) = rw (known, once) (go (main_of forms) some)
+lines_fault_is forms (WrongKind n) (known, once, is) =
+    let (index, at, same) = found_line (first_refused has_wrong_kind forms) n is in
+    rw (known, once, at) (ap (λ k. Some (WrongKind k)) same)
+lines_fault_is forms NoMain (named, none) = rw (named.known, named.once, named.right, none) refl
+lines_fault_is forms (TooMany n) (named, some, is) = rw (named.known, named.once, named.right) (go (main_of forms) some)
   where
     go : (o : Option ℕ) → (o ≡ None → ⊥) → with_main o forms ≡ Some (TooMany n)
     go None some = absurd (some refl)
@@ -72,12 +80,11 @@ lines_fault_is forms (TooMany n) (known, once, some, is) = rw (known, once) (go 
 lines_fault_is forms TooLong is = absurd is
 lines_fault_is forms (NotAscii n) is = absurd is
 lines_fault_is forms (Grammar n) is = absurd is
-lines_fault_is forms (WrongKind n) is = absurd is
 lines_fault_is forms (MayLeave n) is = absurd is
 lines_fault_is forms NoMemory is = absurd is
 
 no_lines_fault : (forms : List (Form Text)) (script : Script) → IsTreeOf forms script → lines_fault forms ≡ None
-no_lines_fault forms script tree = rw (tree.known, tree.once, tree.main, tree.within) refl
+no_lines_fault forms script tree = rw (tree.named.known, tree.named.once, tree.named.right, tree.main, tree.within) refl
 
 -- the check that finds a fault
 data Finds (bytes : List ℕ) : ScriptFault → Type 0 where
@@ -94,7 +101,7 @@ finds bytes (UnknownName n) (formed, is) = Finds.names formed (lines_fault_is (f
 finds bytes (DoubleName n) (formed, is) = Finds.names formed (lines_fault_is (forms_of (lines_of bytes)) (DoubleName n) is)
 finds bytes NoMain (formed, is) = Finds.names formed (lines_fault_is (forms_of (lines_of bytes)) NoMain is)
 finds bytes (TooMany n) (formed, is) = Finds.names formed (lines_fault_is (forms_of (lines_of bytes)) (TooMany n) is)
-finds bytes (WrongKind n) is = absurd is
+finds bytes (WrongKind n) (formed, is) = Finds.names formed (lines_fault_is (forms_of (lines_of bytes)) (WrongKind n) is)
 finds bytes (MayLeave n) is = absurd is
 finds bytes NoMemory is = absurd is
 

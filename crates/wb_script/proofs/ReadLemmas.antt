@@ -8,7 +8,8 @@ use Rattle.wb_model.specs.declared.lines.Form.TheVariants.{Skip, Unknown, Line}
 use Rattle.wb_model.specs.declared.script.Procedure.{Procedure}
 use Rattle.wb_model.specs.declared.script.Script.{Script}
 use Rattle.wb_model.specs.Forms.{role_of_form, renamed}
-use Rattle.wb_model.specs.Names.{Text, known_of, first_refused, uses_unknown, passes_limit}
+use Rattle.wb_model.specs.Kinds.{has_wrong_kind}
+use Rattle.wb_model.specs.Names.{Text, known_of, first_refused, passes_limit}
 use Rattle.wb_model.specs.Resolved.{resolved}
 use Rattle.wb_model.specs.Scripts.{main_of}
 use Rattle.wb_model.specs.Sound.{is_script, is_procedure, is_quotable}
@@ -32,14 +33,14 @@ few_enough forms literals is few =
     let same : length literals ≡ length (known_of forms).literals = ap length is in
     omega arith
 
-pub fit_tree : (forms : List (Form Text)) (literals : List Text) → literals ≡ (known_of forms).literals → AreTyped forms → first_refused uses_unknown forms ≡ None → first_refused passes_limit forms ≡ None → AllFit (length literals) (resolved forms)
-fit_tree forms literals is typed held within = subst (λ l. AllFit (length l) (resolved forms)) (sym is) (all_fit forms typed held within)
+pub fit_tree : (forms : List (Form Text)) (literals : List Text) → literals ≡ (known_of forms).literals → AreTyped forms → first_refused has_wrong_kind forms ≡ None → first_refused passes_limit forms ≡ None → AllFit (length literals) (resolved forms)
+fit_tree forms literals is typed right within = subst (λ l. AllFit (length l) (resolved forms)) (sym is) (all_fit forms typed right within)
 
 -- `main` is one of the procedures of the tree
 pub main_within : (forms : List (Form Text)) (main : ℕ) (procedures : List Procedure) → AreTyped forms → main_of forms ≡ Some main → length procedures ≡ (counts_of (resolved forms)).procedures → main < length procedures
 main_within forms main procedures typed is counted =
     let lt = place_within (known_of forms).procedures (codes "main") main is in
-    let same : length procedures ≡ length (known_of forms).procedures = counted ∙ ap (λ c. c.procedures) (counts-resolved forms typed) in
+    let same : length procedures ≡ length (known_of forms).procedures = counted ∙ counts-resolved forms typed in
     omega arith
 
 -- a tree that keeps what a script has to keep

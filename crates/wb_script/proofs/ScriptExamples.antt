@@ -1,14 +1,16 @@
 -- What the definitions make of whole scripts: each example is proved by computing.
-use Rattle.std.proofs.Common.{◌≡◌, refl, ℕ, negsuc, List, [], ◌∷◌, Some, None}
+use Rattle.std.proofs.Common.{◌≡◌, refl, ℕ, negsuc, List, [], ◌∷◌, ◌++◌, Some, None, map, replicate}
 use Rattle.std.specs.Prelude.{codes}
 use Rattle.std.specs.List.{flat_map}
-use Rattle.wb_model.specs.declared.lines.Key.TheVariants.{Proc, Ptr, Alloc, Free, Print, End}
+use Rattle.wb_model.specs.declared.lines.Key.TheVariants.{Proc, Ptr, Int, Alloc, Print, End}
+use Rattle.wb_model.specs.declared.lines.Meant.TheVariants as meant
 use Rattle.wb_model.specs.declared.lines.Operand.TheVariants.{Name, Number, Literal}
 use Rattle.wb_model.specs.declared.lines.Form.{Form}
 use Rattle.wb_model.specs.declared.lines.Form.TheVariants.{Line}
 use Rattle.wb_model.specs.Forms.{forms_of}
 use Rattle.wb_model.specs.Grammar.{AreItems, IsBody, AreStatements}
 use Rattle.wb_model.specs.Keys.{keys}
+use Rattle.wb_model.specs.Kinds.{has_wrong_kind}
 use Rattle.wb_model.specs.Lines.{lines_of}
 use Rattle.wb_model.specs.Names.{Text, known_of, first_refused, uses_unknown, declares_again, passes_limit}
 use Rattle.wb_model.specs.Resolved.{resolved}
@@ -19,19 +21,20 @@ abbrev forms_in : List ℕ → List (Form Text)
 forms_in bytes = forms_of (lines_of bytes)
 
 abbrev two_bodies : List ℕ
-two_bodies = codes "proc first\nprint \"a\"\nend\n# c\nproc main\nptr p\nptr q\nalloc q -12\nprint \"b\"\nfree p\nend"
+two_bodies = codes "proc first\nprint \"a\"\nend\n# c\nproc main\nptr p\nint x\nptr q\nalloc q -12\nprint \"b\"\nalloc p x\nend"
 
 they_are_lines : AreLines (lines_of two_bodies)
 unfolding keys
 they_are_lines =
     AreItems.procedure (IsBody.statements (AreStatements.plain AreStatements.none))
-    (AreItems.procedure (IsBody.declaration (IsBody.declaration (IsBody.statements (AreStatements.plain (AreStatements.plain (AreStatements.plain AreStatements.none)))))) AreItems.none)
+    (AreItems.procedure (IsBody.declaration (IsBody.declaration (IsBody.declaration (IsBody.statements (AreStatements.plain (AreStatements.plain (AreStatements.plain AreStatements.none))))))) AreItems.none)
 
-their_indexes : flat_map counted (resolved (forms_in two_bodies)) ≡
-    Line Proc (Name 0 ∷ []) ∷ Line Print (Literal 0 ∷ []) ∷ Line End []
-    ∷ Line Proc (Name 1 ∷ []) ∷ Line Ptr (Name 0 ∷ []) ∷ Line Ptr (Name 1 ∷ []) ∷ Line Alloc (Name 1 ∷ Number (negsuc 11) ∷ []) ∷ Line Print (Literal 1 ∷ []) ∷ Line Free (Name 0 ∷ []) ∷ Line End [] ∷ []
+what_they_mean : flat_map counted (resolved (forms_in two_bodies)) ≡
+    Line Proc (Name (meant.Declared 0) ∷ []) ∷ Line Print (Literal (meant.Literal 0) ∷ []) ∷ Line End []
+    ∷ Line Proc (Name (meant.Declared 1) ∷ []) ∷ Line Ptr (Name (meant.Declared 0) ∷ []) ∷ Line Int (Name (meant.Declared 1) ∷ []) ∷ Line Ptr (Name (meant.Declared 2) ∷ [])
+    ∷ Line Alloc (Name (meant.Pointer 2) ∷ Number (negsuc 11) ∷ []) ∷ Line Print (Literal (meant.Literal 1) ∷ []) ∷ Line Alloc (Name (meant.Pointer 0) ∷ Name (meant.Number 1) ∷ []) ∷ Line End [] ∷ []
 unfolding keys
-their_indexes = refl
+what_they_mean = refl
 
 their_literals : (known_of (forms_in two_bodies)).literals ≡ codes "a" ∷ codes "b" ∷ []
 unfolding keys
@@ -67,3 +70,26 @@ same_in_both = refl
 long_name : first_refused passes_limit (forms_in (codes "proc a2345678901234567890123456789012\nend\nproc a23456789012345678901234567890123\nend")) ≡ Some 2
 unfolding keys
 long_name = refl
+
+abbrev mixed : List ℕ → List ℕ
+mixed line = codes "proc main\nptr p\nint x\nbuf b 4\nview v\nset p p\nset x x\nset x -3\nprint x\nprint p\ncopy b v\nappend p \"a\"\nleft v b x\n" ++ line
+
+right_kinds : first_refused has_wrong_kind (forms_in (mixed [])) ≡ None
+unfolding keys
+right_kinds = refl
+
+wrong_kinds : map (λ line. first_refused has_wrong_kind (forms_in (mixed line))) (codes "set p x" ∷ codes "set x p" ∷ codes "set p 3" ∷ codes "alloc x 3" ∷ codes "alloc p p" ∷ codes "add p 1" ∷ codes "set b b" ∷ codes "set x v" ∷ codes "copy v b" ∷ codes "left b b 1" ∷ codes "getlen x x" ∷ []) ≡ replicate 11 (Some 13)
+unfolding keys
+wrong_kinds = refl
+
+-- The limit of a text's length is asked last, and what it holds is known all the same.
+abbrev large_text : List ℕ
+large_text = codes "proc main\nbuf b 256\nbuf c 70000\nappend b c\nend"
+
+too_large : first_refused passes_limit (forms_in large_text) ≡ Some 2
+unfolding keys
+too_large = refl
+
+of_its_kind : first_refused has_wrong_kind (forms_in large_text) ≡ None
+unfolding keys
+of_its_kind = refl

@@ -1,15 +1,24 @@
 -- Loops over the letters and operands of a line end with the operands.
-use Rattle.std.proofs.Common.{◌≡◌, ℕ, ◌≤◌, List, [], ◌∷◌, ◌++◌, length, drop, map, refl, ap, ◌∙◌, append-nil}
+use Rattle.std.proofs.Common.{◌≡◌, ℕ, ◌≤◌, List, [], ◌∷◌, ◌++◌, length, drop, map, true, refl, ap, ◌∙◌, append-nil}
 use Rattle.std.proofs.lemmas.List.{drop_all}
 use Rattle.wb_model.specs.declared.lines.Letter.{Letter}
+use Rattle.wb_model.specs.declared.lines.Meant.{Meant}
 use Rattle.wb_model.specs.declared.lines.Operand.{Operand}
 use Rattle.wb_model.specs.declared.lines.Role.{Role}
+use Rattle.wb_model.specs.Kinds.{are_right}
 use Rattle.wb_model.specs.Names.{Text, Pick, picked_of, Known}
 use Rattle.wb_model.specs.Resolved.{resolved_operands}
 
 nothing_picked : (pick : Pick) (letters : List Letter) → picked_of pick letters [] ≡ []
 nothing_picked pick [] = refl
 nothing_picked pick (l ∷ ls) = refl
+
+nothing_right : (letters : List Letter) → are_right letters [] ≡ true
+nothing_right [] = refl
+nothing_right (l ∷ ls) = refl
+
+pub right_short : (letters : List Letter) (operands : List (Operand Meant)) (i : ℕ) → length operands ≤ i → are_right (drop i letters) (drop i operands) ≡ true
+right_short letters operands i le = rw (drop_all i operands le) (nothing_right (drop i letters))
 
 nothing_resolved : (known : Known) (role : Role) (letters : List Letter) → resolved_operands known role letters [] ≡ []
 nothing_resolved known role [] = refl
@@ -19,5 +28,5 @@ module _ {V : Type 0} (view : V → Operand Text) where
   pub picked_short : (pick : Pick) (found : List Text) (letters : List Letter) (operands : List V) (i : ℕ) → length operands ≤ i → found ++ picked_of pick (drop i letters) (map view (drop i operands)) ≡ found
   picked_short pick found letters operands i le = rw (drop_all i operands le) (ap (λ l. found ++ l) (nothing_picked pick (drop i letters)) ∙ append-nil found)
 
-  pub resolved_short : (known : Known) (role : Role) (found : List (Operand ℕ)) (letters : List Letter) (operands : List V) (i : ℕ) → length operands ≤ i → found ++ resolved_operands known role (drop i letters) (map view (drop i operands)) ≡ found
+  pub resolved_short : (known : Known) (role : Role) (found : List (Operand Meant)) (letters : List Letter) (operands : List V) (i : ℕ) → length operands ≤ i → found ++ resolved_operands known role (drop i letters) (map view (drop i operands)) ≡ found
   resolved_short known role found letters operands i le = rw (drop_all i operands le) (ap (λ l. found ++ l) (nothing_resolved known role (drop i letters)) ∙ append-nil found)

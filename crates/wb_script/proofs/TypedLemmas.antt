@@ -11,14 +11,13 @@ use Rattle.wb_model.specs.declared.lines.Letter.TheVariants as letter
 use Rattle.wb_model.specs.declared.lines.Operand.{Operand}
 use Rattle.wb_model.specs.declared.lines.Operand.TheVariants.{Name, Number, Literal}
 use Rattle.wb_model.specs.declared.lines.Form.{Form}
-use Rattle.wb_model.specs.declared.script.Number.TheVariants.{Constant}
-use Rattle.wb_model.specs.Forms.{operand_of, operands_of, onto, operands_if, line_or, form_in, form_of, skipped_or, begins_comment, forms_of, number_or_literal}
+use Rattle.wb_model.specs.Forms.{operand_of, operands_of, onto, operands_if, line_or, form_in, form_of, skipped_or, begins_comment, forms_of, either, name_word, number_word, literal_word, size_of}
 use Rattle.wb_model.specs.Keys.{keys, letters_of, text_of}
 use Rattle.wb_model.specs.Lines.{words_of}
 use Rattle.wb_model.specs.Names.{Text}
-use Rattle.wb_model.specs.Sound.{is_number, is_quotable}
+use Rattle.wb_model.specs.Sound.{is_quotable}
 use Rattle.wb_model.specs.Words.{is_digit, with_digit, digits_of, number_of, declared_name, used_name, literal_of, is_literal, inside}
-use Rattle.wb_script.specs.Typed.{is_operand, are_operands, is_typed, AreTyped}
+use Rattle.wb_script.specs.Typed.{is_short, is_operand, are_operands, is_typed, AreTyped}
 use Rattle.wb_script.proofs.Digits.{digit_at_most_nine, one_more_digit, nine_digits}
 
 pub both : (a b : Bool) → (a && b) ≡ true → (a ≡ true) × (b ≡ true)
@@ -46,29 +45,29 @@ digits_bounded word n is =
     let below : fold with_digit 0 word < 10 ^ 9 = digits_below word 0 0 (omega arith) (omega arith) digits in
     omega arith
 
-positive : (o : Option ℕ) (z : ℤ) → ((n : ℕ) → o ≡ Some n → n ≤ 999999999) → option_map pos o ≡ Some z → is_number (Constant z) ≡ true
+positive : (o : Option ℕ) (z : ℤ) → ((n : ℕ) → o ≡ Some n → n ≤ 999999999) → option_map pos o ≡ Some z → is_short z ≡ true
 positive None z bound is = let clash : ⊥ = cc in absurd clash
 positive (Some n) z bound is =
     let small : n ≤ 999999999 = bound n refl in
     let passes : nat_le n 999999999 ≡ true = grind (arith, nat_tests) in
     let same : pos n ≡ z = cc in
-    subst (λ v. is_number (Constant v) ≡ true) same passes
+    subst (λ v. is_short v ≡ true) same passes
 
-negated : (n : ℕ) → n ≤ 999999999 → is_number (Constant (neg_ℤ (pos n))) ≡ true
+negated : (n : ℕ) → n ≤ 999999999 → is_short (neg_ℤ (pos n)) ≡ true
 negated zero small = refl
 negated (suc n) small = let passes : nat_lt n 999999999 ≡ true = grind (arith, nat_tests) in passes
 
-negative : (o : Option ℕ) (z : ℤ) → ((n : ℕ) → o ≡ Some n → n ≤ 999999999) → option_map (λ n. neg_ℤ (pos n)) o ≡ Some z → is_number (Constant z) ≡ true
+negative : (o : Option ℕ) (z : ℤ) → ((n : ℕ) → o ≡ Some n → n ≤ 999999999) → option_map (λ n. neg_ℤ (pos n)) o ≡ Some z → is_short z ≡ true
 negative None z bound is = let clash : ⊥ = cc in absurd clash
 negative (Some n) z bound is =
     let same : neg_ℤ (pos n) ≡ z = cc in
-    subst (λ v. is_number (Constant v) ≡ true) same (negated n (bound n refl))
+    subst (λ v. is_short v ≡ true) same (negated n (bound n refl))
 
-number_bounded : (word : List ℕ) (z : ℤ) → number_of word ≡ Some z → is_number (Constant z) ≡ true
+number_bounded : (word : List ℕ) (z : ℤ) → number_of word ≡ Some z → is_short z ≡ true
 number_bounded [] z is = let clash : ⊥ = cc in absurd clash
 number_bounded (byte ∷ bytes) z is = go (nat_eq byte 45) is
   where
-    go : (b : Bool) → (if b then option_map (λ n. neg_ℤ (pos n)) (digits_of bytes) else option_map pos (digits_of (byte ∷ bytes))) ≡ Some z → is_number (Constant z) ≡ true
+    go : (b : Bool) → (if b then option_map (λ n. neg_ℤ (pos n)) (digits_of bytes) else option_map pos (digits_of (byte ∷ bytes))) ≡ Some z → is_short z ≡ true
     go true e = negative (digits_of bytes) z (digits_bounded bytes) e
     go false e = positive (digits_of (byte ∷ bytes)) z (digits_bounded (byte ∷ bytes)) e
 
@@ -82,16 +81,46 @@ literal_quotable word text is =
     let (tested, same) = given (is_literal word) (inside word) text is in
     subst (λ t. list_all is_quotable t ≡ true) same (both _ (list_all is_quotable (inside word)) tested).1
 
-printed_typed : (number : Option (Operand Text)) (word : Text) (operand : Operand Text) → ((o : Operand Text) → number ≡ Some o → is_operand letter.Printed o ≡ true) → number_or_literal number word ≡ Some operand → is_operand letter.Printed operand ≡ true
-printed_typed (Some o) word operand each is = each operand is
-printed_typed None word operand each is = mapped (λ o. is_operand letter.Printed o ≡ true) Literal (literal_of word) operand (literal_quotable word) is
+either_typed : (letter : Letter) (first other : Option (Operand Text)) (operand : Operand Text) → ((o : Operand Text) → first ≡ Some o → is_operand letter o ≡ true) → ((o : Operand Text) → other ≡ Some o → is_operand letter o ≡ true) → either first other ≡ Some operand → is_operand letter operand ≡ true
+either_typed letter (Some o) other operand one two is = one operand is
+either_typed letter None other operand one two is = two operand is
+
+module _ (at : Letter) (word : Text) (operand : Operand Text) where
+  name_typed : ((n : Text) → is_operand at (Name n) ≡ true) → name_word word ≡ Some operand → is_operand at operand ≡ true
+  name_typed each is = mapped (λ o. is_operand at o ≡ true) Name (used_name word) operand (λ n e. each n) is
+
+  number_typed : ((z : ℤ) → is_short z ≡ true → is_operand at (Number z) ≡ true) → number_word word ≡ Some operand → is_operand at operand ≡ true
+  number_typed each is = mapped (λ o. is_operand at o ≡ true) Number (number_of word) operand (λ z e. each z (number_bounded word z e)) is
+
+  literal_typed : ((t : Text) → list_all is_quotable t ≡ true → is_operand at (Literal t) ≡ true) → literal_word word ≡ Some operand → is_operand at operand ≡ true
+  literal_typed each is = mapped (λ o. is_operand at o ≡ true) Literal (literal_of word) operand (λ t e. each t (literal_quotable word t e)) is
+
+value_typed : (at : Letter) (word : Text) (operand : Operand Text) → ((n : Text) → is_operand at (Name n) ≡ true) → ((z : ℤ) → is_short z ≡ true → is_operand at (Number z) ≡ true) → either (number_word word) (name_word word) ≡ Some operand → is_operand at operand ≡ true
+value_typed at word operand names numbers is = either_typed at (number_word word) (name_word word) operand (λ o. number_typed at word o numbers) (λ o. name_typed at word o names) is
+
+text_typed : (at : Letter) (word : Text) (operand : Operand Text) → ((n : Text) → is_operand at (Name n) ≡ true) → ((t : Text) → list_all is_quotable t ≡ true → is_operand at (Literal t) ≡ true) → either (name_word word) (literal_word word) ≡ Some operand → is_operand at operand ≡ true
+text_typed at word operand names literals is = either_typed at (name_word word) (literal_word word) operand (λ o. name_typed at word o names) (λ o. literal_typed at word o literals) is
+
+size_typed : (number : Option ℤ) (operand : Operand Text) → size_of number ≡ Some operand → is_operand letter.Size operand ≡ true
+size_typed (Some (pos n)) operand is = let same : Number (pos n) ≡ operand = cc in subst (λ o. is_operand letter.Size o ≡ true) same refl
+size_typed _ operand is = let clash : ⊥ = cc in absurd clash
 
 operand_typed : (letter : Letter) (word : Text) (operand : Operand Text) → operand_of letter word ≡ Some operand → is_operand letter operand ≡ true
 operand_typed letter.Declared word operand is = mapped (λ o. is_operand letter.Declared o ≡ true) Name (declared_name word) operand (λ n e. refl) is
-operand_typed letter.Pointer word operand is = mapped (λ o. is_operand letter.Pointer o ≡ true) Name (used_name word) operand (λ n e. refl) is
-operand_typed letter.Value word operand is = mapped (λ o. is_operand letter.Value o ≡ true) Number (number_of word) operand (number_bounded word) is
+operand_typed letter.Pointer word operand is = name_typed letter.Pointer word operand (λ n. refl) is
+operand_typed letter.Variable word operand is = name_typed letter.Variable word operand (λ n. refl) is
+operand_typed letter.Target word operand is = name_typed letter.Target word operand (λ n. refl) is
+operand_typed letter.Value word operand is = value_typed letter.Value word operand (λ n. refl) (λ z e. e) is
+operand_typed letter.Source word operand is = value_typed letter.Source word operand (λ n. refl) (λ z e. e) is
+operand_typed letter.Size word operand is = size_typed (number_of word) operand is
+operand_typed letter.Writable word operand is = name_typed letter.Writable word operand (λ n. refl) is
+operand_typed letter.Readable word operand is = text_typed letter.Readable word operand (λ n. refl) (λ t e. e) is
+operand_typed letter.ViewName word operand is = name_typed letter.ViewName word operand (λ n. refl) is
 operand_typed letter.Printed word operand is =
-    printed_typed (option_map Number (number_of word)) word operand (λ o e. mapped (λ p. is_operand letter.Printed p ≡ true) Number (number_of word) o (number_bounded word) e) is
+    either_typed letter.Printed (number_word word) (either (name_word word) (literal_word word)) operand
+    (λ o. number_typed letter.Printed word o (λ z e. e))
+    (λ o. text_typed letter.Printed word o (λ n. refl) (λ t e. e))
+    is
 
 operands_typed : (letters : List Letter) (words : List Text) (operands : List (Operand Text)) → operands_of letters words ≡ Some operands → are_operands letters operands ≡ true
 operands_typed [] [] operands is = let same : [] ≡ operands = cc in subst (λ o. are_operands [] o ≡ true) same refl

@@ -1,96 +1,157 @@
 -- What a tree in the making stands for, and which lines can be added to it.
-use Rattle.std.specs.Prelude.{◌≡◌, ℕ, suc, List, [], ◌∷◌, ◌++◌, Bool, true, false, not, ◌&&◌, ◌<◌, nat_eq, nat_lt, nat_le, Option, Some, None, length}
+use Rattle.std.specs.Prelude.{◌≡◌, ℕ, suc, pos, List, [], ◌∷◌, ◌++◌, Bool, true, false, not, ◌&&◌, ◌||◌, if◌then◌else◌, ◌<◌, nat_eq, nat_lt, nat_le, Option, Some, None, IsTrue, length, slice_get}
 use Rattle.std.specs.List.{list_all}
 use Rattle.std.specs.Option.{option_map_or}
 use Rattle.wb_model.specs.declared.lines.Key.{Key}
-use Rattle.wb_model.specs.declared.lines.Key.TheVariants.{Proc, End}
+use Rattle.wb_model.specs.declared.lines.Key.TheVariants as key
 use Rattle.wb_model.specs.declared.lines.Letter.{Letter}
 use Rattle.wb_model.specs.declared.lines.Letter.TheVariants as letter
+use Rattle.wb_model.specs.declared.lines.Meant.{Meant}
+use Rattle.wb_model.specs.declared.lines.Meant.TheVariants as meant
 use Rattle.wb_model.specs.declared.lines.Operand.{Operand}
 use Rattle.wb_model.specs.declared.lines.Operand.TheVariants.{Name, Number, Literal}
 use Rattle.wb_model.specs.declared.lines.Form.TheVariants.{Line}
 use Rattle.wb_model.specs.declared.lines.Role.{Role}
 use Rattle.wb_model.specs.declared.lines.Role.TheVariants.{Procedure, Declaration}
 use Rattle.wb_model.specs.declared.script.Body.{Body}
+use Rattle.wb_model.specs.declared.script.Local.{Local}
+use Rattle.wb_model.specs.declared.script.Local.TheVariants.{OfPointer, OfNumber, OfBuffer, OfView}
 use Rattle.wb_model.specs.declared.script.Procedure as model
 use Rattle.wb_model.specs.declared.script.Number.TheVariants.{Constant}
 use Rattle.wb_model.specs.declared.script.Statement.{Statement}
 use Rattle.wb_model.specs.Forms.{role_of_form}
 use Rattle.wb_model.specs.Keys.{letters_of, role_of}
+use Rattle.wb_model.specs.Names.{with_one}
 use Rattle.wb_model.specs.Passes.{first_bad, state_after}
-use Rattle.wb_model.specs.Sound.{is_number, is_body, is_procedure}
-use Rattle.wb_model.specs.Trees.{Indexed, body_lines, procedures_lines}
+use Rattle.wb_model.specs.Sound.{is_local, is_pointer_local, is_buffer_local, is_view, is_variable, is_number, is_body, is_procedure}
+use Rattle.wb_model.specs.Trees.{Indexed, local_line, body_lines, procedures_lines}
 use Rattle.wb_script.specs.declared.nesting.Open.{Open}
 use Rattle.wb_script.specs.declared.nesting.Open.TheVariants.{Declarations, Statements}
 use Rattle.wb_script.specs.declared.tree.Building.{Building}
 use Rattle.wb_script.specs.declared.tree.Left.{Left}
 use Rattle.wb_script.specs.declared.tree.Left.TheVariants.{Inside, Done}
 
--- how many procedures there are so far, and how many locals of the body that stands open or was the last
+-- the local that a line of a key declares
+abbrev pub local_of : Key → List (Operand Meant) → Option Local
+local_of key.Ptr operands = Some (OfPointer None)
+local_of key.Int operands = Some OfNumber
+local_of key.Buf (name ∷ Number (pos max) ∷ []) = Some (OfBuffer max)
+local_of key.View operands = Some OfView
+local_of _ operands = None
+
+abbrev pub local_in : Indexed → Option Local
+local_in (Line key operands) = local_of key operands
+local_in _ = None
+
+-- how many procedures there are so far, and the locals of the body that stands open or was the last
 pub record Counts : Type 0 where
   pub procedures : ℕ
-  pub locals : ℕ
+  pub locals : List Local
 
 abbrev pub nothing_counted : Counts
-nothing_counted = record { procedures = 0; locals = 0 }
+nothing_counted = record { procedures = 0; locals = [] }
 
-abbrev pub counts_with : Role → Counts → Counts
-counts_with Procedure counts = record { procedures = suc counts.procedures; locals = 0 }
-counts_with Declaration counts = record { procedures = counts.procedures; locals = suc counts.locals }
-counts_with _ counts = counts
+abbrev pub counts_with : Role → Option Local → Counts → Counts
+counts_with Procedure local counts = record { procedures = suc counts.procedures; locals = [] }
+counts_with Declaration local counts = record { procedures = counts.procedures; locals = with_one counts.locals local }
+counts_with _ local counts = counts
 
 abbrev pub counts_after : Counts → Indexed → Counts
-counts_after counts line = counts_with (role_of_form line) counts
+counts_after counts line = counts_with (role_of_form line) (local_in line) counts
 
--- a pointer: a local that is declared
-abbrev pub is_held : ℕ → Operand ℕ → Bool
-is_held locals (Name index) = nat_lt index locals
+-- the name of a local that is declared and holds a pointer
+abbrev pub is_held : List Local → Operand Meant → Bool
+is_held locals (Name (meant.Pointer index)) = is_pointer_local (slice_get locals index)
 is_held locals _ = false
 
-abbrev pub is_constant : Operand ℕ → Bool
-is_constant (Number z) = is_number (Constant z)
-is_constant _ = false
+-- the name of a local that is declared and holds a number
+abbrev pub is_counted : List Local → Operand Meant → Bool
+is_counted locals (Name (meant.Number index)) = is_variable locals index
+is_counted locals _ = false
 
--- a number, or a literal of the script
-abbrev pub is_printable : ℕ → Operand ℕ → Bool
-is_printable literals (Literal index) = nat_lt index literals
-is_printable literals operand = is_constant operand
+-- a number of nine digits at most, or the name of a local that holds one
+abbrev pub is_numeric : List Local → Operand Meant → Bool
+is_numeric locals (Number z) = is_number locals (Constant z)
+is_numeric locals operand = is_counted locals operand
 
--- an operand is of its letter, and what it names is there, among so many literals and locals
-abbrev pub operand_fits : ℕ → ℕ → Letter → Operand ℕ → Bool
-operand_fits literals locals letter.Declared (Name index) = true
+-- a text that can be changed: the name of a local that is declared and holds one, or a pointer
+abbrev pub is_changeable : List Local → Operand Meant → Bool
+is_changeable locals (Name (meant.Buffer index)) = is_buffer_local (slice_get locals index)
+is_changeable locals operand = is_held locals operand
+
+-- the name of a view that is declared
+abbrev pub is_seen : List Local → Operand Meant → Bool
+is_seen locals (Name (meant.View index)) = is_view locals index
+is_seen locals _ = false
+
+-- a text that can be read: one that can be changed, a view, or a literal of the script
+abbrev pub is_legible : ℕ → List Local → Operand Meant → Bool
+is_legible literals locals (Literal (meant.Literal index)) = nat_lt index literals
+is_legible literals locals (Name (meant.View index)) = is_view locals index
+is_legible literals locals operand = is_changeable locals operand
+
+-- what can be printed: a number, or a text that can be read
+abbrev pub is_printable : ℕ → List Local → Operand Meant → Bool
+is_printable literals locals (Number z) = is_number locals (Constant z)
+is_printable literals locals (Name (meant.Number index)) = is_variable locals index
+is_printable literals locals operand = is_legible literals locals operand
+
+-- an operand is of its letter, and what it names is there, among so many literals and these locals
+abbrev pub operand_fits : ℕ → List Local → Letter → Operand Meant → Bool
+operand_fits literals locals letter.Declared (Name (meant.Declared index)) = true
 operand_fits literals locals letter.Declared _ = false
 operand_fits literals locals letter.Pointer operand = is_held locals operand
-operand_fits literals locals letter.Value operand = is_constant operand
-operand_fits literals locals letter.Printed operand = is_printable literals operand
+operand_fits literals locals letter.Value operand = is_numeric locals operand
+operand_fits literals locals letter.Variable operand = is_counted locals operand
+operand_fits literals locals letter.Target operand = is_held locals operand || is_counted locals operand
+operand_fits literals locals letter.Source operand = is_held locals operand || is_numeric locals operand
+operand_fits literals locals letter.Size (Number (pos max)) = true
+operand_fits literals locals letter.Size _ = false
+operand_fits literals locals letter.Writable operand = is_changeable locals operand
+operand_fits literals locals letter.Readable operand = is_legible literals locals operand
+operand_fits literals locals letter.ViewName operand = is_seen locals operand
+operand_fits literals locals letter.Printed operand = is_printable literals locals operand
 
-abbrev pub operands_fit : ℕ → ℕ → List Letter → List (Operand ℕ) → Bool
-operands_fit literals locals [] [] = true
-operands_fit literals locals (letter ∷ letters) (operand ∷ operands) = operand_fits literals locals letter operand && operands_fit literals locals letters operands
-operands_fit literals locals _ _ = false
+abbrev pub letters_fit : ℕ → List Local → List Letter → List (Operand Meant) → Bool
+letters_fit literals locals [] [] = true
+letters_fit literals locals (letter ∷ letters) (operand ∷ operands) = operand_fits literals locals letter operand && letters_fit literals locals letters operands
+letters_fit literals locals _ _ = false
 
--- the first operand is this index
-abbrev pub begins_with : ℕ → List (Operand ℕ) → Bool
-begins_with index (Name name ∷ operands) = nat_eq name index
-begins_with index _ = false
+-- two pointers, or the name of a number and a number
+abbrev pub sides_fit : List Local → Operand Meant → Operand Meant → Bool
+sides_fit locals target source = if is_held locals target then is_held locals source else (is_counted locals target && is_numeric locals source)
 
--- a local is the next of its body, and not one more than there may be
-abbrev pub is_local_due : Role → ℕ → List (Operand ℕ) → Bool
-is_local_due Declaration locals operands = begins_with locals operands && nat_lt locals 32
+abbrev pub operands_fit : ℕ → List Local → Key → List (Operand Meant) → Bool
+operands_fit literals locals key.Set (target ∷ source ∷ []) = sides_fit locals target source
+operands_fit literals locals k operands = letters_fit literals locals (letters_of k) operands
+
+-- the first operand declares what has this index
+abbrev pub declares : ℕ → List (Operand Meant) → Bool
+declares index (Name (meant.Declared name) ∷ operands) = nat_eq name index
+declares index _ = false
+
+-- a text of at most 256 units, where a size is told
+abbrev pub is_small : List (Operand Meant) → Bool
+is_small (name ∷ Number (pos max) ∷ []) = nat_le max 256
+is_small _ = true
+
+-- a local is the next of its body, not one more than there may be, and not too large
+abbrev pub is_local_due : Role → List Local → List (Operand Meant) → Bool
+is_local_due Declaration locals operands = declares (length locals) operands && (nat_lt (length locals) 32 && is_small operands)
 is_local_due _ locals operands = true
 
 -- a declaration is the next of its space, and not one more than there may be
-abbrev pub is_due : Role → Counts → List (Operand ℕ) → Bool
-is_due Procedure counts operands = begins_with counts.procedures operands && nat_lt counts.procedures 256
+abbrev pub is_due : Role → Counts → List (Operand Meant) → Bool
+is_due Procedure counts operands = declares counts.procedures operands && nat_lt counts.procedures 256
 is_due role counts operands = is_local_due role counts.locals operands
 
--- a line of a body with so many locals has the operands of its key and keeps the limits
-abbrev pub fits_inside : ℕ → ℕ → Key → List (Operand ℕ) → Bool
-fits_inside literals locals key operands = operands_fit literals locals (letters_of key) operands && is_local_due (role_of key) locals operands
+-- a line of a body with these locals has the operands of its key and keeps the limits
+abbrev pub fits_inside : ℕ → List Local → Key → List (Operand Meant) → Bool
+fits_inside literals locals key operands = operands_fit literals locals key operands && is_local_due (role_of key) locals operands
 
 -- a line has the operands of its key and keeps the limits, behind lines with these counts
 abbrev pub fits : ℕ → Counts → Indexed → Bool
-fits literals counts (Line key operands) = operands_fit literals counts.locals (letters_of key) operands && is_due (role_of key) counts operands
+fits literals counts (Line key operands) = operands_fit literals counts.locals key operands && is_due (role_of key) counts operands
 fits literals counts _ = true
 
 abbrev pub unfit : ℕ → Counts → Indexed → Bool
@@ -108,20 +169,22 @@ abbrev pub place_in : List Statement → Open
 place_in [] = Declarations
 place_in _ = Statements
 
--- a body takes one more local: before its first statement, by its index, and below the limit
-pub record TakesLocal (body : Body) (operands : List (Operand ℕ)) : Type 0 where
+-- a body takes one more local by this line: before its first statement, by its index, and below the limit
+pub record TakesLocal (body : Body) (key : Key) (operands : List (Operand Meant)) (local : Local) : Type 0 where
   pub first : body.statements ≡ []
-  pub next : operands ≡ Name (length body.locals) ∷ []
+  pub line : local_line (length body.locals) local ≡ Line key operands
+  pub declared : local_of key operands ≡ Some local
+  pub sound : IsTrue (is_local local)
   pub room : length body.locals < 32
 
 -- a script takes one more procedure: by its index, and below the limit
-pub record TakesProcedure (procedures : List model.Procedure) (operands : List (Operand ℕ)) : Type 0 where
-  pub next : operands ≡ Name (length procedures) ∷ []
+pub record TakesProcedure (procedures : List model.Procedure) (operands : List (Operand Meant)) : Type 0 where
+  pub next : operands ≡ Name (meant.Declared (length procedures)) ∷ []
   pub room : length procedures < 256
 
 -- the counts in the body of the procedure that is the n-th
 abbrev pub counts_in : ℕ → Body → Counts
-counts_in n body = record { procedures = n; locals = length body.locals }
+counts_in n body = record { procedures = n; locals = body.locals }
 
 abbrev pub left_body : Left → Body
 left_body (Inside body) = body
@@ -129,7 +192,7 @@ left_body (Done body) = body
 
 abbrev pub left_lines : Left → List Indexed
 left_lines (Inside body) = body_lines body
-left_lines (Done body) = body_lines body ++ Line End [] ∷ []
+left_lines (Done body) = body_lines body ++ Line key.End [] ∷ []
 
 abbrev pub left_places : Left → List Open
 left_places (Inside body) = place_in body.statements ∷ []
@@ -137,7 +200,7 @@ left_places (Done body) = []
 
 -- the open body's lines without its end, for the procedure with this index
 abbrev pub open_lines : ℕ → Body → List Indexed
-open_lines index body = Line Proc (Name index ∷ []) ∷ body_lines body
+open_lines index body = Line key.Proc (Name (meant.Declared index) ∷ []) ∷ body_lines body
 
 abbrev pub building_lines : Building → List Indexed
 building_lines b = procedures_lines 0 b.procedures.items ++ option_map_or (open_lines (length b.procedures.items)) b.open []
@@ -145,9 +208,9 @@ building_lines b = procedures_lines 0 b.procedures.items ++ option_map_or (open_
 abbrev pub building_places : Building → List Open
 building_places b = option_map_or (λ body. place_in body.statements ∷ []) b.open []
 
-abbrev pub locals_of_last : List model.Procedure → ℕ
-locals_of_last [] = 0
-locals_of_last (p ∷ []) = length p.body.locals
+abbrev pub locals_of_last : List model.Procedure → List Local
+locals_of_last [] = []
+locals_of_last (p ∷ []) = p.body.locals
 locals_of_last (p ∷ q ∷ ps) = locals_of_last (q ∷ ps)
 
 abbrev pub counts_where : List model.Procedure → Option Body → Counts

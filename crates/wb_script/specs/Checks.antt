@@ -3,11 +3,12 @@ use Rattle.std.specs.Prelude.{Bool, map}
 use Rattle.wb_model.specs.declared.lines.Form.{Form}
 use Rattle.wb_model.specs.Names.{Text, Pick, name_declared, name_used, name_in, literal_in, uses_unknown, declares_again, passes_limit}
 use Rattle.wb_model.specs.Names as model
+use Rattle.wb_model.specs.Kinds.{has_wrong_kind}
 use Rattle.wb_script.specs.declared.names.Wanted.{Wanted}
 use Rattle.wb_script.specs.declared.names.Wanted.TheVariants.{Declared, Used, Names, Literals}
 use Rattle.wb_script.specs.declared.names.Known.{Known}
-use Rattle.wb_script.specs.declared.names.Check.{Check}
-use Rattle.wb_script.specs.declared.names.Check.TheVariants as check
+use Rattle.wb_script.specs.declared.checks.Check.{Check}
+use Rattle.wb_script.specs.declared.checks.Check.TheVariants as check
 
 abbrev pub pick_of : Wanted → Pick
 pick_of Declared = name_declared
@@ -20,10 +21,12 @@ abbrev pub known_in : Known → model.Known
 known_in known = record {
   procedures = map (λ n. n.now) known.procedures.items;
   locals = map (λ n. n.now) known.locals.items;
+  kinds = known.kinds.items;
   literals = map (λ n. n.now) known.literals.items;
 }
 
 abbrev pub test_of : Check → model.Known → Form Text → Bool
 test_of check.UnknownName = uses_unknown
 test_of check.DoubleName = declares_again
+test_of check.WrongKind = has_wrong_kind
 test_of check.TooMany = passes_limit

@@ -6,16 +6,15 @@ use Rattle.wb_model.specs.declared.lines.Form.{Form}
 use Rattle.wb_model.specs.declared.lines.Role.{Role}
 use Rattle.wb_model.specs.Forms.{role_of_form}
 use Rattle.wb_model.specs.Grammar.{IsGrammatical, IsFirstMisfit}
-use Rattle.wb_model.specs.Names.{Text, first_refused, uses_unknown, declares_again, passes_limit}
-use Rattle.wb_model.specs.Scripts.{main_of, IsLinesFault}
+use Rattle.wb_model.specs.Names.{Text, first_refused, passes_limit}
+use Rattle.wb_model.specs.Scripts.{main_of, IsNamed, IsLinesFault}
 
 abbrev pub roles_of : List (Form Text) → List Role
 roles_of forms = map role_of_form forms
 
--- the checks of names and limits find nothing, and `main` is the procedure with this index
+-- the checks of names, kinds and limits find nothing, and `main` is the procedure with this index
 pub record IsFaultless (forms : List (Form Text)) (main : ℕ) : Type 0 where
-  pub known : first_refused uses_unknown forms ≡ None
-  pub once : first_refused declares_again forms ≡ None
+  pub named : IsNamed forms
   pub main_is : main_of forms ≡ Some main
   pub within : first_refused passes_limit forms ≡ None
 

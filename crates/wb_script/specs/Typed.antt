@@ -1,5 +1,5 @@
 -- Forms whose operands are of the letters of their keys, as each line's is.
-use Rattle.std.specs.Prelude.{List, [], ◌∷◌, Bool, true, false, ◌&&◌, IsTrue}
+use Rattle.std.specs.Prelude.{ℤ, pos, negsuc, nat_le, nat_lt, List, [], ◌∷◌, Bool, true, false, ◌&&◌, IsTrue}
 use Rattle.std.specs.List.{list_all}
 use Rattle.wb_model.specs.declared.lines.Letter.{Letter}
 use Rattle.wb_model.specs.declared.lines.Letter.TheVariants as letter
@@ -7,16 +7,31 @@ use Rattle.wb_model.specs.declared.lines.Operand.{Operand}
 use Rattle.wb_model.specs.declared.lines.Operand.TheVariants.{Name, Number, Literal}
 use Rattle.wb_model.specs.declared.lines.Form.{Form}
 use Rattle.wb_model.specs.declared.lines.Form.TheVariants.{Line}
-use Rattle.wb_model.specs.declared.script.Number.TheVariants.{Constant}
 use Rattle.wb_model.specs.Keys.{letters_of}
 use Rattle.wb_model.specs.Names.{Text}
-use Rattle.wb_model.specs.Sound.{is_number, is_quotable}
+use Rattle.wb_model.specs.Sound.{is_quotable}
+
+-- at most nine digits
+abbrev pub is_short : ℤ → Bool
+is_short (pos n) = nat_le n 999999999
+is_short (negsuc n) = nat_lt n 999999999
 
 abbrev pub is_operand : Letter → Operand Text → Bool
 is_operand letter.Declared (Name name) = true
 is_operand letter.Pointer (Name name) = true
-is_operand letter.Value (Number z) = is_number (Constant z)
-is_operand letter.Printed (Number z) = is_number (Constant z)
+is_operand letter.Value (Name name) = true
+is_operand letter.Value (Number z) = is_short z
+is_operand letter.Variable (Name name) = true
+is_operand letter.Target (Name name) = true
+is_operand letter.Source (Name name) = true
+is_operand letter.Source (Number z) = is_short z
+is_operand letter.Size (Number (pos n)) = true
+is_operand letter.Writable (Name name) = true
+is_operand letter.Readable (Name name) = true
+is_operand letter.Readable (Literal text) = list_all is_quotable text
+is_operand letter.ViewName (Name name) = true
+is_operand letter.Printed (Name name) = true
+is_operand letter.Printed (Number z) = is_short z
 is_operand letter.Printed (Literal text) = list_all is_quotable text
 is_operand _ _ = false
 

@@ -2,8 +2,10 @@
 
 ghost use Rattle.std.specs.Prelude.{◌≡◌, map, IfOk};
 ghost use Rattle.std.specs.Option.{option_map};
-ghost use Rattle.wb_model.specs.Forms.{operand_of, operands_of, form_in, form_of, forms_of, line_form, begins_comment, renamed, renamed_operand, role_of_form};
+ghost use Rattle.wb_model.specs.declared.lines.Letter.TheVariants.{Printed};
+ghost use Rattle.wb_model.specs.Forms.{either, name_word, number_word, size_of, literal_word, operand_of, operands_of, form_in, form_of, forms_of, line_form, begins_comment, renamed, renamed_operand, role_of_form};
 ghost use Rattle.wb_model.specs.Keys.{keys};
+ghost use Rattle.wb_model.specs.Words.{number_of};
 
 use crate::keys::{ALL, letters_of, role_of, text_of};
 use crate::lines::words;
@@ -12,18 +14,62 @@ use std::alloc::{AllocError, Global};
 use wb_model::items::Items;
 use wb_model::lines::{Form, Key, Letter, Operand, Role};
 
+fn name_word<'a>(word: &'a [u8]) -> Option<Operand<&'a [u8]>>
+    ensures { option_map (renamed_operand (λ n. n.now)) result ≡ name_word word.now }
+{
+    Some(Operand::Name(used_name(word)?))
+}
+
+fn number_or_name<'a>(word: &'a [u8]) -> Option<Operand<&'a [u8]>>
+    ensures { option_map (renamed_operand (λ n. n.now)) result ≡ either (number_word word.now) (name_word word.now) }
+{
+    match number_of(word) {
+        Some(number) => Some(Operand::Number(number)),
+        None => name_word(word),
+    }
+}
+
+fn name_or_literal<'a>(word: &'a [u8]) -> Option<Operand<&'a [u8]>>
+    ensures { option_map (renamed_operand (λ n. n.now)) result ≡ either (name_word word.now) (literal_word word.now) }
+{
+    match used_name(word) {
+        Some(name) => Some(Operand::Name(name)),
+        None => Some(Operand::Literal(literal_of(word)?)),
+    }
+}
+
+fn size_word<'a>(word: &'a [u8]) -> Option<Operand<&'a [u8]>>
+    ensures { option_map (renamed_operand (λ n. n.now)) result ≡ size_of (number_of word.now) }
+{
+    let number = number_of(word)?;
+    if number < 0 {
+        None
+    } else {
+        Some(Operand::Number(number))
+    }
+}
+
+fn printed_word<'a>(word: &'a [u8]) -> Option<Operand<&'a [u8]>>
+    ensures { option_map (renamed_operand (λ n. n.now)) result ≡ operand_of Printed word.now }
+{
+    match number_of(word) {
+        Some(number) => Some(Operand::Number(number)),
+        None => name_or_literal(word),
+    }
+}
+
 /// What a word is where a letter stands.
 fn operand_of<'a>(letter: Letter, word: &'a [u8]) -> Option<Operand<&'a [u8]>>
     ensures { option_map (renamed_operand (λ n. n.now)) result ≡ operand_of letter word.now }
 {
     match letter {
         Letter::Declared => Some(Operand::Name(declared_name(word)?)),
-        Letter::Pointer => Some(Operand::Name(used_name(word)?)),
-        Letter::Value => Some(Operand::Number(number_of(word)?)),
-        Letter::Printed => match number_of(word) {
-            Some(number) => Some(Operand::Number(number)),
-            None => Some(Operand::Literal(literal_of(word)?)),
-        },
+        Letter::Pointer | Letter::Variable | Letter::Target => name_word(word),
+        Letter::Writable | Letter::ViewName => name_word(word),
+        Letter::Value | Letter::Source => number_or_name(word),
+        Letter::Size => size_word(word),
+        Letter::Readable => name_or_literal(word),
+        Letter::Printed => printed_word(word),
     }
 }
 

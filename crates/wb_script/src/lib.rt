@@ -5,8 +5,10 @@
 #![tactic(auto)]
 
 mod bytes;
+mod checks;
 mod forms;
 mod keys;
+mod kinds;
 pub mod laws;
 #[cfg(test)]
 mod line_tests;
@@ -17,6 +19,9 @@ mod reading;
 #[cfg(test)]
 mod reading_tests;
 mod resolved;
+mod spelled;
+mod statements;
+mod text_statements;
 mod tree;
 mod words;
 

@@ -95,10 +95,63 @@ fn each_key(rt: HostRuntime) -> Result<(), Fail> {
             &[Operand::Literal(b"a b")]
         )?
     );
+    assert!(rt; says(alloc, b"print p", Key::Print, &[p])?);
     assert!(rt; says(alloc, b"heap", Key::Heap, &[])?);
     assert!(rt; says(alloc, b"available", Key::Available, &[])?);
     assert!(rt; says(alloc, b"compress", Key::Compress, &[])?);
     assert!(rt; says(alloc, b"end", Key::End, &[])?);
+    Ok(())
+}
+
+#[test]
+fn each_key_of_numbers_and_marks(rt: HostRuntime) -> Result<(), Fail> {
+    let alloc = rt.alloc();
+    let p = Operand::Name(b"p".as_slice());
+    let q = Operand::Name(b"q".as_slice());
+    let seven = Operand::Number(7);
+    assert!(rt; says(alloc, b"int p", Key::Int, &[p])?);
+    assert!(rt; says(alloc, b"realloc p q 7", Key::Realloc, &[p, q, seven])?);
+    assert!(rt; says(alloc, b"realloc p p q", Key::Realloc, &[p, p, q])?);
+    assert!(rt; says(alloc, b"alloclen p q", Key::AllocLen, &[p, q])?);
+    assert!(rt; says(alloc, b"load p q 7", Key::Load, &[p, q, seven])?);
+    assert!(rt; says(alloc, b"store p q p", Key::Store, &[p, q, p])?);
+    assert!(rt; says(alloc, b"set p q", Key::Set, &[p, q])?);
+    assert!(rt; says(alloc, b"set p 7", Key::Set, &[p, seven])?);
+    assert!(rt; says(alloc, b"null p", Key::Null, &[p])?);
+    assert!(rt; says(alloc, b"add p q", Key::Add, &[p, q])?);
+    assert!(rt; says(alloc, b"add p 7", Key::Add, &[p, seven])?);
+    assert!(rt; says(alloc, b"mark", Key::Mark, &[])?);
+    assert!(rt; says(alloc, b"markend 7", Key::MarkEnd, &[seven])?);
+    assert!(rt; says(alloc, b"check q", Key::Check, &[q])?);
+    assert!(rt; says(alloc, b"checkall 7", Key::CheckAll, &[seven])?);
+    assert!(rt; says(alloc, b"failnext p", Key::FailNext, &[p])?);
+    assert!(rt; says(alloc, b"failevery 7", Key::FailEvery, &[seven])?);
+    assert!(rt; says(alloc, b"failnone", Key::FailNone, &[])?);
+    Ok(())
+}
+
+#[test]
+fn each_key_of_texts(rt: HostRuntime) -> Result<(), Fail> {
+    let alloc = rt.alloc();
+    let b = Operand::Name(b"b".as_slice());
+    let v = Operand::Name(b"v".as_slice());
+    let text = Operand::Literal(b"a b".as_slice());
+    let two = Operand::Number(2);
+    assert!(rt; says(alloc, b"buf b 2", Key::Buf, &[b, two])?);
+    assert!(rt; says(alloc, b"buf b -0", Key::Buf, &[b, Operand::Number(0)])?);
+    assert!(rt; says(alloc, b"view v", Key::View, &[v])?);
+    assert!(rt; says(alloc, b"hnew b v", Key::HNew, &[b, v])?);
+    assert!(rt; says(alloc, b"hrealloc b v 2", Key::HRealloc, &[b, v, two])?);
+    assert!(rt; says(alloc, b"copy b \"a b\"", Key::Copy, &[b, text])?);
+    assert!(rt; says(alloc, b"append b v", Key::Append, &[b, v])?);
+    assert!(rt; says(alloc, b"insert b 2 \"a b\"", Key::Insert, &[b, two, text])?);
+    assert!(rt; says(alloc, b"deltext b v 2", Key::DelText, &[b, v, two])?);
+    assert!(rt; says(alloc, b"setlength b 2", Key::SetLength, &[b, two])?);
+    assert!(rt; says(alloc, b"left v b 2", Key::Left, &[v, b, two])?);
+    assert!(rt; says(alloc, b"right v \"a b\" b", Key::Right, &[v, text, b])?);
+    assert!(rt; says(alloc, b"mid v v 2 2", Key::Mid, &[v, v, two, two])?);
+    assert!(rt; says(alloc, b"getlen v \"a b\"", Key::GetLen, &[v, text])?);
+    assert!(rt; says(alloc, b"getmax v b", Key::GetMax, &[v, b])?);
     Ok(())
 }
 
@@ -145,12 +198,11 @@ fn lines_that_say_nothing(rt: HostRuntime) -> Result<(), Fail> {
         b"ends",
         b"end end",
         b"alloc p",
-        b"alloc p n",
+        b"alloc p 1n",
         b"alloc p \"4\"",
+        b"alloc p self",
         b"store p 1",
         b"store p 1 2 3",
-        b"store p x 1",
-        b"store p 1 x",
         b"store 0 1 2",
         b"store p 1 \"2\"",
         b"heap 1",
@@ -168,7 +220,54 @@ fn lines_that_say_nothing(rt: HostRuntime) -> Result<(), Fail> {
         b"proc eq",
         b"proc less",
         b"free self",
-        b"print p",
+        b"print self",
+        b"print p q",
+        b"int",
+        b"int int",
+        b"int x 1",
+        b"realloc p q",
+        b"realloc p 0 1",
+        b"alloclen 1 p",
+        b"alloclen x 1",
+        b"load 1 p 0",
+        b"load x p \"0\"",
+        b"set p",
+        b"set 3 x",
+        b"set x \"3\"",
+        b"set p q x",
+        b"null 0",
+        b"add 1 x",
+        b"mark 0",
+        b"markend",
+        b"check \"0\"",
+        b"checkall 0 0",
+        b"failnext",
+        b"failevery +1",
+        b"failnone 0",
+        b"buf b",
+        b"buf b -1",
+        b"buf b x",
+        b"buf b \"1\"",
+        b"view v 1",
+        b"view eq",
+        b"hnew 1 1",
+        b"hnew h \"1\"",
+        b"hrealloc h 1",
+        b"copy \"a\" b",
+        b"copy b 1",
+        b"append b",
+        b"insert b \"1\" \"a\"",
+        b"insert b 0 1",
+        b"deltext b 0 \"1\"",
+        b"setlength \"a\" 0",
+        b"left \"a\" b 0",
+        b"left v 1 0",
+        b"right v b",
+        b"mid v b 0",
+        b"mid v b 0 1 2",
+        b"getlen 1 b",
+        b"getlen x 1",
+        b"getmax x \"a\"",
         b"print +5",
         b"print -",
         b"print --5",

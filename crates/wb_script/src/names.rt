@@ -1,16 +1,16 @@
-//! What the lines of a script declare, and the checks of their names and limits. Each check is one pass over all lines.
+//! What the lines of a script declare and use.
 
-ghost use Rattle.std.specs.Prelude.{◌≡◌, ◌<◌, ◌||◌, [], length, map, nat_lt, is_none, is_some, IfOk, IfSome, OnOk};
+ghost use Rattle.std.specs.Prelude.{◌≡◌, length, map, nat_lt, is_none, is_some, IfOk, OnOk};
 ghost use Rattle.std.specs.Option.{option_map};
 ghost use Rattle.std.specs.List.{list_any};
 ghost use Rattle.wb_model.specs.Forms.{renamed, renamed_operand};
-ghost use Rattle.wb_model.specs.Names.{picked_of, picked, known_after, place_of, space_of, is_one_more, first_refused, nothing_known, known_of};
-ghost use Rattle.wb_script.specs.Checks.{pick_of, known_in, test_of};
+ghost use Rattle.wb_model.specs.Names.{kind_of, kind_in, is_large, picked_of, picked, known_after, place_of, is_one_more, nothing_known, known_of};
+ghost use Rattle.wb_script.specs.Checks.{pick_of, known_in};
 
 use crate::forms::role;
 use crate::keys::letters_of;
 use std::alloc::{AllocError, Global};
-use wb_model::lines::{Form, Letter, Operand, Role};
+use wb_model::lines::{Form, Key, Kind, Letter, Operand, Role};
 
 /// Which texts of a line are meant.
 #[derive(Clone, Copy)]
@@ -34,8 +34,8 @@ fn picked_text<'a>(wanted: Wanted, letter: Letter, operand: &Operand<&'a [u8]>) 
                 _ => None,
             },
             Wanted::Used => match letter {
-                Letter::Pointer => Some(*name),
-                _ => None,
+                Letter::Declared => None,
+                _ => Some(*name),
             },
             Wanted::Names => Some(*name),
             Wanted::Literals => None,
@@ -70,7 +70,7 @@ fn picked_of<'a>(
 }
 
 /// The texts of a line that are meant, in order.
-fn picked<'a>(
+pub(crate) fn picked<'a>(
     alloc: Global,
     wanted: Wanted,
     form: &Form<&'a [u8]>,
@@ -85,12 +85,35 @@ fn picked<'a>(
     }
 }
 
-/// What the lines so far declare: the procedures, the locals of the body that stands open or was the last, and the
-/// literals.
+/// What the local holds that a line of a key declares.
+fn kind_of(key: Key) -> Option<Kind>
+    ensures { result ≡ kind_of key }
+{
+    match key {
+        Key::Ptr => Some(Kind::Pointer),
+        Key::Int => Some(Kind::Number),
+        Key::Buf => Some(Kind::Buffer),
+        Key::View => Some(Kind::View),
+        _ => None,
+    }
+}
+
+fn kind_in(form: &Form<&[u8]>) -> Option<Kind>
+    ensures { result ≡ kind_in (renamed (λ n. n.now) form.now) }
+{
+    match form {
+        Form::Line(key, _) => kind_of(*key),
+        _ => None,
+    }
+}
+
+/// What the lines so far declare: the procedures, the locals of the body that stands open or was the last, each
+/// with what it holds, and the literals.
 #[derive(Drop)]
 pub(crate) struct Known<'a> {
     pub procedures: Vec<&'a [u8]>,
     pub locals: Vec<&'a [u8]>,
+    pub kinds: Vec<Kind>,
     pub literals: Vec<&'a [u8]>,
 }
 
@@ -109,8 +132,15 @@ pub(crate) fn add_line<'a>(
         Role::Procedure => {
             known.procedures.extend_from_slice(&names)?;
             known.locals.clear();
+            known.kinds.clear();
         }
-        Role::Declaration => known.locals.extend_from_slice(&names)?,
+        Role::Declaration => {
+            known.locals.extend_from_slice(&names)?;
+            match kind_in(form) {
+                Some(kind) => known.kinds.push(kind)?,
+                None => {}
+            }
+        }
         _ => {}
     }
     Ok(())
@@ -128,7 +158,7 @@ pub(crate) fn place_of(names: &[&[u8]], name: &[u8]) -> Option<usize>
     None
 }
 
-fn any_unknown(known: &[&[u8]], names: &[&[u8]]) -> bool
+pub(crate) fn any_unknown(known: &[&[u8]], names: &[&[u8]]) -> bool
     ensures { result ≡ list_any (λ n. is_none (place_of (map (λ k. k.now) known.now) n)) (map (λ n. n.now) names.now) }
 {
     for name in names {
@@ -139,7 +169,7 @@ fn any_unknown(known: &[&[u8]], names: &[&[u8]]) -> bool
     false
 }
 
-fn any_known(known: &[&[u8]], names: &[&[u8]]) -> bool
+pub(crate) fn any_known(known: &[&[u8]], names: &[&[u8]]) -> bool
     ensures { result ≡ list_any (λ n. is_some (place_of (map (λ k. k.now) known.now) n)) (map (λ n. n.now) names.now) }
 {
     for name in names {
@@ -157,7 +187,7 @@ pub(crate) const PROCEDURES: usize = 256;
 /// The greatest number of locals of a body.
 pub(crate) const LOCALS: usize = 32;
 
-fn any_long(names: &[&[u8]]) -> bool
+pub(crate) fn any_long(names: &[&[u8]]) -> bool
     ensures { result ≡ list_any (λ n. nat_lt 32 (length n)) (map (λ n. n.now) names.now) }
 {
     for name in names {
@@ -168,48 +198,28 @@ fn any_long(names: &[&[u8]]) -> bool
     false
 }
 
-fn is_one_more(role: Role, known: &Known) -> bool
+/// The greatest length of a text of a body's own, in units.
+pub(crate) const UNITS: i32 = 256;
+
+pub(crate) fn is_large(form: &Form<&[u8]>) -> bool
+    ensures { result ≡ is_large (renamed (λ n. n.now) form.now) }
+{
+    match form {
+        Form::Line(Key::Buf, operands) => match operands.as_slice() {
+            [_, Operand::Number(max)] => *max > UNITS,
+            _ => false,
+        },
+        _ => false,
+    }
+}
+
+pub(crate) fn is_one_more(role: Role, known: &Known) -> bool
     ensures { result ≡ is_one_more role (known_in known.now) }
 {
     match role {
         Role::Procedure => known.procedures.len() >= PROCEDURES,
         Role::Declaration => known.locals.len() >= LOCALS,
         _ => false,
-    }
-}
-
-/// What a line is looked at for.
-#[derive(Clone, Copy)]
-pub(crate) enum Check {
-    UnknownName,
-    DoubleName,
-    TooMany,
-}
-
-fn is_refused(
-    alloc: Global,
-    check: Check,
-    known: &Known,
-    form: &Form<&[u8]>,
-) -> Result<bool, AllocError>
-    ensures { IfOk result (λ bad. bad ≡ test_of check (known_in known.now) (renamed (λ n. n.now) form.now)) }
-{
-    match check {
-        Check::UnknownName => {
-            let names = picked(alloc, Wanted::Used, form)?;
-            Ok(any_unknown(&known.locals, &names))
-        }
-        Check::DoubleName => {
-            let names = picked(alloc, Wanted::Declared, form)?;
-            match role(form) {
-                Role::Procedure => Ok(any_known(&known.procedures, &names)),
-                _ => Ok(any_known(&known.locals, &names)),
-            }
-        }
-        Check::TooMany => {
-            let names = picked(alloc, Wanted::Names, form)?;
-            Ok(any_long(&names) || is_one_more(role(form), known))
-        }
     }
 }
 
@@ -220,28 +230,10 @@ impl<'a> Known<'a> {
         Known {
             procedures: Vec::new(alloc),
             locals: Vec::new(alloc),
+            kinds: Vec::new(alloc),
             literals: Vec::new(alloc),
         }
     }
-}
-
-/// The index of the first line that a check refuses.
-pub(crate) fn first_refused(
-    alloc: Global,
-    check: Check,
-    forms: &[Form<&[u8]>],
-) -> Result<Option<usize>, AllocError>
-    ensures found { IfOk result (λ found. found ≡ first_refused (test_of check) (map (renamed (λ n. n.now)) forms.now)) }
-    ensures within { IfOk result (λ found. IfSome found (λ n. n < length forms.now)) }
-{
-    let mut known = Known::nothing(alloc);
-    for (index, form) in forms.iter().enumerate() {
-        if is_refused(alloc, check, &known, form)? {
-            return Ok(Some(index));
-        }
-        add_line(alloc, &mut known, form)?;
-    }
-    Ok(None)
 }
 
 /// What all lines declare.

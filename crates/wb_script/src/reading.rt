@@ -11,9 +11,10 @@ ghost use Rattle.wb_script.specs.Reads.{roles_of, IsFaultless, IsFormsFault};
 ghost use Rattle.wb_script.specs.Typed.{AreTyped};
 
 use crate::bytes::{first_foreign_line, is_too_long};
+use crate::checks::{Check, first_refused};
 use crate::forms::{forms, role};
 use crate::lines::lines;
-use crate::names::{Check, Known, first_refused, known_of, place_of};
+use crate::names::{Known, known_of, place_of};
 use crate::nesting::first_misfit;
 use crate::resolved::resolved;
 use crate::tree::procedures_of;
@@ -103,7 +104,7 @@ fn script_of(
     })
 }
 
-/// The script of lines that are grammatical, or the first fault of their names and limits.
+/// The script of lines that are grammatical, or the first fault of their names, kinds and limits.
 fn checked(alloc: Global, forms: &[Form<&[u8]>]) -> Result<Result<Script, ScriptFault>, AllocError>
     requires few { length forms.now ≤ 65536 }
     requires typed { AreTyped (map (renamed (λ n. n.now)) forms.now) }
@@ -118,6 +119,10 @@ fn checked(alloc: Global, forms: &[Form<&[u8]>]) -> Result<Result<Script, Script
     }
     match refused_line(alloc, Check::DoubleName, forms)? {
         Some(line) => return Ok(Err(ScriptFault::DoubleName { line })),
+        None => {}
+    }
+    match refused_line(alloc, Check::WrongKind, forms)? {
+        Some(line) => return Ok(Err(ScriptFault::WrongKind { line })),
         None => {}
     }
     let known = known_of(alloc, forms)?;

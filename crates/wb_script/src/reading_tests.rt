@@ -3,7 +3,7 @@
 use crate::{Script, ScriptFault, read};
 use std::alloc::{AllocError, Global};
 use std::test::Fail;
-use wb_model::script::{Holder, Number, Pointer, Readable, Refusal, Statement};
+use wb_model::script::{Holder, Local, Number, Pointer, Readable, Refusal, Statement, Writable};
 
 fn fault_of(alloc: Global, bytes: &[u8]) -> Option<ScriptFault> {
     match read(alloc, bytes) {
@@ -123,6 +123,184 @@ fn tree_of_stores_and_notes(rt: HostRuntime) -> Result<(), Fail> {
     Ok(())
 }
 
+#[test]
+fn tree_of_numbers_and_marks(rt: HostRuntime) -> Result<(), Fail> {
+    let text =
+        b"proc main\nptr p\nint x\nptr q\nint y\nset q p\nset y x\nset x -3\nrealloc p q y\nload y q 1\nalloclen x p\nnull q\nadd y 2\nprint y\nmark\nmarkend x\ncheck 1\ncheckall 2\nfailnext 3\nfailevery 4\nfailnone\nend";
+    let script = read(rt.alloc(), text)?;
+    let main = script.procedures.get(0).expect(&rt, "main");
+    let statements = &main.body.statements;
+    let p = Pointer::Held(Holder::Local(0));
+    let q = Pointer::Held(Holder::Local(2));
+    assert_eq!(rt; main.body.locals.get(2), Some(&Local::OfPointer(None)));
+    assert_eq!(rt; main.body.locals.get(3), Some(&Local::OfNumber));
+    assert_eq!(rt; statements.len(), 16);
+    match statements.get(0).expect(&rt, "set") {
+        Statement::Set(to, from) => assert!(rt; *to == q && *from == p),
+        _ => assert!(rt; false),
+    }
+    match statements.get(1).expect(&rt, "set") {
+        Statement::SetNumber(3, Number::Variable(1)) => {}
+        _ => assert!(rt; false),
+    }
+    match statements.get(2).expect(&rt, "set") {
+        Statement::SetNumber(1, number) => assert_eq!(rt; *number, Number::Constant(-3)),
+        _ => assert!(rt; false),
+    }
+    match statements.get(3).expect(&rt, "realloc") {
+        Statement::Realloc(to, from, Number::Variable(3), refusal) => {
+            assert!(rt; *to == p && *from == q && *refusal == Refusal::GivesNull)
+        }
+        _ => assert!(rt; false),
+    }
+    match statements.get(4).expect(&rt, "load") {
+        Statement::Load(3, pointer, Number::Constant(1)) => assert_eq!(rt; *pointer, q),
+        _ => assert!(rt; false),
+    }
+    match statements.get(5).expect(&rt, "alloclen") {
+        Statement::AllocLen(1, pointer) => assert_eq!(rt; *pointer, p),
+        _ => assert!(rt; false),
+    }
+    match statements.get(6).expect(&rt, "null") {
+        Statement::SetNull(pointer) => assert_eq!(rt; *pointer, q),
+        _ => assert!(rt; false),
+    }
+    assert!(rt;
+        matches!(
+            statements.get(7),
+            Some(Statement::Add(3, Number::Constant(2)))
+        )
+    );
+    assert!(rt;
+        matches!(
+            statements.get(8),
+            Some(Statement::PrintNumber(Number::Variable(3)))
+        )
+    );
+    assert!(rt; matches!(statements.get(9), Some(Statement::Mark)));
+    assert!(rt;
+        matches!(
+            statements.get(10),
+            Some(Statement::MarkEnd(Number::Variable(1)))
+        )
+    );
+    assert!(rt;
+        matches!(
+            statements.get(11),
+            Some(Statement::Check(Number::Constant(1)))
+        )
+    );
+    assert!(rt;
+        matches!(
+            statements.get(12),
+            Some(Statement::CheckAll(Number::Constant(2)))
+        )
+    );
+    assert!(rt;
+        matches!(
+            statements.get(13),
+            Some(Statement::FailNext(Number::Constant(3)))
+        )
+    );
+    assert!(rt;
+        matches!(
+            statements.get(14),
+            Some(Statement::FailEvery(Number::Constant(4)))
+        )
+    );
+    assert!(rt; matches!(statements.get(15), Some(Statement::FailNone)));
+    Ok(())
+}
+
+#[test]
+fn tree_of_texts(rt: HostRuntime) -> Result<(), Fail> {
+    let text =
+        b"proc main\nptr h\nint x\nbuf b 7\nview v\nhnew h 4\nhrealloc h h x\ncopy b \"ab\"\nappend h b\ninsert b 1 v\ndeltext h 1 x\nsetlength b 8\nleft v b 2\nright v v 3\nmid v \"c\" x 5\ngetlen x h\ngetmax x b\nprint h\nprint b\nprint v\nprint \"d\"\nend";
+    let script = read(rt.alloc(), text)?;
+    assert_eq!(rt; script.literals.len(), 3);
+    let main = script.procedures.get(0).expect(&rt, "main");
+    let statements = &main.body.statements;
+    let h = Pointer::Held(Holder::Local(0));
+    let in_h = Writable::InCell(h);
+    let own = Writable::OwnBuffer(2);
+    assert_eq!(rt; main.body.locals.get(2), Some(&Local::OfBuffer(7)));
+    assert_eq!(rt; main.body.locals.get(3), Some(&Local::OfView));
+    assert_eq!(rt; statements.len(), 16);
+    match statements.get(0).expect(&rt, "hnew") {
+        Statement::NewText(to, Number::Constant(4), refusal) => {
+            assert!(rt; *to == h && *refusal == Refusal::GivesNull)
+        }
+        _ => assert!(rt; false),
+    }
+    match statements.get(1).expect(&rt, "hrealloc") {
+        Statement::ReallocText(to, from, Number::Variable(1)) => {
+            assert!(rt; *to == h && *from == h)
+        }
+        _ => assert!(rt; false),
+    }
+    match statements.get(2).expect(&rt, "copy") {
+        Statement::Copy(to, Readable::Quoted(0)) => assert_eq!(rt; *to, own),
+        _ => assert!(rt; false),
+    }
+    match statements.get(3).expect(&rt, "append") {
+        Statement::Append(to, Readable::Of(from)) => assert!(rt; *to == in_h && *from == own),
+        _ => assert!(rt; false),
+    }
+    match statements.get(4).expect(&rt, "insert") {
+        Statement::Insert(to, Number::Constant(1), Readable::ViewOf(3)) => {
+            assert_eq!(rt; *to, own)
+        }
+        _ => assert!(rt; false),
+    }
+    match statements.get(5).expect(&rt, "deltext") {
+        Statement::DeleteText(to, Number::Constant(1), Number::Variable(1)) => {
+            assert_eq!(rt; *to, in_h)
+        }
+        _ => assert!(rt; false),
+    }
+    match statements.get(6).expect(&rt, "setlength") {
+        Statement::SetLength(to, Number::Constant(8)) => assert_eq!(rt; *to, own),
+        _ => assert!(rt; false),
+    }
+    match statements.get(7).expect(&rt, "left") {
+        Statement::Left(3, Readable::Of(from), Number::Constant(2)) => assert_eq!(rt; *from, own),
+        _ => assert!(rt; false),
+    }
+    match statements.get(8).expect(&rt, "right") {
+        Statement::Right(3, Readable::ViewOf(3), Number::Constant(3)) => {}
+        _ => assert!(rt; false),
+    }
+    match statements.get(9).expect(&rt, "mid") {
+        Statement::Mid(3, Readable::Quoted(1), Number::Variable(1), Number::Constant(5)) => {}
+        _ => assert!(rt; false),
+    }
+    match statements.get(10).expect(&rt, "getlen") {
+        Statement::GetLength(1, Readable::Of(from)) => assert_eq!(rt; *from, in_h),
+        _ => assert!(rt; false),
+    }
+    match statements.get(11).expect(&rt, "getmax") {
+        Statement::GetMaximum(1, of) => assert_eq!(rt; *of, own),
+        _ => assert!(rt; false),
+    }
+    match statements.get(12).expect(&rt, "print") {
+        Statement::PrintText(Readable::Of(from)) => assert_eq!(rt; *from, in_h),
+        _ => assert!(rt; false),
+    }
+    match statements.get(13).expect(&rt, "print") {
+        Statement::PrintText(Readable::Of(from)) => assert_eq!(rt; *from, own),
+        _ => assert!(rt; false),
+    }
+    match statements.get(14).expect(&rt, "print") {
+        Statement::PrintText(Readable::ViewOf(3)) => {}
+        _ => assert!(rt; false),
+    }
+    match statements.get(15).expect(&rt, "print") {
+        Statement::PrintText(Readable::Quoted(2)) => {}
+        _ => assert!(rt; false),
+    }
+    Ok(())
+}
+
 /// The scripts of the worked cases of the heap in raw words.
 #[test]
 fn scripts_of_worked_cases(rt: HostRuntime) {
@@ -210,8 +388,8 @@ fn lines_that_fit_nowhere(rt: HostRuntime) -> Result<(), Fail> {
         grammar(3)
     );
     assert_eq!(rt;
-        fault_of(alloc, b"proc main\nptr p\nptr x\nstore p x 1\nend"),
-        grammar(4)
+        fault_of(alloc, b"proc main\nptr p\nstore p \"x\" 1\nend"),
+        grammar(3)
     );
     assert_eq!(rt; fault_of(alloc, b"proc main\nstore 1 0 1\nend"), grammar(2));
     assert_eq!(rt;
@@ -223,11 +401,35 @@ fn lines_that_fit_nowhere(rt: HostRuntime) -> Result<(), Fail> {
         grammar(3)
     );
     assert_eq!(rt; fault_of(alloc, b"compress\nproc main\nend"), grammar(1));
+    // A text has no negative size, and is written nowhere but in what can be changed.
+    assert_eq!(rt;
+        fault_of(alloc, b"proc main\nbuf b 0\nbuf c -1\nend"),
+        grammar(3)
+    );
+    assert_eq!(rt;
+        fault_of(alloc, b"proc main\nbuf b 4\ncopy \"a\" b\nend"),
+        grammar(3)
+    );
+    assert_eq!(rt;
+        fault_of(alloc, b"proc main\nprint 1\nview v\nend"),
+        grammar(3)
+    );
     // It is asked before the names.
     assert_eq!(rt;
         fault_of(alloc, b"proc main\nfree a\nset a\nend"),
         grammar(3)
     );
+    // An `int` is a declaration; what a `set` writes has a name.
+    assert_eq!(rt; fault_of(alloc, b"proc main\nmark\nint x\nend"), grammar(3));
+    assert_eq!(rt;
+        fault_of(alloc, b"proc main\nint x\nset 3 x\nend"),
+        grammar(3)
+    );
+    assert_eq!(rt;
+        fault_of(alloc, b"proc main\nint x\nset x self\nend"),
+        grammar(3)
+    );
+    assert_eq!(rt; fault_of(alloc, b"proc main\nmarkend\nend"), grammar(2));
     Ok(())
 }
 
@@ -270,10 +472,189 @@ fn names_that_break_a_rule(rt: HostRuntime) -> Result<(), Fail> {
         fault_of(alloc, b"proc a\nptr a\nend\nproc main\nptr a\nend"),
         None
     );
+    // Numbers' names are looked up as pointers' are, and share their space.
+    assert_eq!(rt;
+        fault_of(alloc, b"proc main\nptr p\nalloc p x\nend"),
+        Some(ScriptFault::UnknownName { line: 3 })
+    );
+    assert_eq!(rt;
+        fault_of(alloc, b"proc main\nint x\nset x y\nend"),
+        Some(ScriptFault::UnknownName { line: 3 })
+    );
+    assert_eq!(rt;
+        fault_of(alloc, b"proc main\nprint x\nend"),
+        Some(ScriptFault::UnknownName { line: 2 })
+    );
+    assert_eq!(rt;
+        fault_of(alloc, b"proc main\nptr p\nint p\nend"),
+        Some(ScriptFault::DoubleName { line: 3 })
+    );
+    assert_eq!(rt;
+        fault_of(alloc, b"proc main\nbuf b 4\ncopy b \"a\"\nleft v b 1\nend"),
+        Some(ScriptFault::UnknownName { line: 4 })
+    );
+    assert_eq!(rt;
+        fault_of(alloc, b"proc main\nbuf b 4\nview b\nend"),
+        Some(ScriptFault::DoubleName { line: 3 })
+    );
     assert_eq!(rt; fault_of(alloc, b""), Some(ScriptFault::NoMain));
     assert_eq!(rt;
         fault_of(alloc, b"proc Main\nptr main\nend"),
         Some(ScriptFault::NoMain)
+    );
+    Ok(())
+}
+
+fn wrong_kind(line: u32) -> Option<ScriptFault> {
+    Some(ScriptFault::WrongKind { line })
+}
+
+#[test]
+fn operands_of_a_wrong_kind(rt: HostRuntime) -> Result<(), Fail> {
+    let alloc = rt.alloc();
+    let right = [
+        b"set p q".as_slice(),
+        b"set p p",
+        b"set x y",
+        b"set x -3",
+        b"add x x",
+        b"alloc p x",
+        b"realloc p q y",
+        b"store p x y",
+        b"load x p y",
+        b"alloclen y q",
+        b"null q",
+        b"markend x",
+        b"check y",
+        b"checkall x",
+        b"failnext x",
+        b"failevery y",
+        b"print x",
+        b"print p",
+        b"print b",
+        b"print v",
+        b"hnew p x",
+        b"hrealloc p q 3",
+        b"copy b v",
+        b"append p q",
+        b"insert b y p",
+        b"insert p 0 \"a\"",
+        b"deltext b x y",
+        b"setlength p x",
+        b"left v v x",
+        b"right v \"a\" 1",
+        b"mid v p x y",
+        b"getlen x \"\"",
+        b"getlen y v",
+        b"getmax x b",
+        b"getmax x p",
+    ];
+    let wrong = [
+        b"set p x".as_slice(),
+        b"set p 3",
+        b"set x p",
+        b"alloc x 3",
+        b"alloc p q",
+        b"realloc x q 3",
+        b"realloc p x 3",
+        b"realloc p q p",
+        b"free x",
+        b"store x 0 1",
+        b"store p q 1",
+        b"store p 0 q",
+        b"load p q 0",
+        b"load x y 0",
+        b"load x p q",
+        b"alloclen p q",
+        b"alloclen x y",
+        b"null x",
+        b"add p 1",
+        b"add x p",
+        b"markend p",
+        b"check p",
+        b"checkall p",
+        b"failnext p",
+        b"failevery p",
+        b"set b b",
+        b"set v v",
+        b"set b 3",
+        b"set p b",
+        b"set x v",
+        b"free b",
+        b"null v",
+        b"alloc p b",
+        b"hnew b 3",
+        b"hrealloc p b 3",
+        b"copy x b",
+        b"copy v b",
+        b"append b x",
+        b"insert x 0 b",
+        b"insert b b b",
+        b"insert b 0 x",
+        b"deltext v 0 1",
+        b"deltext b 0 v",
+        b"setlength v 1",
+        b"left b b 1",
+        b"left p b 1",
+        b"left v x 1",
+        b"right v b v",
+        b"mid x b 0 1",
+        b"mid v b 0 p",
+        b"getlen b b",
+        b"getlen x y",
+        b"getmax x v",
+        b"getmax x y",
+    ];
+    let before = b"proc main\nptr p\nint x\nptr q\nint y\nbuf b 256\nview v\n";
+    for line in right.iter() {
+        let mut script = repeated(alloc, before, 1)?;
+        script.extend_from_slice(*line)?;
+        script.extend_from_slice(b"\nend\n")?;
+        assert_eq!(rt; fault_of(alloc, &script), None);
+    }
+    for line in wrong.iter() {
+        let mut script = repeated(alloc, before, 1)?;
+        script.extend_from_slice(*line)?;
+        script.extend_from_slice(b"\nend\n")?;
+        assert_eq!(rt; fault_of(alloc, &script), wrong_kind(8));
+    }
+    Ok(())
+}
+
+#[test]
+fn wrong_kinds_among_other_faults(rt: HostRuntime) -> Result<(), Fail> {
+    let alloc = rt.alloc();
+    // The first such line of the whole script, by the locals of its own body.
+    assert_eq!(rt;
+        fault_of(
+            alloc,
+            b"proc a\nint p\nset p 1\nend\nproc main\nptr p\nset p 1\nfree p\nadd p 1\nend"
+        ),
+        wrong_kind(7)
+    );
+    // It is asked behind the names, and before `main` and the limits.
+    assert_eq!(rt;
+        fault_of(alloc, b"proc main\nptr p\nadd p 1\nend\nproc main\nend"),
+        Some(ScriptFault::DoubleName { line: 5 })
+    );
+    assert_eq!(rt;
+        fault_of(alloc, b"proc main\nptr p\nint p\nset p 1\nend"),
+        Some(ScriptFault::DoubleName { line: 3 })
+    );
+    assert_eq!(rt;
+        fault_of(alloc, b"proc main\nptr p\nadd p 1\nfree q\nend"),
+        Some(ScriptFault::UnknownName { line: 4 })
+    );
+    assert_eq!(rt;
+        fault_of(alloc, b"proc a\nptr p\nadd p 1\nend"),
+        wrong_kind(3)
+    );
+    assert_eq!(rt;
+        fault_of(
+            alloc,
+            b"proc main\nptr a23456789012345678901234567890123\nint x\nfree x\nend"
+        ),
+        wrong_kind(4)
     );
     Ok(())
 }
@@ -316,6 +697,28 @@ fn limits(rt: HostRuntime) -> Result<(), Fail> {
     assert_eq!(rt;
         fault_of(alloc, &more),
         Some(ScriptFault::TooMany { line: 68 })
+    );
+
+    // A text may have 256 units, and its line is the first that passes the limit.
+    assert_eq!(rt;
+        fault_of(alloc, b"proc main\nbuf b 256\nbuf c 0\nend"),
+        None
+    );
+    assert_eq!(rt;
+        fault_of(
+            alloc,
+            b"proc main\nbuf b 256\nbuf c 257\nbuf d 999999999\nend"
+        ),
+        Some(ScriptFault::TooMany { line: 3 })
+    );
+    // The kind of such a text is known all the same.
+    assert_eq!(rt;
+        fault_of(alloc, b"proc main\nbuf c 65536\nadd c 1\nend"),
+        wrong_kind(3)
+    );
+    assert_eq!(rt;
+        fault_of(alloc, b"proc main\nbuf c 65536\nprint c\nend"),
+        Some(ScriptFault::TooMany { line: 2 })
     );
 
     // A missing `main` is asked for before the limits.

@@ -1,25 +1,48 @@
-//! The lines of a script with indexes for names and literals.
+//! The lines of a script with what their names and literals stand for.
 
 ghost use Rattle.std.specs.Prelude.{◌≡◌, map, IfOk};
 ghost use Rattle.wb_model.specs.Forms.{renamed, renamed_operand};
-ghost use Rattle.wb_model.specs.Resolved.{name_index, resolved_operand, resolved_operands, resolved_line, resolved};
+ghost use Rattle.wb_model.specs.Names.{place_of};
+ghost use Rattle.wb_model.specs.Resolved.{local_meant, meant_at, name_meant, resolved_operand, resolved_operands, resolved_line, resolved};
 ghost use Rattle.wb_script.specs.Checks.{known_in};
 
 use crate::keys::{letters_of, role_of};
 use crate::names::{Known, add_line, place_of};
 use std::alloc::{AllocError, Global};
 use wb_model::items::Items;
-use wb_model::lines::{Form, Letter, Operand, Role};
+use wb_model::lines::{Form, Kind, Letter, Meant, Operand, Role};
 
-fn name_index(known: &Known, role: Role, letter: Letter, name: &[u8]) -> usize
-    ensures { result ≡ name_index (known_in known.now) role letter name.now }
+fn local_meant(index: usize, kind: Option<Kind>) -> Meant
+    ensures { result ≡ local_meant index kind }
+{
+    match kind {
+        Some(Kind::Pointer) => Meant::Pointer(index),
+        Some(Kind::Number) => Meant::Number(index),
+        Some(Kind::Buffer) => Meant::Buffer(index),
+        Some(Kind::View) => Meant::View(index),
+        None => Meant::Nothing,
+    }
+}
+
+/// What a name stands for that is used among these locals.
+fn used_meant(known: &Known, name: &[u8]) -> Meant
+    ensures { result ≡ meant_at (known_in known.now).kinds (place_of (known_in known.now).locals name.now) }
+{
+    match place_of(&known.locals, name) {
+        Some(index) => local_meant(index, known.kinds.get(index).copied()),
+        None => Meant::Nothing,
+    }
+}
+
+fn name_meant(known: &Known, role: Role, letter: Letter, name: &[u8]) -> Meant
+    ensures { result ≡ name_meant (known_in known.now) role letter name.now }
 {
     match letter {
         Letter::Declared => match role {
-            Role::Procedure => known.procedures.len(),
-            _ => known.locals.len(),
+            Role::Procedure => Meant::Declared(known.procedures.len()),
+            _ => Meant::Declared(known.locals.len()),
         },
-        _ => place_of(&known.locals, name).unwrap_or(0),
+        _ => used_meant(known, name),
     }
 }
 
@@ -28,13 +51,13 @@ fn resolved_operand(
     role: Role,
     letter: Letter,
     operand: &Operand<&[u8]>,
-) -> Operand<usize>
+) -> Operand<Meant>
     ensures { result ≡ resolved_operand (known_in known.now) role letter (renamed_operand (λ n. n.now) operand.now) }
 {
     match operand {
-        Operand::Name(name) => Operand::Name(name_index(known, role, letter, name)),
+        Operand::Name(name) => Operand::Name(name_meant(known, role, letter, name)),
         Operand::Number(number) => Operand::Number(*number),
-        Operand::Literal(_) => Operand::Literal(known.literals.len()),
+        Operand::Literal(_) => Operand::Literal(Meant::Literal(known.literals.len())),
     }
 }
 
@@ -44,7 +67,7 @@ fn resolved_operands(
     role: Role,
     letters: &[Letter],
     operands: &[Operand<&[u8]>],
-) -> Result<Vec<Operand<usize>>, AllocError>
+) -> Result<Vec<Operand<Meant>>, AllocError>
     ensures { IfOk result (λ found. found.items ≡ resolved_operands (known_in known.now) role letters.now (map (renamed_operand (λ n. n.now)) operands.now)) }
 {
     let mut found = Vec::new(alloc);
@@ -57,11 +80,12 @@ fn resolved_operands(
     Ok(found)
 }
 
-fn resolved_line(
+/// A line, by what stands declared before it.
+pub(crate) fn resolved_line(
     alloc: Global,
     known: &Known,
     form: &Form<&[u8]>,
-) -> Result<Form<usize>, AllocError>
+) -> Result<Form<Meant>, AllocError>
     ensures { IfOk result (λ line. line ≡ resolved_line (known_in known.now) (renamed (λ n. n.now) form.now)) }
 {
     match form {
@@ -80,8 +104,8 @@ fn resolved_line(
     }
 }
 
-/// The lines with indexes for names and literals.
-pub(crate) fn resolved(alloc: Global, forms: &[Form<&[u8]>]) -> Result<Vec<Form<usize>>, AllocError>
+/// The lines with what their names and literals stand for.
+pub(crate) fn resolved(alloc: Global, forms: &[Form<&[u8]>]) -> Result<Vec<Form<Meant>>, AllocError>
     ensures { IfOk result (λ found. found.items ≡ resolved (map (renamed (λ n. n.now)) forms.now)) }
 {
     let mut known = Known::nothing(alloc);

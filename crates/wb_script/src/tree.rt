@@ -1,29 +1,30 @@
-//! The tree of a script, from its lines with indexes.
+//! The tree of a script, from its lines with what their names stand for.
 
-ghost use Rattle.std.specs.Prelude.{◌≡◌, ℕ, List, ◌+◌, ◌<◌, ◌≤◌, ◌^◌, [], ◌∷◌, ◌++◌, length, map, is_some, IsTrue, IfOk, IfSome, Some, None, ◌↔◌};
+ghost use Rattle.std.specs.Prelude.{◌≡◌, ℕ, List, ◌+◌, ◌<◌, ◌≤◌, ◌^◌, [], ◌∷◌, ◌++◌, length, map, is_some, false, IsTrue, IfOk, IfSome, Some, None, ◌↔◌};
 ghost use Rattle.std.specs.Option.{option_map};
 ghost use Rattle.std.specs.List.{list_all, flat_map};
-ghost use Rattle.wb_model.specs.declared.lines.Role.TheVariants.{Plain};
+ghost use Rattle.wb_model.specs.declared.lines.Role.TheVariants.{Declaration, Plain};
 ghost use Rattle.wb_model.specs.declared.lines.Form.TheVariants.{Line};
-ghost use Rattle.wb_model.specs.declared.lines.Key.TheVariants.{Print};
+ghost use Rattle.wb_model.specs.declared.lines.Key.TheVariants as key;
+ghost use Rattle.wb_model.specs.declared.lines.Letter.TheVariants as letter;
+ghost use Rattle.wb_model.specs.declared.lines.Meant.TheVariants as meant;
+ghost use Rattle.wb_model.specs.declared.lines.Operand.TheVariants.{Name};
 ghost use Rattle.wb_model.specs.declared.script.Local as model;
-ghost use Rattle.wb_model.specs.declared.script.Local.TheVariants.{OfPointer};
-ghost use Rattle.wb_model.specs.declared.script.Statement.TheViews.{out-Statement};
-ghost use Rattle.wb_model.specs.Keys.{letters_of, role_of};
-ghost use Rattle.wb_model.specs.Sound.{is_local, is_pointer, is_number, is_statement, is_body, is_procedure};
 ghost use Rattle.wb_model.specs.Forms.{role_of_form};
 ghost use Rattle.wb_model.specs.Grammar.{IsGrammatical};
-ghost use Rattle.wb_model.specs.Trees.{counted, body_lines, procedures_lines, pointer_operand, number_operand, statement_line};
-ghost use Rattle.wb_script.specs.Building.{is_held, is_constant, is_printable, operands_fit, fits_inside, fits, TakesLocal, TakesProcedure, counts_in, counts_with, place_in, left_body, left_lines, left_places, building_lines, building_places, building_counts, counts_after, is_sound, AllFit, counts_of};
+ghost use Rattle.wb_model.specs.Keys.{role_of};
+ghost use Rattle.wb_model.specs.Sound.{is_local, is_body, is_procedure};
+ghost use Rattle.wb_model.specs.Trees.{counted, local_line, body_lines, procedures_lines};
+ghost use Rattle.wb_script.specs.declared.nesting.Open.TheVariants.{Statements};
+ghost use Rattle.wb_script.specs.Building.{local_of, letters_fit, operands_fit, declares, is_small, fits_inside, fits, TakesLocal, TakesProcedure, counts_in, counts_with, place_in, left_body, left_lines, left_places, building_lines, building_places, building_counts, counts_after, is_sound, AllFit, counts_of};
 ghost use Rattle.wb_script.specs.Machine.{step, after_line};
 
-use crate::names::{LOCALS, PROCEDURES};
+use crate::names::{LOCALS, PROCEDURES, UNITS};
+use crate::statements::statement_of;
 use std::alloc::{AllocError, Global};
 use wb_model::items::Items;
-use wb_model::lines::{Form, Key, Operand};
-use wb_model::script::{
-    Body, Holder, Local, Number, Pointer, Procedure, Readable, Refusal, Statement,
-};
+use wb_model::lines::{Form, Key, Meant, Operand};
+use wb_model::script::{Body, Local, Procedure, Statement};
 
 /// The procedures that are done, and the body of the one that is open.
 #[derive(Drop)]
@@ -32,144 +33,81 @@ struct Building {
     open: Option<Body>,
 }
 
-/// The pointer that an operand spells, among these locals.
-fn pointer_of(locals: &[Local], operand: &Operand<usize>) -> Option<Pointer>
-    requires few { length locals.now ≤ 32 }
-    requires pointers { IsTrue (list_all is_local locals.now) }
-    ensures operand { IfSome result (λ p. pointer_operand p ≡ Some operand.now) }
-    ensures sound { IfSome result (λ p. IsTrue (is_pointer locals.now p)) }
-    ensures found { is_some result ≡ is_held (length locals.now) operand.now }
-{
-    match operand {
-        Operand::Name(index) => {
-            if *index < locals.len() {
-                Some(Pointer::Held(Holder::Local(*index as u8)))
-            } else {
-                None
-            }
-        }
-        _ => None,
-    }
-}
-
-/// The greatest number that nine digits spell.
-const NINE_DIGITS: u32 = 999_999_999;
-
-fn number_of(operand: &Operand<usize>) -> Option<Number>
-    ensures operand { IfSome result (λ v. number_operand v ≡ Some operand.now) }
-    ensures sound { IfSome result (λ v. IsTrue (is_number v)) }
-    ensures found { is_some result ≡ is_constant operand.now }
-{
-    match operand {
-        Operand::Number(number) => {
-            if number.unsigned_abs() <= NINE_DIGITS {
-                Some(Number::Constant(*number))
-            } else {
-                None
-            }
-        }
-        _ => None,
-    }
-}
-
-fn printed(literals: usize, operand: &Operand<usize>) -> Option<Statement>
-    requires { literals < 2 ^ 32 }
-    ensures line { IfSome result (λ s. statement_line (out-Statement s) ≡ Line Print (operand.now ∷ [])) }
-    ensures sound { IfSome result (λ s. (locals : List model.Local) → IsTrue (is_statement literals locals (out-Statement s))) }
-    ensures found { is_some result ≡ is_printable literals operand.now }
-{
-    match operand {
-        Operand::Literal(index) => {
-            if *index < literals {
-                Some(Statement::PrintText(Readable::Quoted(*index as u32)))
-            } else {
-                None
-            }
-        }
-        _ => Some(Statement::PrintNumber(number_of(operand)?)),
-    }
-}
-
-/// The statement of a line, over so many literals and these locals; none where its operands don't fit.
-fn statement_of(
-    literals: usize,
-    locals: &[Local],
-    key: Key,
-    operands: &[Operand<usize>],
-) -> Option<Statement>
-    requires literals { literals < 2 ^ 32 }
-    requires few { length locals.now ≤ 32 }
-    requires pointers { IsTrue (list_all is_local locals.now) }
-    ensures line { IfSome result (λ s. statement_line (out-Statement s) ≡ Line key operands.now) }
-    ensures sound { IfSome result (λ s. IsTrue (is_statement literals locals.now (out-Statement s))) }
-    ensures found { role_of key ≡ Plain → is_some result ≡ operands_fit literals (length locals.now) (letters_of key) operands.now }
-{
-    match key {
-        Key::Alloc => match operands {
-            [pointer, number] => Some(Statement::Alloc(
-                pointer_of(locals, pointer)?,
-                number_of(number)?,
-                Refusal::GivesNull,
-            )),
-            _ => None,
-        },
-        Key::Free => match operands {
-            [pointer] => Some(Statement::Free(pointer_of(locals, pointer)?)),
-            _ => None,
-        },
-        Key::Store => match operands {
-            [pointer, index, value] => Some(Statement::Store(
-                pointer_of(locals, pointer)?,
-                number_of(index)?,
-                number_of(value)?,
-            )),
-            _ => None,
-        },
-        Key::Print => match operands {
-            [operand] => printed(literals, operand),
-            _ => None,
-        },
-        Key::Heap => match operands {
-            [] => Some(Statement::NoteHeap),
-            _ => None,
-        },
-        Key::Available => match operands {
-            [] => Some(Statement::NoteAvailable),
-            _ => None,
-        },
-        Key::Compress => match operands {
-            [] => Some(Statement::NoteCompress),
-            _ => None,
-        },
-        Key::Proc | Key::Ptr | Key::End => None,
-    }
-}
-
-fn takes_local(body: &Body, operands: &[Operand<usize>]) -> bool
-    ensures { IsTrue result ↔ TakesLocal body.now operands.now }
+/// The local, where a line declares it by its name alone, with this index in its body.
+fn named(index: usize, operands: &[Operand<Meant>], local: Local) -> Option<Local>
+    ensures named { IfSome result (λ l. (l ≡ local) × (operands.now ≡ Name (meant.Declared index) ∷ [])) }
+    ensures found { (literals : ℕ) (locals : List model.Local) → IsTrue (letters_fit literals locals (letter.Declared ∷ []) operands.now) → IsTrue (declares index operands.now) → IsTrue (is_some result) }
 {
     match operands {
-        [Operand::Name(index)] => {
-            body.statements.len() == 0 && *index == body.locals.len() && body.locals.len() < LOCALS
+        [Operand::Name(Meant::Declared(name))] => {
+            if *name == index { Some(local) } else { None }
         }
-        _ => false,
+        _ => None,
     }
 }
 
-fn takes_procedure(procedures: &[Procedure], operands: &[Operand<usize>]) -> bool
+/// The text that a line declares by a name and a size.
+fn sized(index: usize, operands: &[Operand<Meant>]) -> Option<Local>
+    ensures line { IfSome result (λ l. local_line index l ≡ Line key.Buf operands.now) }
+    ensures local { IfSome result (λ l. local_of key.Buf operands.now ≡ Some l) }
+    ensures sound { IfSome result (λ l. IsTrue (is_local l)) }
+    ensures found { (literals : ℕ) (locals : List model.Local) → IsTrue (letters_fit literals locals (letter.Declared ∷ letter.Size ∷ []) operands.now) → IsTrue (declares index operands.now) → IsTrue (is_small operands.now) → IsTrue (is_some result) }
+{
+    match operands {
+        [Operand::Name(Meant::Declared(name)), Operand::Number(max)] => {
+            if *name == index && *max >= 0 && *max <= UNITS {
+                Some(Local::OfBuffer(*max as u16))
+            } else {
+                None
+            }
+        }
+        _ => None,
+    }
+}
+
+/// The local that a line declares, with this index in its body; none where it declares no such.
+fn declared_local(index: usize, key: Key, operands: &[Operand<Meant>]) -> Option<Local>
+    ensures line { IfSome result (λ l. local_line index l ≡ Line key operands.now) }
+    ensures local { IfSome result (λ l. local_of key operands.now ≡ Some l) }
+    ensures sound { IfSome result (λ l. IsTrue (is_local l)) }
+    ensures found { (literals : ℕ) (locals : List model.Local) → role_of key ≡ Declaration → IsTrue (operands_fit literals locals key operands.now) → IsTrue (declares index operands.now) → IsTrue (is_small operands.now) → IsTrue (is_some result) }
+{
+    match key {
+        Key::Ptr => named(index, operands, Local::OfPointer(None)),
+        Key::Int => named(index, operands, Local::OfNumber),
+        Key::View => named(index, operands, Local::OfView),
+        Key::Buf => sized(index, operands),
+        _ => None,
+    }
+}
+
+/// The local that a line declares as the next of a body; none where the body takes no such.
+fn next_local(body: &Body, key: Key, operands: &[Operand<Meant>]) -> Option<Local>
+    ensures takes { IfSome result (TakesLocal body.now key operands.now) }
+    ensures late { (literals : ℕ) → is_some result ≡ false → role_of key ≡ Declaration → IsTrue (fits_inside literals body.now.locals key operands.now) → place_in body.now.statements ≡ Statements }
+{
+    if body.statements.len() > 0 || body.locals.len() >= LOCALS {
+        return None;
+    }
+    declared_local(body.locals.len(), key, operands)
+}
+
+fn takes_procedure(procedures: &[Procedure], operands: &[Operand<Meant>]) -> bool
     ensures { IsTrue result ↔ TakesProcedure procedures.now operands.now }
 {
     match operands {
-        [Operand::Name(index)] => *index == procedures.len() && procedures.len() < PROCEDURES,
+        [Operand::Name(Meant::Declared(index))] => {
+            *index == procedures.len() && procedures.len() < PROCEDURES
+        }
         _ => false,
     }
 }
 
-fn with_local(body: Body) -> Result<Body, AllocError>
-    ensures { IfOk result (λ b. b ≡ record body { locals = body.locals ++ OfPointer None ∷ [] }) }
+fn with_local(body: Body, local: Local) -> Result<Body, AllocError>
+    ensures { IfOk result (λ b. b ≡ record body { locals = body.locals ++ local ∷ [] }) }
 {
     let mut locals = body.locals;
-    locals.push(Local::OfPointer(None))?;
+    locals.push(local)?;
     Ok(Body {
         locals,
         statements: body.statements,
@@ -194,29 +132,65 @@ enum Left {
     Done(Body),
 }
 
+/// Adds a declaration to an open body; none where it has no place there.
+fn declared(
+    literals: usize,
+    body: Body,
+    key: Key,
+    operands: &[Operand<Meant>],
+) -> Result<Option<Left>, AllocError>
+    requires literals { literals < 2 ^ 32 }
+    requires sound { IsTrue (is_body literals body) }
+    requires declares { role_of key ≡ Declaration }
+    ensures lines { IfOk result (λ next. IfSome next (λ left. left_lines left ≡ body_lines body ++ Line key operands.now ∷ [])) }
+    ensures sound { IfOk result (λ next. IfSome next (λ left. IsTrue (is_body literals (left_body left)))) }
+    ensures counts { IfOk result (λ next. IfSome next (λ left. (n : ℕ) → counts_in n (left_body left) ≡ counts_with (role_of key) (local_of key operands.now) (counts_in n body))) }
+    ensures places { IfOk result (λ next. IsTrue (fits_inside literals body.locals key operands.now) → step (place_in body.statements ∷ []) (role_of key) ≡ option_map left_places next) }
+{
+    match next_local(&body, key, operands) {
+        Some(local) => Ok(Some(Left::Inside(with_local(body, local)?))),
+        None => Ok(None),
+    }
+}
+
+/// Adds a statement to an open body; none where its operands don't fit.
+fn stated(
+    literals: usize,
+    body: Body,
+    key: Key,
+    operands: &[Operand<Meant>],
+) -> Result<Option<Left>, AllocError>
+    requires literals { literals < 2 ^ 32 }
+    requires sound { IsTrue (is_body literals body) }
+    requires plain { role_of key ≡ Plain }
+    ensures lines { IfOk result (λ next. IfSome next (λ left. left_lines left ≡ body_lines body ++ Line key operands.now ∷ [])) }
+    ensures sound { IfOk result (λ next. IfSome next (λ left. IsTrue (is_body literals (left_body left)))) }
+    ensures counts { IfOk result (λ next. IfSome next (λ left. (n : ℕ) → counts_in n (left_body left) ≡ counts_with (role_of key) (local_of key operands.now) (counts_in n body))) }
+    ensures places { IfOk result (λ next. IsTrue (fits_inside literals body.locals key operands.now) → step (place_in body.statements ∷ []) (role_of key) ≡ option_map left_places next) }
+{
+    match statement_of(literals, body.locals.as_slice(), key, operands) {
+        Some(statement) => Ok(Some(Left::Inside(with_statement(body, statement)?))),
+        None => Ok(None),
+    }
+}
+
 /// Adds a line to an open body; none where it has no place there.
 fn inside(
     literals: usize,
     body: Body,
     key: Key,
-    operands: &[Operand<usize>],
+    operands: &[Operand<Meant>],
 ) -> Result<Option<Left>, AllocError>
     requires literals { literals < 2 ^ 32 }
     requires sound { IsTrue (is_body literals body) }
     ensures lines { IfOk result (λ next. IfSome next (λ left. left_lines left ≡ body_lines body ++ Line key operands.now ∷ [])) }
     ensures sound { IfOk result (λ next. IfSome next (λ left. IsTrue (is_body literals (left_body left)))) }
-    ensures counts { IfOk result (λ next. IfSome next (λ left. (n : ℕ) → counts_in n (left_body left) ≡ counts_with (role_of key) (counts_in n body))) }
-    ensures places { IfOk result (λ next. IsTrue (fits_inside literals (length body.locals) key operands.now) → step (place_in body.statements ∷ []) (role_of key) ≡ option_map left_places next) }
+    ensures counts { IfOk result (λ next. IfSome next (λ left. (n : ℕ) → counts_in n (left_body left) ≡ counts_with (role_of key) (local_of key operands.now) (counts_in n body))) }
+    ensures places { IfOk result (λ next. IsTrue (fits_inside literals body.locals key operands.now) → step (place_in body.statements ∷ []) (role_of key) ≡ option_map left_places next) }
 {
     match key {
         Key::Proc => Ok(None),
-        Key::Ptr => {
-            if takes_local(&body, operands) {
-                Ok(Some(Left::Inside(with_local(body)?)))
-            } else {
-                Ok(None)
-            }
-        }
+        Key::Ptr | Key::Int | Key::Buf | Key::View => declared(literals, body, key, operands),
         Key::End => {
             if operands.is_empty() {
                 Ok(Some(Left::Done(body)))
@@ -224,10 +198,7 @@ fn inside(
                 Ok(None)
             }
         }
-        _ => match statement_of(literals, body.locals.as_slice(), key, operands) {
-            Some(statement) => Ok(Some(Left::Inside(with_statement(body, statement)?))),
-            None => Ok(None),
-        },
+        _ => stated(literals, body, key, operands),
     }
 }
 
@@ -236,7 +207,7 @@ fn add_line(
     alloc: Global,
     literals: usize,
     building: Building,
-    line: &Form<usize>,
+    line: &Form<Meant>,
 ) -> Result<Option<Building>, AllocError>
     requires literals { literals < 2 ^ 32 }
     requires sound { IsTrue (is_sound literals building) }
@@ -293,7 +264,7 @@ fn add_line(
 pub(crate) fn procedures_of(
     alloc: Global,
     literals: usize,
-    lines: &[Form<usize>],
+    lines: &[Form<Meant>],
 ) -> Result<Vec<Procedure>, AllocError>
     requires literals { literals < 2 ^ 32 }
     requires grammar { IsGrammatical (map role_of_form lines.now) }

@@ -20,7 +20,7 @@ procedures_of-requires-clause-grammar c =
 pub procedures_of-requires-clause-fit : goal.procedures_of-requires-clause-fit
 procedures_of-requires-clause-fit c =
     let is = c.in_ok-literals.ensures ∙ ap (map (λ n. n.now)) c.deref.ensures.value ∙ ap (λ k. k.literals) c.requires.names in
-    rw (c.len.ensures, c.deref-2.ensures.value, c.in_ok-lines.ensures) (fit_tree (map (renamed (λ n. n.now)) c.args.forms.now) c.in_ok-literals.literals is c.requires.typed c.requires.faultless.known c.requires.faultless.within)
+    rw (c.len.ensures, c.deref-2.ensures.value, c.in_ok-lines.ensures) (fit_tree (map (renamed (λ n. n.now)) c.args.forms.now) c.in_ok-literals.literals is c.requires.typed c.requires.faultless.named.right c.requires.faultless.within)
 
 pub overflow_cast-result : goal.overflow_cast-result
 overflow_cast-result c =

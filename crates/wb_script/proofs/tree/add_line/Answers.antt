@@ -12,5 +12,5 @@ returns-in_ok-push-in-Some-Done-clause-lines c =
 pub returns-in_ok-push-in-Some-Done-clause-counts : goal.returns-in_ok-push-in-Some-Done-clause-counts
 returns-in_ok-push-in-Some-Done-clause-counts c =
     let told = rw (c.in-Some.body-is, c.in-Some-Done.is) at c.in_ok-inside-in-Some.ensures.counts in
-    let counted = rw (c.in-Some-Done.field-0-is) at told in
+    let counted = rw (c.in-Some-Done.field-0-is, c.as_slice-in-Some.ensures) at told in
     rw (c.in_ok-push-in-Some-Done.ensures.items, c.in-Some.is, c.in-Line.is) (procedure_counted c.args.building.procedures.items _ ∙ counted (suc (length c.args.building.procedures.items)))

@@ -1,9 +1,5 @@
-use Rattle.std.proofs.Common.{rules}
-use Rattle.wb_script.specs.Building.{TakesLocal}
-use Rattle.wb_script.proofs.TreeLemmas.{local_added}
+use Rattle.wb_script.proofs.TreeLemmas.{plain_otherwise}
 use Rattle.wb_script.proofs.tree.inside.Goals as goal
 
-pub returns-in_ok-with_local-in-Ptr-clause-lines : goal.returns-in_ok-with_local-in-Ptr-clause-lines
-returns-in_ok-with_local-in-Ptr-clause-lines c =
-    let takes : TakesLocal c.args.body c.args.operands.now = search rules in
-    rw c.in-Ptr.is (local_added c.args.body c.in_ok-with_local-in-Ptr.field-0 c.args.operands.now takes c.in_ok-with_local-in-Ptr.ensures)
+pub stated-requires-clause-plain : goal.stated-requires-clause-plain
+stated-requires-clause-plain c = plain_otherwise c.args.key c.in_default.not-Proc c.in_default.not-Ptr c.in_default.not-Int c.in_default.not-Buf c.in_default.not-View c.in_default.not-End
