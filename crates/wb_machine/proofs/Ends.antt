@@ -18,7 +18,7 @@ pub rest_over : (script : Script) (budget : ℕ) (r : Rule) (ending : Ending) (p
     told_by ending (leaks_held h) h ≡ rest_from script budget r ending pieces h
 unfolding rest left_to_do resume
 rest_over script budget r GoesOn [] h e =
-    ap (λ hs. told_by GoesOn (map leak_of (cells_of_all_levels hs)) h) (sym (headers_read script h.heap.row))
+    ap (λ hs. told_by GoesOn (map leak_of (cells_of_all_levels hs)) h) (sym (headers_read script h.debug.heap.row))
 rest_over script budget r GoesOn (p ∷ ps) h e = cc
 rest_over script budget r (Panics p) pieces h e = refl
 rest_over script budget r (Cut why) pieces h e = refl

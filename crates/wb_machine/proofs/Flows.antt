@@ -1,82 +1,181 @@
--- What attempts and statements come to, over what is held.
-use Rattle.std.proofs.Common.{◌≡◌, ℕ, ◌+◌, false, List, length, refl, ap, ◌∙◌, sym, Option, Some, None}
+-- What attempts come to, over what is held.
+use Rattle.std.proofs.Common.{◌≡◌, ℕ, ◌-◌, true, false, List, refl, ap, ◌∙◌, sym, Option, Some, None}
 use Rattle.wb_model.specs.declared.heap.Ptr.{Ptr}
 use Rattle.wb_model.specs.declared.heap.Kind.{Kind}
+use Rattle.wb_model.specs.declared.heap.Kind.TheVariants.{Raw, Object, Text, Cleanup}
+use Rattle.wb_model.specs.declared.heap.Header.{Header}
 use Rattle.wb_model.specs.declared.heap.Rule.{Rule}
 use Rattle.wb_model.specs.declared.heap.Answer.{Answer}
 use Rattle.wb_model.specs.declared.heap.Answer.TheVariants.{Granted, Simulated, Refused}
+use Rattle.wb_model.specs.declared.heap.Gave.{Gave}
+use Rattle.wb_model.specs.declared.heap.Gave.TheVariants as G
 use Rattle.wb_model.specs.declared.script.Script.{Script}
-use Rattle.wb_model.specs.Row.{Cell, place_of, inserted, cell_length}
-use Rattle.wb_model.specs.Rules.{never, Request, answer_to}
-use Rattle.wb_model.specs.Heap.{alloc_request, after_alloc}
-use Rattle.wb_model.specs.Space.{Space, committed_by, space_of, space_below, bound_below, limit_under}
+use Rattle.wb_model.specs.Row.{Cell, inserted, without, pointer_to, cell_length}
+use Rattle.wb_model.specs.Rules.{Request, answer_to}
+use Rattle.wb_model.specs.Heap.{Heap, AfterAnswer, attempt_counted, new_cell, moved, alloc_request, after_alloc, realloc_request, after_realloc, realloc_place}
+use Rattle.wb_model.specs.Row.{place_of}
+use Rattle.wb_model.specs.Space.{space_of, space_below, bound_below, limit_under}
 use Rattle.wb_model.specs.State.{Content, State, Way, Process, stops, is_cut, and_then, set_heap}
 use Rattle.wb_model.specs.declared.run.Why.TheVariants.{Ceiling}
-use Rattle.wb_model.specs.Attempts.{attempt, allocate}
+use Rattle.wb_model.specs.Attempts.{attempt, allocate, resized, reallocate_longer}
 use Rattle.wb_model.specs.Account.{stopped, Settled, settled, on_answer, recorded}
-use Rattle.wb_model.specs.LimitedHeap.{place_in, heap_with, zero_words}
+use Rattle.wb_model.specs.CellRow.{resized_words}
+use Rattle.wb_model.specs.LimitedHeap.{zero_words}
+use Rattle.wb_model.specs.Debug.{number_in, made_by, gave_of, shorter_made}
 use Rattle.wb_model.specs.Spelling.{read_as}
-use Rattle.wb_machine.specs.Held.{Held, field_count, read_row, state_of, account_of, request_for, answer_for, after_answer}
+use Rattle.wb_machine.specs.Held.{Held, field_count, read_cell, read_row, read_heap, state_of, account_of, with_debug}
 use Rattle.wb_machine.specs.Flow.{flow}
-use Rattle.wb_machine.proofs.Rows.{headers_read, read_inserted}
+use Rattle.wb_machine.proofs.Rows.{headers_read, read_inserted, read_without, read_resized}
 
--- the process that follows an attempt
-abbrev pub followed : Script → Held → ℕ → Kind → (Option Ptr → State → Process) → Option Answer → Process
-followed script h len kind go None = stops (is_cut Ceiling) (state_of script h)
-followed script h len kind go (Some Granted) =
-    go (Some (record { place = place_in h.heap len; number = length h.trace + 1 })) (state_of script (after_answer h len kind (Some Granted)))
-followed script h len kind go (Some Simulated) = go None (state_of script (after_answer h len kind (Some Simulated)))
-followed script h len kind go (Some Refused) = go None (state_of script (after_answer h len kind (Some Refused)))
+-- what follows what an attempt gave
+abbrev pub followed : Gave → (Option Ptr → State → Process) → State → Process
+followed (G.Granted p) go st = go (Some p) st
+followed G.Denied go st = go None st
+followed G.Ceiling go st = stops (is_cut Ceiling) st
 
--- the row with a granted cell, read
-granted_row : (script : Script) (h : Held) (len number : ℕ) (kind : Kind) (fresh : Content) → read_as (field_count script) kind (zero_words len) ≡ fresh →
-    inserted (record { head = record { place = place_in h.heap len; length = len; kind = kind; level = 0; number = number }; content = fresh }) (read_row script h.heap.row)
-    ≡ read_row script (heap_with h.heap len kind number 0).row
-granted_row script h len number kind fresh is =
-    sym (read_inserted script _ h.heap.row
-    ∙ ap (λ content. inserted (record { head = record { place = place_in h.heap len; length = len; kind = kind; level = 0; number = number }; content = content }) (read_row script h.heap.row)) is)
+-- what an answer makes of words reads as what it makes of contents
+pub record ReadsAs (script : Script) (after : ℕ → Answer → AfterAnswer (List ℕ)) (read : ℕ → Answer → AfterAnswer Content) : Type 0 where
+  pub heap : (n : ℕ) (a : Answer) → read_heap script (after n a).heap ≡ (read n a).heap
+  pub given : (n : ℕ) (a : Answer) → (after n a).given ≡ (read n a).given
 
--- an allocation comes to what follows its answer
-pub allocated : (r : Rule) (script : Script) (h : Held) (bytes : ℕ) (kind : Kind) (fresh : Content) (go : Option Ptr → State → Process)
-    (k : Way → State → Process) (o : Option Answer) → answer_for r h (cell_length bytes) ≡ o → h.heap.limit ≡ limit_under r →
-    read_as (field_count script) kind (zero_words (cell_length bytes)) ≡ fresh →
-    flow r (and_then (allocate bytes kind fresh (state_of script h) go) k) h
-    ≡ flow r (and_then (followed script h (cell_length bytes) kind go o) k) (after_answer h (cell_length bytes) kind o)
-unfolding flow allocate attempt and_then
-allocated r script h bytes kind fresh go k o answer limit is =
-    ap F same ∙ ap (λ o. G o) answer ∙ by o
+-- an attempt comes to what follows its answer
+pub attempted : (r : Rule) (script : Script) (h : Held) (t : Request) (after : ℕ → Answer → AfterAnswer (List ℕ)) (read : ℕ → Answer → AfterAnswer Content)
+    (go : Option Ptr → State → Process) (k : Way → State → Process) (o : Option Answer) →
+    ReadsAs script after read → answer_to r (number_in h.debug) t ≡ o → limit_under r ≡ limit_under h.debug.rule →
+    flow r (and_then (attempt t read (state_of script h) (state_of script h) go) k) h
+    ≡ flow r (and_then (followed (made_by h.debug t after o).gave go (state_of script (with_debug h (made_by h.debug t after o).debug))) k) (with_debug h (made_by h.debug t after o).debug)
+unfolding flow attempt and_then
+attempted r script h t after read go k o reads answer limit = ap F answer ∙ by o
   where
-    len : ℕ
-    len = cell_length bytes
+    st : State
+    st = state_of script h
 
     n : ℕ
-    n = length h.trace + 1
+    n = number_in h.debug
 
-    space : Space
-    space = space_of r h.heap.shape
+    F : Option Answer → Settled
+    F o = on_answer o (record { end = stopped (is_cut Ceiling); state = st; account = account_of h })
+        (λ w. settled r (space_of r h.debug.shape) (and_then (go (read n w).given (set_heap st (read n w).heap)) k) (recorded (space_of r h.debug.shape) n t w (account_of h)))
 
-    ptr : Ptr
-    ptr = record { place = place_in h.heap len; number = n }
+    held : Answer → Held
+    held w = with_debug h (made_by h.debug t after (Some w)).debug
 
-    F : Request → Settled
-    F t = on_answer (answer_to r n t) (record { end = stopped (is_cut Ceiling); state = state_of script h; account = account_of h })
-        (λ w. settled r space (and_then (go (after_alloc (state_of script h).heap t kind fresh n w).given
-        (set_heap (state_of script h) (after_alloc (state_of script h).heap t kind fresh n w).heap)) k) (recorded space n t w (account_of h)))
+    follows : (w : Answer) (g : Option Ptr) →
+        settled r (space_of r h.debug.shape) (and_then (go g (state_of script (held w))) k) (account_of (held w))
+        ≡ settled r (space_of r h.debug.shape) (and_then (followed (gave_of g) go (state_of script (held w))) k) (account_of (held w))
+    follows w None = refl
+    follows w (Some p) = refl
 
-    G : Option Answer → Settled
-    G o = on_answer o (record { end = stopped (is_cut Ceiling); state = state_of script h; account = account_of h })
-        (λ w. settled r space (and_then (go (after_alloc (state_of script h).heap (request_for h len) kind fresh n w).given
-        (set_heap (state_of script h) (after_alloc (state_of script h).heap (request_for h len) kind fresh n w).heap)) k) (recorded space n (request_for h len) w (account_of h)))
-
-    same : alloc_request (state_of script h).heap bytes ≡ request_for h len
-    same = ap (λ hs. record { length = len; place = place_of hs len; due = false }) (headers_read script h.heap.row)
-
-    by : (o : Option Answer) → G o ≡ flow r (and_then (followed script h len kind go o) k) (after_answer h len kind o)
+    by : (o : Option Answer) → F o
+        ≡ settled r (space_of r (made_by h.debug t after o).debug.shape) (and_then (followed (made_by h.debug t after o).gave go (state_of script (with_debug h (made_by h.debug t after o).debug))) k) (account_of (with_debug h (made_by h.debug t after o).debug))
     by None = refl
-    by (Some Granted) =
-        ap (λ (row : List (Cell Content)). settled r space (and_then (go (Some ptr) (set_heap (state_of script h) (record { row = row; level = 0; setting = never }))) k)
-        (recorded space n (request_for h len) Granted (account_of h))) (granted_row script h len n kind fresh is)
-        ∙ ap (λ b. settled r space (and_then (go (Some ptr) (state_of script (after_answer h len kind (Some Granted)))) k)
-        (record { trace = (after_answer h len kind (Some Granted)).trace; notes = h.notes; committed = committed_by (space_below (bound_below b) h.heap.shape) h.heap.committed (place_in h.heap len + len) })) (sym limit)
-    by (Some Simulated) = refl
-    by (Some Refused) = refl
+    by (Some w) =
+        ap (λ g. settled r (space_of r h.debug.shape) (and_then (go g (set_heap st (read n w).heap)) k) (recorded (space_of r h.debug.shape) n t w (account_of h))) (sym (reads.given n w))
+        ∙ ap (λ x. settled r (space_of r h.debug.shape) (and_then (go (after n w).given (set_heap st x)) k) (recorded (space_of r h.debug.shape) n t w (account_of h))) (sym (reads.heap n w))
+        ∙ ap (λ b. settled r (space_of r h.debug.shape) (and_then (go (after n w).given (state_of script (held w))) k) (recorded (space_below (bound_below b) h.debug.shape) n t w (account_of h))) limit
+        ∙ follows w (after n w).given
+
+-- the cell that a grant inserts
+reads_alloc : (script : Script) (heap : Heap (List ℕ)) (t : Request) (kind : Kind) (fresh : Content) → read_as (field_count script) kind (zero_words t.length) ≡ fresh →
+    ReadsAs script (after_alloc heap t kind (zero_words t.length)) (after_alloc (read_heap script heap) t kind fresh)
+reads_alloc script heap t kind fresh is = record { heap = λ n a. row n a; given = λ n a. same n a }
+  where
+    row : (n : ℕ) (a : Answer) → read_heap script (after_alloc heap t kind (zero_words t.length) n a).heap ≡ (after_alloc (read_heap script heap) t kind fresh n a).heap
+    row n Granted =
+        ap (λ (cells : List (Cell Content)). record (attempt_counted (read_heap script heap)) { row = cells })
+        (read_inserted script (new_cell heap n t kind (zero_words t.length)) heap.row
+        ∙ ap (λ content. inserted (new_cell (read_heap script heap) n t kind content) (read_row script heap.row)) is)
+    row n Simulated = refl
+    row n Refused = refl
+
+    same : (n : ℕ) (a : Answer) → (after_alloc heap t kind (zero_words t.length) n a).given ≡ (after_alloc (read_heap script heap) t kind fresh n a).given
+    same n Granted = refl
+    same n Simulated = refl
+    same n Refused = refl
+
+-- an allocation comes to what follows its answer
+pub allocated : (r : Rule) (script : Script) (h : Held) (bytes : ℕ) (kind : Kind) (fresh : Content) (go : Option Ptr → State → Process) (k : Way → State → Process) (o : Option Answer) →
+    read_as (field_count script) kind (zero_words (cell_length bytes)) ≡ fresh → answer_to r (number_in h.debug) (alloc_request h.debug.heap bytes) ≡ o →
+    limit_under r ≡ limit_under h.debug.rule →
+    let t = alloc_request h.debug.heap bytes in
+    let made = made_by h.debug t (after_alloc h.debug.heap t kind (zero_words t.length)) o in
+    flow r (and_then (allocate bytes kind fresh (state_of script h) go) k) h
+    ≡ flow r (and_then (followed made.gave go (state_of script (with_debug h made.debug))) k) (with_debug h made.debug)
+unfolding allocate
+allocated r script h bytes kind fresh go k o is answer limit =
+    let t = alloc_request h.debug.heap bytes in
+    let st = state_of script h in
+    let same : alloc_request st.heap bytes ≡ t = ap (λ hs. record t { place = place_of hs (cell_length bytes) }) (headers_read script h.debug.heap.row) in
+    ap (λ (t : Request). flow r (and_then (attempt t (after_alloc st.heap t kind fresh) st st go) k) h) same
+    ∙ attempted r script h t (after_alloc h.debug.heap t kind (zero_words t.length)) (after_alloc st.heap t kind fresh) go k o (reads_alloc script h.debug.heap t kind fresh is) answer limit
+
+-- the words of a cell of another length read as what the content becomes
+abbrev pub ReadsResized : Script → Kind → ℕ → List ℕ → Type 0
+ReadsResized script kind bytes ws =
+    read_as (field_count script) kind (resized_words (cell_length bytes) ws) ≡ resized (cell_length bytes - 16) (read_as (field_count script) kind ws)
+
+-- the words of a Raw cell of another length
+pub resized_content : (script : Script) (kind : Kind) (bytes : ℕ) (ws : List ℕ) → kind ≡ Raw →
+    read_as (field_count script) kind (resized_words (cell_length bytes) ws) ≡ resized (cell_length bytes - 16) (read_as (field_count script) kind ws)
+resized_content script Raw bytes ws raw = read_resized (field_count script) (cell_length bytes) ws
+resized_content script (Object class) bytes ws raw = cc
+resized_content script Text bytes ws raw = cc
+resized_content script Cleanup bytes ws raw = cc
+
+-- the row with a cell in the place of another
+replaced : (script : Script) (p : Ptr) (head : Header) (ws : List ℕ) (content : Content) (row : List (Cell (List ℕ))) → read_as (field_count script) head.kind ws ≡ content →
+    read_row script (inserted (record { head = head; content = ws }) (without p row)) ≡ inserted (record { head = head; content = content }) (without p (read_row script row))
+replaced script p head ws content row is =
+    read_inserted script (record { head = head; content = ws }) (without p row)
+    ∙ ap (λ x. inserted (record { head = head; content = x }) (read_row script (without p row))) is
+    ∙ ap (λ (cells : List (Cell Content)). inserted (record { head = head; content = content }) cells) (read_without script p row)
+
+-- the cell that a reallocation makes longer
+reads_longer : (script : Script) (heap : Heap (List ℕ)) (c : Cell (List ℕ)) (bytes : ℕ) (t : Request) → ReadsResized script c.head.kind bytes c.content →
+    ReadsAs script (after_realloc heap t c.head (resized_words (cell_length bytes) c.content))
+    (after_realloc (read_heap script heap) t c.head (resized (cell_length bytes - 16) (read_cell script c).content))
+reads_longer script heap c bytes t reads = record { heap = λ n a. row n a; given = λ n a. same n a }
+  where
+    row : (n : ℕ) (a : Answer) → read_heap script (after_realloc heap t c.head (resized_words (cell_length bytes) c.content) n a).heap
+        ≡ (after_realloc (read_heap script heap) t c.head (resized (cell_length bytes - 16) (read_cell script c).content) n a).heap
+    row n Granted =
+        ap (λ (cells : List (Cell Content)). record (attempt_counted (read_heap script heap)) { row = cells })
+        (replaced script (pointer_to c.head) (moved c.head n t) (resized_words (cell_length bytes) c.content) _ heap.row reads)
+    row n Simulated = refl
+    row n Refused = refl
+
+    same : (n : ℕ) (a : Answer) → (after_realloc heap t c.head (resized_words (cell_length bytes) c.content) n a).given
+        ≡ (after_realloc (read_heap script heap) t c.head (resized (cell_length bytes - 16) (read_cell script c).content) n a).given
+    same n Granted = refl
+    same n Simulated = refl
+    same n Refused = refl
+
+-- a reallocation to a longer cell comes to what follows its answer
+pub made_longer : (r : Rule) (script : Script) (h : Held) (c : Cell (List ℕ)) (bytes : ℕ) (go : Option Ptr → State → Process) (k : Way → State → Process) (o : Option Answer) →
+    ReadsResized script c.head.kind bytes c.content → answer_to r (number_in h.debug) (realloc_request h.debug.heap c.head bytes) ≡ o → limit_under r ≡ limit_under h.debug.rule →
+    let t = realloc_request h.debug.heap c.head bytes in
+    let made = made_by h.debug t (after_realloc h.debug.heap t c.head (resized_words t.length c.content)) o in
+    flow r (and_then (reallocate_longer true (read_cell script c) bytes (state_of script h) (state_of script h) go) k) h
+    ≡ flow r (and_then (followed made.gave go (state_of script (with_debug h made.debug))) k) (with_debug h made.debug)
+unfolding reallocate_longer
+made_longer r script h c bytes go k o reads answer limit =
+    let t = realloc_request h.debug.heap c.head bytes in
+    let st = state_of script h in
+    let content = resized (cell_length bytes - 16) (read_cell script c).content in
+    let same : realloc_request st.heap c.head bytes ≡ t = ap (λ hs. record t { place = realloc_place hs c.head (cell_length bytes) }) (headers_read script h.debug.heap.row) in
+    ap (λ (t : Request). flow r (and_then (attempt t (after_realloc st.heap t c.head content) st st go) k) h) same
+    ∙ attempted r script h t (after_realloc h.debug.heap t c.head (resized_words t.length c.content)) (after_realloc st.heap t c.head content) go k o
+    (reads_longer script h.debug.heap c bytes t reads) answer limit
+
+-- and one to a cell that isn't longer
+pub made_shorter : (r : Rule) (script : Script) (h : Held) (c : Cell (List ℕ)) (bytes : ℕ) (go : Option Ptr → State → Process) (k : Way → State → Process) →
+    ReadsResized script c.head.kind bytes c.content →
+    let made = shorter_made h.debug c bytes in
+    flow r (and_then (reallocate_longer false (read_cell script c) bytes (state_of script h) (state_of script h) go) k) h
+    ≡ flow r (and_then (followed made.gave go (state_of script (with_debug h made.debug))) k) (with_debug h made.debug)
+unfolding reallocate_longer flow
+made_shorter r script h c bytes go k reads =
+    let st = state_of script h in
+    let head = record c.head { length = cell_length bytes } in
+    ap (λ (cells : List (Cell Content)). flow r (and_then (go (Some (pointer_to c.head)) (set_heap st (record st.heap { row = cells }))) k) h)
+    (sym (replaced script (pointer_to c.head) head (resized_words (cell_length bytes) c.content) _ h.debug.heap.row reads))

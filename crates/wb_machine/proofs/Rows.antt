@@ -1,21 +1,22 @@
 -- Reading the words of a row's cells as content goes along with what is done to rows.
-use Rattle.std.proofs.Common.{◌≡◌, ◌≢◌, ℕ, ◌+◌, ◌-◌, ◌*◌, ◌/◌, ◌<◌, ◌≤◌, ◌++◌, ◌^◌, get_or, subst, length-append, zero, suc, ℤ, pos, negsuc, w32, FitsSigned, Bool, true, false, not, List, [], ◌∷◌, length, map, refl, ap, ◌∙◌, sym, arith, cond, All, Some, replicate}
-use Rattle.std.specs.Prelude.{nat_lt, option_map}
-use Rattle.std.specs.Int.{cast_unsigned}
+use Rattle.std.proofs.Common.{◌≡◌, ℕ, ◌+◌, ◌-◌, ◌*◌, ◌/◌, ◌++◌, ◌^◌, zero, suc, ℤ, pos, negsuc, w32, FitsSigned, Bool, true, false, not, List, [], ◌∷◌, length, map, refl, ap, ◌∙◌, sym, arith, cond, Some, take, replicate}
+use Rattle.std.specs.Prelude.{nat_eq, nat_lt, ◌&&◌, option_map}
+use Rattle.std.specs.Int.{cast_unsigned, cast_signed}
 use Rattle.std.proofs.lemmas.Int.{to_z-of_z}
 use Rattle.wb_model.specs.declared.heap.Ptr.{Ptr}
-use Rattle.wb_model.specs.declared.heap.Attempt.{Attempt}
-use Rattle.wb_model.specs.declared.heap.Header.{Header}
 use Rattle.wb_model.specs.declared.heap.Kind.{Kind}
 use Rattle.wb_model.specs.declared.heap.Kind.TheVariants.{Raw}
 use Rattle.wb_model.specs.declared.script.Script.{Script}
 use Rattle.wb_model.specs.Row.{Cell, headers, is_at, cell_at, without, inserted, changed, cell_length}
-use Rattle.wb_model.specs.CellRow.{with_payload}
+use Rattle.wb_model.specs.CellRow.{with_payload, resized_words}
 use Rattle.wb_model.specs.State.{words}
+use Rattle.wb_model.specs.Attempts.{resized}
+use Rattle.wb_model.specs.Heap.{is_cleanup, lower, lowered}
+use Rattle.wb_model.specs.declared.heap.Header.{Header}
 use Rattle.wb_model.specs.Statements.{fresh_words}
 use Rattle.wb_model.specs.Spelling.{signed, read_as}
-use Rattle.wb_model.specs.LimitedHeap.{LimitedHeap, zero_words, heap_with}
-use Rattle.wb_machine.specs.Held.{field_count, read_cell, read_row, AreNumbered}
+use Rattle.wb_model.specs.LimitedHeap.{zero_words}
+use Rattle.wb_machine.specs.Held.{field_count, read_cell, read_row}
 
 pub headers_read : (script : Script) (row : List (Cell (List ℕ))) → headers (read_row script row) ≡ headers row
 headers_read script [] = refl
@@ -82,66 +83,51 @@ read_changed script p ws (d ∷ ds) c e raw = go (is_at p d.head) e (λ e. read_
         ap (λ k. record { head = d.head; content = read_as (field_count script) k ws } ∷ read_row script ds) (ap (λ (x : Cell (List ℕ)). x.head.kind) same ∙ raw)
     go false e rest = ap (λ r. read_cell script d ∷ r) (rest e)
 
+-- the signed number of a word
+pub signed_is : (w : ℕ) → signed w ≡ cast_signed w32 w
+signed_is w = by (nat_lt w (2 ^ 31))
+  where
+    by : (b : Bool) → cond b (pos w) (negsuc (2 ^ 32 - 1 - w)) ≡ cond b (pos w) (negsuc (2 ^ 32 - suc w))
+    by true = refl
+    by false = ap negsuc (omega arith)
+
 -- the word of a number reads as that number
 pub signed_word : (z : ℤ) → FitsSigned w32 z → signed (cast_unsigned w32 z) ≡ z
-signed_word z fits = same (cast_unsigned w32 z) (nat_lt (cast_unsigned w32 z) (2 ^ 31)) ∙ to_z-of_z w32 z fits
+signed_word z fits = signed_is (cast_unsigned w32 z) ∙ to_z-of_z w32 z fits
+
+signed_more : (xs ys : List ℕ) → map signed (xs ++ ys) ≡ map signed xs ++ map signed ys
+signed_more [] ys = refl
+signed_more (x ∷ xs) ys = ap (λ zs. signed x ∷ zs) (signed_more xs ys)
+
+signed_fewer : (n : ℕ) (xs : List ℕ) → map signed (take n xs) ≡ take n (map signed xs)
+signed_fewer zero xs = refl
+signed_fewer (suc n) [] = refl
+signed_fewer (suc n) (x ∷ xs) = ap (λ zs. signed x ∷ zs) (signed_fewer n xs)
+
+signed_as_many : (xs : List ℕ) → length (map signed xs) ≡ length xs
+signed_as_many [] = refl
+signed_as_many (x ∷ xs) = ap suc (signed_as_many xs)
+
+-- the words of a Raw cell of another length
+pub read_resized : (count : ℕ → ℕ) (to : ℕ) (ws : List ℕ) → read_as count Raw (resized_words to ws) ≡ resized (to - 16) (read_as count Raw ws)
+read_resized count to ws =
+    let n : to / 4 - 4 ≡ (to - 16) / 4 = omega arith in
+    let zeros : map signed (replicate (to / 4 - 4 - length ws) 0) ≡ replicate ((to - 16) / 4 - length (map signed ws)) (pos 0) =
+    signed_zeros (to / 4 - 4 - length ws) ∙ ap (λ k. replicate k (pos 0)) (ap (λ k. k - length ws) n ∙ ap (λ k. (to - 16) / 4 - k) (sym (signed_as_many ws))) in
+    ap words (signed_more (take (to / 4 - 4) ws) (replicate (to / 4 - 4 - length ws) 0)
+    ∙ ap (λ zs. zs ++ map signed (replicate (to / 4 - 4 - length ws) 0)) (signed_fewer (to / 4 - 4) ws ∙ ap (λ k. take k (map signed ws)) n)
+    ∙ ap (λ zs. take ((to - 16) / 4) (map signed ws) ++ zs) zeros)
+
+-- the cells of a level one level lower
+pub read_lowered : (script : Script) (level : ℕ) (row : List (Cell (List ℕ))) → read_row script (lowered level row) ≡ lowered level (read_row script row)
+read_lowered script level [] = refl
+read_lowered script level (c ∷ cs) =
+    ap (λ (kind : Kind). record { head = lower level c.head; content = read_as (field_count script) kind c.content } ∷ read_row script (lowered level cs)) (same c.head)
+    ∙ ap (λ r. record { head = lower level c.head; content = (read_cell script c).content } ∷ r) (read_lowered script level cs)
   where
-    same : (w : ℕ) (b : Bool) → cond b (pos w) (negsuc (2 ^ 32 - 1 - w)) ≡ cond b (pos w) (negsuc (2 ^ 32 - suc w))
-    same w true = refl
-    same w false = ap negsuc (omega arith)
-
-pub numbered_more : (row : List (Cell (List ℕ))) (n m : ℕ) → n ≤ m → AreNumbered row n → AreNumbered row m
-numbered_more [] n m le a = tt
-numbered_more (c ∷ cs) n m le a = (omega (arith, a.0, le), numbered_more cs n m le a.1)
-
-pub numbered_inserted : (c : Cell (List ℕ)) (row : List (Cell (List ℕ))) (n : ℕ) → c.head.number ≤ n → AreNumbered row n → AreNumbered (inserted c row) n
-numbered_inserted c [] n le a = (le, tt)
-numbered_inserted c (d ∷ ds) n le a = go (numbered_inserted c ds n le a.1) (nat_lt c.head.place d.head.place)
-  where
-    go : AreNumbered (inserted c ds) n → (b : Bool) → AreNumbered (cond b (c ∷ d ∷ ds) (d ∷ inserted c ds)) n
-    go h true = (le, a)
-    go h false = (a.0, h)
-
-pub numbered_without : (p : Ptr) (row : List (Cell (List ℕ))) (n : ℕ) → AreNumbered row n → AreNumbered (without p row) n
-numbered_without p [] n a = tt
-numbered_without p (c ∷ cs) n a = go (numbered_without p cs n a.1) (not (is_at p c.head))
-  where
-    go : AreNumbered (without p cs) n → (b : Bool) → AreNumbered (cond b (c ∷ without p cs) (without p cs)) n
-    go h true = (a.0, h)
-    go h false = h
-
-pub numbered_changed : (p : Ptr) (ws : List ℕ) (row : List (Cell (List ℕ))) (n : ℕ) → AreNumbered row n → AreNumbered (with_payload p ws row) n
-numbered_changed p ws [] n a = tt
-numbered_changed p ws (c ∷ cs) n a = go (numbered_changed p ws cs n a.1) (is_at p c.head)
-  where
-    go : AreNumbered (with_payload p ws cs) n → (b : Bool) → AreNumbered (cond b (record c { content = ws } ∷ cs) (c ∷ with_payload p ws cs)) n
-    go h true = a
-    go h false = (a.0, h)
-
--- the next attempt's number is no live cell's
-pub numbered_unused : (row : List (Cell (List ℕ))) (n m : ℕ) → AreNumbered row n → m ≡ n + 1 → All (λ h. h.number ≢ m) (headers row)
-numbered_unused [] n m a e = λ k d less is. absurd (omega arith)
-numbered_unused (c ∷ cs) n m a e = λ k d less is. by k d less is (numbered_unused cs n m a.1 e)
-  where
-    by : (k : ℕ) (d : Header) → k < suc (length (headers cs)) → (get_or (c.head ∷ headers cs) k d).number ≡ m → All (λ h. h.number ≢ m) (headers cs) → ⊥
-    by zero d less is rest = absurd (omega (arith, a.0, is, e))
-    by (suc k) d less is rest = rest k d (omega (arith, less)) is
-
--- a heap that is another keeps its numbers
-pub numbered_heap : (h g : LimitedHeap) (n : ℕ) → h ≡ g → AreNumbered g.row n → AreNumbered h.row n
-numbered_heap h g n e a = subst (λ (x : LimitedHeap). AreNumbered x.row n) (sym e) a
-
--- the row after a grant
-pub numbered_granted : (h : LimitedHeap) (trace : List Attempt) (line : Attempt) (trace' : List Attempt) (len number : ℕ) (kind : Kind) (g : LimitedHeap) →
-    g ≡ heap_with h len kind number 0 → number ≡ length trace + 1 → trace' ≡ trace ++ line ∷ [] → AreNumbered h.row (length trace) → AreNumbered g.row (length trace')
-numbered_granted h trace line trace' len number kind g is next more a =
-    let n : length trace' ≡ length trace + 1 = ap length more ∙ length-append trace (line ∷ []) in
-    numbered_heap g (heap_with h len kind number 0) (length trace') is
-    (numbered_inserted _ h.row (length trace') (omega (arith, n, next)) (numbered_more h.row (length trace) (length trace') (omega (arith, n)) a))
-
--- the row after a refusal
-pub numbered_denied : (h : LimitedHeap) (trace : List Attempt) (line : Attempt) (trace' : List Attempt) →
-    trace' ≡ trace ++ line ∷ [] → AreNumbered h.row (length trace) → AreNumbered h.row (length trace')
-numbered_denied h trace line trace' more a =
-    let n : length trace' ≡ length trace + 1 = ap length more ∙ length-append trace (line ∷ []) in
-    numbered_more h.row (length trace) (length trace') (omega (arith, n)) a
+    same : (h : Header) → (lower level h).kind ≡ h.kind
+    same h = by (nat_eq h.level level && not (is_cleanup h.kind))
+      where
+        by : (b : Bool) → (cond b (record h { level = level - 1 }) h).kind ≡ h.kind
+        by true = refl
+        by false = refl

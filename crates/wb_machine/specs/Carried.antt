@@ -1,73 +1,163 @@
 -- What carrying out a statement makes of what is held, and how it ends.
-use Rattle.std.specs.Prelude.{ℕ, ℤ, ◌+◌, List, [], ◌∷◌, ◌++◌, length, if◌then◌else◌, Option, Some, None, slice_get, slice_set, unwrap_or, replicate, sum}
+use Rattle.std.specs.Prelude.{ℕ, ℤ, pos, ◌+◌, ◌+ℤ◌, List, [], ◌∷◌, ◌++◌, if◌then◌else◌, Option, Some, None, slice_index, slice_set, map}
 use Rattle.std.specs.Int.{w32, cast_unsigned}
 use Rattle.wb_model.specs.declared.heap.Ptr.{Ptr}
-use Rattle.wb_model.specs.declared.heap.Rule.{Rule}
 use Rattle.wb_model.specs.declared.heap.Kind.TheVariants.{Raw, Cleanup}
-use Rattle.wb_model.specs.declared.heap.Answer.{Answer}
-use Rattle.wb_model.specs.declared.heap.Answer.TheVariants.{Granted, Simulated, Refused}
+use Rattle.wb_model.specs.declared.heap.Gave.{Gave}
+use Rattle.wb_model.specs.declared.heap.Gave.TheVariants.{Granted, Denied, Ceiling}
+use Rattle.wb_model.specs.declared.heap.Panic.{Panic}
 use Rattle.wb_model.specs.declared.heap.Panic.TheVariants.{User, Workbench}
 use Rattle.wb_model.specs.declared.run.Note.{Note}
-use Rattle.wb_model.specs.declared.run.Note.TheVariants.{Heap, Available, Compress}
-use Rattle.wb_model.specs.declared.run.Why.TheVariants.{Ceiling}
-use Rattle.wb_model.specs.Row.{Cell, headers, cell_at, cell_length, usable_of, total_length}
+use Rattle.wb_model.specs.declared.run.Why.TheVariants as why
+use Rattle.wb_model.specs.declared.script.Holder.TheVariants as H
+use Rattle.wb_model.specs.declared.script.Local.{Local}
+use Rattle.wb_model.specs.declared.script.Pointer.{Pointer}
+use Rattle.wb_model.specs.declared.script.Pointer.TheVariants as P
+use Rattle.wb_model.specs.declared.script.Number.{Number}
+use Rattle.wb_model.specs.declared.script.Number.TheVariants as N
+use Rattle.wb_model.specs.Row.{Cell, cell_at, usable_of}
 use Rattle.wb_model.specs.CellRow.{payload_of}
-use Rattle.wb_model.specs.Space.{longest}
-use Rattle.wb_model.specs.State.{null}
-use Rattle.wb_model.specs.Statements.{is_null, is_raw, index_in}
-use Rattle.wb_model.specs.LimitedHeap.{place_in, heap_without, heap_changed, heap_compressed, reclaimed_from, runs_in}
+use Rattle.wb_model.specs.State.{Value, pointer, number, initial, pointer_in, number_in, null}
+use Rattle.wb_model.specs.Operands.{within}
+use Rattle.wb_model.specs.Statements.{is_null, is_raw, index_in, in_range}
+use Rattle.wb_model.specs.Rules.{Setting}
+use Rattle.wb_model.specs.Heap.{after_mark, after_mark_end, mark_end_refusal}
+use Rattle.wb_model.specs.Spelling.{signed}
+use Rattle.wb_model.specs.Debug.{Made, alloc_made, realloc_made, release_refusal, debug_without, debug_changed, with_setting, debug_compressed, note_of_heap, note_of_available, note_of_compress}
 use Rattle.wb_machine.specs.declared.control.Ending.{Ending}
 use Rattle.wb_machine.specs.declared.control.Ending.TheVariants.{GoesOn, Panics, Cut, NoCleanup}
-use Rattle.wb_machine.specs.Held.{Held, answer_for, after_answer}
+use Rattle.wb_machine.specs.Held.{Held, with_debug, value_in}
 
 pub record Carried : Type 0 where
   pub ending : Ending
   pub held : Held
 
--- a local
-abbrev pub local_in : Held → ℕ → Ptr
-local_in h i = unwrap_or (slice_get h.locals i) null
+-- it goes on
+abbrev pub gone_on : Held → Carried
+gone_on h = record { ending = GoesOn; held = h }
 
-abbrev pub stored : Held → ℕ → Ptr → Held
-stored h i p = record h { locals = slice_set h.locals i p }
+-- it panics, and nothing changed
+abbrev pub panicked : Held → Panic → Carried
+panicked h panic = record { ending = Panics panic; held = h }
 
--- a local gets what an attempt for a cell of this length gave
-abbrev pub attempt_carried : Held → ℕ → ℕ → Option Answer → Carried
-attempt_carried h i len None = record { ending = Cut Ceiling; held = h }
-attempt_carried h i len (Some Granted) = record {
-  ending = GoesOn;
-  held = stored (after_answer h len Raw (Some Granted)) i (record { place = place_in h.heap len; number = length h.trace + 1 });
-}
-attempt_carried h i len (Some Simulated) = record { ending = GoesOn; held = stored (after_answer h len Raw (Some Simulated)) i null }
-attempt_carried h i len (Some Refused) = record { ending = GoesOn; held = stored (after_answer h len Raw (Some Refused)) i null }
+-- it panics with a refusal, or goes on where there is none
+abbrev pub unless_refused : Held → Option Panic → Held → Carried
+unless_refused h (Some panic) after = panicked h panic
+unless_refused h None after = gone_on after
+
+-- the pointer of an operand
+abbrev pub pointer_read : Held → Pointer → Ptr
+pointer_read h (P.Held (H.Local i)) = pointer_in (value_in h.locals i)
+pointer_read h _ = null
+
+-- the number of an operand
+abbrev pub number_read : Held → Number → ℤ
+number_read h (N.Constant z) = z
+number_read h (N.Variable i) = number_in (value_in h.locals i)
+
+-- a local gets a value
+abbrev pub stored : Held → ℕ → Value → Held
+stored h i v = record h { locals = slice_set h.locals i v }
+
+-- a pointer operand gets a pointer
+abbrev pub pointer_stored : Held → Pointer → Ptr → Held
+pointer_stored h (P.Held (H.Local i)) q = stored h i (pointer q)
+pointer_stored h _ q = h
+
+-- a target gets what an attempt gave, or null
+abbrev pub given_carried : Held → Pointer → Gave → Carried
+given_carried h p (Granted q) = gone_on (pointer_stored h p q)
+given_carried h p Denied = gone_on (pointer_stored h p null)
+given_carried h p Ceiling = record { ending = Cut why.Ceiling; held = h }
+
+-- the same once the heap made of a call what it makes
+abbrev pub made_carried : Held → Pointer → Made → Carried
+made_carried h p made = given_carried (with_debug h made.debug) p made.gave
 
 -- an allocation of so many bytes, or of a number that is out of its range
-abbrev pub alloc_carried : Rule → Held → ℕ → Option ℕ → Carried
-alloc_carried rule h i None = record { ending = Panics (Workbench 9); held = h }
-alloc_carried rule h i (Some bytes) = attempt_carried h i (cell_length bytes) (answer_for rule h (cell_length bytes))
+abbrev pub alloc_within : Held → Pointer → Option ℕ → Carried
+alloc_within h p None = panicked h (Workbench 9)
+alloc_within h p (Some bytes) = made_carried h p (alloc_made h.debug bytes Raw)
 
-abbrev pub free_found : Held → Ptr → Option (Cell (List ℕ)) → Carried
-free_found h p None = record { ending = Panics (User 42); held = h }
-free_found h p (Some c) = record { ending = GoesOn; held = record h { heap = heap_without h.heap p } }
+abbrev pub alloc_carried : Held → Pointer → ℤ → Carried
+alloc_carried h p z = alloc_within h p (within 1048576 z)
+
+-- a reallocation of a cell to so many bytes, or to a number that is out of its range
+abbrev pub realloc_within : Held → Pointer → Cell (List ℕ) → Option ℕ → Carried
+realloc_within h p c None = panicked h (Workbench 9)
+realloc_within h p c (Some bytes) = made_carried h p (realloc_made h.debug c bytes)
+
+abbrev pub realloc_found : Held → Pointer → ℤ → Option (Cell (List ℕ)) → Carried
+realloc_found h p z None = panicked h (User 42)
+realloc_found h p z (Some c) = if is_raw c.head.kind then realloc_within h p c (within 1048576 z) else panicked h (Workbench 2)
+
+-- a reallocation; of null it is an allocation
+abbrev pub realloc_carried : Held → Pointer → Ptr → ℤ → Carried
+realloc_carried h p q z = if is_null q then alloc_carried h p z else realloc_found h p z (cell_at q h.debug.heap.row)
 
 -- a release
 abbrev pub free_carried : Held → Ptr → Carried
-free_carried h p = if is_null p then record { ending = GoesOn; held = h } else free_found h p (cell_at p h.heap.row)
+free_carried h p = unless_refused h (release_refusal h.debug p) (with_debug h (debug_without h.debug p))
 
 -- a word of a payload gets another
 abbrev pub word_stored : Held → Ptr → Option ℕ → ℕ → Carried
-word_stored h p None word = record { ending = Panics (Workbench 9); held = h }
-word_stored h p (Some k) word =
-    record { ending = GoesOn; held = record h { heap = heap_changed h.heap p (slice_set (payload_of p h.heap.row) k word) } }
+word_stored h p None word = panicked h (Workbench 9)
+word_stored h p (Some k) word = gone_on (with_debug h (debug_changed h.debug p (slice_set (payload_of p h.debug.heap.row) k word)))
 
 abbrev pub store_found : Held → Ptr → ℤ → ℕ → Option (Cell (List ℕ)) → Carried
-store_found h p index word None = record { ending = Panics (Workbench 1); held = h }
+store_found h p index word None = panicked h (Workbench 1)
 store_found h p index word (Some c) =
-    if is_raw c.head.kind then word_stored h p (index_in (usable_of c.head) index) word else record { ending = Panics (Workbench 2); held = h }
+    if is_raw c.head.kind then word_stored h p (index_in (usable_of c.head) index) word else panicked h (Workbench 2)
 
 -- a number stored, as its word in two's complement
 abbrev pub store_carried : Held → Ptr → ℤ → ℤ → Carried
-store_carried h p index value = store_found h p index (cast_unsigned w32 value) (cell_at p h.heap.row)
+store_carried h p index value = store_found h p index (cast_unsigned w32 value) (cell_at p h.debug.heap.row)
+
+-- a number local gets the usable bytes of a cell
+abbrev pub usable_found : Held → ℕ → Option (Cell (List ℕ)) → Carried
+usable_found h x None = panicked h (User 42)
+usable_found h x (Some c) = gone_on (stored h x (number (pos (usable_of c.head))))
+
+abbrev pub usable_carried : Held → ℕ → Ptr → Carried
+usable_carried h x p = usable_found h x (cell_at p h.debug.heap.row)
+
+-- a number local gets a word of a payload, as a signed number
+abbrev pub word_loaded : Held → ℕ → Ptr → Option ℕ → Carried
+word_loaded h x p None = panicked h (Workbench 9)
+word_loaded h x p (Some k) = gone_on (stored h x (number (signed (slice_index (payload_of p h.debug.heap.row) k))))
+
+abbrev pub load_found : Held → ℕ → Ptr → ℤ → Option (Cell (List ℕ)) → Carried
+load_found h x p index None = panicked h (Workbench 1)
+load_found h x p index (Some c) = if is_raw c.head.kind then word_loaded h x p (index_in (usable_of c.head) index) else panicked h (Workbench 2)
+
+abbrev pub load_carried : Held → ℕ → Ptr → ℤ → Carried
+load_carried h x p index = load_found h x p index (cell_at p h.debug.heap.row)
+
+-- a number that is added to a number local
+abbrev pub sum_stored : Held → ℕ → ℤ → Carried
+sum_stored h x z = if in_range z then gone_on (stored h x (number z)) else panicked h (Workbench 9)
+
+abbrev pub add_carried : Held → ℕ → ℤ → Carried
+add_carried h x z = sum_stored h x (number_in (value_in h.locals x) +ℤ z)
+
+-- one level deeper
+abbrev pub marked : Held → Held
+marked h = with_debug h (record h.debug { heap = after_mark h.debug.heap })
+
+-- the end of a mark that expects so many cells
+abbrev pub mark_end_within : Held → Option ℕ → Carried
+mark_end_within h None = panicked h (Workbench 9)
+mark_end_within h (Some n) = unless_refused h (mark_end_refusal h.debug.heap n) (with_debug h (record h.debug { heap = after_mark_end h.debug.heap }))
+
+-- a check that expects so many cells, with what refuses them
+abbrev pub check_within : Held → (ℕ → Option Panic) → Option ℕ → Carried
+check_within h refusal None = panicked h (Workbench 9)
+check_within h refusal (Some n) = unless_refused h (refusal n) h
+
+-- a setting of a rate
+abbrev pub set_within : Held → (ℕ → Setting) → Option ℕ → Carried
+set_within h setting None = panicked h (Workbench 9)
+set_within h setting (Some n) = gone_on (with_debug h (with_setting h.debug (setting n)))
 
 -- one more note
 abbrev pub with_note : Held → Note → Held
@@ -75,41 +165,41 @@ with_note h note = record h { notes = h.notes ++ note ∷ [] }
 
 -- a note of the live cells
 abbrev pub heap_noted : Held → Held
-heap_noted h = with_note h (Heap (length h.heap.row) (total_length (headers h.heap.row)) h.heap.committed)
+heap_noted h = with_note h (note_of_heap h.debug)
 
 -- a note of the free bytes
 abbrev pub available_noted : Held → Held
-available_noted h = with_note h (Available (sum (runs_in h.heap)) (longest (runs_in h.heap)))
+available_noted h = with_note h (note_of_available h.debug)
 
 -- a compression, with a note of what it reclaimed
 abbrev pub compress_noted : Held → Held
-compress_noted h = with_note (record h { heap = heap_compressed h.heap }) (Compress (reclaimed_from h.heap))
+compress_noted h = with_note (with_debug h (debug_compressed h.debug)) (note_of_compress h.debug)
 
 -- a printed line
-abbrev pub print_carried : Held → List ℕ → Carried
-print_carried h line = record { ending = GoesOn; held = record h { lines = h.lines ++ line ∷ [] } }
+abbrev pub line_printed : Held → List ℕ → Held
+line_printed h line = record h { lines = h.lines ++ line ∷ [] }
 
 -- one step more
 abbrev pub stepped : Held → Held
 stepped h = record h { steps = h.steps + 1 }
 
--- `main` begins, with so many locals
-abbrev pub entered : Held → Ptr → ℕ → Held
-entered h cell count = record h { cleanup = cell; locals = replicate count null }
+-- `main` begins with these locals
+abbrev pub entered : Held → Ptr → List Local → Held
+entered h cell locals = record h { cleanup = cell; locals = map initial locals }
 
--- the length of the cleanup stack's cell at first
-abbrev pub first_length : ℕ
-first_length = 144
+-- the bytes of the cleanup stack's cell at first
+abbrev pub first_bytes : ℕ
+first_bytes = 128
 
--- attempt 1, and then `main` begins where it was granted
-abbrev pub begun_by : Held → ℕ → Option Answer → Carried
-begun_by h count None = record { ending = Cut Ceiling; held = h }
-begun_by h count (Some Granted) = record {
-  ending = GoesOn;
-  held = entered (after_answer h first_length Cleanup (Some Granted)) (record { place = place_in h.heap first_length; number = length h.trace + 1 }) count;
-}
-begun_by h count (Some Simulated) = record { ending = NoCleanup; held = after_answer h first_length Cleanup (Some Simulated) }
-begun_by h count (Some Refused) = record { ending = NoCleanup; held = after_answer h first_length Cleanup (Some Refused) }
+-- the first attempt
+abbrev pub first_made : Held → Made
+first_made h = alloc_made h.debug first_bytes Cleanup
 
-abbrev pub begun_carried : Rule → Held → ℕ → Carried
-begun_carried rule h count = begun_by h count (answer_for rule h first_length)
+-- `main` begins where the first attempt was granted
+abbrev pub begun_by : Held → List Local → Gave → Carried
+begun_by h locals (Granted cell) = gone_on (entered h cell locals)
+begun_by h locals Denied = record { ending = NoCleanup; held = h }
+begun_by h locals Ceiling = record { ending = Cut why.Ceiling; held = h }
+
+abbrev pub begun_carried : Held → List Local → Carried
+begun_carried h locals = begun_by (with_debug h (first_made h).debug) locals (first_made h).gave

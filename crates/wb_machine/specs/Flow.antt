@@ -5,11 +5,11 @@ use Rattle.wb_model.specs.declared.run.RunResult.{RunResult}
 use Rattle.wb_model.specs.declared.script.Script.{Script}
 use Rattle.std.specs.List.{list_all}
 use Rattle.wb_model.specs.Sound.{are_statements}
-use Rattle.wb_model.specs.Space.{space_of, limit_under}
+use Rattle.wb_model.specs.Space.{space_of}
 use Rattle.wb_model.specs.State.{State, Way, goes_on, panics, is_cut, no_cleanup, Process, ends, stops, and_then}
-use Rattle.wb_model.specs.Statements.{all, Where}
+use Rattle.wb_model.specs.Statements.{all, Where, Layer, Meaning, statement}
 use Rattle.wb_model.specs.Account.{Settled, settled}
-use Rattle.wb_model.specs.Rest.{Pending, doing, main_catching, Progress, not_begun, going, has_stopped, rest}
+use Rattle.wb_model.specs.Rest.{Fits, Pending, doing, main_catching, Progress, not_begun, going, has_stopped, rest}
 use Rattle.wb_machine.specs.declared.control.Ending.{Ending}
 use Rattle.wb_machine.specs.declared.control.Ending.TheVariants.{GoesOn, Panics, Cut, NoCleanup}
 use Rattle.wb_machine.specs.declared.control.Piece.{Piece}
@@ -79,31 +79,38 @@ progress_of true ending ps st = progress_by ending ps st
 
 -- what a process comes to under a rule, after what is held
 unfoldable pub flow : Rule → Process → Held → Settled
-flow r p h = settled r (space_of r h.heap.shape) p (account_of h)
+flow r p h = settled r (space_of r h.debug.shape) p (account_of h)
 
 -- one process comes to the same as another, whatever follows
 abbrev pub IsSameFlow : Rule → Process → Held → Process → Held → Type 0
 IsSameFlow r p h q g = (k : Way → State → Process) → flow r (and_then p k) h ≡ flow r (and_then q k) g
 
+-- a statement was carried out that ended so and left what is held: under each rule that fits, it comes to what it means
+abbrev pub IsCarriedOut : Script → Layer → Held → Ending → Held → Type 0
+IsCarriedOut script layer h ending g =
+    (r : Rule) → Fits r h.debug.rule (is_stop ending) (length g.debug.trace) → (rec : Meaning) →
+    IsSameFlow r (ended_by ending (state_of script g)) g (statement script rec in_main_frame layer (state_of script h)) h
+
 -- what is left of a run that was begun gives this under a rule
 abbrev pub rest_from : Script → ℕ → Rule → Ending → List Piece → Held → RunResult
 rest_from script budget r ending pieces h =
-    rest script budget h.heap.shape r (progress_by ending (pending_in pieces) (state_of script h)) (account_of h)
+    rest script budget h.debug.shape r (progress_by ending (pending_in pieces) (state_of script h)) (account_of h)
 
--- what no turn changes, and that it makes at most one attempt
+-- what no turn changes, and that it makes at most one attempt and sets at most one mark
 pub record Stays (before after : Held) : Type 0 where
-  pub limit : after.heap.limit ≡ before.heap.limit
-  pub shape : after.heap.shape ≡ before.heap.shape
-  pub fewer : length before.trace ≤ length after.trace
-  pub more : length after.trace ≤ length before.trace + 1
+  pub rule : after.debug.rule ≡ before.debug.rule
+  pub shape : after.debug.shape ≡ before.debug.shape
+  pub fewer : length before.debug.trace ≤ length after.debug.trace
+  pub more : length after.debug.trace ≤ length before.debug.trace + 1
+  pub deeper : after.debug.heap.level ≤ before.debug.heap.level + 1
 
 -- the same of a run that may not have begun
 abbrev pub rest_at : Script → ℕ → Rule → Bool → Ending → List Piece → Held → RunResult
 rest_at script budget r begun ending pieces h =
-    rest script budget h.heap.shape r (progress_of begun ending (pending_in pieces) (state_of script h)) (account_of h)
+    rest script budget h.debug.shape r (progress_of begun ending (pending_in pieces) (state_of script h)) (account_of h)
 
 -- nothing is done yet, and nothing is to do
-pub record IsFirst (rule : Rule) (ending : Ending) (pieces : List Piece) (h : Held) : Type 0 where
+pub record IsFirst (ending : Ending) (pieces : List Piece) (h : Held) : Type 0 where
   pub goes_on : ending ≡ GoesOn
   pub nothing : pieces ≡ []
-  pub start : h ≡ start_held (limit_under rule) h.heap.shape
+  pub start : h ≡ start_held h.debug.rule h.debug.shape

@@ -1,8 +1,11 @@
 pub mod Carried
+pub mod CarriedTexts
 pub mod Flow
 pub mod Held
 pub mod Inside
-pub mod Plain
 pub mod Seen
+pub mod Slots
+pub mod TextOperands
+pub mod TextRows
 pub mod Told
 pub mod Whole

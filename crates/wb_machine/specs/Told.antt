@@ -1,19 +1,17 @@
 -- What a run that is over tells, of what is held.
-use Rattle.std.specs.Prelude.{List, None, map}
+use Rattle.std.specs.Prelude.{List, None}
 use Rattle.wb_model.specs.declared.run.Leak.{Leak}
 use Rattle.wb_model.specs.declared.run.Outcome.{Outcome}
 use Rattle.wb_model.specs.declared.run.Outcome.TheVariants as outcomes
 use Rattle.wb_model.specs.declared.run.RunResult.{RunResult}
-use Rattle.wb_model.specs.Row.{headers}
-use Rattle.wb_model.specs.Heap.{cells_of_all_levels}
-use Rattle.wb_model.specs.Run.{leak_of}
+use Rattle.wb_model.specs.Debug.{leaks_in}
 use Rattle.wb_machine.specs.declared.control.Ending.{Ending}
 use Rattle.wb_machine.specs.declared.control.Ending.TheVariants.{GoesOn, Panics, Cut, NoCleanup}
 use Rattle.wb_machine.specs.Held.{Held}
 
 -- the live cells but the cleanup stack's, by place
 abbrev pub leaks_held : Held → List Leak
-leaks_held h = map leak_of (cells_of_all_levels (headers h.heap.row))
+leaks_held h = leaks_in h.debug
 
 abbrev pub outcome_by : Ending → List Leak → Outcome
 outcome_by GoesOn leaks = outcomes.Ended None leaks
@@ -22,4 +20,4 @@ outcome_by (Cut why) leaks = outcomes.Cut why
 outcome_by NoCleanup leaks = outcomes.NoCleanup
 
 abbrev pub told_by : Ending → List Leak → Held → RunResult
-told_by ending leaks h = record { outcome = outcome_by ending leaks; trace = h.trace; lines = h.lines; notes = h.notes; steps = h.steps }
+told_by ending leaks h = record { outcome = outcome_by ending leaks; trace = h.debug.trace; lines = h.lines; notes = h.notes; steps = h.steps }

@@ -3,13 +3,11 @@ use Rattle.std.specs.Prelude.{◌≡◌, ◌⊎◌, ◌+◌, ◌≤◌, Bool, tr
 use Rattle.wb_model.specs.declared.heap.Rule.{Rule}
 use Rattle.wb_model.specs.declared.run.RunResult.{RunResult}
 use Rattle.wb_model.specs.Sound.{is_script}
-use Rattle.wb_model.specs.Space.{limit_under}
 use Rattle.wb_model.specs.Run.{run}
 use Rattle.wb_model.specs.Rest.{Fits}
 use Rattle.wb_machine.specs.declared.machine.Machine.TheInside.{Inside}
 use Rattle.wb_machine.specs.Seen.{Seen}
-use Rattle.wb_machine.specs.Held.{main_of}
-use Rattle.wb_machine.specs.Flow.{is_stop, is_over, are_sound, IsReady, IsFirst, rest_at}
+use Rattle.wb_machine.specs.Flow.{is_over, are_sound, IsReady, IsFirst, rest_at}
 use Rattle.wb_machine.specs.Told.{leaks_held}
 
 -- the run has ended
@@ -19,10 +17,10 @@ has_ended m = m.begun && is_over m.control.ending m.control.pieces.items
 abbrev pub seen : Inside → Seen
 seen m = record {
   script = m.script.now;
-  rule = m.rule;
+  rule = m.state.debug.rule;
   budget = m.budget;
-  shape = m.state.heap.shape;
-  attempts = length m.state.trace;
+  shape = m.state.debug.shape;
+  attempts = length m.state.debug.trace;
   steps = m.state.steps;
   begun = m.begun;
   over = has_ended m;
@@ -37,19 +35,19 @@ rest_in r m = rest_at m.script.now m.budget r m.begun m.control.ending m.control
 pub record IsSound (m : Inside) : Type 0 where
   pub script : is_script m.script.now ≡ true
   pub small : m.budget ≤ 1000000
-  pub limit : m.state.heap.limit ≡ limit_under m.rule
   pub within : m.state.steps ≤ m.budget
-  pub counted : length m.state.trace ≤ m.state.steps + 1
-  pub first : m.begun ≡ false → IsFirst m.rule m.control.ending m.control.pieces.items m.state
+  pub counted : length m.state.debug.trace ≤ m.state.steps + 1
+  -- each mark took a step
+  pub level : m.state.debug.heap.level ≤ m.state.steps
+  pub first : m.begun ≡ false → IsFirst m.control.ending m.control.pieces.items m.state
   -- a step is to come, or the run is over
   pub settled : m.begun ≡ true → (is_over m.control.ending m.control.pieces.items ≡ true) ⊎ IsReady m.control.ending m.control.pieces.items
   pub pieces : are_sound m.script.now m.control.pieces.items ≡ true
-  pub locals : m.begun ≡ true → is_stop m.control.ending ≡ false → length m.state.locals ≡ length (main_of m.script.now).locals
   pub leaks : has_ended m ≡ true → m.leaks ≡ leaks_held m.state
 
 -- under each rule that fits, the rest is the run under that rule
 abbrev pub Keeps : Inside → Type 0
-Keeps m = (r : Rule) → Fits r m.rule (has_ended m) (length m.state.trace) → rest_in r m ≡ run m.script.now r m.budget m.state.heap.shape
+Keeps m = (r : Rule) → Fits r m.state.debug.rule (has_ended m) (length m.state.debug.trace) → rest_in r m ≡ run m.script.now r m.budget m.state.debug.shape
 
 -- what each machine keeps, unless it met want of memory
 pub record IsMachine (m : Inside) : Type 0 where

@@ -2,7 +2,6 @@
 
 ghost use Rattle.std.specs.Prelude.{◌≡◌, ◌+◌, ◌^◌, ◌<◌, ◌≤◌, ◌⊎◌, ◌++◌, ◌∷◌, [], ℕ, List, true, false, length, vec_len, min, IsTrue, OnOk};
 ghost use Rattle.wb_model.specs.Sound.{is_script, is_statement};
-ghost use Rattle.wb_model.specs.Space.{limit_under};
 ghost use Rattle.wb_model.specs.Statements.{all};
 ghost use Rattle.wb_model.specs.Rest.{doing, Fits};
 ghost use Rattle.wb_model.specs.Run.{run};
@@ -17,13 +16,13 @@ ghost use Rattle.wb_machine.specs.Flow.{in_main_frame, pending_of, needs_step, i
 
 use crate::state::State;
 use std::alloc::{AllocError, Global};
-use wb_model::heap::{Gave, Kind, Panic, Rule};
+use wb_model::heap::{Gave, Kind, Panic};
 use wb_model::memory::NoMemory;
 use wb_model::run::Why;
 use wb_model::script::{Body, Script, Statement};
 
-/// The length of the cleanup stack's cell at first, in bytes.
-const FIRST_LENGTH: u32 = 144;
+/// How many bytes the cleanup stack's cell is for at first.
+const FIRST_BYTES: u32 = 128;
 
 /// How the piece above the pending ones ended.
 #[derive(Clone, Copy)]
@@ -117,27 +116,22 @@ impl<'a> Control<'a> {
     }
 
     /// The first turn: attempt 1, and `main` begins under its TRAP where it is granted.
-    pub fn begin(
-        &mut self,
-        script: &'a Script,
-        rule: Rule,
-        state: &mut State,
-    ) -> Result<(), NoMemory>
+    pub fn begin(&mut self, script: &'a Script, state: &mut State) -> Result<(), NoMemory>
         requires script { IsTrue (is_script script.now) }
         requires pieces { self.old.pieces.items ≡ [] }
         requires ending { self.old.ending ≡ GoesOn }
-        requires start { state.old ≡ start_held (limit_under rule) state.old.heap.shape }
-        ensures kept { OnOk result ((r : Rule) (budget : ℕ) → Fits r rule (is_stop self.new.ending) (length state.new.trace) →
-            rest_from script.now budget r self.new.ending self.new.pieces.items state.new ≡ run script.now r budget state.old.heap.shape) }
+        requires start { state.old ≡ start_held state.old.debug.rule state.old.debug.shape }
+        ensures kept { OnOk result ((r : Rule) (budget : ℕ) → Fits r state.old.debug.rule (is_stop self.new.ending) (length state.new.debug.trace) →
+            rest_from script.now budget r self.new.ending self.new.pieces.items state.new ≡ run script.now r budget state.old.debug.shape) }
         ensures sound { OnOk result (are_sound script.now self.new.pieces.items ≡ true) }
-        ensures locals { OnOk result (is_stop self.new.ending ≡ false → length state.new.locals ≡ length (main_of script.now).locals) }
         ensures stays { Stays state.old state.new }
+        ensures level { OnOk result (state.new.debug.heap.level ≡ 0) }
         ensures steps { OnOk result (state.new.steps ≡ 0) }
     {
-        match state.attempt(rule, FIRST_LENGTH, Kind::Cleanup)? {
+        match state.attempt(FIRST_BYTES, Kind::Cleanup)? {
             Gave::Granted(cell) => {
                 let main = main_of(script);
-                state.enter(cell, main.locals.len())?;
+                state.enter(cell, main.locals.as_slice())?;
                 self.push(Piece::MainTrap)?;
                 self.push(Piece::Code(main.statements.as_slice()))?;
             }
@@ -151,59 +145,47 @@ impl<'a> Control<'a> {
     fn step_code(
         &mut self,
         script: &'a Script,
-        rule: Rule,
         first: &'a Statement,
         rest: &'a [Statement],
         state: &mut State,
     ) -> Result<(), NoMemory>
         requires going { self.old.ending ≡ GoesOn }
         requires first { IsTrue (is_statement (length script.now.literals) (main_of script.now).locals (out-Statement first.now)) }
-        requires locals { length state.old.locals ≡ length (main_of script.now).locals }
-        requires limit { state.old.heap.limit ≡ limit_under rule }
-        requires number { length state.old.trace + 1 < 2 ^ 32 }
+        requires number { length state.old.debug.trace + 1 < 2 ^ 32 }
+        requires level { state.old.debug.heap.level + 1 < 2 ^ 32 }
         requires steps { state.old.steps + 1 < 2 ^ 32 }
-        ensures kept { OnOk result ((r : Rule) (budget : ℕ) → state.old.steps < budget → Fits r rule (is_stop self.new.ending) (length state.new.trace) →
+        ensures kept { OnOk result ((r : Rule) (budget : ℕ) → state.old.steps < budget → Fits r state.old.debug.rule (is_stop self.new.ending) (length state.new.debug.trace) →
             (p : Piece) → pending_of p ≡ doing in_main_frame (all (first.now ∷ rest.now)) →
             rest_from script.now budget r self.new.ending self.new.pieces.items state.new
             ≡ rest_from script.now budget r GoesOn (self.old.pieces.items ++ p ∷ []) state.old) }
         ensures pieces { OnOk result ((q : Piece) × (pending_of q ≡ doing in_main_frame (all rest.now)) × (self.new.pieces.items ≡ self.old.pieces.items ++ q ∷ [])) }
-        ensures locals { OnOk result (length state.new.locals ≡ length state.old.locals) }
         ensures stays { Stays state.old state.new }
         ensures steps { OnOk result (state.new.steps ≡ state.old.steps + 1) }
     {
         state.tick();
         self.push(Piece::Code(rest))?;
-        self.ending = state.carry_out(script, rule, first)?;
+        self.ending = state.carry_out(script, first)?;
         Ok(())
     }
 }
 
 impl<'a> Control<'a> {
     /// A step, of the piece on top.
-    pub fn step(
-        &mut self,
-        script: &'a Script,
-        rule: Rule,
-        state: &mut State,
-    ) -> Result<(), NoMemory>
+    pub fn step(&mut self, script: &'a Script, state: &mut State) -> Result<(), NoMemory>
         requires ready { IsReady self.old.ending self.old.pieces.items }
         requires sound { are_sound script.now self.old.pieces.items ≡ true }
-        requires locals { length state.old.locals ≡ length (main_of script.now).locals }
-        requires limit { state.old.heap.limit ≡ limit_under rule }
-        requires number { length state.old.trace + 1 < 2 ^ 32 }
+        requires number { length state.old.debug.trace + 1 < 2 ^ 32 }
+        requires level { state.old.debug.heap.level + 1 < 2 ^ 32 }
         requires steps { state.old.steps + 1 < 2 ^ 32 }
-        ensures kept { OnOk result ((r : Rule) (budget : ℕ) → state.old.steps < budget → Fits r rule (is_stop self.new.ending) (length state.new.trace) →
+        ensures kept { OnOk result ((r : Rule) (budget : ℕ) → state.old.steps < budget → Fits r state.old.debug.rule (is_stop self.new.ending) (length state.new.debug.trace) →
             rest_from script.now budget r self.new.ending self.new.pieces.items state.new
             ≡ rest_from script.now budget r self.old.ending self.old.pieces.items state.old) }
         ensures sound { OnOk result (are_sound script.now self.new.pieces.items ≡ true) }
-        ensures locals { OnOk result (length state.new.locals ≡ length state.old.locals) }
         ensures stays { Stays state.old state.new }
         ensures steps { OnOk result (state.new.steps ≡ state.old.steps + 1) }
     {
         match self.pieces.pop() {
-            Some(Piece::Code([first, rest @ ..])) => {
-                self.step_code(script, rule, first, rest, state)
-            }
+            Some(Piece::Code([first, rest @ ..])) => { self.step_code(script, first, rest, state) }
             _ => unreachable!(),
         }
     }
@@ -248,36 +230,35 @@ impl<'a> Control<'a> {
     pub fn turn(
         &mut self,
         script: &'a Script,
-        rule: Rule,
         budget: u32,
         begun: bool,
         state: &mut State,
     ) -> Result<(), NoMemory>
         requires script { IsTrue (is_script script.now) }
-        requires first { begun ≡ false → IsFirst rule self.old.ending self.old.pieces.items state.old }
-        requires later { begun ≡ true → IsReady self.old.ending self.old.pieces.items × (length state.old.locals ≡ length (main_of script.now).locals) }
+        requires first { begun ≡ false → IsFirst self.old.ending self.old.pieces.items state.old }
+        requires later { begun ≡ true → IsReady self.old.ending self.old.pieces.items }
         requires sound { are_sound script.now self.old.pieces.items ≡ true }
-        requires limit { state.old.heap.limit ≡ limit_under rule }
         requires small { budget ≤ 1000000 }
         requires within { state.old.steps ≤ budget }
-        requires counted { length state.old.trace ≤ state.old.steps + 1 }
-        ensures kept { OnOk result ((r : Rule) → Fits r rule (is_over self.new.ending self.new.pieces.items) (length state.new.trace) →
+        requires counted { length state.old.debug.trace ≤ state.old.steps + 1 }
+        requires level { state.old.debug.heap.level ≤ state.old.steps }
+        ensures kept { OnOk result ((r : Rule) → Fits r state.old.debug.rule (is_over self.new.ending self.new.pieces.items) (length state.new.debug.trace) →
             rest_from script.now budget r self.new.ending self.new.pieces.items state.new
             ≡ rest_at script.now budget r begun self.old.ending self.old.pieces.items state.old) }
         ensures settled { OnOk result ((is_over self.new.ending self.new.pieces.items ≡ true) ⊎ IsReady self.new.ending self.new.pieces.items) }
         ensures sound { OnOk result (are_sound script.now self.new.pieces.items ≡ true) }
-        ensures locals { OnOk result (is_stop self.new.ending ≡ false → length state.new.locals ≡ length (main_of script.now).locals) }
         ensures stays { Stays state.old state.new }
         ensures within { OnOk result (state.new.steps ≤ budget) }
-        ensures counted { OnOk result (length state.new.trace ≤ state.new.steps + 1) }
+        ensures counted { OnOk result (length state.new.debug.trace ≤ state.new.steps + 1) }
+        ensures level { OnOk result (state.new.debug.heap.level ≤ state.new.steps) }
         ensures first { OnOk result (begun ≡ false → state.new.steps ≡ 0) }
         ensures later { OnOk result (begun ≡ true → state.new.steps ≡ min (state.old.steps + 1) budget) }
         ensures steps { OnOk result (begun ≡ true → is_over self.new.ending self.new.pieces.items ≡ false → state.new.steps ≡ state.old.steps + 1) }
     {
         if !begun {
-            self.begin(script, rule, state)?;
+            self.begin(script, state)?;
         } else if state.steps() < budget {
-            self.step(script, rule, state)?;
+            self.step(script, state)?;
         } else {
             self.cut();
         }

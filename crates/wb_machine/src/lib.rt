@@ -1,11 +1,22 @@
 //! A machine that runs a script one step at a time, over frames of its own.
 #![tactic(auto)]
 
+mod carry;
+mod cells;
 mod control;
+mod locals;
 pub mod machine;
+mod marks;
+mod numbers;
 mod operands;
 mod print;
-mod rules;
 mod state;
+mod tell;
 #[cfg(test)]
 mod tests;
+mod text_cells;
+mod text_operands;
+mod texts;
+mod views;
+mod windows;
+mod words;

@@ -11,12 +11,12 @@ use crate::control::Control;
 use crate::state::State;
 use std::alloc::Global;
 use std::marker::Model;
+use wb_debug::fault::DebugFault;
 use wb_model::heap::{Rule, Shape};
 use wb_model::items::Items;
 use wb_model::memory::NoMemory;
 use wb_model::run::{Leaks, RunResult};
 use wb_model::script::Script;
-use wb_rheap::fault::HeapFault;
 
 /// Why a run gives no result.
 #[derive(Clone, Copy, Debug, PartialEq, Eq)]
@@ -50,9 +50,7 @@ pub enum Turn {
 /// A run under way.
 #[derive(Drop)]
 pub struct Machine<'a> {
-    alloc: Global,
     script: &'a Script,
-    rule: Rule,
     budget: u32,
     begun: bool,
     control: Control<'a>,
@@ -107,13 +105,11 @@ impl<'a> Machine<'a> {
     {
         let state = match State::new(alloc, rule, shape) {
             Ok(state) => state,
-            Err(HeapFault::BadShape) => return Err(RunFault::BadShape),
-            Err(_) => return Err(NoMemory.into()),
+            Err(DebugFault::BadShape) => return Err(RunFault::BadShape),
+            Err(DebugFault::NoMemory) => return Err(NoMemory.into()),
         };
         Ok(Machine {
-            alloc,
             script,
-            rule,
             budget,
             begun: false,
             control: Control::new(alloc),
@@ -154,19 +150,14 @@ impl<'a> Machine<'a> {
             return Ok(Turn::Ended);
         }
         self.failed = true;
-        self.control.turn(
-            self.script,
-            self.rule,
-            self.budget,
-            self.begun,
-            &mut self.state,
-        )?;
+        self.control
+            .turn(self.script, self.budget, self.begun, &mut self.state)?;
         self.begun = true;
         if !self.control.is_over() {
             self.failed = false;
             return Ok(Turn::GoesOn);
         }
-        self.leaks = self.state.leaks(self.alloc)?;
+        self.leaks = self.state.leaks()?;
         self.failed = false;
         Ok(Turn::Ended)
     }
@@ -179,9 +170,7 @@ impl<'a> Machine<'a> {
         ensures { result ≡ run self.entry.script self.entry.rule self.entry.budget self.entry.shape }
     {
         let Machine {
-            alloc: _,
             script: _,
-            rule: _,
             budget: _,
             begun: _,
             control,

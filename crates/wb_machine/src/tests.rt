@@ -1,9 +1,9 @@
 //! Whole runs of small scripts, with the results that they must have.
 
-ghost use Rattle.std.specs.Prelude.{IsTrue, IfSome, IfOk, None, replicate};
-ghost use Rattle.wb_model.specs.Sound.{are_statements, is_number, is_pointer, is_script, is_statement};
-ghost use Rattle.wb_model.specs.declared.script.Local.TheVariants.{OfPointer};
+ghost use Rattle.std.specs.Prelude.{IsTrue, IfSome, IfOk};
+ghost use Rattle.wb_model.specs.Sound.{are_statements, is_number, is_pointer, is_script, is_statement, is_variable};
 ghost use Rattle.wb_model.specs.declared.script.Statement.TheViews.{out-Statement};
+ghost use Rattle.wb_machine.specs.declared.tests.TheConstants.{LOCALS};
 
 use crate::machine::{Machine, RunFault, Turn, run};
 use std::alloc::{AllocError, Global};
@@ -20,13 +20,38 @@ const SHAPE: Shape = Shape {
     step: 4096,
 };
 
-/// A line of `main`, over three pointers and one literal.
+/// Three pointers and two numbers.
+const LOCALS: [Local; 5] = [
+    Local::OfPointer(None),
+    Local::OfPointer(None),
+    Local::OfPointer(None),
+    Local::OfNumber,
+    Local::OfNumber,
+];
+
+/// A line of `main`, over its locals and one literal.
 #[derive(Clone, Copy)]
 enum Order {
     Alloc(u8, i32),
+    Realloc(u8, u8, i32),
     Free(u8),
+    AllocLen(u8, u8),
     Store(u8, i32, i32),
+    Load(u8, u8, i32),
+    Set(u8, u8),
+    SetNumber(u8, i32),
+    SetNull(u8),
+    Add(u8, i32),
+    AddLocal(u8, u8),
+    Mark,
+    MarkEnd(i32),
+    Check(i32),
+    CheckAll(i32),
+    FailNext(i32),
+    FailEvery(i32),
+    FailNone,
     Number(i32),
+    NumberIn(u8),
     Text,
     Heap,
     Available,
@@ -35,37 +60,111 @@ enum Order {
 
 /// A number of at most nine digits.
 fn constant(number: i32) -> Option<Number>
-    ensures { IfSome result (λ v. IsTrue (is_number v)) }
+    ensures { IfSome result (λ v. IsTrue (is_number LOCALS v)) }
 {
     (-999_999_999 <= number && number <= 999_999_999).then_some(Number::Constant(number))
 }
 
-/// The local with this index, where there is one.
-fn local(index: u8) -> Option<Pointer>
-    ensures { IfSome result (λ p. IsTrue (is_pointer (replicate 3 (OfPointer None)) p)) }
+/// The pointer local with this index, where there is one.
+fn pointer(index: u8) -> Option<Pointer>
+    ensures { IfSome result (λ p. IsTrue (is_pointer LOCALS p)) }
 {
     (index < 3).then_some(Pointer::Held(Holder::Local(index)))
 }
 
+/// The number local with this index, where there is one.
+fn variable(index: u8) -> Option<u8>
+    ensures { IfSome result (λ x. IsTrue (is_variable LOCALS x)) }
+{
+    (index == 3 || index == 4).then_some(index)
+}
+
 /// The statement that a line says, where its operands are in range.
 fn statement(order: Order) -> Option<Statement>
-    ensures { IfSome result (λ s. IsTrue (is_statement 1 (replicate 3 (OfPointer None)) (out-Statement s))) }
+    ensures { IfSome result (λ s. IsTrue (is_statement 1 LOCALS (out-Statement s))) }
 {
     match order {
-        Order::Alloc(index, bytes) => {
-            let target = local(index)?;
+        Order::Alloc(target, bytes) => {
+            let target = pointer(target)?;
             Some(Statement::Alloc(target, constant(bytes)?, Refusal::GivesNull))
         }
-        Order::Free(index) => Some(Statement::Free(local(index)?)),
+        Order::Realloc(target, source, bytes) => {
+            let target = pointer(target)?;
+            let source = pointer(source)?;
+            let bytes = constant(bytes)?;
+            Some(Statement::Realloc(target, source, bytes, Refusal::GivesNull))
+        }
+        Order::Free(index) => Some(Statement::Free(pointer(index)?)),
+        Order::AllocLen(local, index) => {
+            let local = variable(local)?;
+            Some(Statement::AllocLen(local, pointer(index)?))
+        }
         Order::Store(index, word, value) => {
-            let target = local(index)?;
+            let target = pointer(index)?;
             Some(Statement::Store(target, constant(word)?, constant(value)?))
         }
+        Order::Load(local, index, word) => {
+            let local = variable(local)?;
+            Some(Statement::Load(local, pointer(index)?, constant(word)?))
+        }
+        _ => setting(order),
+    }
+}
+
+/// The same of the lines that set locals.
+fn setting(order: Order) -> Option<Statement>
+    ensures { IfSome result (λ s. IsTrue (is_statement 1 LOCALS (out-Statement s))) }
+{
+    match order {
+        Order::Set(target, source) => {
+            let target = pointer(target)?;
+            Some(Statement::Set(target, pointer(source)?))
+        }
+        Order::SetNumber(local, value) => {
+            let local = variable(local)?;
+            Some(Statement::SetNumber(local, constant(value)?))
+        }
+        Order::SetNull(target) => Some(Statement::SetNull(pointer(target)?)),
+        Order::Add(local, value) => {
+            let local = variable(local)?;
+            Some(Statement::Add(local, constant(value)?))
+        }
+        Order::AddLocal(local, value) => {
+            let local = variable(local)?;
+            Some(Statement::Add(local, Number::Variable(variable(value)?)))
+        }
+        _ => counting(order),
+    }
+}
+
+/// The same of marks, checks and failures.
+fn counting(order: Order) -> Option<Statement>
+    ensures { IfSome result (λ s. IsTrue (is_statement 1 LOCALS (out-Statement s))) }
+{
+    match order {
+        Order::Mark => Some(Statement::Mark),
+        Order::MarkEnd(count) => Some(Statement::MarkEnd(constant(count)?)),
+        Order::Check(count) => Some(Statement::Check(constant(count)?)),
+        Order::CheckAll(count) => Some(Statement::CheckAll(constant(count)?)),
+        Order::FailNext(rate) => Some(Statement::FailNext(constant(rate)?)),
+        Order::FailEvery(rate) => Some(Statement::FailEvery(constant(rate)?)),
+        Order::FailNone => Some(Statement::FailNone),
+        _ => telling(order),
+    }
+}
+
+/// The same of prints and notes.
+fn telling(order: Order) -> Option<Statement>
+    ensures { IfSome result (λ s. IsTrue (is_statement 1 LOCALS (out-Statement s))) }
+{
+    match order {
         Order::Number(number) => Some(Statement::PrintNumber(constant(number)?)),
+        Order::NumberIn(local) => Some(Statement::PrintNumber(Number::Variable(variable(local)?))),
         Order::Text => Some(Statement::PrintText(Readable::Quoted(0))),
         Order::Heap => Some(Statement::NoteHeap),
         Order::Available => Some(Statement::NoteAvailable),
         Order::Compress => Some(Statement::NoteCompress),
+        _ => None,
     }
 }
 
@@ -86,7 +185,7 @@ impl From<AllocError> for FixtureFault {
 
 /// The statements that lines say.
 fn statements(alloc: Global, orders: &[Order]) -> Result<Items<Statement>, FixtureFault>
-    ensures { IfOk result (λ ss. IsTrue (are_statements 1 (replicate 3 (OfPointer None)) ss)) }
+    ensures { IfOk result (λ ss. IsTrue (are_statements 1 LOCALS ss)) }
 {
     let mut statements = Items::new(alloc);
     for order in orders {
@@ -106,7 +205,7 @@ fn script(alloc: Global, orders: &[Order]) -> Result<Script, FixtureFault>
     procedures.push(Procedure {
         parameters: Items::new(alloc),
         body: Body {
-            locals: Items::from_vec(Vec::from_slice(alloc, &[Local::OfPointer(None); 3])?),
+            locals: Items::from_vec(Vec::from_slice(alloc, &LOCALS)?),
             statements: statements(alloc, orders)?,
         },
     })?;
@@ -299,6 +398,158 @@ fn stores_that_stop_a_run(rt: HostRuntime) -> Result<(), Fail> {
         let script = script(rt.alloc(), orders)?;
         let told = run(rt.alloc(), &script, Rule::Unlimited, 9, SHAPE)?;
         assert_eq!(rt; end_of(&told.outcome), *outcome);
+        assert_eq!(rt; told.steps, *steps);
+    }
+    Ok(())
+}
+
+#[test]
+fn numbers_that_are_set_and_added(rt: HostRuntime) -> Result<(), Fail> {
+    let orders = [
+        Order::SetNumber(3, 5),
+        Order::Add(3, -7),
+        Order::AddLocal(3, 3),
+        Order::NumberIn(3),
+        Order::Alloc(0, 20),
+        Order::Store(0, 1, -9),
+        Order::Load(4, 0, 1),
+        Order::NumberIn(4),
+        Order::AllocLen(4, 0),
+        Order::NumberIn(4),
+        Order::Set(1, 0),
+        Order::SetNull(0),
+        Order::Free(0),
+        Order::Free(1),
+    ];
+    let script = script(rt.alloc(), &orders)?;
+    let told = run(rt.alloc(), &script, Rule::Unlimited, 20, SHAPE)?;
+    let lines = told.lines.as_slice();
+    assert_eq!(rt; lines.len(), 3);
+    assert_eq!(rt; lines[0].as_slice(), b"-4".as_slice());
+    assert_eq!(rt; lines[1].as_slice(), b"-9".as_slice());
+    assert_eq!(rt; lines[2].as_slice(), b"32".as_slice());
+    assert_eq!(rt; end_of(&told.outcome), End::Plainly(0));
+    assert_eq!(rt; told.steps, 14);
+    Ok(())
+}
+
+#[test]
+fn cells_that_are_reallocated(rt: HostRuntime) -> Result<(), Fail> {
+    let orders = [
+        Order::Alloc(0, 16),
+        Order::Store(0, 0, 5),
+        Order::Realloc(1, 0, 100),
+        Order::Load(3, 0, 0),
+        Order::NumberIn(3),
+        Order::Alloc(2, 16),
+        Order::Realloc(1, 1, 200),
+        Order::Realloc(1, 1, 16),
+        Order::Load(3, 1, 0),
+        Order::NumberIn(3),
+        Order::SetNull(0),
+        Order::Realloc(0, 0, 16),
+        Order::FailNext(1),
+        Order::Realloc(0, 1, 100),
+        Order::Realloc(0, 0, 16),
+        Order::CheckAll(4),
+    ];
+    let script = script(rt.alloc(), &orders)?;
+    let told = run(rt.alloc(), &script, Rule::Unlimited, 20, SHAPE)?;
+    let trace = [
+        attempt(1, 144, 0, Answer::Granted),
+        attempt(2, 32, 144, Answer::Granted),
+        attempt(3, 128, 144, Answer::Granted),
+        attempt(4, 32, 272, Answer::Granted),
+        attempt(5, 224, 304, Answer::Granted),
+        attempt(6, 32, 144, Answer::Granted),
+        attempt(7, 128, 304, Answer::Simulated),
+        attempt(8, 32, 176, Answer::Granted),
+    ];
+    assert_eq!(rt; told.trace.as_slice(), trace.as_slice());
+    let lines = told.lines.as_slice();
+    assert_eq!(rt; lines.len(), 2);
+    assert_eq!(rt; lines[0].as_slice(), b"5".as_slice());
+    assert_eq!(rt; lines[1].as_slice(), b"5".as_slice());
+    assert_eq!(rt; end_of(&told.outcome), End::Plainly(4));
+    Ok(())
+}
+
+#[test]
+fn marks_and_failures(rt: HostRuntime) -> Result<(), Fail> {
+    let orders = [
+        Order::Alloc(0, 16),
+        Order::Mark,
+        Order::Alloc(1, 16),
+        Order::Check(1),
+        Order::CheckAll(2),
+        Order::MarkEnd(1),
+        Order::Check(2),
+        Order::FailEvery(2),
+        Order::Alloc(2, 16),
+        Order::Alloc(2, 16),
+        Order::FailNext(2),
+        Order::FailNone,
+        Order::Alloc(2, 16),
+        Order::Alloc(2, 16),
+    ];
+    let script = script(rt.alloc(), &orders)?;
+    let told = run(rt.alloc(), &script, Rule::Unlimited, 20, SHAPE)?;
+    let trace = [
+        attempt(1, 144, 0, Answer::Granted),
+        attempt(2, 32, 144, Answer::Granted),
+        attempt(3, 32, 176, Answer::Granted),
+        attempt(4, 32, 208, Answer::Granted),
+        attempt(5, 32, 240, Answer::Simulated),
+        attempt(6, 32, 240, Answer::Granted),
+        attempt(7, 32, 272, Answer::Granted),
+    ];
+    assert_eq!(rt; told.trace.as_slice(), trace.as_slice());
+    assert_eq!(rt; end_of(&told.outcome), End::Plainly(5));
+    assert_eq!(rt; told.steps, 14);
+    Ok(())
+}
+
+#[test]
+fn numbers_that_stop_a_run(rt: HostRuntime) -> Result<(), Fail> {
+    let get = Order::Alloc(0, 16);
+    let most = Order::Add(3, 999_999_999);
+    let range = Panic::Workbench(9);
+    let cases: [(&[Order], Panic, u32); 17] = [
+        (&[most, most, most], range, 3),
+        (&[get, Order::Load(3, 0, 4)], range, 2),
+        (&[get, Order::Load(3, 0, -1)], range, 2),
+        (&[Order::Load(3, 0, 0)], Panic::Workbench(1), 1),
+        (&[Order::AllocLen(3, 0)], Panic::User(42), 1),
+        (
+            &[
+                get,
+                Order::Set(1, 0),
+                Order::Free(0),
+                Order::Realloc(0, 1, 9),
+            ],
+            Panic::User(42),
+            4,
+        ),
+        (&[get, Order::Realloc(0, 0, -1)], range, 2),
+        (&[Order::Realloc(0, 0, 1_048_577)], range, 1),
+        (&[Order::MarkEnd(-1)], range, 1),
+        (&[Order::MarkEnd(0)], Panic::Workbench(6), 1),
+        (&[get, Order::Mark, Order::MarkEnd(1)], Panic::Alloc(0), 3),
+        (&[get, Order::Check(0)], Panic::Alloc(144), 2),
+        (&[Order::Check(-1)], range, 1),
+        (
+            &[get, Order::Mark, Order::CheckAll(2)],
+            Panic::Alloc(144),
+            3,
+        ),
+        (&[Order::CheckAll(-1)], range, 1),
+        (&[Order::FailNext(0)], range, 1),
+        (&[Order::FailEvery(0)], range, 1),
+    ];
+    for (orders, panic, steps) in &cases {
+        let script = script(rt.alloc(), orders)?;
+        let told = run(rt.alloc(), &script, Rule::Unlimited, 9, SHAPE)?;
+        assert_eq!(rt; end_of(&told.outcome), End::Panicked(*panic));
         assert_eq!(rt; told.steps, *steps);
     }
     Ok(())

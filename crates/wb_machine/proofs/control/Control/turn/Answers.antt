@@ -24,12 +24,12 @@ returns-clause-sound c =
 
 -- a fact of what one of the branches made
 moved_on : (script : Script) (budget : ℕ) (r own : Rule) (made mid : Control) (st g : Held) (told : RunResult) → mid ≡ made → g ≡ st →
-    Fits r own (is_stop mid.ending) (length g.trace) →
-    (Fits r own (is_stop made.ending) (length st.trace) → rest_from script budget r made.ending made.pieces.items st ≡ told) →
+    Fits r own (is_stop mid.ending) (length g.debug.trace) →
+    (Fits r own (is_stop made.ending) (length st.debug.trace) → rest_from script budget r made.ending made.pieces.items st ≡ told) →
     rest_from script budget r mid.ending mid.pieces.items g ≡ told
 moved_on script budget r own made mid st g told e d f go =
-    let f' : Fits r own (is_stop made.ending) (length st.trace) =
-    subst (λ (x : Held). Fits r own (is_stop made.ending) (length x.trace)) d (subst (λ (x : Control). Fits r own (is_stop x.ending) (length g.trace)) e f) in
+    let f' : Fits r own (is_stop made.ending) (length st.debug.trace) =
+    subst (λ (x : Held). Fits r own (is_stop made.ending) (length x.debug.trace)) d (subst (λ (x : Control). Fits r own (is_stop x.ending) (length g.debug.trace)) e f) in
     ap (λ (x : Control). rest_from script budget r x.ending x.pieces.items g) e
     ∙ ap (λ (x : Held). rest_from script budget r made.ending made.pieces.items x) d ∙ go f'
 
@@ -40,14 +40,14 @@ pub returns-clause-kept : goal.returns-clause-kept
 returns-clause-kept c r f =
     let script = c.args.script.now in
     let budget = c.args.budget in
-    let own = c.args.rule in
+    let own = c.args.state.now.debug.rule in
     let old = c.args.self.now in
     let h = c.args.state.now in
     let mid = c.if-not-begun.self in
     let g = c.if-not-begun.state in
     let goes : is_over c.settle.new.self.ending c.settle.new.self.pieces.items ≡ false → is_stop mid.ending ≡ false =
     λ e. sym (ap is_stop c.settle.ensures.ending) ∙ going_on c.settle.new.self.ending c.settle.new.self.pieces.items e in
-    let fits : Fits r own (is_stop mid.ending) (length g.trace) = fits-before r own _ _ (length g.trace) (length g.trace) goes (omega arith) f in
+    let fits : Fits r own (is_stop mid.ending) (length g.debug.trace) = fits-before r own _ _ (length g.debug.trace) (length g.debug.trace) goes (omega arith) f in
     let steps : g.steps ≤ budget = elim c.if-not-begun.branch [
       | then-not-begun+in_ok-begin w ↦ steps_are g w.begin.new.state budget w.state-is (omega (arith, w.in_ok-begin.ensures.steps))
       | else-not-begun+then-steps-budget+in_ok-step w ↦ steps_are g w.step.new.state budget w.state-is (omega (arith, w.in_ok-step.ensures.steps, w.if-steps-budget.true, w.steps.ensures))
@@ -59,7 +59,7 @@ returns-clause-kept c r f =
           moved_on script budget r own w.begin.new.self mid w.begin.new.state g _ w.self-is w.state-is fits (λ f'.
           w.in_ok-begin.ensures.kept r budget f'
           ∙ sym (ap (λ b. rest_at script budget r b old.ending old.pieces.items h) w.if-not-begun.true
-          ∙ rest_first r own script budget old.ending old.pieces.items h (c.requires.first w.if-not-begun.true).start (fits-limit r own _ _ f)))
+          ∙ rest_first r script budget old.ending old.pieces.items h (c.requires.first w.if-not-begun.true).start (fits-limit r own _ _ f)))
       | else-not-begun+then-steps-budget+in_ok-step w ↦
           moved_on script budget r own w.step.new.self mid w.step.new.state g _ w.self-is w.state-is fits (λ f'.
           w.in_ok-step.ensures.kept r budget (omega (arith, w.if-steps-budget.true, w.steps.ensures)) f'

@@ -18,7 +18,7 @@ returns c =
     c.finish.ensures
     ∙ ap (λ e. told_by e m.leaks m.state) c.ending.ensures
     ∙ ap (λ leaks. told_by m.control.ending leaks m.state) ((c.self.invariant.sound well).leaks ended)
-    ∙ rest_over script m.budget m.rule m.control.ending m.control.pieces.items m.state over
-    ∙ sym (ap (λ b. rest_at script m.budget m.rule b m.control.ending m.control.pieces.items m.state) begun)
-    ∙ c.self.invariant.keeps well m.rule (inl refl)
+    ∙ rest_over script m.budget m.state.debug.rule m.control.ending m.control.pieces.items m.state over
+    ∙ sym (ap (λ b. rest_at script m.budget m.state.debug.rule b m.control.ending m.control.pieces.items m.state) begun)
+    ∙ c.self.invariant.keeps well m.state.debug.rule (inl refl)
     ∙ ap (λ s. run s.script s.rule s.budget s.shape) c.self.view_is

@@ -1,4 +1,5 @@
-use Rattle.std.proofs.Common.{◌≡◌, ap, ◌∙◌, sym, length, false}
+use Rattle.std.proofs.Common.{◌≡◌, ap, ◌∙◌, sym, subst, length, false}
+use Rattle.wb_model.specs.Rest.{Fits}
 use Rattle.std.specs.Prelude.{◌&&◌}
 use Rattle.wb_model.specs.Run.{run}
 use Rattle.wb_machine.specs.Flow.{is_over}
@@ -21,17 +22,17 @@ invariant_of-self-2 c =
       sound = λ well. record {
         script = old.script;
         small = old.small;
-        limit = turn.stays.limit ∙ old.limit;
         within = turn.within;
         counted = turn.counted;
+        level = turn.level;
         first = λ e. cc;
         settled = λ e. turn.settled;
         pieces = turn.sound;
-        locals = λ e. turn.locals;
         leaks = λ e. c.in_ok-self-inside.ensures;
       };
       keeps = λ well r f.
-          turn.kept r f
-          ∙ c.self.invariant.keeps c.if-self.false r (fits-before r m.rule (has_ended m) _ (length m.state.trace) (length c.turn.new.state.trace) (λ e. going) turn.stays.fewer f)
+          let f' = subst (λ own. Fits r own (is_over c.turn.new.self.ending c.turn.new.self.pieces.items) (length c.turn.new.state.debug.trace)) turn.stays.rule f in
+          turn.kept r f'
+          ∙ c.self.invariant.keeps c.if-self.false r (fits-before r m.state.debug.rule (has_ended m) _ (length m.state.debug.trace) (length c.turn.new.state.debug.trace) (λ e. going) turn.stays.fewer f')
           ∙ ap (run m.script.now r m.budget) (sym turn.stays.shape);
     }

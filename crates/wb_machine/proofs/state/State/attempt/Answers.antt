@@ -1,14 +1,22 @@
-use Rattle.std.proofs.Common.{arith}
-use Rattle.wb_machine.proofs.Rows.{numbered_unused, numbered_granted, numbered_denied}
+use Rattle.std.proofs.Common.{subst}
+use Rattle.wb_model.specs.Debug.{alloc_made}
+use Rattle.wb_machine.specs.Held.{Held, with_debug}
+use Rattle.wb_machine.specs.Inside.{held}
+use Rattle.wb_machine.specs.Flow.{Stays}
+use Rattle.wb_machine.proofs.Stayed.{alloc_stays, called_stays}
+use Rattle.wb_machine.proofs.TextRows.{texts_called, texts_allocated}
 use Rattle.wb_machine.proofs.state.State.attempt.Goals as goal
 
-pub grant-requires-clause-unused : goal.grant-requires-clause-unused
-grant-requires-clause-unused c = numbered_unused c.self.inside.heap.row _ _ c.self.invariant (omega arith)
+pub returns-clause-stays : goal.returns-clause-stays
+returns-clause-stays c =
+    let h = held c.self.inside in
+    let call = c.attempt_alloc in
+    subst (λ (x : Held). Stays x (with_debug h call.new.self)) c.self.view_is
+    (called_stays call.result h (alloc_made h.debug c.args.bytes c.args.kind).debug call.new.self (alloc_stays h c.args.bytes c.args.kind) call.ensures.made call.ensures.err)
 
-pub invariant_of-self-in-Ok : goal.invariant_of-self-in-Ok
-invariant_of-self-in-Ok c =
-    numbered_granted c.self.inside.heap c.self.inside.trace.items _ c.push_line.new.trace.items c.args.len _ c.args.kind c.grant.new.heap c.in-Ok.ensures.heap (omega arith) c.in_ok-push_line.ensures.ok c.self.invariant
-
-pub invariant_of-self-in-Simulated : goal.invariant_of-self-in-Simulated
-invariant_of-self-in-Simulated c =
-    numbered_denied c.self.inside.heap c.self.inside.trace.items _ c.push_line.new.trace.items c.in_ok-push_line.ensures.ok c.self.invariant
+pub invariant_of-self : goal.invariant_of-self
+invariant_of-self c =
+    let d = c.self.inside.heap in
+    let call = c.attempt_alloc in
+    texts_called call.result d (alloc_made d c.args.bytes c.args.kind).debug call.new.self (texts_allocated d c.args.bytes c.args.kind c.requires.text c.self.invariant) c.self.invariant
+    call.ensures.made call.ensures.err

@@ -1,10 +1,12 @@
-use Rattle.std.proofs.Common.{length}
-use Rattle.wb_model.specs.LimitedHeap.{heap_changed}
-use Rattle.wb_machine.proofs.Rows.{numbered_heap, numbered_changed}
+use Rattle.std.proofs.Common.{subst, sym, ◌∙◌}
+use Rattle.wb_model.specs.Debug.{Debug}
+use Rattle.wb_machine.specs.TextRows.{AreTexts}
+use Rattle.wb_machine.proofs.TextRows.{texts_stored}
 use Rattle.wb_machine.proofs.state.State.store.Goals as goal
 
 pub invariant_of-self : goal.invariant_of-self
 invariant_of-self c =
-    let h = c.self.inside.heap in
-    let n = length c.self.inside.trace.items in
-    numbered_heap c.set_payload.new.self (heap_changed h c.args.ptr _) n c.set_payload.ensures.changed (numbered_changed c.args.ptr _ h.row n c.self.invariant)
+    let d = c.self.inside.heap in
+    let p = c.pointer-ptr.result in
+    subst (λ (x : Debug). AreTexts x.heap.row) (sym c.set_payload.ensures.changed)
+    (texts_stored p _ d.heap.row c.in-Some.header (sym c.in-Some.is ∙ c.header.ensures.header) (sym c.is_raw.ensures ∙ c.if-not-is_raw.false) c.self.invariant)

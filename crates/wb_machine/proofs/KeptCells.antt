@@ -1,0 +1,139 @@
+-- Statements that allocate and release cells come to what they mean.
+use Rattle.std.proofs.Common.{◌≡◌, ℕ, Bool, true, false, List, length, length-append, refl, ap, ◌∙◌, sym, arith, cond, Option, Some, None}
+use Rattle.std.specs.Prelude.{option_map}
+use Rattle.wb_model.specs.declared.heap.Ptr.{Ptr}
+use Rattle.wb_model.specs.declared.heap.Attempt.{Attempt}
+use Rattle.wb_model.specs.declared.heap.Rule.{Rule}
+use Rattle.wb_model.specs.declared.heap.Kind.TheVariants.{Raw}
+use Rattle.wb_model.specs.declared.heap.Answer.{Answer}
+use Rattle.wb_model.specs.declared.heap.Gave.{Gave}
+use Rattle.wb_model.specs.declared.heap.Gave.TheVariants.{Granted, Denied, Ceiling}
+use Rattle.wb_model.specs.declared.heap.Panic.TheVariants.{Workbench}
+use Rattle.wb_model.specs.declared.script.Script.{Script}
+use Rattle.wb_model.specs.declared.script.Local.{Local}
+use Rattle.wb_model.specs.declared.script.Holder.TheVariants as H
+use Rattle.wb_model.specs.declared.script.Pointer.{Pointer}
+use Rattle.wb_model.specs.declared.script.Pointer.TheVariants as P
+use Rattle.wb_model.specs.declared.script.Number.{Number}
+use Rattle.wb_model.specs.declared.script.Refusal.{Refusal}
+use Rattle.wb_model.specs.declared.script.Refusal.TheVariants.{GivesNull, Leaves}
+use Rattle.wb_model.specs.declared.script.Statement.TheOpen.{Statement-F}
+use Rattle.wb_model.specs.Sound.{is_statement, is_pointer, is_number}
+use Rattle.wb_model.specs.Row.{Cell, cell_at, without}
+use Rattle.wb_model.specs.Rules.{Request, answer_to}
+use Rattle.wb_model.specs.Heap.{AfterAnswer, alloc_request, after_alloc}
+use Rattle.wb_model.specs.LimitedHeap.{zero_words}
+use Rattle.wb_model.specs.State.{Content, State, goes_on, ends, and_then, with_some}
+use Rattle.wb_model.specs.Operands.{number_of, set_row, within}
+use Rattle.wb_model.specs.Statements.{statement, given_to, alloc_raw, released, release, is_null, done, fresh_words}
+use Rattle.wb_model.specs.Debug.{Debug, Made, number_in, made_by, answer_in, alloc_made, refusal_unless_found, with_row}
+use Rattle.wb_model.specs.Rest.{Fits}
+use Rattle.wb_machine.specs.Held.{Held, field_count, read_cell, state_of, with_debug}
+use Rattle.wb_machine.specs.Flow.{flow, ended_by, is_stop}
+use Rattle.wb_machine.specs.Carried.{unless_refused, pointer_read, number_read, given_carried, made_carried, alloc_within, alloc_carried, free_carried}
+use Rattle.wb_machine.proofs.Rows.{read_without, read_cell_at, read_fresh}
+use Rattle.wb_machine.proofs.Flows.{followed, allocated}
+use Rattle.wb_machine.proofs.Fitting.{fits-limit, fits-answer, fits-ended}
+use Rattle.wb_machine.proofs.Kept.{Means, ComesTo, and_left, number_is, pointer_is, stored_is}
+
+-- no answer was given
+abbrev pub is_ceiling : Gave → Bool
+is_ceiling (Granted p) = false
+is_ceiling Denied = false
+is_ceiling Ceiling = true
+
+-- a target gets what an attempt gave
+pub given_kept : (r : Rule) (script : Script) (locals : List Local) (h : Held) (p : Pointer) (gave : Gave) → is_pointer locals p ≡ true →
+    ComesTo r script h (followed gave (given_to p GivesNull) (state_of script h)) (given_carried h p gave)
+unfolding flow given_to and_then
+given_kept r script locals h p (Granted q) ok k = sym (stored_is script locals h p q r (k goes_on) ok)
+given_kept r script locals h p Denied ok k = sym (stored_is script locals h p _ r (k goes_on) ok)
+given_kept r script locals h p Ceiling ok k = refl
+
+-- a rule that fits what a target was given fits the attempt
+pub fits_made : (r own : Rule) (h : Held) (p : Pointer) (made : Made) →
+    Fits r own (is_stop (made_carried h p made).ending) (length (made_carried h p made).held.debug.trace) → Fits r own (is_ceiling made.gave) (length made.debug.trace)
+fits_made r own h p made f = by p made.gave f
+  where
+    by : (p : Pointer) (gave : Gave) →
+        Fits r own (is_stop (given_carried (with_debug h made.debug) p gave).ending) (length (given_carried (with_debug h made.debug) p gave).held.debug.trace) →
+        Fits r own (is_ceiling gave) (length made.debug.trace)
+    by (P.Held (H.Local i)) (Granted q) f = f
+    by (P.Held (H.Local i)) Denied f = f
+    by (P.Held (H.Local i)) Ceiling f = f
+    by (P.Held H.This) (Granted q) f = f
+    by (P.Held H.This) Denied f = f
+    by (P.Held H.This) Ceiling f = f
+    by (P.Field holder class i) (Granted q) f = f
+    by (P.Field holder class i) Denied f = f
+    by (P.Field holder class i) Ceiling f = f
+
+-- under a rule that fits, an attempt is answered as under the machine's own
+pub answered_alike : (r : Rule) (d : Debug) (t : Request) (after : ℕ → Answer → AfterAnswer (List ℕ)) (o : Option Answer) → answer_in d t ≡ o →
+    Fits r d.rule (is_ceiling (made_by d t after o).gave) (length (made_by d t after o).debug.trace) → answer_to r (number_in d) t ≡ o
+answered_alike r d t after None e f = ap (λ q. answer_to q (number_in d) t) (fits-ended r d.rule _ f) ∙ e
+answered_alike r d t after (Some w) e f = fits-answer r d.rule _ _ (number_in d) t f (omega arith) (omega (arith, length-append {A = Attempt})) ∙ e
+
+-- an allocation of so many bytes
+alloc_made_kept : (r : Rule) (script : Script) (locals : List Local) (h : Held) (p : Pointer) (bytes : ℕ) → is_pointer locals p ≡ true →
+    Fits r h.debug.rule (is_stop (alloc_within h p (Some bytes)).ending) (length (alloc_within h p (Some bytes)).held.debug.trace) →
+    ComesTo r script h (alloc_raw p GivesNull bytes (state_of script h)) (alloc_within h p (Some bytes))
+unfolding alloc_raw
+alloc_made_kept r script locals h p bytes ok f k =
+    let t = alloc_request h.debug.heap bytes in
+    let made : Made = alloc_made h.debug bytes Raw in
+    let fits : Fits r h.debug.rule (is_ceiling made.gave) (length made.debug.trace) = fits_made r h.debug.rule h p made f in
+    sym (allocated r script h bytes Raw (fresh_words bytes) (given_to p GivesNull) k (answer_in h.debug t) (read_fresh (field_count script) bytes)
+    (answered_alike r h.debug t (after_alloc h.debug.heap t Raw (zero_words t.length)) (answer_in h.debug t) refl fits)
+    (fits-limit r h.debug.rule _ _ fits)
+    ∙ sym (given_kept r script locals (with_debug h made.debug) p made.gave ok k))
+
+-- or of a number that may be out of its range
+pub alloc_within_kept : (r : Rule) (script : Script) (locals : List Local) (h : Held) (p : Pointer) (o : Option ℕ) → is_pointer locals p ≡ true →
+    Fits r h.debug.rule (is_stop (alloc_within h p o).ending) (length (alloc_within h p o).held.debug.trace) →
+    ComesTo r script h (with_some o (Workbench 9) (state_of script h) (λ bytes. alloc_raw p GivesNull bytes (state_of script h))) (alloc_within h p o)
+unfolding with_some
+alloc_within_kept r script locals h p None ok f k = refl
+alloc_within_kept r script locals h p (Some bytes) ok f k = alloc_made_kept r script locals h p bytes ok f k
+
+pub alloc_kept : (script : Script) (literals : ℕ) (locals : List Local) (h : Held) (p : Pointer) (v : Number) (x : Refusal) →
+    is_statement literals locals (Statement-F.Alloc p v x) ≡ true → Means script h (Statement-F.Alloc p v x) (alloc_carried h p (number_read h v))
+unfolding statement
+alloc_kept script literals locals h p v Leaves ok r f rec k = cc
+alloc_kept script literals locals h p v GivesNull ok r f rec k =
+    let st = state_of script h in
+    let named = and_left (is_pointer locals p) (is_number locals v) ok in
+    alloc_within_kept r script locals h p (within 1048576 (number_read h v)) named f k
+    ∙ sym (ap (λ x. flow r (and_then x k) h) (pointer_is script locals h p (λ _. with_some (within 1048576 (number_of st v)) (Workbench 9) st (λ bytes. alloc_raw p GivesNull bytes st)) named)
+    ∙ ap (λ z. flow r (and_then (with_some (within 1048576 z) (Workbench 9) st (λ bytes. alloc_raw p GivesNull bytes st)) k) h) (number_is script h v))
+
+-- the release of a pointer
+pub release_kept : (r : Rule) (script : Script) (h : Held) (p : Ptr) → ComesTo r script h (release p (state_of script h)) (free_carried h p)
+unfolding release released flow
+release_kept r script h p k = by (is_null p)
+  where
+    st : State
+    st = state_of script h
+
+    after : Held
+    after = with_debug h (with_row h.debug (without p h.debug.heap.row))
+
+    found : (o : Option (Cell (List ℕ))) →
+        ComesTo r script h (released (option_map (read_cell script) o) p st) (unless_refused h (refusal_unless_found o) after)
+    found None k = refl
+    found (Some c) k = ap (λ (row : List (Cell Content)). flow r (and_then (ends goes_on (set_row st row)) k) h) (read_without script p h.debug.heap.row)
+
+    by : (b : Bool) →
+        flow r (and_then (ended_by (unless_refused h (cond b None (refusal_unless_found (cell_at p h.debug.heap.row))) (with_debug h (cond b h.debug (with_row h.debug (without p h.debug.heap.row))))).ending
+        (state_of script (unless_refused h (cond b None (refusal_unless_found (cell_at p h.debug.heap.row))) (with_debug h (cond b h.debug (with_row h.debug (without p h.debug.heap.row))))).held)) k)
+        (unless_refused h (cond b None (refusal_unless_found (cell_at p h.debug.heap.row))) (with_debug h (cond b h.debug (with_row h.debug (without p h.debug.heap.row))))).held
+        ≡ flow r (and_then (elim b [ true ↦ done st | false ↦ released (cell_at p st.heap.row) p st ]) k) h
+    by true = refl
+    by false = found (cell_at p h.debug.heap.row) k ∙ ap (λ o. flow r (and_then (released o p st) k) h) (sym (read_cell_at script p h.debug.heap.row))
+
+pub free_kept : (script : Script) (literals : ℕ) (locals : List Local) (h : Held) (p : Pointer) →
+    is_statement literals locals (Statement-F.Free p) ≡ true → Means script h (Statement-F.Free p) (free_carried h (pointer_read h p))
+unfolding statement
+free_kept script literals locals h p ok r f rec k =
+    release_kept r script h (pointer_read h p) k
+    ∙ ap (λ x. flow r (and_then x k) h) (sym (pointer_is script locals h p (λ q. release q (state_of script h)) ok))

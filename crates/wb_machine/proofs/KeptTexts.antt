@@ -1,0 +1,236 @@
+-- Statements that change texts come to what they mean.
+use Rattle.std.proofs.Common.{◌≡◌, ℕ, ℤ, List, [], ◌∷◌, length, Bool, true, false, refl, ap, ◌∙◌, sym, subst, cond, Option, Some, None, Ok, Err}
+use Rattle.std.specs.Prelude.{◌&&◌, not}
+use Rattle.wb_model.specs.declared.heap.Kind.{Kind}
+use Rattle.wb_model.specs.declared.heap.Kind.TheVariants.{Raw, Object, Text, Cleanup}
+use Rattle.wb_model.specs.declared.heap.Panic.{Panic}
+use Rattle.wb_model.specs.declared.heap.Panic.TheVariants.{Workbench}
+use Rattle.wb_model.specs.declared.heap.Ptr.{Ptr}
+use Rattle.wb_model.specs.declared.heap.Rule.{Rule}
+use Rattle.wb_model.specs.declared.script.Script.{Script}
+use Rattle.wb_model.specs.declared.script.Local.{Local}
+use Rattle.wb_model.specs.declared.script.Number.{Number}
+use Rattle.wb_model.specs.declared.script.Writable.{Writable}
+use Rattle.wb_model.specs.declared.script.Readable.{Readable}
+use Rattle.wb_model.specs.declared.script.Statement.TheOpen.{Statement-F}
+use Rattle.wb_model.specs.declared.text.Base.{Base}
+use Rattle.wb_model.specs.declared.text.Base.TheVariants as B
+use Rattle.wb_model.specs.declared.text.View.{View}
+use Rattle.wb_model.specs.Sound.{is_statement, is_writable, is_readable, is_number}
+use Rattle.wb_model.specs.Row.{Cell, is_at, cell_at, changed}
+use Rattle.wb_model.specs.CellRow.{content_or_nil, payload_of, with_payload}
+use Rattle.wb_model.specs.Spelling.{read_as}
+use Rattle.wb_model.specs.State.{Content, units, State, Way, panics, goes_on, Process, ends, stops, and_then, with_some, require}
+use Rattle.wb_model.specs.Operands.{number_of, not_negative, set_row}
+use Rattle.wb_model.specs.Texts.{Edited, delete_text, set_length_text, insert_text}
+use Rattle.wb_model.specs.TextCells.{text_words, text_in}
+use Rattle.wb_model.specs.Reading.{Source, base_of, with_writable, with_readable, with_units, with_room, write, set_units, is_same_base}
+use Rattle.wb_model.specs.Statements.{Layer, statement}
+use Rattle.wb_hbuf.specs.declared.sources.Edit.{Edit}
+use Rattle.wb_hbuf.specs.declared.sources.Edit.TheVariants.{Copy, Append, Insert}
+use Rattle.wb_hbuf.specs.Sources.{edit_text}
+use Rattle.wb_machine.specs.declared.control.Ending.{Ending}
+use Rattle.wb_machine.specs.Held.{Held, field_count, read_cell, read_row, state_of}
+use Rattle.wb_machine.specs.Flow.{flow, ended_by, IsSameFlow, IsCarriedOut}
+use Rattle.wb_machine.specs.Carried.{number_read}
+use Rattle.wb_machine.specs.TextOperands.{base_named, text_refusal, base_refusal, base_text, base_max, is_writable_base, window_read, window_units}
+use Rattle.wb_machine.specs.CarriedTexts.{HasPanicked, IsWritten, UnlessRefused, WithNumber, IsEditedBy, IsInsertedBy, IsDeletedBy, IsLengthSet, same_refusal}
+use Rattle.wb_machine.proofs.Kept.{and_left, and_right, number_is}
+use Rattle.wb_machine.proofs.ReadTexts.{through, source_named, readable_is, writable_is, named_writable, room_is, shown}
+use Rattle.wb_model.proofs.TextCellsHeap.{found-changed}
+use Rattle.wb_machine.proofs.TextRows.{found_text}
+
+-- the state after a statement comes to what is left of it
+abbrev pub Comes : Rule → Script → Held → Ending → Held → Process → Type 0
+Comes r script h ending g p = IsSameFlow r (ended_by ending (state_of script g)) g p h
+
+pub comes_as : (r : Rule) (script : Script) (h : Held) (ending : Ending) (g : Held) (p q : Process) → q ≡ p → Comes r script h ending g p → Comes r script h ending g q
+comes_as r script h ending g p q same comes k = comes k ∙ ap (λ x. flow r (and_then x k) h) (sym same)
+
+panicked_comes : (r : Rule) (script : Script) (h : Held) (panic : Panic) (ending : Ending) (g : Held) → HasPanicked h panic ending g →
+    Comes r script h ending g (stops (panics panic) (state_of script h))
+panicked_comes r script h panic ending g is k =
+    ap (λ e. flow r (and_then (ended_by e (state_of script g)) k) g) is.0 ∙ ap (λ x. flow r (and_then (stops (panics panic) (state_of script x)) k) x) is.1
+
+-- past a refusal
+through_comes : (r : Rule) (script : Script) (h : Held) (ending : Ending) (g : Held) (o : Option Panic) (p : Process) (X : Type 0) → UnlessRefused h o ending g X →
+    (o ≡ None → X → Comes r script h ending g p) → Comes r script h ending g (through o (state_of script h) p)
+through_comes r script h ending g (Some panic) p X is next = panicked_comes r script h panic ending g is
+through_comes r script h ending g None p X is next = next refl is
+
+-- past a number
+number_comes : (r : Rule) (script : Script) (h : Held) (ending : Ending) (g : Held) (o : Option ℕ) (p : ℕ → Process) (X : ℕ → Type 0) → WithNumber h o ending g X →
+    ((n : ℕ) → X n → Comes r script h ending g (p n)) → Comes r script h ending g (with_some o (Workbench 9) (state_of script h) p)
+unfolding with_some
+number_comes r script h ending g None p X is next = panicked_comes r script h (Workbench 9) ending g is
+number_comes r script h ending g (Some n) p X is next = next n is
+
+-- another text in a cell
+read_text_changed : (script : Script) (p : Ptr) (ws us : List ℕ) (row : List (Cell (List ℕ))) (c : Cell (List ℕ)) → cell_at p row ≡ Some c → c.head.kind ≡ Text → text_in ws ≡ us →
+    read_row script (with_payload p ws row) ≡ changed p (set_units us) (read_row script row)
+read_text_changed script p ws us [] c e text reads = cc
+read_text_changed script p ws us (d ∷ ds) c e text reads = go (is_at p d.head) e (λ e. read_text_changed script p ws us ds c e text reads)
+  where
+    here : (k : Kind) → k ≡ Text → read_as (field_count script) k ws ≡ set_units us (read_as (field_count script) k d.content)
+    here Text is = ap units reads
+    here Raw is = cc
+    here (Object class) is = cc
+    here Cleanup is = cc
+
+    go : (b : Bool) → cond b (Some d) (cell_at p ds) ≡ Some c →
+        (cell_at p ds ≡ Some c → read_row script (with_payload p ws ds) ≡ changed p (set_units us) (read_row script ds)) →
+        read_row script (cond b (record d { content = ws } ∷ ds) (d ∷ with_payload p ws ds))
+        ≡ cond b (record (read_cell script d) { content = set_units us (read_cell script d).content } ∷ read_row script ds)
+        (read_cell script d ∷ changed p (set_units us) (read_row script ds))
+    go true e rest =
+        let same : d ≡ c = cc in
+        ap (λ content. record { head = d.head; content = content } ∷ read_row script ds) (here d.head.kind (ap (λ (x : Cell (List ℕ)). x.head.kind) same ∙ text))
+    go false e rest = ap (λ r. read_cell script d ∷ r) (rest e)
+
+-- what was written is what the edit writes
+written_comes : (r : Rule) (script : Script) (h : Held) (to : Base) (e : Edited) (ending : Ending) (g : Held) → base_refusal h to ≡ None → IsWritten h to e ending g →
+    is_writable_base to ≡ true → Comes r script h ending g (write e (state_of script h) to (base_max h to))
+unfolding write flow
+written_comes r script h to (Err panic) ending g fine is ok k = panicked_comes r script h panic ending g is k
+written_comes r script h B.Nothing (Ok us) ending g fine is ok k = cc
+written_comes r script h (B.Literal i) (Ok us) ending g fine is ok k = cc
+written_comes r script h (B.Local i) (Ok us) ending g fine is ok k =
+    ap (λ e. flow r (and_then (ended_by e (state_of script g)) k) g) is.0 ∙ ap (λ x. flow r (and_then (ends goes_on (state_of script x)) k) x) is.1
+written_comes r script h (B.Cell p) (Ok us) ending g fine is ok k =
+    let row = h.debug.heap.row in
+    let ws = text_words (length (payload_of p row)) us in
+    let found = found_text (cell_at p row) fine in
+    let after : cell_at p (with_payload p ws row) ≡ Some (record found.0 { content = ws }) = found-changed p ws row found.0 found.1 in
+    let reads : text_in ws ≡ us = sym (ap (λ o. text_in (content_or_nil o)) after) ∙ sym (ap (λ (x : Held). text_in (payload_of p x.debug.heap.row)) is.1) ∙ is.2 in
+    ap (λ e. flow r (and_then (ended_by e (state_of script g)) k) g) is.0 ∙ ap (λ x. flow r (and_then (ends goes_on (state_of script x)) k) x) is.1
+    ∙ ap (λ (cells : List (Cell Content)). flow r (and_then (ends goes_on (set_row (state_of script h) cells)) k) h) (read_text_changed script p ws us row found.0 found.1 found.2 reads)
+
+-- a copy, or what is appended, comes to what its process makes of the text
+edited_comes : (r : Rule) (script : Script) (literals : ℕ) (locals : List Local) (h : Held) (d : Writable) (t : Readable) (change : Edit) (ending : Ending) (g : Held) →
+    is_writable locals d ≡ true → is_readable literals locals t ≡ true →
+    IsEditedBy script.literals h (base_named h d) (window_read script.literals h t) change ending g →
+    Comes r script h ending g (with_writable (state_of script h) d (λ to. with_readable (state_of script h) t (λ from.
+    with_room (state_of script h) to (λ max old. with_units script.literals (state_of script h) from (λ us. write (edit_text change max old us) (state_of script h) to max)))))
+edited_comes r script literals locals h d t change ending g writable readable is =
+    let st = state_of script h in
+    let to = base_named h d in
+    let v = window_read script.literals h t in
+    let s = source_named h t in
+    let ok = named_writable h d in
+    let made : Process = write (edit_text change (base_max h to) (base_text script.literals h to) (window_units script.literals h v)) st to (base_max h to) in
+    comes_as r script h ending g (through (base_refusal h to) st (through (base_refusal h v.base) st made)) _
+    (writable_is script locals h d (λ to. with_readable st t (λ from. with_room st to (λ max old. with_units script.literals st from (λ us. write (edit_text change max old us) st to max)))) writable
+    ∙ readable_is script literals locals h t (λ from. with_room st to (λ max old. with_units script.literals st from (λ us. write (edit_text change max old us) st to max))) readable
+    ∙ room_is script h to (λ max old. with_units script.literals st s (λ us. write (edit_text change max old us) st to max)) ok
+    ∙ ap (through (base_refusal h to) st) ((shown script h t).units (λ us. write (edit_text change (base_max h to) (base_text script.literals h to) us) st to (base_max h to))))
+    (through_comes r script h ending g (base_refusal h to) _ _ is (λ fine is.
+    through_comes r script h ending g (base_refusal h v.base) made _ is (λ there is.
+    written_comes r script h to _ ending g fine is ok)))
+
+pub copy_kept : (script : Script) (literals : ℕ) (locals : List Local) (h : Held) (d : Writable) (t : Readable) (ending : Ending) (g : Held) →
+    IsEditedBy script.literals h (base_named h d) (window_read script.literals h t) Copy ending g → is_statement literals locals (Statement-F.Copy d t) ≡ true →
+    IsCarriedOut script (Statement-F.Copy d t) h ending g
+unfolding statement
+copy_kept script literals locals h d t ending g is ok r f rec =
+    edited_comes r script literals locals h d t Copy ending g (and_left (is_writable locals d) (is_readable literals locals t) ok) (and_right (is_writable locals d) (is_readable literals locals t) ok) is
+
+pub append_kept : (script : Script) (literals : ℕ) (locals : List Local) (h : Held) (d : Writable) (t : Readable) (ending : Ending) (g : Held) →
+    IsEditedBy script.literals h (base_named h d) (window_read script.literals h t) Append ending g → is_statement literals locals (Statement-F.Append d t) ≡ true →
+    IsCarriedOut script (Statement-F.Append d t) h ending g
+unfolding statement
+append_kept script literals locals h d t ending g is ok r f rec =
+    edited_comes r script literals locals h d t Append ending g (and_left (is_writable locals d) (is_readable literals locals t) ok) (and_right (is_writable locals d) (is_readable literals locals t) ok) is
+
+-- past the question whether a text is put into itself
+apart_comes : (r : Rule) (script : Script) (h : Held) (ending : Ending) (g : Held) (b : Bool) (p : State → Process) (X : Type 0) →
+    UnlessRefused h (cond b (Some (Workbench 9)) None) ending g X → (X → Comes r script h ending g (p (state_of script h))) →
+    Comes r script h ending g (require (not b) (Workbench 9) (state_of script h) p)
+unfolding require
+apart_comes r script h ending g true p X is next = panicked_comes r script h (Workbench 9) ending g is
+apart_comes r script h ending g false p X is next = next is
+
+pub insert_kept : (script : Script) (literals : ℕ) (locals : List Local) (h : Held) (d : Writable) (z : Number) (t : Readable) (ending : Ending) (g : Held) →
+    IsInsertedBy script.literals h (base_named h d) (window_read script.literals h t) (number_read h z) ending g → is_statement literals locals (Statement-F.Insert d z t) ≡ true →
+    IsCarriedOut script (Statement-F.Insert d z t) h ending g
+unfolding statement
+insert_kept script literals locals h d z t ending g is ok r f rec =
+    let st = state_of script h in
+    let to = base_named h d in
+    let v = window_read script.literals h t in
+    let s = source_named h t in
+    let rest = and_right (is_writable locals d) (is_number locals z && is_readable literals locals t) ok in
+    let writable = named_writable h d in
+    let put : Base → List ℕ → ℕ → List ℕ → ℕ → Process = λ from us max old n.
+    require (not (is_same_base to from)) (Workbench 9) st (λ st. write (insert_text max old n us) st to max) in
+    let made : Process = with_some (not_negative (number_read h z)) (Workbench 9) st (put v.base (window_units script.literals h v) (base_max h to) (base_text script.literals h to)) in
+    comes_as r script h ending g (through (base_refusal h to) st (through (base_refusal h v.base) st made)) _
+    (writable_is script locals h d (λ to. with_readable st t (λ from. with_room st to (λ max old. with_units script.literals st from (λ us.
+    with_some (not_negative (number_of st z)) (Workbench 9) st (λ n. require (not (is_same_base to (base_of from))) (Workbench 9) st (λ st. write (insert_text max old n us) st to max))))))
+    (and_left (is_writable locals d) (is_number locals z && is_readable literals locals t) ok)
+    ∙ readable_is script literals locals h t (λ from. with_room st to (λ max old. with_units script.literals st from (λ us. with_some (not_negative (number_of st z)) (Workbench 9) st (put (base_of from) us max old))))
+    (and_right (is_number locals z) (is_readable literals locals t) rest)
+    ∙ room_is script h to (λ max old. with_units script.literals st s (λ us. with_some (not_negative (number_of st z)) (Workbench 9) st (put (base_of s) us max old))) writable
+    ∙ ap (through (base_refusal h to) st) ((shown script h t).units (λ us. with_some (not_negative (number_of st z)) (Workbench 9) st (put (base_of s) us (base_max h to) (base_text script.literals h to)))
+    ∙ ap (λ y. through (base_refusal h v.base) st (with_some (not_negative y) (Workbench 9) st (put (base_of s) (window_units script.literals h v) (base_max h to) (base_text script.literals h to)))) (number_is script h z)
+    ∙ ap (λ b. through (base_refusal h v.base) st (with_some (not_negative (number_read h z)) (Workbench 9) st (put b (window_units script.literals h v) (base_max h to) (base_text script.literals h to)))) (shown script h t).base))
+    (through_comes r script h ending g (base_refusal h to) _ _ is (λ fine is.
+    through_comes r script h ending g (base_refusal h v.base) made _ is (λ there is.
+    number_comes r script h ending g (not_negative (number_read h z)) _ _ is (λ n is.
+    apart_comes r script h ending g (is_same_base to v.base) _ _ is (λ is.
+    written_comes r script h to _ ending g fine is writable)))))
+
+-- a text that can be changed has no literals in it
+text_alone : (literals : List (List ℕ)) (h : Held) (to : Base) → is_writable_base to ≡ true → base_text literals h to ≡ base_text [] h to
+text_alone literals h B.Nothing ok = refl
+text_alone literals h (B.Literal i) ok = cc
+text_alone literals h (B.Local i) ok = refl
+text_alone literals h (B.Cell p) ok = refl
+
+pub delete_kept : (script : Script) (literals : ℕ) (locals : List Local) (h : Held) (d : Writable) (z y : Number) (ending : Ending) (g : Held) →
+    IsDeletedBy h (base_named h d) (number_read h z) (number_read h y) ending g → is_statement literals locals (Statement-F.DeleteText d z y) ≡ true →
+    IsCarriedOut script (Statement-F.DeleteText d z y) h ending g
+unfolding statement
+delete_kept script literals locals h d z y ending g is ok r f rec =
+    let st = state_of script h in
+    let to = base_named h d in
+    let writable = named_writable h d in
+    let cut : ℕ → List ℕ → ℕ → ℕ → Process = λ max old n m. write (delete_text old n m) st to max in
+    let made : Process = with_some (not_negative (number_read h z)) (Workbench 9) st (λ n. with_some (not_negative (number_read h y)) (Workbench 9) st (cut (base_max h to) (base_text [] h to) n)) in
+    comes_as r script h ending g (through (base_refusal h to) st made) _
+    (writable_is script locals h d (λ to. with_room st to (λ max old. with_some (not_negative (number_of st z)) (Workbench 9) st (λ n.
+    with_some (not_negative (number_of st y)) (Workbench 9) st (λ m. write (delete_text old n m) st to max)))) (and_left (is_writable locals d) (is_number locals z && is_number locals y) ok)
+    ∙ room_is script h to (λ max old. with_some (not_negative (number_of st z)) (Workbench 9) st (λ n. with_some (not_negative (number_of st y)) (Workbench 9) st (cut max old n))) writable
+    ∙ ap (λ old. through (base_refusal h to) st (with_some (not_negative (number_of st z)) (Workbench 9) st (λ n. with_some (not_negative (number_of st y)) (Workbench 9) st (cut (base_max h to) old n))))
+    (text_alone script.literals h to writable)
+    ∙ ap (λ x. through (base_refusal h to) st (with_some (not_negative x) (Workbench 9) st (λ n. with_some (not_negative (number_of st y)) (Workbench 9) st (cut (base_max h to) (base_text [] h to) n)))) (number_is script h z)
+    ∙ ap (λ x. through (base_refusal h to) st (with_some (not_negative (number_read h z)) (Workbench 9) st (λ n. with_some (not_negative x) (Workbench 9) st (cut (base_max h to) (base_text [] h to) n)))) (number_is script h y))
+    (through_comes r script h ending g (base_refusal h to) made _ is (λ fine is.
+    number_comes r script h ending g (not_negative (number_read h z)) _ _ is (λ n is.
+    number_comes r script h ending g (not_negative (number_read h y)) _ _ is (λ m is.
+    written_comes r script h to _ ending g fine is writable))))
+
+pub length_set_kept : (script : Script) (literals : ℕ) (locals : List Local) (h : Held) (d : Writable) (z : Number) (ending : Ending) (g : Held) →
+    IsLengthSet h (base_named h d) (number_read h z) ending g → is_statement literals locals (Statement-F.SetLength d z) ≡ true →
+    IsCarriedOut script (Statement-F.SetLength d z) h ending g
+unfolding statement
+length_set_kept script literals locals h d z ending g is ok r f rec =
+    let st = state_of script h in
+    let to = base_named h d in
+    let writable = named_writable h d in
+    let cut : ℕ → List ℕ → ℕ → Process = λ max old n. write (set_length_text max old n) st to max in
+    let made : Process = with_some (not_negative (number_read h z)) (Workbench 9) st (cut (base_max h to) (base_text [] h to)) in
+    comes_as r script h ending g (through (base_refusal h to) st made) _
+    (writable_is script locals h d (λ to. with_room st to (λ max old. with_some (not_negative (number_of st z)) (Workbench 9) st (λ n. write (set_length_text max old n) st to max)))
+    (and_left (is_writable locals d) (is_number locals z) ok)
+    ∙ room_is script h to (λ max old. with_some (not_negative (number_of st z)) (Workbench 9) st (cut max old)) writable
+    ∙ ap (λ old. through (base_refusal h to) st (with_some (not_negative (number_of st z)) (Workbench 9) st (cut (base_max h to) old))) (text_alone script.literals h to writable)
+    ∙ ap (λ x. through (base_refusal h to) st (with_some (not_negative x) (Workbench 9) st (cut (base_max h to) (base_text [] h to)))) (number_is script h z))
+    (through_comes r script h ending g (base_refusal h to) made _ is (λ fine is.
+    number_comes r script h ending g (not_negative (number_read h z)) _ _ is (λ n is.
+    written_comes r script h to _ ending g fine is writable)))
+
+-- what was carried out is what the statement makes
+pub carried_as : (script : Script) (literals : ℕ) (locals : List Local) (h g : Held) (ending : Ending) (layer was : Layer) → is_statement literals locals layer ≡ true → layer ≡ was →
+    (is_statement literals locals was ≡ true → IsCarriedOut script was h ending g) → IsCarriedOut script layer h ending g
+carried_as script literals locals h g ending layer was ok is means =
+    subst (λ (l : Layer). IsCarriedOut script l h ending g) (sym is) (means (sym (ap (is_statement literals locals) is) ∙ ok))

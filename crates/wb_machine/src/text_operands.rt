@@ -1,0 +1,159 @@
+//! What text operands stand for: a buffer, a cell, a literal, or a view of one of these.
+
+ghost use Rattle.std.specs.Prelude.{◌≡◌, ◌+◌, ◌^◌, ◌<◌, ℕ, List, Some, None, false, length, IfOk};
+ghost use Rattle.wb_model.specs.Reading.{is_same_base};
+ghost use Rattle.wb_model.specs.declared.heap.Ptr.{Ptr};
+ghost use Rattle.wb_model.specs.declared.text.Base.TheVariants as B;
+ghost use Rattle.wb_hbuf.specs.Sources.{IsApart, IsForeign, IsSource, source_units};
+ghost use Rattle.wb_machine.specs.Held.{Held};
+ghost use Rattle.wb_machine.specs.TextOperands.{base_named, is_text, base_refusal, base_text, window_units, window_found, whole_of, unless_gone, buffer_under};
+
+use crate::state::State;
+use crate::windows::Window;
+use wb_hbuf::sources::Source;
+use wb_model::heap::{Kind, Panic};
+use wb_model::memory::NoMemory;
+use wb_model::script::{Readable, Script, Writable};
+use wb_text::{Base, Buf, View};
+
+/// The greatest length that an int holds.
+const MOST: usize = 2_147_483_647;
+
+/// Whether a cell holds a text.
+fn is_text(kind: Kind) -> bool
+    ensures { result ≡ is_text kind }
+{
+    match kind {
+        Kind::Text => true,
+        Kind::Raw | Kind::Object(_) | Kind::Cleanup => false,
+    }
+}
+
+/// Whether two names are of one text that can be changed.
+pub fn is_same_base(one: Base, other: Base) -> bool
+    ensures { result ≡ is_same_base one other }
+{
+    match (one, other) {
+        (Base::Local(i), Base::Local(j)) => i == j,
+        (Base::Cell(p), Base::Cell(q)) => p.place == q.place && p.number == q.number,
+        _ => false,
+    }
+}
+
+/// How many units a literal has. `NoMemory` where no int holds that many.
+fn literal_length(script: &Script, index: u32) -> Result<u32, NoMemory>
+    ensures length { (h : Held) → IfOk result (λ n. n ≡ length (base_text script.now.literals h (B.Literal index))) }
+    ensures most { IfOk result (λ n. n < 2 ^ 31) }
+{
+    match script.literals.get(index as usize) {
+        Some(chars) if chars.len() <= MOST => Ok(chars.len() as u32),
+        Some(_) => Err(NoMemory),
+        None => Ok(0),
+    }
+}
+
+impl State {
+    /// The text that can be changed.
+    pub fn base(&self, text: Writable) -> Base
+        ensures { result ≡ base_named self.now text }
+    {
+        match text {
+            Writable::OwnBuffer(index) => Base::Local(index),
+            Writable::InCell(pointer) => Base::Cell(self.pointer(pointer)),
+        }
+    }
+
+    /// What is refused of a base: a cell may be gone, or hold no text.
+    pub fn refusal(&self, base: Base) -> Option<Panic>
+        ensures { result ≡ base_refusal self.now base }
+    {
+        let Base::Cell(ptr) = base else {
+            return None;
+        };
+        match self.heap.header(ptr) {
+            None => Some(Panic::Workbench(1)),
+            Some(header) if is_text(header.kind) => None,
+            Some(_) => Some(Panic::Workbench(2)),
+        }
+    }
+
+    /// A copy of the buffer of a base, and an empty one where it is no buffer.
+    pub fn copied(&self, base: Base) -> Buf
+        ensures { result ≡ buffer_under self.now base }
+    {
+        match base {
+            Base::Local(index) => self.locals.buffer(index),
+            Base::Nothing | Base::Literal(_) | Base::Cell(_) => Buf::new(0),
+        }
+    }
+
+    /// How many units the text of a base has. `NoMemory` where no int holds that many.
+    fn base_length(&self, script: &Script, base: Base) -> Result<u32, NoMemory>
+        requires { base_refusal self.now base ≡ None }
+        ensures length { IfOk result (λ n. n ≡ length (base_text script.now.literals self.now base)) }
+        ensures most { IfOk result (λ n. n < 2 ^ 31) }
+    {
+        match base {
+            Base::Nothing => Ok(0),
+            Base::Literal(index) => literal_length(script, index),
+            Base::Local(index) => Ok(self.locals.buffer(index).length()),
+            Base::Cell(ptr) => match self.heap.header(ptr) {
+                Some(_) => Ok(wb_hbuf::length(&self.heap, ptr)),
+                None => unreachable!(),
+            },
+        }
+    }
+
+    /// A view, or what is refused of its base.
+    fn viewed(&self, window: Window) -> Result<Window, Panic>
+        ensures { result ≡ unless_gone (base_refusal self.now window.base) window }
+    {
+        match self.refusal(window.view().base) {
+            Some(panic) => Err(panic),
+            None => Ok(window),
+        }
+    }
+
+    /// The whole of a base, or what is refused of it. `NoMemory` where no int holds its length.
+    fn whole(&self, script: &Script, base: Base) -> Result<Result<Window, Panic>, NoMemory>
+        ensures { IfOk result (λ found. found ≡ unless_gone (base_refusal self.now base) (whole_of script.now.literals self.now base)) }
+    {
+        if let Some(panic) = self.refusal(base) {
+            return Ok(Err(panic));
+        }
+        let length = self.base_length(script, base)?;
+        Ok(Ok(Window::whole(base, length)))
+    }
+
+    /// What a readable text shows, or what is refused of its base. `NoMemory` where no int holds its length.
+    pub fn window(&self, script: &Script, text: Readable) -> Result<Result<Window, Panic>, NoMemory>
+        ensures { IfOk result (λ found. found ≡ window_found script.now.literals self.now text) }
+    {
+        match text {
+            Readable::Of(target) => self.whole(script, self.base(target)),
+            Readable::ViewOf(index) => Ok(self.viewed(self.locals.view(index))),
+            Readable::Quoted(index) => self.whole(script, Base::Literal(index)),
+        }
+    }
+
+    /// What a view shows, to be read by itself; `copy` is its base's buffer.
+    pub fn source<'a>(&self, script: &'a Script, copy: &'a Buf, view: View) -> Source<'a>
+        requires base { base_refusal self.now view.base ≡ None }
+        requires copy { copy.now ≡ buffer_under self.now view.base }
+        requires ends { view.position + view.length < 2 ^ 32 }
+        ensures source { IsSource self.now.debug result }
+        ensures foreign { IsForeign result }
+        ensures apart { (p : Ptr) → is_same_base (B.Cell p) view.base ≡ false → IsApart p result }
+        ensures units { (own : List ℕ) → source_units self.now.debug own result ≡ window_units script.now.literals self.now view }
+    {
+        let _ = &self.heap;
+        match view.base {
+            Base::Literal(index) => match script.literals.get(index as usize) {
+                Some(chars) => Source::Literal(chars, view.position, view.length),
+                None => Source::Buffer(copy, view.position, view.length),
+            },
+            Base::Cell(ptr) => Source::Cell(ptr, view.position, view.length),
+            Base::Nothing | Base::Local(_) => Source::Buffer(copy, view.position, view.length),
+        }
+    }
+}

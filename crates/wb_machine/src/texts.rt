@@ -1,0 +1,228 @@
+//! Statements that change texts.
+
+ghost use Rattle.std.specs.Prelude.{◌≡◌, [], None, IfOk, IsTrue};
+ghost use Rattle.wb_model.specs.Texts.{delete_text, set_length_text};
+ghost use Rattle.wb_model.specs.declared.text.Base.{Base};
+ghost use Rattle.wb_model.specs.declared.text.Base.TheVariants as B;
+ghost use Rattle.wb_hbuf.specs.Sources.{edit_text};
+ghost use Rattle.wb_machine.specs.Flow.{Stays};
+ghost use Rattle.wb_machine.specs.Carried.{number_read};
+ghost use Rattle.wb_machine.specs.TextOperands.{base_named, base_refusal, base_text, base_max, is_writable_base, window_read, window_units};
+ghost use Rattle.wb_machine.specs.CarriedTexts.{ending_by, put_back_by, IsWritten, IsEditedBy, IsInsertedBy, IsDeletedBy, IsLengthSet, SuitsBase};
+
+use crate::control::Ending;
+use crate::locals::Slot;
+use crate::operands::not_negative;
+use crate::state::State;
+use crate::text_operands::is_same_base;
+use crate::windows::Window;
+use wb_hbuf::sources::{Edit, Source};
+use wb_model::heap::{Panic, Ptr};
+use wb_model::memory::NoMemory;
+use wb_model::script::{Number, Readable, Script, Writable};
+use wb_text::{Base, Buf};
+
+/// How a statement ends whose edit was answered so.
+fn ending_of(answer: Result<(), Panic>) -> Ending
+    ensures { result ≡ ending_by answer }
+{
+    match answer {
+        Ok(()) => Ending::GoesOn,
+        Err(panic) => Ending::Panics(panic),
+    }
+}
+
+/// Edits of a text that can be changed.
+impl State {
+    /// Changes the text in a cell by what a view shows.
+    fn write_cell(&mut self, script: &Script, ptr: Ptr, change: Edit, window: Window) -> Ending
+        requires target { base_refusal self.old (B.Cell ptr) ≡ None }
+        requires source { base_refusal self.old window.base ≡ None }
+        requires suits { SuitsBase change (B.Cell ptr) window.base }
+        ensures written { IsWritten self.old (B.Cell ptr) (edit_text change (base_max self.old (B.Cell ptr)) (base_text script.now.literals self.old (B.Cell ptr)) (window_units script.now.literals self.old window)) result self.new }
+        ensures steps { self.new.steps ≡ self.old.steps }
+        ensures stays { Stays self.old self.new }
+    {
+        let view = window.view();
+        let copy = self.copied(view.base);
+        if is_same_base(Base::Cell(ptr), view.base) {
+            let own = Source::Own(view.position, view.length);
+            return ending_of(wb_hbuf::edit(&mut self.heap, ptr, change, own));
+        }
+        let source = self.source(script, &copy, view);
+        ending_of(wb_hbuf::edit(&mut self.heap, ptr, change, source))
+    }
+
+    /// A buffer that was edited goes back to its local, unless the edit was refused.
+    fn put_back(&mut self, index: u8, buf: Buf, answer: Result<(), Panic>) -> Ending
+        ensures ending { result ≡ ending_by answer }
+        ensures held { self.new ≡ put_back_by self.old index buf answer }
+        ensures steps { self.new.steps ≡ self.old.steps }
+        ensures stays { Stays self.old self.new }
+    {
+        if answer.is_ok() {
+            self.set(index, Slot::Buffer(buf));
+        }
+        ending_of(answer)
+    }
+
+    /// Changes a buffer by what a view shows.
+    fn write_buffer(&mut self, script: &Script, index: u8, change: Edit, window: Window) -> Ending
+        requires source { base_refusal self.old window.base ≡ None }
+        ensures written { IsWritten self.old (B.Local index) (edit_text change (base_max self.old (B.Local index)) (base_text script.now.literals self.old (B.Local index)) (window_units script.now.literals self.old window)) result self.new }
+        ensures steps { self.new.steps ≡ self.old.steps }
+        ensures stays { Stays self.old self.new }
+    {
+        let view = window.view();
+        let copy = self.copied(view.base);
+        let mut buf = self.locals.buffer(index);
+        let source = self.source(script, &copy, view);
+        let answer = wb_hbuf::edit_buf(&self.heap, &mut buf, change, source);
+        self.put_back(index, buf, answer)
+    }
+
+    /// Changes a text by what a view shows.
+    fn write(&mut self, script: &Script, to: Base, change: Edit, window: Window) -> Ending
+        requires writable { IsTrue (is_writable_base to) }
+        requires target { base_refusal self.old to ≡ None }
+        requires source { base_refusal self.old window.base ≡ None }
+        requires suits { SuitsBase change to window.base }
+        ensures written { IsWritten self.old to (edit_text change (base_max self.old to) (base_text script.now.literals self.old to) (window_units script.now.literals self.old window)) result self.new }
+        ensures steps { self.new.steps ≡ self.old.steps }
+        ensures stays { Stays self.old self.new }
+    {
+        match to {
+            Base::Local(index) => self.write_buffer(script, index, change, window),
+            Base::Cell(ptr) => self.write_cell(script, ptr, change, window),
+            Base::Nothing | Base::Literal(_) => unreachable!(),
+        }
+    }
+
+    /// A text is copied to another, or appended to it.
+    pub fn edit(
+        &mut self,
+        script: &Script,
+        target: Writable,
+        change: Edit,
+        text: Readable,
+    ) -> Result<Ending, NoMemory>
+        requires { (from : Base) → SuitsBase change (base_named self.old target) from }
+        ensures edited { IfOk result (λ ending. IsEditedBy script.now.literals self.old (base_named self.old target) (window_read script.now.literals self.old text) change ending self.new) }
+        ensures steps { self.new.steps ≡ self.old.steps }
+        ensures stays { Stays self.old self.new }
+    {
+        let to = self.base(target);
+        if let Some(panic) = self.refusal(to) {
+            return Ok(Ending::Panics(panic));
+        }
+        match self.window(script, text)? {
+            Ok(window) => Ok(self.write(script, to, change, window)),
+            Err(panic) => Ok(Ending::Panics(panic)),
+        }
+    }
+
+    /// A text is put into another, in front of the unit at a position.
+    pub fn insert(
+        &mut self,
+        script: &Script,
+        target: Writable,
+        position: Number,
+        text: Readable,
+    ) -> Result<Ending, NoMemory>
+        ensures inserted { IfOk result (λ ending. IsInsertedBy script.now.literals self.old (base_named self.old target) (window_read script.now.literals self.old text) (number_read self.old position) ending self.new) }
+        ensures steps { self.new.steps ≡ self.old.steps }
+        ensures stays { Stays self.old self.new }
+    {
+        let to = self.base(target);
+        if let Some(panic) = self.refusal(to) {
+            return Ok(Ending::Panics(panic));
+        }
+        let window = match self.window(script, text)? {
+            Ok(window) => window,
+            Err(panic) => return Ok(Ending::Panics(panic)),
+        };
+        let Some(at) = not_negative(self.number(position)) else {
+            return Ok(Ending::Panics(Panic::Workbench(9)));
+        };
+        if is_same_base(to, window.view().base) {
+            return Ok(Ending::Panics(Panic::Workbench(9)));
+        }
+        Ok(self.write(script, to, Edit::Insert(at), window))
+    }
+}
+
+/// Deletions, and lengths that are set.
+impl State {
+    /// Takes so many units from a position on out of a text.
+    fn take_out(&mut self, to: Base, position: u32, count: u32) -> Ending
+        requires writable { IsTrue (is_writable_base to) }
+        requires target { base_refusal self.old to ≡ None }
+        ensures written { IsWritten self.old to (delete_text (base_text [] self.old to) position count) result self.new }
+        ensures steps { self.new.steps ≡ self.old.steps }
+        ensures stays { Stays self.old self.new }
+    {
+        match to {
+            Base::Local(index) => {
+                let mut buf = self.locals.buffer(index);
+                let answer = buf.delete(position, count);
+                self.put_back(index, buf, answer)
+            }
+            Base::Cell(ptr) => ending_of(wb_hbuf::delete(&mut self.heap, ptr, position, count)),
+            Base::Nothing | Base::Literal(_) => unreachable!(),
+        }
+    }
+
+    /// Gives a text another length.
+    fn cut_to(&mut self, to: Base, length: u32) -> Ending
+        requires writable { IsTrue (is_writable_base to) }
+        requires target { base_refusal self.old to ≡ None }
+        ensures written { IsWritten self.old to (set_length_text (base_max self.old to) (base_text [] self.old to) length) result self.new }
+        ensures steps { self.new.steps ≡ self.old.steps }
+        ensures stays { Stays self.old self.new }
+    {
+        match to {
+            Base::Local(index) => {
+                let mut buf = self.locals.buffer(index);
+                let answer = buf.set_length(length);
+                self.put_back(index, buf, answer)
+            }
+            Base::Cell(ptr) => ending_of(wb_hbuf::set_length(&mut self.heap, ptr, length)),
+            Base::Nothing | Base::Literal(_) => unreachable!(),
+        }
+    }
+
+    /// So many units of a text from a position on are taken out.
+    pub fn delete_text(&mut self, target: Writable, position: Number, count: Number) -> Ending
+        ensures deleted { IsDeletedBy self.old (base_named self.old target) (number_read self.old position) (number_read self.old count) result self.new }
+        ensures steps { self.new.steps ≡ self.old.steps }
+        ensures stays { Stays self.old self.new }
+    {
+        let to = self.base(target);
+        if let Some(panic) = self.refusal(to) {
+            return Ending::Panics(panic);
+        }
+        let Some(position) = not_negative(self.number(position)) else {
+            return Ending::Panics(Panic::Workbench(9));
+        };
+        let Some(count) = not_negative(self.number(count)) else {
+            return Ending::Panics(Panic::Workbench(9));
+        };
+        self.take_out(to, position, count)
+    }
+
+    /// A text gets another length.
+    pub fn set_length(&mut self, target: Writable, length: Number) -> Ending
+        ensures set { IsLengthSet self.old (base_named self.old target) (number_read self.old length) result self.new }
+        ensures steps { self.new.steps ≡ self.old.steps }
+        ensures stays { Stays self.old self.new }
+    {
+        let to = self.base(target);
+        if let Some(panic) = self.refusal(to) {
+            return Ending::Panics(panic);
+        }
+        let Some(length) = not_negative(self.number(length)) else {
+            return Ending::Panics(Panic::Workbench(9));
+        };
+        self.cut_to(to, length)
+    }
+}

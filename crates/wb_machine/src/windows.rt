@@ -1,0 +1,88 @@
+//! Parts of texts that a script names.
+
+ghost use Rattle.std.specs.Prelude.{◌≡◌, ◌+◌, ◌^◌, ◌<◌};
+ghost use Rattle.wb_model.specs.Texts.{left_part, right_part, mid_part, view_of_part};
+ghost use Rattle.wb_machine.specs.Slots.{whole_window, no_window};
+
+use std::marker::Model;
+use wb_model::heap::Panic;
+use wb_text::{Base, View};
+
+/// A view whose end an int holds.
+#[derive(Drop)]
+pub struct Window {
+    view: View,
+}
+
+impl Model for Window {
+    ghost use Rattle.std.specs.Prelude.{◌+◌, ◌^◌, ◌<◌};
+    ghost use Rattle.wb_model.specs.declared.text.View.{View};
+
+    ghost Value = { View };
+
+    ghost view = { λ w. w.view };
+
+    ghost invariant = { λ w. w.view.position + w.view.length < 2 ^ 31 };
+}
+
+impl Window {
+    /// No unit of nothing.
+    pub fn nothing() -> Window
+        ensures { result ≡ no_window }
+    {
+        Window::whole(Base::Nothing, 0)
+    }
+
+    /// The first so many units of a base.
+    pub fn whole(base: Base, length: u32) -> Window
+        requires { length < 2 ^ 31 }
+        ensures { result ≡ whole_window base length }
+    {
+        Window {
+            view: View {
+                base,
+                position: 0,
+                length,
+            },
+        }
+    }
+
+    /// The view itself.
+    pub fn view(&self) -> View
+        ensures view { result ≡ self.now }
+        ensures ends { self.now.position + self.now.length < 2 ^ 31 }
+    {
+        self.view
+    }
+
+    /// The same view once more.
+    pub fn copied(&self) -> Window
+        ensures { result ≡ self.now }
+    {
+        Window { view: self.view }
+    }
+
+    /// The first so many units of it. `User(10)` where there are fewer.
+    pub fn left(self, count: u32) -> Result<Window, Panic>
+        ensures { result ≡ view_of_part self (left_part self.length count) }
+    {
+        let view = self.view.left(count)?;
+        Ok(Window { view })
+    }
+
+    /// The last so many units of it. `User(10)` where there are fewer.
+    pub fn right(self, count: u32) -> Result<Window, Panic>
+        ensures { result ≡ view_of_part self (right_part self.length count) }
+    {
+        let view = self.view.right(count)?;
+        Ok(Window { view })
+    }
+
+    /// So many units of it from a position on. `User(10)` where there are fewer.
+    pub fn mid(self, position: u32, count: u32) -> Result<Window, Panic>
+        ensures { result ≡ view_of_part self (mid_part self.length position count) }
+    {
+        let view = self.view.mid(position, count)?;
+        Ok(Window { view })
+    }
+}

@@ -1,0 +1,66 @@
+//! Statements on the words of Raw cells.
+
+ghost use Rattle.std.specs.Prelude.{◌≡◌};
+ghost use Rattle.wb_model.specs.Statements.{is_raw};
+ghost use Rattle.wb_machine.specs.Flow.{Stays};
+ghost use Rattle.wb_machine.specs.Carried.{pointer_read, number_read, store_carried, load_carried};
+
+use crate::control::Ending;
+use crate::locals::Slot;
+use crate::operands::word_within;
+use crate::state::State;
+use wb_model::heap::{Kind, Panic};
+use wb_model::script::{Number, Pointer};
+
+/// Whether a cell holds words that the script stores itself.
+pub fn is_raw(kind: Kind) -> bool
+    ensures { result ≡ is_raw kind }
+{
+    match kind {
+        Kind::Raw => true,
+        Kind::Object(_) | Kind::Cleanup | Kind::Text => false,
+    }
+}
+
+impl State {
+    /// Stores a number in a word of a Raw cell.
+    pub fn store(&mut self, pointer: Pointer, index: Number, value: i32) -> Ending
+        ensures ending { result ≡ (store_carried self.old (pointer_read self.old pointer) (number_read self.old index) value).ending }
+        ensures held { self.new ≡ (store_carried self.old (pointer_read self.old pointer) (number_read self.old index) value).held }
+        ensures stays { Stays self.old self.new }
+    {
+        let ptr = self.pointer(pointer);
+        let Some(header) = self.heap.header(ptr) else {
+            return Ending::Panics(Panic::Workbench(1));
+        };
+        if !is_raw(header.kind) {
+            return Ending::Panics(Panic::Workbench(2));
+        }
+        let Some(word) = word_within(header.length - 16, self.number(index)) else {
+            return Ending::Panics(Panic::Workbench(9));
+        };
+        self.heap.set_payload(ptr, word, value.cast_unsigned());
+        Ending::GoesOn
+    }
+
+    /// A number local gets a word of a Raw cell, as a signed number.
+    pub fn load(&mut self, local: u8, pointer: Pointer, index: Number) -> Ending
+        ensures ending { result ≡ (load_carried self.old local (pointer_read self.old pointer) (number_read self.old index)).ending }
+        ensures held { self.new ≡ (load_carried self.old local (pointer_read self.old pointer) (number_read self.old index)).held }
+        ensures stays { Stays self.old self.new }
+    {
+        let ptr = self.pointer(pointer);
+        let Some(header) = self.heap.header(ptr) else {
+            return Ending::Panics(Panic::Workbench(1));
+        };
+        if !is_raw(header.kind) {
+            return Ending::Panics(Panic::Workbench(2));
+        }
+        let Some(at) = word_within(header.length - 16, self.number(index)) else {
+            return Ending::Panics(Panic::Workbench(9));
+        };
+        let value = self.heap.payload(ptr, at);
+        self.set(local, Slot::Number(value.cast_signed()));
+        Ending::GoesOn
+    }
+}
