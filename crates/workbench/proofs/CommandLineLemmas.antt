@@ -1,23 +1,20 @@
 -- What clap makes of words on this command line.
-use Rattle.std.proofs.Common.{◌≡◌, ◌∙◌, ◌<◌, ℕ, Bool, true, false, suc, refl, sym, ap, subst, arith, List, [], ◌∷◌, ◌++◌, length, Option, Some, None, codes, true≢false, eqb-true}
-use Rattle.std.specs.Prelude.{◌==◌, encode_utf8, slice_get}
-use Rattle.std.specs.Str.{IsUtf8, bytes_eq, chars, encode_utf8_all}
-use Rattle.std.proofs.lemmas.Str.{IsUtf8-past_char, encode_ascii, encodes-chars}
-use Rattle.std.specs.List.{All}
-use Rattle.std.specs.Option.{MatchOption, option_map_or}
+use Rattle.std.proofs.Common.{◌≡◌, ◌∙◌, Bool, true, false, refl, sym, ap, List, [], ◌∷◌, Option, Some, None, codes, true≢false}
+use Rattle.std.specs.Str.{bytes_eq}
+use Rattle.std.specs.Option.{option_map_or}
 use Rattle.std.proofs.lemmas.Slice.Eq.{bytes_eq-Decides}
-use Rattle.clap.specs.Lexer.{long_of, name_and_value, short_of}
-use Rattle.clap.specs.Walk.{first_of, Held, Names, Row, Rule, Text, Walk, idle, nothing_held, rows_after, subcommand_met, walk, walk_from, walked}
-use Rattle.clap.specs.Simple.{App, Shape, filled, built_leaf, built, entered, names_of, subcommand_of}
+use Rattle.clap.specs.Lexer.{long_of}
+use Rattle.clap.specs.Walk.{Names, Rule, Text, Walk, idle, nothing_held, rows_after, subcommand_met, walk, walk_from, walked}
+use Rattle.clap.specs.Simple.{App, Shape, filled, built, entered, names_of, subcommand_of}
 use Rattle.clap.specs.Kinds.{Kinds, or_else}
 use Rattle.clap.specs.Faults.{fault_of, defaults_fault, level_fault, turn_fault, walk_fault}
 use Rattle.clap.specs.Takes.{level_passes, takes, turn_passes, walk_passes}
 use Rattle.clap.proofs.WalkLemmas.{walk_stopped}
 use Rattle.clap.proofs.FaultLemmas.{stopped_fault}
-use Rattle.workbench.specs.CommandLine.{command_line, limit_option, min_option, run_level, run_line, step_option}
+use Rattle.workbench.specs.CommandLine.{command_line, fail_option, limit_option, min_option, run_level, step_option}
 use Rattle.workbench.specs.Passed.{RowsPass}
 use Rattle.workbench.proofs.PassedValues.{IsOnly, level_passed, only}
-use Rattle.workbench.proofs.RefusalLemmas.{Fails, TurnFails, and_true, has_kind, level_fails, long_turn, short_turn, stopped_passes, turn_first, turn_second, unskipped, word_fails}
+use Rattle.workbench.proofs.RefusalLemmas.{Fails, and_true, has_kind, level_fails, stopped_passes, turn_first, turn_second, word_fails}
 
 -- ---- the command line, built
 
@@ -162,6 +159,9 @@ run_is_met (name ∷ word ∷ rest) e = elim (named_by word) [
 abbrev pub limit_rule : Rule
 limit_rule = filled limit_option
 
+abbrev pub fail_rule : Rule
+fail_rule = filled fail_option
+
 abbrev pub min_rule : Rule
 min_rule = filled min_option
 
@@ -171,6 +171,9 @@ step_rule = filled step_option
 -- no other argument has their names
 pub only_limit : IsOnly below.rules (codes "limit") limit_rule
 only_limit = only below.rules (codes "limit") limit_rule refl
+
+pub only_fail : IsOnly below.rules (codes "fail") fail_rule
+only_fail = only below.rules (codes "fail") fail_rule refl
 
 pub only_min : IsOnly below.rules (codes "min") min_rule
 only_min = only below.rules (codes "min") min_rule refl

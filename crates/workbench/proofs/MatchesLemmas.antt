@@ -1,14 +1,15 @@
 -- From what a parse found to what the words spell.
-use Rattle.std.proofs.Common.{◌≡◌, ◌∙◌, ◌<◌, ◌≤◌, ◌^◌, ◌%◌, ℕ, Bool, nat_eq, arith, true, false, eqb-true, refl, sym, ap, subst, List, [], ◌∷◌, Option, Some, None, Result, Ok, Err, codes, option_and_then, option_map}
+use Rattle.std.proofs.Common.{◌≡◌, ◌∙◌, ◌<◌, ◌≤◌, ◌^◌, ◌%◌, ℕ, Bool, nat_eq, arith, true, false, eqb-true, refl, sym, ap, subst, List, [], Option, Some, None, Result, Ok, codes, option_and_then, option_map}
 use Rattle.std.specs.Prelude.{Box, IfSome, MatchOption, pos, unwrap_or}
+use Rattle.std.specs.Option.{option_map_or}
 use Rattle.std.specs.Borrow.{Bor}
 use Rattle.std.specs.Box.{box_value}
 use Rattle.std.specs.Str.Parse.{ParsesUnsigned}
 use Rattle.clap.specs.Values.{Accepts, IsSignedIn, read_as, reading_of}
 use Rattle.clap.specs.Lexer.{without_minus}
 use Rattle.clap.specs.Facts.{parser_of_value}
-use Rattle.clap.specs.Walk.{Rule, reading_by}
-use Rattle.clap.specs.Words.{App, HasMatchesOf, ReadsOne, Row, Text, fault_of, first_of, first_value, found_of, is_simple, is_simple_and_free, one_of, one_text, rows_of, subcommand_name_of, subcommand_of, subcommand_rows, subcommand_rows_of}
+use Rattle.clap.specs.Walk.{Rule}
+use Rattle.clap.specs.Words.{App, HasMatchesOf, ReadsOne, Row, Text, fault_of, first_of, found_of, is_simple, is_simple_and_free, one_of, one_text, rows_of, subcommand_name_of, subcommand_of, subcommand_rows, subcommand_rows_of}
 use Rattle.clap.specs.declared.builder.value_parser.ValueParser.{ValueParser}
 use Rattle.clap.specs.declared.builder.value_parser.ValueParser.TheVariants.{Signed}
 use Rattle.clap.specs.declared.parser.matches.ArgMatches.{ArgMatches}
@@ -17,12 +18,12 @@ use Rattle.clap.specs.declared.parser.matches.SubCommand.{SubCommand}
 use Rattle.clap.specs.declared.parser.matches.ArgMatches.TheViews.{out-ArgMatches, out-SubCommand}
 use Rattle.clap.proofs.CallerReads.{signed_reads}
 use Rattle.clap.proofs.ValueTestLemmas.{accepts-Accepts}
-use Rattle.clap.proofs.WalkLemmas.{first_value-rows, one_text-rows}
+use Rattle.clap.proofs.WalkLemmas.{one_text-rows}
 use Rattle.wb_model.specs.declared.heap.Shape.{Shape}
 use Rattle.workbench.specs.Command.{is_sixteenfold}
 use Rattle.workbench.specs.CommandLine.{command_line, run_level}
-use Rattle.workbench.specs.Spelled.{command_of, decimal, number_of, run_of, spelled}
-use Rattle.workbench.proofs.CommandLineLemmas.{below, limit_rule, min_rule, only_limit, only_min, only_step, run_is_met, step_rule}
+use Rattle.workbench.specs.Spelled.{command_of, decimal, gives_both, number_of, run_of, spell_both, spelled}
+use Rattle.workbench.proofs.CommandLineLemmas.{below, fail_rule, limit_rule, min_rule, only_fail, only_limit, only_min, only_step, run_is_met, step_rule}
 use Rattle.workbench.specs.Passed.{RowsPass}
 use Rattle.workbench.proofs.PassedValues.{IsOnly, PassedAs, first_passed}
 
@@ -65,6 +66,9 @@ run_passed words m met rows are = subst (RowsPass run_level.rules) are met.passe
 
 pub spelled_run : (words : List Text) (m : ArgMatches) → (met : MeetsRun words m) → (rows : List Row) → met.rows ≡ rows → spelled words ≡ Some (run_of rows)
 spelled_run words m met rows are = ap (option_and_then command_of) met.by_words ∙ ap (λ l. Some (run_of l)) are
+
+pub doubled_run : (words : List Text) (m : ArgMatches) → (met : MeetsRun words m) → (rows : List Row) → met.rows ≡ rows → spell_both words ≡ gives_both rows
+doubled_run words m met rows are = ap (λ (o : Option (Text × List Row)). option_map_or (λ p. gives_both p.1) o false) met.by_words ∙ ap gives_both are
 
 -- ---- numbers
 
@@ -109,6 +113,9 @@ module _ (E : Type 0) (G : List ℕ → Result ℕ E → Type 0) (parses : (u : 
 
   pub limit_is : OptionRead (codes "limit") 0 16777216
   limit_is f r passed = number_is run_level.rules (codes "limit") limit_rule 0 16777216 f r refl (omega arith) only_limit passed
+
+  pub fail_is : OptionRead (codes "fail") 0 16777216
+  fail_is f r passed = number_is run_level.rules (codes "fail") fail_rule 0 16777216 f r refl (omega arith) only_fail passed
 
   pub min_is : OptionRead (codes "min") 0 1048576
   min_is f r passed = number_is run_level.rules (codes "min") min_rule 0 1048576 f r refl (omega arith) only_min passed

@@ -1,9 +1,9 @@
 -- Where clap's meaning finds no fault in the words of a level without subcommands, each value read there passed the
 -- parser of its argument. For levels where no argument counts or collects its uses, and none may be used twice.
-use Rattle.std.proofs.Common.{◌≡◌, ◌∙◌, ◌&&◌, ◌||◌, ◌⊎◌, inl, inr, ℕ, Bool, cond, true, false, zero, suc, not, arith, refl, sym, ap, subst, List, [], ◌∷◌, ◌++◌, length, drop, Option, Some, None, fold, true≢false}
-use Rattle.std.specs.Prelude.{⊤, ◌==◌, encode_utf8, slice_get, is_some, find, option_map, option_and_then}
+use Rattle.std.proofs.Common.{◌≡◌, ◌∙◌, ◌&&◌, inl, inr, ℕ, Bool, cond, true, false, zero, suc, arith, refl, sym, ap, subst, List, [], ◌∷◌, ◌++◌, length, drop, Option, Some, None, fold, true≢false}
+use Rattle.std.specs.Prelude.{⊤, encode_utf8, slice_get, is_some, find, option_map, option_and_then}
 use Rattle.std.proofs.lemmas.Bool.{ne_eqb}
-use Rattle.std.specs.List.{list_all, list_any}
+use Rattle.std.specs.List.{list_all}
 use Rattle.std.specs.Option.{MatchOption, option_map_or}
 use Rattle.std.specs.Str.{bytes_eq, chars}
 use Rattle.std.proofs.lemmas.Slice.Eq.{bytes_eq-Decides}
@@ -11,11 +11,11 @@ use Rattle.clap.specs.Lexer.{long_of, short_of}
 use Rattle.clap.specs.ValueTests.{accepts}
 use Rattle.clap.specs.Facts.{parser_of_value, unwrap_or_range}
 use Rattle.clap.specs.Values.{read_as}
-use Rattle.clap.specs.Walk.{Held, Outcome, Row, Rule, Step, Text, Waiting, Walk, action_of, after_flag, arg_by_id, arg_by_index, arg_by_long, arg_by_short, at_row, attached_value, bundle_met, default_rows, finished, first_of, flag_met, has_row, idle, is_empty, is_pending, long_met, long_or_other, more_values, most_values, next, nothing_held, one_of, option, option_met, plain, plain_word, positional, positional_held, reacted, reading_by, row_text, rows_after, settled, settled_rows, short_or_plain, stronger, subcommand, subcommand_met, takes_several, takes_values, to_positional, trailing, used, used_as, used_by_id, done, waits, refused, bundle, bundle_step, short_met, option_word, after_step, walked_from, value, values_or_missing, walk, walk_from, walked, with_default, with_values, without, word_met}
+use Rattle.clap.specs.Walk.{Held, Outcome, Row, Rule, Step, Text, Waiting, Walk, action_of, after_flag, arg_by_id, arg_by_index, arg_by_long, arg_by_short, at_row, attached_value, bundle_met, default_rows, first_of, flag_met, has_row, idle, is_empty, is_pending, long_met, long_or_other, more_values, most_values, next, nothing_held, one_of, option, option_met, plain, plain_word, positional, positional_held, reacted, reading_by, row_text, rows_after, settled, settled_rows, short_or_plain, subcommand, subcommand_met, takes_several, takes_values, to_positional, trailing, used, used_by_id, done, waits, refused, bundle, bundle_step, short_met, option_word, after_step, walked_from, value, values_or_missing, walk, walk_from, walked, with_default, with_values, without, word_met}
 use Rattle.clap.proofs.WalkLemmas.{both}
-use Rattle.workbench.specs.Passed.{IsIn, PassesBy, RowPasses, RowsPass}
+use Rattle.workbench.specs.Passed.{IsIn, RowPasses, RowsPass}
 use Rattle.clap.specs.Simple.{Shape}
-use Rattle.clap.specs.Kinds.{Kinds, or_else, range_kinds, request_kinds, value_kinds, values_kinds}
+use Rattle.clap.specs.Kinds.{Kinds, or_else, range_kinds, request_kinds, value_kinds}
 use Rattle.clap.specs.Faults.{action_fault, default_fault, defaults_fault, flags_fault, level_fault, long_fault, option_fault, positional_fault, react_fault, set_fault, settle_fault, step_fault, turn_fault, use_fault, bundle_fault, bundle_step_fault, flag_word_fault, stray_fault, short_fault, values_fault, walk_fault, word_fault}
 use Rattle.clap.specs.Takes.{value_passes, values_pass}
 use Rattle.clap.specs.declared.builder.action.ArgAction.{ArgAction}

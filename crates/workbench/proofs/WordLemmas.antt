@@ -4,13 +4,13 @@ use Rattle.std.specs.Prelude.{◌==◌, encode_utf8, option_and_then, slice_get}
 use Rattle.std.specs.Str.{IsUtf8, bytes_eq, chars, encode_utf8_all}
 use Rattle.std.proofs.lemmas.Str.{IsUtf8-past_char, encode_ascii, encodes-chars}
 use Rattle.std.specs.List.{All}
-use Rattle.std.specs.Option.{MatchOption}
+use Rattle.std.specs.Option.{MatchOption, option_map_or}
 use Rattle.clap.specs.Lexer.{long_of, name_and_value, short_of}
-use Rattle.clap.specs.Walk.{Held, Text, Walk, arg_by_long, idle, nothing_held, rows_after, subcommand_met, walk_from, walked}
+use Rattle.clap.specs.Walk.{Held, Row, Text, Walk, arg_by_long, idle, nothing_held, rows_after, subcommand_met, walk_from, walked}
 use Rattle.clap.specs.Kinds.{Kinds}
 use Rattle.clap.specs.Faults.{defaults_fault, level_fault, turn_fault, walk_fault}
 use Rattle.clap.specs.Takes.{level_passes, turn_passes, walk_passes}
-use Rattle.workbench.specs.Spelled.{command_of, run_of}
+use Rattle.workbench.specs.Spelled.{command_of, gives_both, run_of}
 use Rattle.workbench.specs.WordByWord.{AreRead, AreRefused, AreTaken, file_in, file_named, has_no_option, is_flag, is_option, is_separator, names_option, plain_run}
 use Rattle.workbench.proofs.CommandLineLemmas.{below, name_fails, names, no_words_fail, not_run_fails, run_fault, run_meaning, run_takes, text_is, trailing_walk}
 use Rattle.workbench.proofs.RefusalLemmas.{Fails, TurnFails, has_kind, help, level_fails, long_turn, short_turn, turn_first, turn_second, unskipped, word_fails}
@@ -42,8 +42,9 @@ first_char bytes text some = go (chars bytes) (encodes-chars bytes text)
 is_help : (name : Text) → is_option name ≡ false → arg_by_long below.rules name ≡ cond (bytes_eq (codes "help") name || false) (Some help) None
 is_help name e =
     let limit = first_false (bytes_eq (codes "limit") name) _ e in
-    let others = first_false (bytes_eq (codes "min") name) _ limit.1 in
-    rw (limit.0, others.0, others.1) refl
+    let fail = first_false (bytes_eq (codes "fail") name) _ limit.1 in
+    let others = first_false (bytes_eq (codes "min") name) _ fail.1 in
+    rw (limit.0, fail.0, others.0, others.1) refl
 
 flag_turn : (position : ℕ) (f : Text) (h : Held) → IsUtf8 f → is_separator f ≡ false → is_flag f ≡ true → names_option f ≡ false
     → TurnFails below is_option is_help (λ x. refl) position f (unskipped h)
@@ -65,6 +66,7 @@ flag_turn position (x ∷ y ∷ ys) h text no_separator flag no_option = go (x =
 record Reads (rest : List Text) (file : Option Text) : Type 0 where
   taken : level_passes below [] nothing_held rest false ≡ true
   faultless : level_fault below [] nothing_held rest false [] ≡ []
+  one_rule : gives_both (rows_after below.rules [] rest) ≡ false
   meaning : run_of (rows_after below.rules [] rest) ≡ plain_run file
 
 -- they are refused
@@ -76,15 +78,15 @@ below_fails rest f = level_fails below [] rest false [] true f
 
 reads_none : Reads [] None
 unfolding defaults_fault walk_fault walk_passes walked
-reads_none = record { taken = refl; faultless = refl; meaning = refl }
+reads_none = record { taken = refl; faultless = refl; one_rule = refl; meaning = refl }
 
 reads_separator : Reads (codes "--" ∷ []) None
 unfolding defaults_fault walk_fault walk_passes walked
-reads_separator = record { taken = refl; faultless = refl; meaning = refl }
+reads_separator = record { taken = refl; faultless = refl; one_rule = refl; meaning = refl }
 
 reads_after_separator : (f : Text) → Reads (codes "--" ∷ f ∷ []) (Some f)
 unfolding defaults_fault walk_fault walk_passes walked
-reads_after_separator f = record { taken = refl; faultless = refl; meaning = refl }
+reads_after_separator f = record { taken = refl; faultless = refl; one_rule = refl; meaning = refl }
 
 abbrev none_found : Kinds
 none_found = []
@@ -95,6 +97,7 @@ reads_file f no_separator is_plain =
     let none = no_flag f is_plain in record {
       taken = rw (no_separator, none.0, none.1) (refl {a = true});
       faultless = rw (no_separator, none.0, none.1) (refl {a = none_found});
+      one_rule = rw (no_separator, none.0, none.1) (refl {a = false});
       meaning = rw (no_separator, none.0, none.1) (refl {a = plain_run (Some f)});
     }
 
@@ -104,6 +107,7 @@ reads_before_separator f no_separator is_plain =
     let none = no_flag f is_plain in record {
       taken = rw (no_separator, none.0, none.1) (refl {a = true});
       faultless = rw (no_separator, none.0, none.1) (refl {a = none_found});
+      one_rule = rw (no_separator, none.0, none.1) (refl {a = false});
       meaning = rw (no_separator, none.0, none.1) (refl {a = plain_run (Some f)});
     }
 
@@ -195,6 +199,7 @@ words_are_read (name ∷ word ∷ rest) texts none = go (bytes_eq (codes "run") 
       taken = run_takes name word rest met ∙ r.taken;
       spell = record {
         faultless = run_fault name word rest met ∙ r.faultless;
+        one_rule = ap (λ (o : Option (Text × List Row)). option_map_or (λ p. gives_both p.1) o false) (run_meaning name word rest met) ∙ r.one_rule;
         meaning = ap (option_and_then command_of) (run_meaning name word rest met) ∙ ap (λ x. Some x) r.meaning;
       };
     }

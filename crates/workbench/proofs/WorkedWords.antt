@@ -1,5 +1,5 @@
 -- What words with options spell, computed on worked command lines.
-use Rattle.std.proofs.Common.{◌≡◌, ℕ, Bool, true, false, List, [], ◌∷◌, Option, Some, None, codes, refl}
+use Rattle.std.proofs.Common.{◌≡◌, ℕ, true, false, List, [], ◌∷◌, Option, Some, None, codes, refl}
 use Rattle.std.specs.Str.{chars}
 use Rattle.clap.specs.Faults.{defaults_fault, fault_of, flags_fault, walk_fault}
 use Rattle.clap.specs.Kinds.{Kinds}
@@ -7,9 +7,9 @@ use Rattle.clap.specs.Takes.{flags_pass, takes, walk_passes}
 use Rattle.clap.specs.Walk.{Text, bundle_met, walked}
 use Rattle.clap.specs.declared.error.kind.ErrorKind.TheVariants.{ArgumentConflict, InvalidValue, UnknownArgument, ValueValidation}
 use Rattle.wb_model.specs.declared.heap.Rule.{Rule}
-use Rattle.wb_model.specs.declared.heap.Rule.TheVariants.{Limit, Unlimited}
+use Rattle.wb_model.specs.declared.heap.Rule.TheVariants.{Limit, Number, Unlimited}
 use Rattle.workbench.specs.CommandLine.{command_line}
-use Rattle.workbench.specs.Spelled.{spelled}
+use Rattle.workbench.specs.Spelled.{spell_both, spelled}
 use Rattle.workbench.specs.declared.command.Command.{Command}
 use Rattle.workbench.specs.declared.command.Task.TheVariants.{Run}
 
@@ -23,7 +23,14 @@ run_with rule min step file = record { task = Run rule; file = file; budget = 10
 record Spell (words : List Text) (command : Command) : Type 0 where
   taken : takes command_line (after_run words) ≡ true
   faultless : fault_of command_line (after_run words) ≡ []
+  one_rule : spell_both (after_run words) ≡ false
   meaning : spelled (after_run words) ≡ Some command
+
+-- clap takes them, but they give both a limit and a number
+record Double (words : List Text) : Type 0 where
+  taken : takes command_line (after_run words) ≡ true
+  faultless : fault_of command_line (after_run words) ≡ []
+  doubled : spell_both (after_run words) ≡ true
 
 -- clap refuses them, by an error of this kind
 record Fail (words : List Text) (kinds : Kinds) : Type 0 where
@@ -34,45 +41,87 @@ record Fail (words : List Text) (kinds : Kinds) : Type 0 where
 
 limit-apart : Spell (codes "--limit" ∷ codes "303" ∷ []) (run_with (Limit 303) 4096 4096 None)
 unfolding walked walk_passes walk_fault defaults_fault
-limit-apart = record { taken = refl; faultless = refl; meaning = refl }
+limit-apart = record { taken = refl; faultless = refl; one_rule = refl; meaning = refl }
 
 limit-attached : Spell (codes "--limit=0" ∷ []) (run_with (Limit 0) 4096 4096 None)
 unfolding walked walk_passes walk_fault defaults_fault
-limit-attached = record { taken = refl; faultless = refl; meaning = refl }
+limit-attached = record { taken = refl; faultless = refl; one_rule = refl; meaning = refl }
 
 greatest-limit : Spell (codes "--limit" ∷ codes "16777216" ∷ []) (run_with (Limit 16777216) 4096 4096 None)
 unfolding walked walk_passes walk_fault defaults_fault
-greatest-limit = record { taken = refl; faultless = refl; meaning = refl }
+greatest-limit = record { taken = refl; faultless = refl; one_rule = refl; meaning = refl }
 
 shape : Spell (codes "--min" ∷ codes "256" ∷ codes "--step" ∷ codes "64" ∷ []) (run_with Unlimited 256 64 None)
 unfolding walked walk_passes walk_fault defaults_fault
-shape = record { taken = refl; faultless = refl; meaning = refl }
+shape = record { taken = refl; faultless = refl; one_rule = refl; meaning = refl }
 
 shape-backwards : Spell (codes "--step=16" ∷ codes "--min=0" ∷ []) (run_with Unlimited 0 16 None)
 unfolding walked walk_passes walk_fault defaults_fault
-shape-backwards = record { taken = refl; faultless = refl; meaning = refl }
+shape-backwards = record { taken = refl; faultless = refl; one_rule = refl; meaning = refl }
 
 around-a-file : Spell (codes "--min" ∷ codes "32" ∷ codes "a.oom" ∷ codes "--limit=190" ∷ codes "--step" ∷ codes "16" ∷ []) (run_with (Limit 190) 32 16 (Some (codes "a.oom")))
 unfolding walked walk_passes walk_fault defaults_fault
-around-a-file = record { taken = refl; faultless = refl; meaning = refl }
+around-a-file = record { taken = refl; faultless = refl; one_rule = refl; meaning = refl }
 
 before-dashes : Spell (codes "--step" ∷ codes "1048576" ∷ codes "--" ∷ codes "--limit" ∷ []) (run_with Unlimited 4096 1048576 (Some (codes "--limit")))
 unfolding walked walk_passes walk_fault defaults_fault
-before-dashes = record { taken = refl; faultless = refl; meaning = refl }
+before-dashes = record { taken = refl; faultless = refl; one_rule = refl; meaning = refl }
 
 plus-and-zeros : Spell (codes "--limit" ∷ codes "+5" ∷ codes "--min" ∷ codes "0032" ∷ []) (run_with (Limit 5) 32 4096 None)
 unfolding walked walk_passes walk_fault defaults_fault
-plus-and-zeros = record { taken = refl; faultless = refl; meaning = refl }
+plus-and-zeros = record { taken = refl; faultless = refl; one_rule = refl; meaning = refl }
 
 no-multiple-of-16 : Spell (codes "--min" ∷ codes "8" ∷ []) (run_with Unlimited 8 4096 None)
 unfolding walked walk_passes walk_fault defaults_fault
-no-multiple-of-16 = record { taken = refl; faultless = refl; meaning = refl }
+no-multiple-of-16 = record { taken = refl; faultless = refl; one_rule = refl; meaning = refl }
+
+number-apart : Spell (codes "--fail" ∷ codes "5" ∷ []) (run_with (Number 5) 4096 4096 None)
+unfolding walked walk_passes walk_fault defaults_fault
+number-apart = record { taken = refl; faultless = refl; one_rule = refl; meaning = refl }
+
+number-zero : Spell (codes "--fail" ∷ codes "0" ∷ []) (run_with (Number 0) 4096 4096 None)
+unfolding walked walk_passes walk_fault defaults_fault
+number-zero = record { taken = refl; faultless = refl; one_rule = refl; meaning = refl }
+
+greatest-number : Spell (codes "--fail=16777216" ∷ []) (run_with (Number 16777216) 4096 4096 None)
+unfolding walked walk_passes walk_fault defaults_fault
+greatest-number = record { taken = refl; faultless = refl; one_rule = refl; meaning = refl }
+
+number-around-a-file : Spell (codes "--step=32" ∷ codes "a.oom" ∷ codes "--fail" ∷ codes "2" ∷ codes "--min" ∷ codes "0" ∷ []) (run_with (Number 2) 0 32 (Some (codes "a.oom")))
+unfolding walked walk_passes walk_fault defaults_fault
+number-around-a-file = record { taken = refl; faultless = refl; one_rule = refl; meaning = refl }
+
+-- ---- words that give both a limit and a number
+
+limit-and-number : Double (codes "--limit" ∷ codes "5" ∷ codes "--fail" ∷ codes "5" ∷ [])
+unfolding walked walk_passes walk_fault defaults_fault
+limit-and-number = record { taken = refl; faultless = refl; doubled = refl }
+
+number-and-limit : Double (codes "--fail=0" ∷ codes "a.oom" ∷ codes "--limit=0" ∷ [])
+unfolding walked walk_passes walk_fault defaults_fault
+number-and-limit = record { taken = refl; faultless = refl; doubled = refl }
+
+both-and-a-bad-shape : Double (codes "--min" ∷ codes "8" ∷ codes "--fail" ∷ codes "1" ∷ codes "--step=17" ∷ codes "--limit" ∷ codes "303" ∷ [])
+unfolding walked walk_passes walk_fault defaults_fault
+both-and-a-bad-shape = record { taken = refl; faultless = refl; doubled = refl }
 
 -- ---- words that are refused
 
 past-the-greatest-limit : Fail (codes "--limit" ∷ codes "16777217" ∷ []) (ValueValidation ∷ [])
 unfolding walked walk_passes walk_fault defaults_fault flags_fault flags_pass bundle_met chars
 past-the-greatest-limit = record { refused = refl; fault = refl }
+
+past-the-greatest-number : Fail (codes "--fail" ∷ codes "16777217" ∷ []) (ValueValidation ∷ [])
+unfolding walked walk_passes walk_fault defaults_fault flags_fault flags_pass bundle_met chars
+past-the-greatest-number = record { refused = refl; fault = refl }
+
+both-and-one-out-of-range : Fail (codes "--limit" ∷ codes "5" ∷ codes "--fail" ∷ codes "16777217" ∷ []) (ValueValidation ∷ [])
+unfolding walked walk_passes walk_fault defaults_fault flags_fault flags_pass bundle_met chars
+both-and-one-out-of-range = record { refused = refl; fault = refl }
+
+number-twice : Fail (codes "--fail" ∷ codes "1" ∷ codes "--fail" ∷ codes "2" ∷ []) (ArgumentConflict ∷ [])
+unfolding walked walk_passes walk_fault defaults_fault flags_fault flags_pass bundle_met chars
+number-twice = record { refused = refl; fault = refl }
 
 below-the-least-step : Fail (codes "--step=15" ∷ []) (ValueValidation ∷ [])
 unfolding walked walk_passes walk_fault defaults_fault flags_fault flags_pass bundle_met chars
@@ -94,10 +143,14 @@ at-the-end : Fail (codes "a.oom" ∷ codes "--limit" ∷ []) (InvalidValue ∷ [
 unfolding walked walk_passes walk_fault defaults_fault flags_fault flags_pass bundle_met chars
 at-the-end = record { refused = refl; fault = refl }
 
+without-its-number : Fail (codes "--fail" ∷ []) (InvalidValue ∷ [])
+unfolding walked walk_passes walk_fault defaults_fault flags_fault flags_pass bundle_met chars
+without-its-number = record { refused = refl; fault = refl }
+
 below-zero : Fail (codes "--limit" ∷ codes "-1" ∷ []) (UnknownArgument ∷ [])
 unfolding walked walk_passes walk_fault defaults_fault flags_fault flags_pass bundle_met chars
 below-zero = record { refused = refl; fault = refl }
 
-before-another-option : Fail (codes "--limit=5" ∷ codes "--fail=1" ∷ []) (UnknownArgument ∷ [])
+before-another-option : Fail (codes "--limit=5" ∷ codes "--every=1" ∷ []) (UnknownArgument ∷ [])
 unfolding walked walk_passes walk_fault defaults_fault flags_fault flags_pass bundle_met chars
 before-another-option = record { refused = refl; fault = refl }

@@ -2,7 +2,6 @@
 use Rattle.std.specs.Prelude.{Bool, true, ◌&&◌, ◌%◌, nat_eq, nat_le, not}
 use Rattle.wb_model.specs.Space.{is_shape}
 use Rattle.wb_model.specs.declared.heap.TheConstants.{CEILING}
-use Rattle.wb_model.specs.declared.heap.Rule.{Rule}
 use Rattle.wb_model.specs.declared.heap.Rule.TheVariants.{Limit, Number, Unlimited}
 use Rattle.wb_model.specs.declared.heap.Shape.{Shape}
 use Rattle.workbench.specs.declared.command.Command.{Command}

@@ -14,15 +14,18 @@ file_argument = record (new_rule (codes "file")) { value_names = 1 }
 abbrev pub limit_option : Rule
 limit_option = number_option (codes "limit") 0 16777216
 
+abbrev pub fail_option : Rule
+fail_option = number_option (codes "fail") 0 16777216
+
 abbrev pub min_option : Rule
 min_option = number_option (codes "min") 0 1048576
 
 abbrev pub step_option : Rule
 step_option = number_option (codes "step") 16 1048576
 
--- `run [--limit L] [--min M] [--step G] [FILE]`
+-- `run [--limit L] [--fail N] [--min M] [--step G] [FILE]`
 abbrev pub run_line : App
-run_line = with_rule (with_rule (with_rule (with_rule (new_app (codes "run")) file_argument) limit_option) min_option) step_option
+run_line = with_rule (with_rule (with_rule (with_rule (with_rule (new_app (codes "run")) file_argument) limit_option) fail_option) min_option) step_option
 
 -- the same once it is built, with its call for help
 abbrev pub run_level : Shape

@@ -1,15 +1,15 @@
 -- What becomes of an error of clap, and of a fault of the command line.
-use Rattle.std.specs.Prelude.{◌≡◌, ◌≢◌, ◌⊎◌, ⊤, ℕ, List, Bool, true, false, if◌then◌else◌}
+use Rattle.std.specs.Prelude.{◌≡◌, ◌≢◌, ◌⊎◌, ⊤, ℕ, List, [], Bool, true, false, if◌then◌else◌}
 use Rattle.clap.specs.Words.{IsAmong, Text, fault_of, kind_of}
 use Rattle.clap.specs.declared.error.Error.{Error}
 use Rattle.clap.specs.declared.error.kind.ErrorKind.{ErrorKind}
 use Rattle.clap.specs.declared.error.kind.ErrorKind.TheVariants.{OutOfMemory}
 use Rattle.workbench.specs.CommandLine.{command_line}
 use Rattle.workbench.specs.Command.{is_sixteenfold}
-use Rattle.workbench.specs.Spelled.{IsSpelledBy}
+use Rattle.workbench.specs.Spelled.{IsSpelledBy, spell_both}
 use Rattle.workbench.specs.declared.command.Command.{Command}
 use Rattle.workbench.specs.declared.command.CommandFault.{CommandFault}
-use Rattle.workbench.specs.declared.command.CommandFault.TheVariants.{Usage, Shape, NoMemory}
+use Rattle.workbench.specs.declared.command.CommandFault.TheVariants.{Usage, Both, Shape, NoMemory}
 
 abbrev pub is_want_of_memory : ErrorKind → Bool
 is_want_of_memory OutOfMemory = true
@@ -19,25 +19,32 @@ is_want_of_memory _ = false
 abbrev pub fault_of_error : Error → CommandFault
 fault_of_error e = if is_want_of_memory (kind_of e) then NoMemory else Usage e
 
--- clap takes the words, but the heap's minimum length or step that they spell is no multiple of 16
+-- clap takes the words, but they give both a limit and the number of an attempt
+pub record IsDoubled (words : List Text) : Type 0 where
+  pub faultless : fault_of command_line words ≡ []
+  pub doubled : spell_both words ≡ true
+
+-- clap takes the words, and they don't do that, but the heap's minimum length or step that they spell is no multiple of 16
 pub record IsMisshapen (words : List Text) : Type 0 where
   pub command : Command
   pub spelled : IsSpelledBy words command
   pub misshapen : is_sixteenfold command.shape ≡ false
 
--- the fault is one that clap's meaning finds in the words, or of the shape that they spell where it finds none; want of
--- memory says nothing of them
+-- the fault is one that clap's meaning finds in the words; where it finds none, of the rules that they spell, and then of
+-- the shape; want of memory says nothing of them
 abbrev pub IsFaultOf : List Text → CommandFault → Type 0
 IsFaultOf words (Usage e) = (kind_of e ≢ OutOfMemory) × IsAmong (kind_of e) (fault_of command_line words)
+IsFaultOf words Both = IsDoubled words
 IsFaultOf words Shape = IsMisshapen words
 IsFaultOf words NoMemory = ⊤
 
 -- no fault of usage
 abbrev pub IsAfterUsage : CommandFault → Type 0
-IsAfterUsage fault = (fault ≡ Shape) ⊎ (fault ≡ NoMemory)
+IsAfterUsage fault = (fault ≡ Both) ⊎ ((fault ≡ Shape) ⊎ (fault ≡ NoMemory))
 
 -- the exit status of a program that got no command
 abbrev pub refusal_status : CommandFault → ℕ
 refusal_status (Usage e) = 6
+refusal_status Both = 6
 refusal_status Shape = 6
 refusal_status NoMemory = 4

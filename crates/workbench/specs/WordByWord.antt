@@ -21,7 +21,7 @@ is_flag _ = false
 
 -- the name of an option of `run`
 abbrev pub is_option : Text → Bool
-is_option name = bytes_eq (codes "limit") name || (bytes_eq (codes "min") name || bytes_eq (codes "step") name)
+is_option name = bytes_eq (codes "limit") name || (bytes_eq (codes "fail") name || (bytes_eq (codes "min") name || bytes_eq (codes "step") name))
 
 -- `--NAME` or `--NAME=VALUE`, with such a name
 abbrev pub names_option : Text → Bool
@@ -46,7 +46,7 @@ abbrev pub file_in : List Text → Option (Option Text)
 file_in (name ∷ word ∷ rest) = if bytes_eq (codes "run") word then file_named rest else None
 file_in _ = None
 
--- a run of the file, or of standard input, with no limit and the default shape
+-- a run of the file, or of standard input, without a limit or a number and with the default shape
 abbrev pub plain_run : Option Text → Command
 plain_run file = record { task = Run Unlimited; file = file; budget = default_budget; shape = default_shape; json = false }
 

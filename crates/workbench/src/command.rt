@@ -37,6 +37,9 @@ pub enum CommandFault {
     /// `clap` refuses the words, or they call for help; its text is for the user.
     #[error("{0}")]
     Usage(clap::Error),
+    /// `clap` takes the words, but they give both a limit and the number of an attempt. It comes before `Shape`.
+    #[error("error: give '--limit' or '--fail', not both\n")]
+    Both,
     /// `clap` takes the words, but the heap's minimum length or step is no multiple of 16 bytes.
     #[error("error: the values of '--min' and '--step' are multiples of 16\n")]
     Shape,

@@ -1,6 +1,6 @@
-//! How the words of a command line are read: `workbench run [--limit L] [--min M] [--step G] [FILE]`. Nothing is
-//! opened or run here.
-ghost use Rattle.std.specs.Prelude.{◌≡◌, ◌≤◌, All, IfErr, IfOk, IsTrue, List, codes, false, map, true};
+//! How the words of a command line are read: `workbench run [--limit L | --fail N] [--min M] [--step G]
+//! [FILE]`. Nothing is opened or run here.
+ghost use Rattle.std.specs.Prelude.{◌≡◌, ◌≤◌, All, IfErr, IfOk, IsTrue, List, OnErr, OnOk, codes, false, map, true};
 ghost use Rattle.std.specs.Str.{IsUtf8};
 ghost use Rattle.clap.specs.Words.{Text, app_of, first_of, found_of, rows_of, rule_of, takes, with_rule};
 ghost use Rattle.clap.specs.declared.builder.command.Command.TheViews.{out-Command as fields_of};
@@ -9,7 +9,7 @@ ghost use Rattle.workbench.specs.Command.{is_answerable, is_in_range, is_sixteen
 ghost use Rattle.workbench.specs.CommandLine.{command_line, file_argument, number_option, run_level, run_line};
 ghost use Rattle.workbench.specs.Fault.{IsAfterUsage, IsFaultOf};
 ghost use Rattle.workbench.specs.Passed.{RowsPass};
-ghost use Rattle.workbench.specs.Spelled.{IsSpelledBy, rule_of as spelled_rule, shape_of as spelled_shape};
+ghost use Rattle.workbench.specs.Spelled.{IsSpelledBy, gives_both, rule_of as spelled_rule, shape_of as spelled_shape};
 ghost use Rattle.workbench.specs.WordByWord.{AreRead};
 
 use crate::command::{Command, CommandFault, Task};
@@ -34,6 +34,9 @@ const MOST_OF_SHAPE: u32 = 1_048_576;
 
 const LIMIT_HELP: &str = "Refuses what would make the heap longer than L bytes, from 0 to 16777216";
 
+const FAIL_HELP: &str =
+    "Refuses the attempt with number N, from 0 to 16777216; there is no attempt 0";
+
 const MIN_HELP: &str =
     "The heap's minimum length in bytes, a multiple of 16 from 0 to 1048576 [default: 4096]";
 
@@ -43,9 +46,10 @@ const STEP_HELP: &str =
 /// The command that the words spell; the first of them is the program's name, and is not looked at. What the
 /// words don't say has its default, and the numbers are in their ranges.
 ///
-/// Words that `clap` doesn't take, and calls for help, are `Usage`. Where it takes them, a minimum length or a
-/// step that is no multiple of 16 is `Shape`. `NoMemory` comes where a growth was refused, of the workbench or
-/// of `clap`, and says nothing of the words.
+/// Words that `clap` doesn't take, and calls for help, are `Usage`. Where it takes them, a limit together with
+/// the number of an attempt is `Both`, and else a minimum length or a step that is no multiple of 16 is
+/// `Shape`. `NoMemory` comes where a growth was refused, of the workbench or of `clap`, and says nothing of the
+/// words.
 pub fn command<'a, S: AsStr>(alloc: Global, words: &'a [S]) -> Result<Command, CommandFault>
     ensures spelled { IfOk result (IsSpelledBy (map S.text words.now)) }
     ensures numbers { IfOk result (λ command. IsTrue (is_answerable command)) }
@@ -56,7 +60,7 @@ pub fn command<'a, S: AsStr>(alloc: Global, words: &'a [S]) -> Result<Command, C
 
     // Words that pass name a subcommand, and `help` never passes.
     let run = matches.subcommand_matches("run").unwrap();
-    let rule = rule_in(run);
+    let rule = rule_in(run)?;
     let shape = shape_in(run)?;
     Ok(Command {
         task: Task::Run(rule),
@@ -67,15 +71,20 @@ pub fn command<'a, S: AsStr>(alloc: Global, words: &'a [S]) -> Result<Command, C
     })
 }
 
-/// The rule that the options of `run` spell.
-fn rule_in(run: &ArgMatches) -> Rule
+/// The rule that the options of `run` spell, or `Both`.
+fn rule_in(run: &ArgMatches) -> Result<Rule, CommandFault>
     requires { RowsPass run_level.rules (rows_of (found_of run.now)) }
-    ensures rule { result ≡ spelled_rule (rows_of (found_of run.now)) }
-    ensures range { IsTrue (is_in_range (Task.Run result)) }
+    ensures ok { IfOk result (λ rule. rule ≡ spelled_rule (rows_of (found_of run.now))) }
+    ensures range { IfOk result (λ rule. IsTrue (is_in_range (Task.Run rule))) }
+    ensures alone { OnOk result (gives_both (rows_of (found_of run.now)) ≡ false) }
+    ensures fault { IfErr result (λ fault. fault ≡ CommandFault.Both) }
+    ensures both { OnErr result (gives_both (rows_of (found_of run.now)) ≡ true) }
 {
-    match run.get_one::<u32>("limit") {
-        Some(limit) => Rule::Limit(limit),
-        None => Rule::Unlimited,
+    match (run.get_one::<u32>("limit"), run.get_one::<u32>("fail")) {
+        (Some(_), Some(_)) => Err(CommandFault::Both),
+        (Some(limit), None) => Ok(Rule::Limit(limit)),
+        (None, Some(number)) => Ok(Rule::Number(number)),
+        (None, None) => Ok(Rule::Unlimited),
     }
 }
 
@@ -123,11 +132,13 @@ fn run_parser<'a>(alloc: Global) -> Result<clap::Command<'a>, AllocError>
     ensures own { IfOk result (λ line. (fields_of line).has_globals ≡ false) }
 {
     let limit = number(alloc, "limit", "L", 0, CEILING).help(LIMIT_HELP);
+    let fail = number(alloc, "fail", "N", 0, CEILING).help(FAIL_HELP);
     let min = number(alloc, "min", "M", 0, MOST_OF_SHAPE).help(MIN_HELP);
     let step = number(alloc, "step", "G", 16, MOST_OF_SHAPE).help(STEP_HELP);
     let line = clap::Command::new(alloc, "run").about("Runs a script once and reports");
     let line = with_argument(line, file(alloc))?;
     let line = with_argument(line, limit)?;
+    let line = with_argument(line, fail)?;
     let line = with_argument(line, min)?;
     with_argument(line, step)
 }

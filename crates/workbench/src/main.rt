@@ -87,7 +87,7 @@ fn refuse(rt: &HostRuntime, fault: &CommandFault) -> u8
 {
     let _ = eprint!(rt; "{fault}");
     match fault {
-        CommandFault::Usage(_) | CommandFault::Shape => COMMAND_LINE_FAULT,
+        CommandFault::Usage(_) | CommandFault::Both | CommandFault::Shape => COMMAND_LINE_FAULT,
         CommandFault::NoMemory => WANT_OF_MEMORY,
     }
 }

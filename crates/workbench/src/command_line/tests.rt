@@ -94,6 +94,63 @@ fn takes_options_of_a_run(rt: HostRuntime) -> Result<(), Fail> {
 }
 
 #[test]
+fn takes_the_number_of_an_attempt(rt: HostRuntime) -> Result<(), Fail> {
+    let alloc = rt.alloc();
+    let default = Shape {
+        min: 4096,
+        step: 4096,
+    };
+    let number = ["workbench", "run", "--fail", "3"];
+    takes_options(&rt, alloc, &number, Rule::Number(3), default)?;
+    let none = ["workbench", "run", "--fail", "0"];
+    takes_options(&rt, alloc, &none, Rule::Number(0), default)?;
+    let most = ["workbench", "run", "--fail=16777216"];
+    takes_options(&rt, alloc, &most, Rule::Number(16_777_216), default)?;
+    let shaped = ["workbench", "run", "--min=32", "--fail", "2", "--step=16"];
+    let small = Shape { min: 32, step: 16 };
+    takes_options(&rt, alloc, &shaped, Rule::Number(2), small)
+}
+
+/// The words are taken, but they give both a limit and a number.
+fn doubles(rt: &impl Abort, alloc: Global, words: &[&str]) -> Result<(), Fail> {
+    match command(alloc, words) {
+        Err(CommandFault::Both) => Ok(()),
+        _ => Err(Fail::from("a fault of two rules")),
+    }
+}
+
+#[test]
+fn refuses_a_limit_together_with_a_number(rt: HostRuntime) -> Result<(), Fail> {
+    let alloc = rt.alloc();
+    doubles(
+        &rt,
+        alloc,
+        &["workbench", "run", "--limit", "176", "--fail", "2"],
+    )?;
+    doubles(
+        &rt,
+        alloc,
+        &["workbench", "run", "--fail=0", "a.oom", "--limit=0"],
+    )?;
+    doubles(
+        &rt,
+        alloc,
+        &["workbench", "run", "--min=8", "--fail=1", "--limit=1"],
+    )
+}
+
+#[test]
+fn says_what_is_wrong_with_words_that_clap_takes(rt: HostRuntime) -> Result<(), Fail> {
+    let both = CommandFault::Both.to_string(rt.alloc())?;
+    assert!(rt; both.as_str() == "error: give '--limit' or '--fail', not both\n");
+    let shape = CommandFault::Shape.to_string(rt.alloc())?;
+    assert!(rt;
+        shape.as_str() == "error: the values of '--min' and '--step' are multiples of 16\n"
+    );
+    Ok(())
+}
+
+#[test]
 fn takes_options_around_a_file(rt: HostRuntime) -> Result<(), Fail> {
     let words = [
         "workbench",
@@ -175,8 +232,8 @@ fn refuses_other_words(rt: HostRuntime) -> Result<(), Fail> {
     refuses(
         &rt,
         alloc,
-        &["workbench", "run", "--fail", "5"],
-        "unexpected argument '--fail'",
+        &["workbench", "run", "--every", "5"],
+        "unexpected argument '--every'",
     )?;
     refuses(
         &rt,
@@ -200,6 +257,18 @@ fn refuses_numbers_out_of_range(rt: HostRuntime) -> Result<(), Fail> {
         alloc,
         &["workbench", "run", "--limit", "16777217"],
         "16777217 is not in 0..=16777216",
+    )?;
+    refuses(
+        &rt,
+        alloc,
+        &["workbench", "run", "--fail", "16777217"],
+        "16777217 is not in 0..=16777216",
+    )?;
+    refuses(
+        &rt,
+        alloc,
+        &["workbench", "run", "--limit", "1", "--fail=-1"],
+        "-1 is not in 0..=16777216",
     )?;
     refuses(
         &rt,
@@ -247,6 +316,12 @@ fn refuses_options_without_a_number_or_twice(rt: HostRuntime) -> Result<(), Fail
         alloc,
         &["workbench", "run", "--limit"],
         "a value is required for '--limit <L>'",
+    )?;
+    refuses(
+        &rt,
+        alloc,
+        &["workbench", "run", "--fail"],
+        "a value is required for '--fail <N>'",
     )?;
     refuses(
         &rt,

@@ -58,7 +58,7 @@ fn tells_every_part(rt: HostRuntime) -> Result<(), Fail> {
             place: 16_777_184
         },
     ]?);
-    let ends: [(Outcome, &[u8]); 9] = [
+    let ends: [(Outcome, &[u8]); 10] = [
         (
             Outcome::Ended { left: None, leaks },
             b"ended\nleaks 2\nleak 1 length 144 place 0\nleak 12 length 32 place 16777184\n",
@@ -78,6 +78,10 @@ fn tells_every_part(rt: HostRuntime) -> Result<(), Fail> {
         (
             Outcome::Panicked(Panic::Alloc(0xfedcba0)),
             b"panic ALLOC 0fedcba0\n",
+        ),
+        (
+            Outcome::Panicked(Panic::Alloc(0)),
+            b"panic ALLOC 00000000\n",
         ),
         (
             Outcome::Panicked(Panic::Workbench(7)),

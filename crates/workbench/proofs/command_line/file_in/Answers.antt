@@ -1,4 +1,4 @@
-use Rattle.std.proofs.Common.{◌≡◌, ◌∙◌, Some, None, rules, codes}
+use Rattle.std.proofs.Common.{◌≡◌, ◌∙◌, Some, rules, codes}
 use Rattle.clap.specs.Words.{first_value, found_of}
 use Rattle.clap.proofs.WalkLemmas.{first_value-rows}
 use Rattle.workbench.proofs.command_line.file_in.Goals as goal
