@@ -3,6 +3,8 @@
 
 A case is the files STEM.oom (the script), STEM.args (the program's arguments,
 one a line), STEM.stdout and STEM.status, where STEM ends in `.run` or `.size`.
+Where the arguments name a file, that is the script; such names start at the top
+of the repository.
 Each accepted script becomes a tree of `wb_model/src/script.rt`, each report the
 value that the definitions must give for it, and each case one theorem, proved
 by computing. The result is one antt file for the crate's folder `proofs/`; with
@@ -345,6 +347,8 @@ def rises_term(lines: list[str]) -> str:
 
 # --- cases -------------------------------------------------------------------
 
+TOP = Path(__file__).resolve().parent.parent
+
 
 def arguments_of(words: list[str]) -> tuple[argparse.Namespace, list[str]]:
     """The program's own arguments, and those that name files."""
@@ -363,8 +367,17 @@ def rule_of(a: argparse.Namespace) -> str:
     return next((rule for value, rule in given if value is not None), "R.Unlimited")
 
 
-def report_at(path: Path, most_steps: int) -> tuple[argparse.Namespace, list[str]] | str:
-    """The arguments and the text report of the case of a script's file, or why it is left out."""
+@dataclass
+class Case:
+    """An accepted case: the text of its script, its arguments, and the lines of its text report."""
+
+    script: str
+    arguments: argparse.Namespace
+    report: list[str]
+
+
+def case_at(path: Path, most_steps: int) -> Case | str:
+    """The case of a script's file, or why it is left out."""
     given, told, status = (path.with_suffix(ending) for ending in (".args", ".stdout", ".status"))
     if path.stem.split(".")[-1] not in ("run", "size"):
         return "no run and no size"
@@ -373,16 +386,16 @@ def report_at(path: Path, most_steps: int) -> tuple[argparse.Namespace, list[str
     if status.read_text().strip() not in ("0", "1", "3"):
         return "not accepted"
     a, files = arguments_of(given.read_text().split())
-    if files:
-        return "its script is in another file"
+    script = TOP / files[0] if files else path
     report = json.loads(told.read_text())["lines"] if a.json else told.read_text().removesuffix("\n").split("\n")
     if a.task == "run" and int(report[-1].removeprefix("steps ")) > most_steps:
         return f"more than {most_steps} steps"
-    return a, report
+    return Case(script.read_bytes().decode(), a, report)
 
 
-def theorem(name: str, text: str, a: argparse.Namespace, report: list[str]) -> str:
+def theorem(name: str, case: Case) -> str:
     """A case as antt text: its script, its claim and the proof."""
+    a, report = case.arguments, case.report
     script, proof = "script_" + name, "refl"
     given = f"{a.budget} (shaped {a.min} {a.step})"
     if a.task == "run":
@@ -394,7 +407,7 @@ def theorem(name: str, text: str, a: argparse.Namespace, report: list[str]) -> s
         claim = f"(required {script} {given} ≡ {required}) × (rises {script} {given} ≡ {rises_term(report)})"
         proof = "(refl, refl)"
     return (
-        f"abbrev {script} : Script\n{script} = {Reader(text).script()}\n\n"
+        f"abbrev {script} : Script\n{script} = {Reader(case.script).script()}\n\n"
         f"{name} : {claim}\nunfolding everything\n{name} = {proof}\n"
     )
 
@@ -482,7 +495,7 @@ def main() -> int:
     for path in paths:
         name = re.sub(r"[^A-Za-z0-9]", "_", path.stem)
         name = name if name[0].isalpha() else "case_" + name
-        case = report_at(path, chosen.most_steps)
+        case = case_at(path, chosen.most_steps)
         if isinstance(case, str):
             left_out[case] += 1
             if chosen.verbose:
@@ -490,7 +503,7 @@ def main() -> int:
         elif name in theorems:
             sys.exit(f"two cases are called {name}")
         else:
-            theorems[name] = theorem(name, path.read_bytes().decode(), *case)
+            theorems[name] = theorem(name, case)
     written = without_unused(head(chosen.crate.resolve()) + "\n" + "\n".join(theorems.values()))
     if not chosen.compare:
         chosen.out.write_text(written)
