@@ -184,15 +184,27 @@ fn words_of_doubt(rt: HostRuntime) -> Result<(), Fail> {
     Ok(())
 }
 
+/// Whether each of these lines is this to the grammar of blocks.
+fn all_are(alloc: Global, lines: &[&[u8]], wanted: Role) -> Result<bool, AllocError> {
+    for line in lines.iter() {
+        let form = line_form(alloc, line)?;
+        if role(&form) != wanted {
+            return Ok(false);
+        }
+    }
+    Ok(true)
+}
+
 #[test]
 fn lines_that_say_nothing(rt: HostRuntime) -> Result<(), Fail> {
-    let alloc = rt.alloc();
-    let skipped = [b"".as_slice(), b" \t\r", b"#", b"\t # \"proc"];
-    for line in skipped.iter() {
-        let form = line_form(alloc, line)?;
-        assert_eq!(rt; role(&form), Role::Skip);
-    }
-    let unknown = [
+    let lines = [b"".as_slice(), b" \t\r", b"#", b"\t # \"proc"];
+    assert!(rt; all_are(rt.alloc(), &lines, Role::Skip)?);
+    Ok(())
+}
+
+#[test]
+fn lines_of_cells_that_no_script_has(rt: HostRuntime) -> Result<(), Fail> {
+    let lines = [
         b"end # done".as_slice(),
         b"End",
         b"ends",
@@ -222,7 +234,15 @@ fn lines_that_say_nothing(rt: HostRuntime) -> Result<(), Fail> {
         b"free self",
         b"print self",
         b"print p q",
-        b"int",
+    ];
+    assert!(rt; all_are(rt.alloc(), &lines, Role::Unknown)?);
+    Ok(())
+}
+
+#[test]
+fn lines_of_numbers_that_no_script_has(rt: HostRuntime) -> Result<(), Fail> {
+    let lines = [
+        b"int".as_slice(),
         b"int int",
         b"int x 1",
         b"realloc p q",
@@ -244,7 +264,15 @@ fn lines_that_say_nothing(rt: HostRuntime) -> Result<(), Fail> {
         b"failnext",
         b"failevery +1",
         b"failnone 0",
-        b"buf b",
+    ];
+    assert!(rt; all_are(rt.alloc(), &lines, Role::Unknown)?);
+    Ok(())
+}
+
+#[test]
+fn lines_of_texts_that_no_script_has(rt: HostRuntime) -> Result<(), Fail> {
+    let lines = [
+        b"buf b".as_slice(),
         b"buf b -1",
         b"buf b x",
         b"buf b \"1\"",
@@ -268,7 +296,15 @@ fn lines_that_say_nothing(rt: HostRuntime) -> Result<(), Fail> {
         b"getlen 1 b",
         b"getlen x 1",
         b"getmax x \"a\"",
-        b"print +5",
+    ];
+    assert!(rt; all_are(rt.alloc(), &lines, Role::Unknown)?);
+    Ok(())
+}
+
+#[test]
+fn words_that_no_script_has(rt: HostRuntime) -> Result<(), Fail> {
+    let lines = [
+        b"print +5".as_slice(),
         b"print -",
         b"print --5",
         b"print 0000000001",
@@ -282,10 +318,7 @@ fn lines_that_say_nothing(rt: HostRuntime) -> Result<(), Fail> {
         b"end\" \"",
         b"\"end\"",
     ];
-    for line in unknown.iter() {
-        let form = line_form(alloc, line)?;
-        assert_eq!(rt; role(&form), Role::Unknown);
-    }
+    assert!(rt; all_are(rt.alloc(), &lines, Role::Unknown)?);
     Ok(())
 }
 

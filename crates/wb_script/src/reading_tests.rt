@@ -359,7 +359,7 @@ fn lines_that_fit_nowhere(rt: HostRuntime) -> Result<(), Fail> {
         fault_of(alloc, b"proc main\nprint 1\nptr a\nend"),
         grammar(3)
     );
-    // Words of a wrong form, and lines that no script has yet.
+    // Words of a wrong form, and lines of no script.
     assert_eq!(rt; fault_of(alloc, b"proc main\nprint +5\nend"), grammar(2));
     assert_eq!(rt;
         fault_of(alloc, b"proc main\nprint 1234567890\nend"),
@@ -378,6 +378,12 @@ fn lines_that_fit_nowhere(rt: HostRuntime) -> Result<(), Fail> {
         fault_of(alloc, b"proc main\nrepeat 2\nend\nend"),
         grammar(2)
     );
+    Ok(())
+}
+
+#[test]
+fn operands_that_fit_nowhere(rt: HostRuntime) -> Result<(), Fail> {
+    let alloc = rt.alloc();
     // Operands of a `store` that are too few, too many, or of another kind, and a note with an operand.
     assert_eq!(rt;
         fault_of(alloc, b"proc main\nptr p\nstore p 0\nend"),
@@ -509,10 +515,27 @@ fn wrong_kind(line: u32) -> Option<ScriptFault> {
     Some(ScriptFault::WrongKind { line })
 }
 
+/// Whether each of these lines has this fault, or none, in a procedure with locals of every kind.
+fn all_have(
+    alloc: Global,
+    lines: &[&[u8]],
+    fault: Option<ScriptFault>,
+) -> Result<bool, AllocError> {
+    let before = b"proc main\nptr p\nint x\nptr q\nint y\nbuf b 256\nview v\n";
+    for line in lines.iter() {
+        let mut script = repeated(alloc, before, 1)?;
+        script.extend_from_slice(*line)?;
+        script.extend_from_slice(b"\nend\n")?;
+        if fault_of(alloc, &script) != fault {
+            return Ok(false);
+        }
+    }
+    Ok(true)
+}
+
 #[test]
-fn operands_of_a_wrong_kind(rt: HostRuntime) -> Result<(), Fail> {
-    let alloc = rt.alloc();
-    let right = [
+fn operands_of_the_right_kind(rt: HostRuntime) -> Result<(), Fail> {
+    let lines = [
         b"set p q".as_slice(),
         b"set p p",
         b"set x y",
@@ -531,7 +554,15 @@ fn operands_of_a_wrong_kind(rt: HostRuntime) -> Result<(), Fail> {
         b"failevery y",
         b"print x",
         b"print p",
-        b"print b",
+    ];
+    assert!(rt; all_have(rt.alloc(), &lines, None)?);
+    Ok(())
+}
+
+#[test]
+fn texts_of_the_right_kind(rt: HostRuntime) -> Result<(), Fail> {
+    let lines = [
+        b"print b".as_slice(),
         b"print v",
         b"hnew p x",
         b"hrealloc p q 3",
@@ -549,7 +580,13 @@ fn operands_of_a_wrong_kind(rt: HostRuntime) -> Result<(), Fail> {
         b"getmax x b",
         b"getmax x p",
     ];
-    let wrong = [
+    assert!(rt; all_have(rt.alloc(), &lines, None)?);
+    Ok(())
+}
+
+#[test]
+fn operands_of_a_wrong_kind(rt: HostRuntime) -> Result<(), Fail> {
+    let lines = [
         b"set p x".as_slice(),
         b"set p 3",
         b"set x p",
@@ -575,7 +612,15 @@ fn operands_of_a_wrong_kind(rt: HostRuntime) -> Result<(), Fail> {
         b"checkall p",
         b"failnext p",
         b"failevery p",
-        b"set b b",
+    ];
+    assert!(rt; all_have(rt.alloc(), &lines, wrong_kind(8))?);
+    Ok(())
+}
+
+#[test]
+fn texts_of_a_wrong_kind(rt: HostRuntime) -> Result<(), Fail> {
+    let lines = [
+        b"set b b".as_slice(),
         b"set v v",
         b"set b 3",
         b"set p b",
@@ -605,19 +650,7 @@ fn operands_of_a_wrong_kind(rt: HostRuntime) -> Result<(), Fail> {
         b"getmax x v",
         b"getmax x y",
     ];
-    let before = b"proc main\nptr p\nint x\nptr q\nint y\nbuf b 256\nview v\n";
-    for line in right.iter() {
-        let mut script = repeated(alloc, before, 1)?;
-        script.extend_from_slice(*line)?;
-        script.extend_from_slice(b"\nend\n")?;
-        assert_eq!(rt; fault_of(alloc, &script), None);
-    }
-    for line in wrong.iter() {
-        let mut script = repeated(alloc, before, 1)?;
-        script.extend_from_slice(*line)?;
-        script.extend_from_slice(b"\nend\n")?;
-        assert_eq!(rt; fault_of(alloc, &script), wrong_kind(8));
-    }
+    assert!(rt; all_have(rt.alloc(), &lines, wrong_kind(8))?);
     Ok(())
 }
 
