@@ -79,7 +79,7 @@ IsLinesFault forms NoMain = IsNamed forms × (main_of forms ≡ None)
 IsLinesFault forms (TooMany n) = IsNamed forms × (main_of forms ≡ None → ⊥) × (line_of (first_refused passes_limit forms) ≡ Some n)
 IsLinesFault forms _ = ⊥
 
--- The first fault of bytes, with its line. No line that has come may leave where it must not.
+-- The first fault of bytes, with its line. No statement that is read leaves, so `MayLeave` is a fault of no bytes.
 abbrev pub IsFaultOf : List ℕ → ScriptFault → Type 0
 IsFaultOf bytes TooLong = is_too_long bytes ≡ true
 IsFaultOf bytes (NotAscii n) = (is_too_long bytes ≡ false) × (first_foreign_line bytes ≡ Some n)

@@ -36,7 +36,7 @@ abbrev pub counted : Indexed → List Indexed
 counted Skip = []
 counted line = line ∷ []
 
--- The operand that spells a pointer, a number or a text to print; none where no line spells it yet.
+-- The operand that spells a pointer, a number or a text to print; none where no line spells it.
 abbrev pub Spelled : Type 0
 Spelled = Option (Operand Meant)
 
@@ -78,7 +78,7 @@ line_or_unknown key None = Unknown
 abbrev pub line : Key → List Spelled → Indexed
 line k words = line_or_unknown k (all_spelled words)
 
--- The line of a statement. One that no line spells yet has a line of no script.
+-- The line of a statement. One that no line spells has a line of no script.
 abbrev pub statement_line : Statement-F Statement → Indexed
 statement_line (Statement-F.Alloc p v GivesNull) = line key.Alloc (pointer_operand p ∷ number_operand v ∷ [])
 statement_line (Statement-F.Realloc p q v GivesNull) = line key.Realloc (pointer_operand p ∷ pointer_operand q ∷ number_operand v ∷ [])
