@@ -1,13 +1,13 @@
--- What is known of the body of `main` of a script.
-use Rattle.std.proofs.Common.{◌≡◌, ℕ, ◌<◌, suc, zero, Bool, true, false, List, [], ◌∷◌, ◌++◌, length, refl, ap, ◌∙◌, sym, arith, Option, Some, None}
+-- What is known of a script: of the body of `main`, and of literals.
+use Rattle.std.proofs.Common.{◌≡◌, ℕ, ◌<◌, ◌≤◌, suc, zero, Bool, true, false, List, [], ◌∷◌, ◌++◌, length, refl, ap, ◌∙◌, sym, arith, Option, Some, None}
 use Rattle.std.specs.Prelude.{◌&&◌, slice_get, unwrap_or, nat_lt, nat_le, nat_eq}
 use Rattle.std.specs.List.{list_all}
-use Rattle.std.proofs.lemmas.Bool.{ltb-true}
+use Rattle.std.proofs.lemmas.Bool.{ltb-true, leb-true}
 use Rattle.std.proofs.lemmas.List.Folds.{list_all-append}
 use Rattle.wb_model.specs.declared.script.Script.{Script}
 use Rattle.wb_model.specs.declared.script.Procedure.{Procedure}
 use Rattle.wb_model.specs.Statements.{no_body}
-use Rattle.wb_model.specs.Sound.{is_local, is_quotable, is_body, is_procedure, is_script, are_statements}
+use Rattle.wb_model.specs.Sound.{is_local, is_quotable, is_literal_text, is_body, is_procedure, is_script, are_statements}
 use Rattle.wb_machine.specs.declared.control.Piece.{Piece}
 use Rattle.wb_machine.specs.declared.control.Piece.TheVariants.{MainTrap}
 use Rattle.wb_machine.specs.Held.{main_of}
@@ -36,29 +36,39 @@ none_within [] i lt e = omega (arith, lt)
 none_within (x ∷ xs) zero lt e = cc
 none_within (x ∷ xs) (suc i) lt e = none_within xs i (omega (arith, lt)) e
 
--- `main` is a body over its own locals
-main_body : (script : Script) → is_script script ≡ true → is_body (length script.literals) (main_of script) ≡ true
-main_body script ok = by (slice_get script.procedures script.main) refl
-  where
-    counts : Bool
-    counts = nat_le (length script.procedures) 256 && nat_lt script.main (length script.procedures)
+module _ (script : Script) (ok : is_script script ≡ true) where
+  abbrev nothing : Bool
+  nothing = nat_eq (length script.classes) 0 && nat_eq (length script.operations) 0
 
-    parts : Bool
-    parts = list_all (is_procedure (length script.literals)) script.procedures && list_all (list_all is_quotable) script.literals
+  abbrev counts : Bool
+  counts = nat_le (length script.procedures) 256 && nat_lt script.main (length script.procedures)
 
-    nothing : Bool
-    nothing = nat_eq (length script.classes) 0 && nat_eq (length script.operations) 0
+  abbrev procedures : Bool
+  procedures = list_all (is_procedure (length script.literals)) script.procedures
 
-    each : list_all (is_procedure (length script.literals)) script.procedures ≡ true
-    each = and_left _ (list_all (list_all is_quotable) script.literals) (and_right (nothing && counts) parts ok)
+  abbrev literals : Bool
+  literals = list_all is_literal_text script.literals
 
-    within : script.main < length script.procedures
-    within = ltb-true _ _ (and_right (nat_le (length script.procedures) 256) _ (and_right nothing counts (and_left (nothing && counts) parts ok)))
+  -- `main` is a body over its own locals
+  main_body : is_body (length script.literals) (main_of script) ≡ true
+  main_body = by (slice_get script.procedures script.main) refl
+    where
+      each : procedures ≡ true
+      each = and_left procedures literals (and_right (nothing && counts) (procedures && literals) ok)
 
-    by : (o : Option Procedure) → slice_get script.procedures script.main ≡ o →
-        is_body (length script.literals) (unwrap_or o (record { parameters = []; body = no_body })).body ≡ true
-    by None e = absurd (none_within script.procedures script.main within e)
-    by (Some p) e = and_right (nat_eq (length p.parameters) 0) (is_body (length script.literals) p.body) (all_at (is_procedure (length script.literals)) script.procedures script.main p each e)
+      within : script.main < length script.procedures
+      within = ltb-true _ _ (and_right (nat_le (length script.procedures) 256) _ (and_right nothing counts (and_left (nothing && counts) (procedures && literals) ok)))
+
+      by : (o : Option Procedure) → slice_get script.procedures script.main ≡ o →
+          is_body (length script.literals) (unwrap_or o (record { parameters = []; body = no_body })).body ≡ true
+      by None e = absurd (none_within script.procedures script.main within e)
+      by (Some p) e = and_right (nat_eq (length p.parameters) 0) (is_body (length script.literals) p.body) (all_at (is_procedure (length script.literals)) script.procedures script.main p each e)
+
+  -- a literal has no more bytes than a script
+  pub literal_short : (i : ℕ) (text : List ℕ) → slice_get script.literals i ≡ Some text → length text ≤ 65536
+  literal_short i text e =
+      leb-true (length text) 65536 (and_right (list_all is_quotable text) (nat_le (length text) 65536)
+      (all_at is_literal_text script.literals i text (and_right procedures literals (and_right (nothing && counts) (procedures && literals) ok)) e))
 
 pub main_locals : (script : Script) → is_script script ≡ true → list_all is_local (main_of script).locals ≡ true
 main_locals script ok =

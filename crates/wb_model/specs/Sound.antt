@@ -124,8 +124,12 @@ is_procedure literals p = nat_eq (length p.parameters) 0 && is_body literals p.b
 abbrev pub is_quotable : ℕ → Bool
 is_quotable byte = nat_le 32 byte && nat_le byte 126 && not (nat_eq byte 34)
 
+-- the text of a literal: no more bytes than a script has
+abbrev pub is_literal_text : List ℕ → Bool
+is_literal_text text = list_all is_quotable text && nat_le (length text) 65536
+
 abbrev pub is_script : Script → Bool
 is_script script =
     nat_eq (length script.classes) 0 && nat_eq (length script.operations) 0
     && (nat_le (length script.procedures) 256 && nat_lt script.main (length script.procedures))
-    && (list_all (is_procedure (length script.literals)) script.procedures && list_all (list_all is_quotable) script.literals)
+    && (list_all (is_procedure (length script.literals)) script.procedures && list_all is_literal_text script.literals)

@@ -12,10 +12,10 @@ use Rattle.wb_model.specs.Kinds.{has_wrong_kind}
 use Rattle.wb_model.specs.Names.{Text, known_of, first_refused, passes_limit}
 use Rattle.wb_model.specs.Resolved.{resolved}
 use Rattle.wb_model.specs.Scripts.{main_of}
-use Rattle.wb_model.specs.Sound.{is_script, is_procedure, is_quotable}
+use Rattle.wb_model.specs.Sound.{is_script, is_procedure, is_literal_text}
 use Rattle.wb_script.specs.Building.{counts_of, AllFit}
 use Rattle.wb_script.specs.Typed.{AreTyped}
-use Rattle.wb_script.proofs.ResolvedLemmas.{counts-resolved, place_within, few_literals, all_fit, literals_quotable}
+use Rattle.wb_script.proofs.ResolvedLemmas.{counts-resolved, place_within, few_literals, all_fit, literals_sound}
 
 role-renamed : {N M : Type 0} (f : N → M) (form : Form N) → role_of_form (renamed f form) ≡ role_of_form form
 role-renamed f Skip = refl
@@ -49,5 +49,5 @@ pub sound_tree : (forms : List (Form Text)) (script : Script) → AreTyped forms
 sound_tree forms script typed no_class no_operation few main is procedures =
     let at_most : nat_le (length script.procedures) 256 ≡ true = grind (arith, nat_tests) in
     let below : nat_lt script.main (length script.procedures) ≡ true = grind (arith, nat_tests) in
-    let literals : list_all (list_all is_quotable) script.literals ≡ true = ap (list_all (list_all is_quotable)) is ∙ literals_quotable forms typed in
+    let literals : list_all is_literal_text script.literals ≡ true = ap (list_all is_literal_text) is ∙ literals_sound forms typed in
     rw (no_class, no_operation, at_most, below, procedures, literals) refl

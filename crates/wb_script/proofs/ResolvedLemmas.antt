@@ -31,7 +31,7 @@ use Rattle.wb_model.specs.Kinds.{is_right, are_right, is_right_line, has_wrong_k
 use Rattle.wb_model.specs.Passes.{first_bad, first_where, state_after, each_with}
 use Rattle.wb_model.specs.Names.{Text, Known, known_with, nothing_known, name_declared, literal_in, kind_of, picked_of, picked, known_after, known_of, place_of, passes_limit, first_refused}
 use Rattle.wb_model.specs.Resolved.{local_meant, meant_at, resolved_operand, resolved_operands, resolved_line, resolved}
-use Rattle.wb_model.specs.Sound.{is_pointer_local, is_number_local, is_buffer_local, is_view_local, is_number, is_quotable}
+use Rattle.wb_model.specs.Sound.{is_pointer_local, is_number_local, is_buffer_local, is_view_local, is_number, is_literal_text}
 use Rattle.wb_script.specs.Building.{Counts, nothing_counted, counts_after, counts_of, operand_fits, letters_fit, sides_fit, operands_fit, is_small, is_local_due, is_due, fits, unfit, AllFit}
 use Rattle.wb_script.specs.Typed.{is_short, is_operand, are_operands, is_typed, AreTyped}
 use Rattle.wb_script.proofs.Steps.{good_first}
@@ -383,35 +383,35 @@ counts_from (form ∷ forms) known counts counted typed =
 pub counts-resolved : (forms : List (Form Text)) → AreTyped forms → (counts_of (resolved forms)).procedures ≡ length (known_of forms).procedures
 counts-resolved forms typed = (counts_from forms nothing_known nothing_counted nothing_yet typed).procedures
 
--- the literals of a script: what may stand in quotes, and no more than four of a line
-quotable_of : (letters : List Letter) (operands : List (Operand Text)) → are_operands letters operands ≡ true → list_all (list_all is_quotable) (picked_of literal_in letters operands) ≡ true
-quotable_of [] operands typed = refl
-quotable_of (at ∷ letters) [] typed = refl
-quotable_of (at ∷ letters) (Name n ∷ os) typed = quotable_of letters os (both (is_operand at (Name n)) (are_operands letters os) typed).1
-quotable_of (at ∷ letters) (Number z ∷ os) typed = quotable_of letters os (both (is_operand at (Number z)) (are_operands letters os) typed).1
-quotable_of (at ∷ letters) (Literal t ∷ os) typed =
+-- the literals of a script: what may stand in quotes, no longer than a script, and no more than four of a line
+sound_of : (letters : List Letter) (operands : List (Operand Text)) → are_operands letters operands ≡ true → list_all is_literal_text (picked_of literal_in letters operands) ≡ true
+sound_of [] operands typed = refl
+sound_of (at ∷ letters) [] typed = refl
+sound_of (at ∷ letters) (Name n ∷ os) typed = sound_of letters os (both (is_operand at (Name n)) (are_operands letters os) typed).1
+sound_of (at ∷ letters) (Number z ∷ os) typed = sound_of letters os (both (is_operand at (Number z)) (are_operands letters os) typed).1
+sound_of (at ∷ letters) (Literal t ∷ os) typed =
     let (here, rest) = both (is_operand at (Literal t)) (are_operands letters os) typed in
-    rw (quoted at t here) (quotable_of letters os rest)
+    rw (quoted at t here) (sound_of letters os rest)
   where
-    quoted : (l : Letter) (u : Text) → is_operand l (Literal u) ≡ true → list_all is_quotable u ≡ true
+    quoted : (l : Letter) (u : Text) → is_operand l (Literal u) ≡ true → is_literal_text u ≡ true
     quoted letter.Readable u typed = typed
     quoted letter.Printed u typed = typed
     quoted _ u typed = let clash : ⊥ = cc in absurd clash
 
-picked_quotable : (form : Form Text) → is_typed form ≡ true → list_all (list_all is_quotable) (picked literal_in form) ≡ true
-picked_quotable Skip typed = refl
-picked_quotable Unknown typed = refl
-picked_quotable (Line key operands) typed = quotable_of (letters_of key) operands typed
+picked_sound : (form : Form Text) → is_typed form ≡ true → list_all is_literal_text (picked literal_in form) ≡ true
+picked_sound Skip typed = refl
+picked_sound Unknown typed = refl
+picked_sound (Line key operands) typed = sound_of (letters_of key) operands typed
 
-quotable_from : (forms : List (Form Text)) (known : Known) → AreTyped forms → list_all (list_all is_quotable) known.literals ≡ true → list_all (list_all is_quotable) (state_after known_after known forms).literals ≡ true
-quotable_from [] known typed so_far = so_far
-quotable_from (form ∷ forms) known typed so_far =
+sound_from : (forms : List (Form Text)) (known : Known) → AreTyped forms → list_all is_literal_text known.literals ≡ true → list_all is_literal_text (state_after known_after known forms).literals ≡ true
+sound_from [] known typed so_far = so_far
+sound_from (form ∷ forms) known typed so_far =
     let (here, rest) = both (is_typed form) (list_all is_typed forms) typed in
-    let more : list_all (list_all is_quotable) (known_after known form).literals ≡ true = rw (literals_after known form, list_all-append (list_all is_quotable) known.literals (picked literal_in form), so_far) (picked_quotable form here) in
-    quotable_from forms (known_after known form) rest more
+    let more : list_all is_literal_text (known_after known form).literals ≡ true = rw (literals_after known form, list_all-append is_literal_text known.literals (picked literal_in form), so_far) (picked_sound form here) in
+    sound_from forms (known_after known form) rest more
 
-pub literals_quotable : (forms : List (Form Text)) → AreTyped forms → IsTrue (list_all (list_all is_quotable) (known_of forms).literals)
-literals_quotable forms typed = quotable_from forms nothing_known typed refl
+pub literals_sound : (forms : List (Form Text)) → AreTyped forms → IsTrue (list_all is_literal_text (known_of forms).literals)
+literals_sound forms typed = sound_from forms nothing_known typed refl
 
 few_of : (letters : List Letter) (operands : List (Operand Text)) → length (picked_of literal_in letters operands) ≤ length letters
 few_of [] operands = omega arith

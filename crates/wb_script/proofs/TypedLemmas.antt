@@ -1,10 +1,12 @@
 -- The form of a line has operands of the letters of its key.
-use Rattle.std.proofs.Common.{◌≡◌, refl, subst, ℕ, ℤ, zero, suc, pos, neg_ℤ, ◌+◌, ◌-◌, ◌^◌, ◌<◌, ◌≤◌, List, [], ◌∷◌, Bool, true, false, ◌&&◌, nat_eq, nat_lt, nat_le, length, Option, Some, None, fold, arith}
+use Rattle.std.proofs.Common.{◌≡◌, refl, subst, ℕ, ℤ, zero, suc, pos, neg_ℤ, ◌+◌, ◌-◌, ◌^◌, ◌<◌, ◌≤◌, List, [], ◌∷◌, Bool, true, false, ◌&&◌, nat_eq, nat_lt, nat_le, length, drop, Option, Some, None, fold, arith, length-drop}
 use Rattle.std.specs.Prelude.{if◌then◌else◌}
 use Rattle.std.specs.Option.{option_map}
 use Rattle.std.specs.List.{list_all}
 use Rattle.std.specs.Str.{bytes_eq}
+use Rattle.std.proofs.lemmas.Bool.{le-leb}
 use Rattle.std.proofs.lemmas.Bool.Decides.{nat_tests}
+use Rattle.std.proofs.lemmas.List.{length-take}
 use Rattle.wb_model.specs.declared.lines.Key.{Key}
 use Rattle.wb_model.specs.declared.lines.Letter.{Letter}
 use Rattle.wb_model.specs.declared.lines.Letter.TheVariants as letter
@@ -15,9 +17,10 @@ use Rattle.wb_model.specs.Forms.{operand_of, operands_of, onto, operands_if, lin
 use Rattle.wb_model.specs.Keys.{keys, letters_of, text_of}
 use Rattle.wb_model.specs.Lines.{words_of}
 use Rattle.wb_model.specs.Names.{Text}
-use Rattle.wb_model.specs.Sound.{is_quotable}
+use Rattle.wb_model.specs.Sound.{is_quotable, is_literal_text}
 use Rattle.wb_model.specs.Words.{is_digit, with_digit, digits_of, number_of, declared_name, used_name, literal_of, is_literal, inside}
 use Rattle.wb_script.specs.Typed.{is_short, is_operand, are_operands, is_typed, AreTyped}
+use Rattle.wb_script.proofs.Cuts.{AreWithin, words_within}
 use Rattle.wb_script.proofs.Digits.{digit_at_most_nine, one_more_digit, nine_digits}
 
 pub both : (a b : Bool) → (a && b) ≡ true → (a ≡ true) × (b ≡ true)
@@ -76,10 +79,16 @@ mapped : {X Y : Type 0} (P : Y → Type 0) (f : X → Y) (o : Option X) (y : Y) 
 mapped P f None y each is = let clash : ⊥ = cc in absurd clash
 mapped P f (Some x) y each is = let same : f x ≡ y = cc in subst P same (each x refl)
 
-literal_quotable : (word text : Text) → literal_of word ≡ Some text → list_all is_quotable text ≡ true
-literal_quotable word text is =
+-- what stands in a word is no longer than the word
+inside_within : (word : Text) → length (inside word) ≤ length word
+inside_within word = omega (arith, length-take (length word - 1 - 1) (drop 1 word), length-drop 1 word)
+
+literal_sound : (word text : Text) → length word ≤ 65536 → literal_of word ≡ Some text → is_literal_text text ≡ true
+literal_sound word text short is =
     let (tested, same) = given (is_literal word) (inside word) text is in
-    subst (λ t. list_all is_quotable t ≡ true) same (both _ (list_all is_quotable (inside word)) tested).1
+    let quotable : list_all is_quotable (inside word) ≡ true = (both _ (list_all is_quotable (inside word)) tested).1 in
+    let within : nat_le (length (inside word)) 65536 ≡ true = le-leb (length (inside word)) 65536 (omega (arith, short, inside_within word)) in
+    subst (λ t. is_literal_text t ≡ true) same (rw (quotable, within) refl)
 
 either_typed : (letter : Letter) (first other : Option (Operand Text)) (operand : Operand Text) → ((o : Operand Text) → first ≡ Some o → is_operand letter o ≡ true) → ((o : Operand Text) → other ≡ Some o → is_operand letter o ≡ true) → either first other ≡ Some operand → is_operand letter operand ≡ true
 either_typed letter (Some o) other operand one two is = one operand is
@@ -92,41 +101,41 @@ module _ (at : Letter) (word : Text) (operand : Operand Text) where
   number_typed : ((z : ℤ) → is_short z ≡ true → is_operand at (Number z) ≡ true) → number_word word ≡ Some operand → is_operand at operand ≡ true
   number_typed each is = mapped (λ o. is_operand at o ≡ true) Number (number_of word) operand (λ z e. each z (number_bounded word z e)) is
 
-  literal_typed : ((t : Text) → list_all is_quotable t ≡ true → is_operand at (Literal t) ≡ true) → literal_word word ≡ Some operand → is_operand at operand ≡ true
-  literal_typed each is = mapped (λ o. is_operand at o ≡ true) Literal (literal_of word) operand (λ t e. each t (literal_quotable word t e)) is
+  literal_typed : length word ≤ 65536 → ((t : Text) → is_literal_text t ≡ true → is_operand at (Literal t) ≡ true) → literal_word word ≡ Some operand → is_operand at operand ≡ true
+  literal_typed short each is = mapped (λ o. is_operand at o ≡ true) Literal (literal_of word) operand (λ t e. each t (literal_sound word t short e)) is
 
 value_typed : (at : Letter) (word : Text) (operand : Operand Text) → ((n : Text) → is_operand at (Name n) ≡ true) → ((z : ℤ) → is_short z ≡ true → is_operand at (Number z) ≡ true) → either (number_word word) (name_word word) ≡ Some operand → is_operand at operand ≡ true
 value_typed at word operand names numbers is = either_typed at (number_word word) (name_word word) operand (λ o. number_typed at word o numbers) (λ o. name_typed at word o names) is
 
-text_typed : (at : Letter) (word : Text) (operand : Operand Text) → ((n : Text) → is_operand at (Name n) ≡ true) → ((t : Text) → list_all is_quotable t ≡ true → is_operand at (Literal t) ≡ true) → either (name_word word) (literal_word word) ≡ Some operand → is_operand at operand ≡ true
-text_typed at word operand names literals is = either_typed at (name_word word) (literal_word word) operand (λ o. name_typed at word o names) (λ o. literal_typed at word o literals) is
+text_typed : (at : Letter) (word : Text) (operand : Operand Text) → length word ≤ 65536 → ((n : Text) → is_operand at (Name n) ≡ true) → ((t : Text) → is_literal_text t ≡ true → is_operand at (Literal t) ≡ true) → either (name_word word) (literal_word word) ≡ Some operand → is_operand at operand ≡ true
+text_typed at word operand short names literals is = either_typed at (name_word word) (literal_word word) operand (λ o. name_typed at word o names) (λ o. literal_typed at word o short literals) is
 
 size_typed : (number : Option ℤ) (operand : Operand Text) → size_of number ≡ Some operand → is_operand letter.Size operand ≡ true
 size_typed (Some (pos n)) operand is = let same : Number (pos n) ≡ operand = cc in subst (λ o. is_operand letter.Size o ≡ true) same refl
 size_typed _ operand is = let clash : ⊥ = cc in absurd clash
 
-operand_typed : (letter : Letter) (word : Text) (operand : Operand Text) → operand_of letter word ≡ Some operand → is_operand letter operand ≡ true
-operand_typed letter.Declared word operand is = mapped (λ o. is_operand letter.Declared o ≡ true) Name (declared_name word) operand (λ n e. refl) is
-operand_typed letter.Pointer word operand is = name_typed letter.Pointer word operand (λ n. refl) is
-operand_typed letter.Variable word operand is = name_typed letter.Variable word operand (λ n. refl) is
-operand_typed letter.Target word operand is = name_typed letter.Target word operand (λ n. refl) is
-operand_typed letter.Value word operand is = value_typed letter.Value word operand (λ n. refl) (λ z e. e) is
-operand_typed letter.Source word operand is = value_typed letter.Source word operand (λ n. refl) (λ z e. e) is
-operand_typed letter.Size word operand is = size_typed (number_of word) operand is
-operand_typed letter.Writable word operand is = name_typed letter.Writable word operand (λ n. refl) is
-operand_typed letter.Readable word operand is = text_typed letter.Readable word operand (λ n. refl) (λ t e. e) is
-operand_typed letter.ViewName word operand is = name_typed letter.ViewName word operand (λ n. refl) is
-operand_typed letter.Printed word operand is =
+operand_typed : (letter : Letter) (word : Text) (operand : Operand Text) → length word ≤ 65536 → operand_of letter word ≡ Some operand → is_operand letter operand ≡ true
+operand_typed letter.Declared word operand short is = mapped (λ o. is_operand letter.Declared o ≡ true) Name (declared_name word) operand (λ n e. refl) is
+operand_typed letter.Pointer word operand short is = name_typed letter.Pointer word operand (λ n. refl) is
+operand_typed letter.Variable word operand short is = name_typed letter.Variable word operand (λ n. refl) is
+operand_typed letter.Target word operand short is = name_typed letter.Target word operand (λ n. refl) is
+operand_typed letter.Value word operand short is = value_typed letter.Value word operand (λ n. refl) (λ z e. e) is
+operand_typed letter.Source word operand short is = value_typed letter.Source word operand (λ n. refl) (λ z e. e) is
+operand_typed letter.Size word operand short is = size_typed (number_of word) operand is
+operand_typed letter.Writable word operand short is = name_typed letter.Writable word operand (λ n. refl) is
+operand_typed letter.Readable word operand short is = text_typed letter.Readable word operand short (λ n. refl) (λ t e. e) is
+operand_typed letter.ViewName word operand short is = name_typed letter.ViewName word operand (λ n. refl) is
+operand_typed letter.Printed word operand short is =
     either_typed letter.Printed (number_word word) (either (name_word word) (literal_word word)) operand
     (λ o. number_typed letter.Printed word o (λ z e. e))
-    (λ o. text_typed letter.Printed word o (λ n. refl) (λ t e. e))
+    (λ o. text_typed letter.Printed word o short (λ n. refl) (λ t e. e))
     is
 
-operands_typed : (letters : List Letter) (words : List Text) (operands : List (Operand Text)) → operands_of letters words ≡ Some operands → are_operands letters operands ≡ true
-operands_typed [] [] operands is = let same : [] ≡ operands = cc in subst (λ o. are_operands [] o ≡ true) same refl
-operands_typed [] (word ∷ words) operands is = let clash : ⊥ = cc in absurd clash
-operands_typed (letter ∷ letters) [] operands is = let clash : ⊥ = cc in absurd clash
-operands_typed (letter ∷ letters) (word ∷ words) operands is = go (operand_of letter word) (operands_of letters words) (operand_typed letter word) (operands_typed letters words) is
+operands_typed : (letters : List Letter) (words : List Text) (operands : List (Operand Text)) → AreWithin 65536 words → operands_of letters words ≡ Some operands → are_operands letters operands ≡ true
+operands_typed [] [] operands short is = let same : [] ≡ operands = cc in subst (λ o. are_operands [] o ≡ true) same refl
+operands_typed [] (word ∷ words) operands short is = let clash : ⊥ = cc in absurd clash
+operands_typed (letter ∷ letters) [] operands short is = let clash : ⊥ = cc in absurd clash
+operands_typed (letter ∷ letters) (word ∷ words) operands (here, rest) is = go (operand_of letter word) (operands_of letters words) (λ p. operand_typed letter word p here) (λ ps. operands_typed letters words ps rest) is
   where
     go : (o : Option (Operand Text)) (rest : Option (List (Operand Text))) → ((p : Operand Text) → o ≡ Some p → is_operand letter p ≡ true) → ((ps : List (Operand Text)) → rest ≡ Some ps → are_operands letters ps ≡ true) → onto o rest ≡ Some operands → are_operands (letter ∷ letters) operands ≡ true
     go None rest one more e = let clash : ⊥ = cc in absurd clash
@@ -140,24 +149,24 @@ chosen_typed key (Some ps) other typed rest = typed ps refl
 chosen_typed key None other typed rest = rest
 
 -- none of a key whose text differs
-if_typed : (b : Bool) (key : Key) (words : List Text) (ps : List (Operand Text)) → operands_if b key words ≡ Some ps → are_operands (letters_of key) ps ≡ true
-if_typed true key words ps is = operands_typed (letters_of key) words ps is
-if_typed false key words ps is = let clash : ⊥ = cc in absurd clash
+if_typed : (b : Bool) (key : Key) (words : List Text) (ps : List (Operand Text)) → AreWithin 65536 words → operands_if b key words ≡ Some ps → are_operands (letters_of key) ps ≡ true
+if_typed true key words ps short is = operands_typed (letters_of key) words ps short is
+if_typed false key words ps short is = let clash : ⊥ = cc in absurd clash
 
-form_typed : (ks : List Key) (first : Text) (words : List Text) → is_typed (form_in ks first words) ≡ true
-form_typed [] first words = refl
-form_typed (key ∷ ks) first words =
+form_typed : (ks : List Key) (first : Text) (words : List Text) → AreWithin 65536 words → is_typed (form_in ks first words) ≡ true
+form_typed [] first words short = refl
+form_typed (key ∷ ks) first words short =
     let same = bytes_eq (text_of key) first in
-    chosen_typed key (operands_if same key words) (form_in ks first words) (if_typed same key words) (form_typed ks first words)
+    chosen_typed key (operands_if same key words) (form_in ks first words) (λ ps. if_typed same key words ps short) (form_typed ks first words short)
 
-words_typed : (words : List Text) → is_typed (form_of words) ≡ true
-words_typed [] = refl
-words_typed (first ∷ words) = go (begins_comment first)
+words_typed : (words : List Text) → AreWithin 65536 words → is_typed (form_of words) ≡ true
+words_typed [] short = refl
+words_typed (first ∷ words) (here, rest) = go (begins_comment first)
   where
     go : (b : Bool) → is_typed (skipped_or b (form_in keys first words)) ≡ true
     go true = refl
-    go false = form_typed keys first words
+    go false = form_typed keys first words rest
 
-pub lines_typed : (lines : List Text) → AreTyped (forms_of lines)
-lines_typed [] = refl
-lines_typed (line ∷ lines) = rw (words_typed (words_of line)) (lines_typed lines)
+pub lines_typed : (lines : List Text) → AreWithin 65536 lines → AreTyped (forms_of lines)
+lines_typed [] short = refl
+lines_typed (line ∷ lines) (here, rest) = rw (words_typed (words_of line) (words_within 65536 line here)) (lines_typed lines rest)

@@ -1,4 +1,4 @@
--- Forms whose operands are of the letters of their keys, as each line's is.
+-- Forms whose operands are of the letters of their keys, as each line's is that is no longer than a script.
 use Rattle.std.specs.Prelude.{ℤ, pos, negsuc, nat_le, nat_lt, List, [], ◌∷◌, Bool, true, false, ◌&&◌, IsTrue}
 use Rattle.std.specs.List.{list_all}
 use Rattle.wb_model.specs.declared.lines.Letter.{Letter}
@@ -9,7 +9,7 @@ use Rattle.wb_model.specs.declared.lines.Form.{Form}
 use Rattle.wb_model.specs.declared.lines.Form.TheVariants.{Line}
 use Rattle.wb_model.specs.Keys.{letters_of}
 use Rattle.wb_model.specs.Names.{Text}
-use Rattle.wb_model.specs.Sound.{is_quotable}
+use Rattle.wb_model.specs.Sound.{is_literal_text}
 
 -- at most nine digits
 abbrev pub is_short : ℤ → Bool
@@ -28,11 +28,11 @@ is_operand letter.Source (Number z) = is_short z
 is_operand letter.Size (Number (pos n)) = true
 is_operand letter.Writable (Name name) = true
 is_operand letter.Readable (Name name) = true
-is_operand letter.Readable (Literal text) = list_all is_quotable text
+is_operand letter.Readable (Literal text) = is_literal_text text
 is_operand letter.ViewName (Name name) = true
 is_operand letter.Printed (Name name) = true
 is_operand letter.Printed (Number z) = is_short z
-is_operand letter.Printed (Literal text) = list_all is_quotable text
+is_operand letter.Printed (Literal text) = is_literal_text text
 is_operand _ _ = false
 
 abbrev pub are_operands : List Letter → List (Operand Text) → Bool

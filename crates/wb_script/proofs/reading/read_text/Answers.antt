@@ -3,6 +3,8 @@ use Rattle.std.proofs.lemmas.List.{length-map}
 use Rattle.wb_model.specs.Forms.{renamed, forms_of}
 use Rattle.wb_model.specs.Lines.{lines_of}
 use Rattle.wb_script.specs.Typed.{AreTyped}
+use Rattle.wb_script.proofs.Cuts.{lines_within}
+use Rattle.wb_script.proofs.Foreign.{at_most}
 use Rattle.wb_script.proofs.TextLemmas.{few_lines, faults_of_lines}
 use Rattle.wb_script.proofs.TypedLemmas.{lines_typed}
 use Rattle.wb_script.proofs.reading.read_text.Goals as goal
@@ -16,7 +18,7 @@ read_forms-requires-clause-few c =
 pub read_forms-requires-clause-typed : goal.read_forms-requires-clause-typed
 read_forms-requires-clause-typed c =
     let are = ap (map (renamed (λ n. n.now))) c.deref-2.ensures.value ∙ c.in_ok-forms.ensures ∙ ap (λ l. forms_of (map (λ r. r.now) l)) c.deref.ensures.value ∙ ap forms_of c.in_ok-lines.ensures in
-    subst AreTyped (sym are) (lines_typed (lines_of c.args.bytes.now))
+    subst AreTyped (sym are) (lines_typed (lines_of c.args.bytes.now) (lines_within 65536 c.args.bytes.now (at_most c.args.bytes.now c.requires.short)))
 
 pub returns-clause-fault : goal.returns-clause-fault
 returns-clause-fault c =
