@@ -1,7 +1,7 @@
 //! Which function carries out which statement.
 
 ghost use Rattle.std.specs.Prelude.{◌≡◌, ◌+◌, ◌^◌, ◌<◌, length, IfOk, OnOk, IsTrue};
-ghost use Rattle.wb_model.specs.Sound.{is_statement};
+ghost use Rattle.wb_model.specs.Sound.{is_script, is_statement};
 ghost use Rattle.wb_model.specs.declared.script.Statement.TheViews.{out-Statement};
 ghost use Rattle.wb_machine.specs.Held.{main_of};
 ghost use Rattle.wb_machine.specs.Flow.{IsCarriedOut, Stays};
@@ -15,6 +15,7 @@ use wb_model::script::{Script, Statement};
 impl State {
     /// Carries out a statement that runs no other: how it ends.
     pub fn carry_out(&mut self, script: &Script, first: &Statement) -> Result<Ending, NoMemory>
+        requires script { IsTrue (is_script script.now) }
         requires statement { IsTrue (is_statement (length script.now.literals) (main_of script.now).locals (out-Statement first.now)) }
         requires number { length self.old.debug.trace + 1 < 2 ^ 32 }
         requires level { self.old.debug.heap.level + 1 < 2 ^ 32 }
@@ -47,21 +48,21 @@ impl State {
             Statement::ReallocText(target, source, units) => {
                 self.realloc_text(*target, *source, *units)
             }
-            Statement::Copy(target, text) => self.edit(script, *target, Edit::Copy, *text),
-            Statement::Append(target, text) => self.edit(script, *target, Edit::Append, *text),
+            Statement::Copy(target, text) => Ok(self.edit(script, *target, Edit::Copy, *text)),
+            Statement::Append(target, text) => Ok(self.edit(script, *target, Edit::Append, *text)),
             Statement::Insert(target, position, text) => {
-                self.insert(script, *target, *position, *text)
+                Ok(self.insert(script, *target, *position, *text))
             }
             Statement::DeleteText(target, position, count) => {
                 Ok(self.delete_text(*target, *position, *count))
             }
             Statement::SetLength(target, length) => Ok(self.set_length(*target, *length)),
-            Statement::Left(local, text, count) => self.left(script, *local, *text, *count),
-            Statement::Right(local, text, count) => self.right(script, *local, *text, *count),
+            Statement::Left(local, text, count) => Ok(self.left(script, *local, *text, *count)),
+            Statement::Right(local, text, count) => Ok(self.right(script, *local, *text, *count)),
             Statement::Mid(local, text, position, count) => {
-                self.mid(script, *local, *text, *position, *count)
+                Ok(self.mid(script, *local, *text, *position, *count))
             }
-            Statement::GetLength(local, text) => self.get_length(script, *local, *text),
+            Statement::GetLength(local, text) => Ok(self.get_length(script, *local, *text)),
             Statement::GetMaximum(local, target) => Ok(self.get_maximum(*local, *target)),
             Statement::PrintText(text) => self.print_text(script, *text),
             Statement::PrintNumber(value) => self.print_number(*value),

@@ -149,6 +149,7 @@ impl<'a> Control<'a> {
         rest: &'a [Statement],
         state: &mut State,
     ) -> Result<(), NoMemory>
+        requires script { IsTrue (is_script script.now) }
         requires going { self.old.ending ≡ GoesOn }
         requires first { IsTrue (is_statement (length script.now.literals) (main_of script.now).locals (out-Statement first.now)) }
         requires number { length state.old.debug.trace + 1 < 2 ^ 32 }
@@ -172,6 +173,7 @@ impl<'a> Control<'a> {
 impl<'a> Control<'a> {
     /// A step, of the piece on top.
     pub fn step(&mut self, script: &'a Script, state: &mut State) -> Result<(), NoMemory>
+        requires script { IsTrue (is_script script.now) }
         requires ready { IsReady self.old.ending self.old.pieces.items }
         requires sound { are_sound script.now self.old.pieces.items ≡ true }
         requires number { length state.old.debug.trace + 1 < 2 ^ 32 }

@@ -1,7 +1,8 @@
 //! What text operands stand for: a buffer, a cell, a literal, or a view of one of these.
 
-ghost use Rattle.std.specs.Prelude.{◌≡◌, ◌+◌, ◌^◌, ◌<◌, ℕ, List, Some, None, false, length, IfOk};
+ghost use Rattle.std.specs.Prelude.{◌≡◌, ◌+◌, ◌^◌, ◌<◌, ℕ, List, Some, None, false, length, IsTrue};
 ghost use Rattle.wb_model.specs.Reading.{is_same_base};
+ghost use Rattle.wb_model.specs.Sound.{is_script};
 ghost use Rattle.wb_model.specs.declared.heap.Ptr.{Ptr};
 ghost use Rattle.wb_model.specs.declared.text.Base.TheVariants as B;
 ghost use Rattle.wb_hbuf.specs.Sources.{IsApart, IsForeign, IsSource, source_units};
@@ -12,12 +13,8 @@ use crate::state::State;
 use crate::windows::Window;
 use wb_hbuf::sources::Source;
 use wb_model::heap::{Kind, Panic};
-use wb_model::memory::NoMemory;
 use wb_model::script::{Readable, Script, Writable};
 use wb_text::{Base, Buf, View};
-
-/// The greatest length that an int holds.
-const MOST: usize = 2_147_483_647;
 
 /// Whether a cell holds a text.
 fn is_text(kind: Kind) -> bool
@@ -40,15 +37,15 @@ pub fn is_same_base(one: Base, other: Base) -> bool
     }
 }
 
-/// How many units a literal has. `NoMemory` where no int holds that many.
-fn literal_length(script: &Script, index: u32) -> Result<u32, NoMemory>
-    ensures length { (h : Held) → IfOk result (λ n. n ≡ length (base_text script.now.literals h (B.Literal index))) }
-    ensures most { IfOk result (λ n. n < 2 ^ 31) }
+/// How many units a literal has.
+fn literal_length(script: &Script, index: u32) -> u32
+    requires { IsTrue (is_script script.now) }
+    ensures length { (h : Held) → result ≡ length (base_text script.now.literals h (B.Literal index)) }
+    ensures most { result < 2 ^ 31 }
 {
     match script.literals.get(index as usize) {
-        Some(chars) if chars.len() <= MOST => Ok(chars.len() as u32),
-        Some(_) => Err(NoMemory),
-        None => Ok(0),
+        Some(chars) => chars.len() as u32,
+        None => 0,
     }
 }
 
@@ -87,18 +84,19 @@ impl State {
         }
     }
 
-    /// How many units the text of a base has. `NoMemory` where no int holds that many.
-    fn base_length(&self, script: &Script, base: Base) -> Result<u32, NoMemory>
-        requires { base_refusal self.now base ≡ None }
-        ensures length { IfOk result (λ n. n ≡ length (base_text script.now.literals self.now base)) }
-        ensures most { IfOk result (λ n. n < 2 ^ 31) }
+    /// How many units the text of a base has.
+    fn base_length(&self, script: &Script, base: Base) -> u32
+        requires script { IsTrue (is_script script.now) }
+        requires base { base_refusal self.now base ≡ None }
+        ensures length { result ≡ length (base_text script.now.literals self.now base) }
+        ensures most { result < 2 ^ 31 }
     {
         match base {
-            Base::Nothing => Ok(0),
+            Base::Nothing => 0,
             Base::Literal(index) => literal_length(script, index),
-            Base::Local(index) => Ok(self.locals.buffer(index).length()),
+            Base::Local(index) => self.locals.buffer(index).length(),
             Base::Cell(ptr) => match self.heap.header(ptr) {
-                Some(_) => Ok(wb_hbuf::length(&self.heap, ptr)),
+                Some(_) => wb_hbuf::length(&self.heap, ptr),
                 None => unreachable!(),
             },
         }
@@ -114,24 +112,25 @@ impl State {
         }
     }
 
-    /// The whole of a base, or what is refused of it. `NoMemory` where no int holds its length.
-    fn whole(&self, script: &Script, base: Base) -> Result<Result<Window, Panic>, NoMemory>
-        ensures { IfOk result (λ found. found ≡ unless_gone (base_refusal self.now base) (whole_of script.now.literals self.now base)) }
+    /// The whole of a base, or what is refused of it.
+    fn whole(&self, script: &Script, base: Base) -> Result<Window, Panic>
+        requires { IsTrue (is_script script.now) }
+        ensures { result ≡ unless_gone (base_refusal self.now base) (whole_of script.now.literals self.now base) }
     {
-        if let Some(panic) = self.refusal(base) {
-            return Ok(Err(panic));
+        match self.refusal(base) {
+            Some(panic) => Err(panic),
+            None => Ok(Window::whole(base, self.base_length(script, base))),
         }
-        let length = self.base_length(script, base)?;
-        Ok(Ok(Window::whole(base, length)))
     }
 
-    /// What a readable text shows, or what is refused of its base. `NoMemory` where no int holds its length.
-    pub fn window(&self, script: &Script, text: Readable) -> Result<Result<Window, Panic>, NoMemory>
-        ensures { IfOk result (λ found. found ≡ window_found script.now.literals self.now text) }
+    /// What a readable text shows, or what is refused of its base.
+    pub fn window(&self, script: &Script, text: Readable) -> Result<Window, Panic>
+        requires { IsTrue (is_script script.now) }
+        ensures { result ≡ window_found script.now.literals self.now text }
     {
         match text {
             Readable::Of(target) => self.whole(script, self.base(target)),
-            Readable::ViewOf(index) => Ok(self.viewed(self.locals.view(index))),
+            Readable::ViewOf(index) => self.viewed(self.locals.view(index)),
             Readable::Quoted(index) => self.whole(script, Base::Literal(index)),
         }
     }

@@ -1,6 +1,7 @@
 //! Statements that change texts.
 
-ghost use Rattle.std.specs.Prelude.{◌≡◌, [], None, IfOk, IsTrue};
+ghost use Rattle.std.specs.Prelude.{◌≡◌, [], None, IsTrue};
+ghost use Rattle.wb_model.specs.Sound.{is_script};
 ghost use Rattle.wb_model.specs.Texts.{delete_text, set_length_text};
 ghost use Rattle.wb_model.specs.declared.text.Base.{Base};
 ghost use Rattle.wb_model.specs.declared.text.Base.TheVariants as B;
@@ -18,7 +19,6 @@ use crate::text_operands::is_same_base;
 use crate::windows::Window;
 use wb_hbuf::sources::{Edit, Source};
 use wb_model::heap::{Panic, Ptr};
-use wb_model::memory::NoMemory;
 use wb_model::script::{Number, Readable, Script, Writable};
 use wb_text::{Base, Buf};
 
@@ -105,19 +105,20 @@ impl State {
         target: Writable,
         change: Edit,
         text: Readable,
-    ) -> Result<Ending, NoMemory>
-        requires { (from : Base) → SuitsBase change (base_named self.old target) from }
-        ensures edited { IfOk result (λ ending. IsEditedBy script.now.literals self.old (base_named self.old target) (window_read script.now.literals self.old text) change ending self.new) }
+    ) -> Ending
+        requires script { IsTrue (is_script script.now) }
+        requires suits { (from : Base) → SuitsBase change (base_named self.old target) from }
+        ensures edited { IsEditedBy script.now.literals self.old (base_named self.old target) (window_read script.now.literals self.old text) change result self.new }
         ensures steps { self.new.steps ≡ self.old.steps }
         ensures stays { Stays self.old self.new }
     {
         let to = self.base(target);
         if let Some(panic) = self.refusal(to) {
-            return Ok(Ending::Panics(panic));
+            return Ending::Panics(panic);
         }
-        match self.window(script, text)? {
-            Ok(window) => Ok(self.write(script, to, change, window)),
-            Err(panic) => Ok(Ending::Panics(panic)),
+        match self.window(script, text) {
+            Ok(window) => self.write(script, to, change, window),
+            Err(panic) => Ending::Panics(panic),
         }
     }
 
@@ -128,26 +129,27 @@ impl State {
         target: Writable,
         position: Number,
         text: Readable,
-    ) -> Result<Ending, NoMemory>
-        ensures inserted { IfOk result (λ ending. IsInsertedBy script.now.literals self.old (base_named self.old target) (window_read script.now.literals self.old text) (number_read self.old position) ending self.new) }
+    ) -> Ending
+        requires { IsTrue (is_script script.now) }
+        ensures inserted { IsInsertedBy script.now.literals self.old (base_named self.old target) (window_read script.now.literals self.old text) (number_read self.old position) result self.new }
         ensures steps { self.new.steps ≡ self.old.steps }
         ensures stays { Stays self.old self.new }
     {
         let to = self.base(target);
         if let Some(panic) = self.refusal(to) {
-            return Ok(Ending::Panics(panic));
+            return Ending::Panics(panic);
         }
-        let window = match self.window(script, text)? {
+        let window = match self.window(script, text) {
             Ok(window) => window,
-            Err(panic) => return Ok(Ending::Panics(panic)),
+            Err(panic) => return Ending::Panics(panic),
         };
         let Some(at) = not_negative(self.number(position)) else {
-            return Ok(Ending::Panics(Panic::Workbench(9)));
+            return Ending::Panics(Panic::Workbench(9));
         };
         if is_same_base(to, window.view().base) {
-            return Ok(Ending::Panics(Panic::Workbench(9)));
+            return Ending::Panics(Panic::Workbench(9));
         }
-        Ok(self.write(script, to, Edit::Insert(at), window))
+        self.write(script, to, Edit::Insert(at), window)
     }
 }
 

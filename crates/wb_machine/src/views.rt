@@ -1,7 +1,8 @@
 //! Statements that read texts: views of parts, lengths, maxima, and what is printed.
 
-ghost use Rattle.std.specs.Prelude.{◌≡◌, ◌^◌, ◌<◌, None, IfOk, OnOk};
+ghost use Rattle.std.specs.Prelude.{◌≡◌, ◌^◌, ◌<◌, None, IfOk, OnOk, IsTrue};
 ghost use Rattle.wb_model.specs.Operands.{not_negative};
+ghost use Rattle.wb_model.specs.Sound.{is_script};
 ghost use Rattle.wb_machine.specs.Flow.{Stays};
 ghost use Rattle.wb_machine.specs.Carried.{number_read};
 ghost use Rattle.wb_machine.specs.TextOperands.{base_named, base_refusal, base_max, window_read, window_units};
@@ -23,6 +24,7 @@ impl State {
     fn set_part(&mut self, local: u8, part: Result<Window, Panic>) -> Ending
         ensures ending { result ≡ (part_stored self.old local part).ending }
         ensures held { self.new ≡ (part_stored self.old local part).held }
+        ensures steps { self.new.steps ≡ self.old.steps }
         ensures stays { Stays self.old self.new }
     {
         match part {
@@ -35,47 +37,39 @@ impl State {
     }
 
     /// A view local gets the first so many units of a text.
-    pub fn left(
-        &mut self,
-        script: &Script,
-        local: u8,
-        text: Readable,
-        count: Number,
-    ) -> Result<Ending, NoMemory>
-        ensures ending { IfOk result (λ ending. ending ≡ (left_carried script.now.literals self.old local text (number_read self.old count)).ending) }
-        ensures held { OnOk result (self.new ≡ (left_carried script.now.literals self.old local text (number_read self.old count)).held) }
+    pub fn left(&mut self, script: &Script, local: u8, text: Readable, count: Number) -> Ending
+        requires { IsTrue (is_script script.now) }
+        ensures ending { result ≡ (left_carried script.now.literals self.old local text (number_read self.old count)).ending }
+        ensures held { self.new ≡ (left_carried script.now.literals self.old local text (number_read self.old count)).held }
+        ensures steps { self.new.steps ≡ self.old.steps }
         ensures stays { Stays self.old self.new }
     {
-        let window = match self.window(script, text)? {
+        let window = match self.window(script, text) {
             Ok(window) => window,
-            Err(panic) => return Ok(Ending::Panics(panic)),
+            Err(panic) => return Ending::Panics(panic),
         };
         let Some(count) = not_negative(self.number(count)) else {
-            return Ok(Ending::Panics(Panic::Workbench(9)));
+            return Ending::Panics(Panic::Workbench(9));
         };
-        Ok(self.set_part(local, window.left(count)))
+        self.set_part(local, window.left(count))
     }
 
     /// A view local gets the last so many units of a text.
-    pub fn right(
-        &mut self,
-        script: &Script,
-        local: u8,
-        text: Readable,
-        count: Number,
-    ) -> Result<Ending, NoMemory>
-        ensures ending { IfOk result (λ ending. ending ≡ (right_carried script.now.literals self.old local text (number_read self.old count)).ending) }
-        ensures held { OnOk result (self.new ≡ (right_carried script.now.literals self.old local text (number_read self.old count)).held) }
+    pub fn right(&mut self, script: &Script, local: u8, text: Readable, count: Number) -> Ending
+        requires { IsTrue (is_script script.now) }
+        ensures ending { result ≡ (right_carried script.now.literals self.old local text (number_read self.old count)).ending }
+        ensures held { self.new ≡ (right_carried script.now.literals self.old local text (number_read self.old count)).held }
+        ensures steps { self.new.steps ≡ self.old.steps }
         ensures stays { Stays self.old self.new }
     {
-        let window = match self.window(script, text)? {
+        let window = match self.window(script, text) {
             Ok(window) => window,
-            Err(panic) => return Ok(Ending::Panics(panic)),
+            Err(panic) => return Ending::Panics(panic),
         };
         let Some(count) = not_negative(self.number(count)) else {
-            return Ok(Ending::Panics(Panic::Workbench(9)));
+            return Ending::Panics(Panic::Workbench(9));
         };
-        Ok(self.set_part(local, window.right(count)))
+        self.set_part(local, window.right(count))
     }
 
     /// A view local gets so many units of a text from a position on.
@@ -86,45 +80,44 @@ impl State {
         text: Readable,
         position: Number,
         count: Number,
-    ) -> Result<Ending, NoMemory>
-        ensures ending { IfOk result (λ ending. ending ≡ (mid_carried script.now.literals self.old local text (number_read self.old position) (number_read self.old count)).ending) }
-        ensures held { OnOk result (self.new ≡ (mid_carried script.now.literals self.old local text (number_read self.old position) (number_read self.old count)).held) }
+    ) -> Ending
+        requires { IsTrue (is_script script.now) }
+        ensures ending { result ≡ (mid_carried script.now.literals self.old local text (number_read self.old position) (number_read self.old count)).ending }
+        ensures held { self.new ≡ (mid_carried script.now.literals self.old local text (number_read self.old position) (number_read self.old count)).held }
+        ensures steps { self.new.steps ≡ self.old.steps }
         ensures stays { Stays self.old self.new }
     {
-        let window = match self.window(script, text)? {
+        let window = match self.window(script, text) {
             Ok(window) => window,
-            Err(panic) => return Ok(Ending::Panics(panic)),
+            Err(panic) => return Ending::Panics(panic),
         };
         let Some(position) = not_negative(self.number(position)) else {
-            return Ok(Ending::Panics(Panic::Workbench(9)));
+            return Ending::Panics(Panic::Workbench(9));
         };
         let Some(count) = not_negative(self.number(count)) else {
-            return Ok(Ending::Panics(Panic::Workbench(9)));
+            return Ending::Panics(Panic::Workbench(9));
         };
-        Ok(self.set_part(local, window.mid(position, count)))
+        self.set_part(local, window.mid(position, count))
     }
 }
 
 /// Lengths, maxima, and lines.
 impl State {
     /// A number local gets the length of a text.
-    pub fn get_length(
-        &mut self,
-        script: &Script,
-        local: u8,
-        text: Readable,
-    ) -> Result<Ending, NoMemory>
-        ensures ending { IfOk result (λ ending. ending ≡ (length_carried script.now.literals self.old local text).ending) }
-        ensures held { OnOk result (self.new ≡ (length_carried script.now.literals self.old local text).held) }
+    pub fn get_length(&mut self, script: &Script, local: u8, text: Readable) -> Ending
+        requires { IsTrue (is_script script.now) }
+        ensures ending { result ≡ (length_carried script.now.literals self.old local text).ending }
+        ensures held { self.new ≡ (length_carried script.now.literals self.old local text).held }
+        ensures steps { self.new.steps ≡ self.old.steps }
         ensures stays { Stays self.old self.new }
     {
-        match self.window(script, text)? {
+        match self.window(script, text) {
             Ok(window) => {
                 let length = window.view().length;
                 self.set(local, Slot::Number(length.cast_signed()));
-                Ok(Ending::GoesOn)
+                Ending::GoesOn
             }
-            Err(panic) => Ok(Ending::Panics(panic)),
+            Err(panic) => Ending::Panics(panic),
         }
     }
 
@@ -161,11 +154,12 @@ impl State {
 
     /// Prints a text.
     pub fn print_text(&mut self, script: &Script, text: Readable) -> Result<Ending, NoMemory>
+        requires { IsTrue (is_script script.now) }
         ensures ending { IfOk result (λ ending. ending ≡ (print_carried script.now.literals self.old text).ending) }
         ensures held { OnOk result (self.new ≡ (print_carried script.now.literals self.old text).held) }
         ensures stays { Stays self.old self.new }
     {
-        match self.window(script, text)? {
+        match self.window(script, text) {
             Ok(window) => {
                 let view = window.view();
                 let copy = self.copied(view.base);

@@ -1,18 +1,17 @@
-use Rattle.std.proofs.Common.{◌≡◌, IfOk, arith, length, subst, sym}
-use Rattle.wb_model.specs.declared.text.Base.{Base}
+use Rattle.std.proofs.Common.{ap, ◌∙◌, sym, arith, length}
 use Rattle.wb_machine.specs.TextOperands.{base_text}
 use Rattle.wb_machine.specs.Inside.{held}
 use Rattle.wb_machine.proofs.TextRows.{text_of_base, text_small}
 use Rattle.wb_machine.proofs.state.State.base_length.Goals as goal
 
 pub length-requires-in-Some : goal.length-requires-in-Some
-length-requires-in-Some c = text_of_base (held c.self.inside) c.args.self.now c.args.base c.in-Cell.ptr c.self.view_is c.self.invariant c.in-Cell.is c.requires
+length-requires-in-Some c = text_of_base (held c.self.inside) c.args.self.now c.args.base c.in-Cell.ptr c.self.view_is c.self.invariant c.in-Cell.is c.requires.base
 
 pub returns-in-Literal-clause-length : goal.returns-in-Literal-clause-length
 returns-in-Literal-clause-length c =
-    subst (λ (b : Base). IfOk c.literal_length.result (λ n. n ≡ length (base_text c.args.script.now.literals c.args.self.now b))) (sym c.in-Literal.is) (c.literal_length.ensures.length c.args.self.now)
+    c.literal_length.ensures.length c.args.self.now ∙ ap (λ b. length (base_text c.args.script.now.literals c.args.self.now b)) (sym c.in-Literal.is)
 
 pub returns-in-Some-clause-most : goal.returns-in-Some-clause-most
 returns-in-Some-clause-most c =
-    let is = text_of_base (held c.self.inside) c.args.self.now c.args.base c.in-Cell.ptr c.self.view_is c.self.invariant c.in-Cell.is c.requires in
+    let is = text_of_base (held c.self.inside) c.args.self.now c.args.base c.in-Cell.ptr c.self.view_is c.self.invariant c.in-Cell.is c.requires.base in
     omega (arith, c.length-in-Some.ensures, text_small c.in-Cell.ptr c.self.inside.heap c.in-Some.field-0 is c.in-Some.ensures.live.within c.in-Some.ensures.payload)

@@ -12,7 +12,7 @@ use Rattle.wb_machine.specs.Held.{main_of, with_debug}
 use Rattle.wb_machine.specs.Carried.{gone_on, pointer_read, number_read, pointer_stored, stored, marked, line_printed, heap_noted, available_noted, compress_noted, alloc_carried, realloc_carried, free_carried, usable_carried, store_carried, load_carried, add_carried, mark_end_within, check_within, set_within}
 use Rattle.wb_machine.specs.TextOperands.{base_named}
 use Rattle.wb_machine.specs.CarriedTexts.{new_text_carried, realloc_text_carried, left_carried, right_carried, mid_carried, length_carried, max_carried, print_carried}
-use Rattle.wb_machine.proofs.Outcomes.{if_ok, if_ok_with}
+use Rattle.wb_machine.proofs.Outcomes.{if_ok_with}
 use Rattle.wb_machine.proofs.KeptTextCells.{new_text_kept, realloc_text_kept}
 use Rattle.wb_machine.proofs.KeptTexts.{copy_kept, append_kept, insert_kept, delete_kept, length_set_kept, carried_as}
 use Rattle.wb_machine.proofs.KeptViews.{left_kept, right_kept, mid_kept, length_kept, max_kept, print_kept}
@@ -214,9 +214,8 @@ returns-in-Copy-clause-kept c =
     let literals = length script.literals in
     let locals = (main_of script).locals in
     let h = c.args.self.now in
-    if_ok c.edit.result _ _ c.edit.ensures.edited (λ ending is.
-    carried_as script literals locals h c.edit.new.self ending (out-Statement c.args.first.now) (Statement-F.Copy c.in-Copy.target c.in-Copy.text)
-    c.requires.statement (ap out-Statement c.in-Copy.is ∙ outs-Copy c.in-Copy.target c.in-Copy.text) (copy_kept script literals locals h c.in-Copy.target c.in-Copy.text ending c.edit.new.self is))
+    carried_as script literals locals h c.edit.new.self c.edit.result (out-Statement c.args.first.now) (Statement-F.Copy c.in-Copy.target c.in-Copy.text)
+    c.requires.statement (ap out-Statement c.in-Copy.is ∙ outs-Copy c.in-Copy.target c.in-Copy.text) (copy_kept script literals locals h c.in-Copy.target c.in-Copy.text c.edit.result c.edit.new.self c.edit.ensures.edited)
 
 pub returns-in-Append-clause-kept : goal.returns-in-Append-clause-kept
 returns-in-Append-clause-kept c =
@@ -224,9 +223,8 @@ returns-in-Append-clause-kept c =
     let literals = length script.literals in
     let locals = (main_of script).locals in
     let h = c.args.self.now in
-    if_ok c.edit-in-Append.result _ _ c.edit-in-Append.ensures.edited (λ ending is.
-    carried_as script literals locals h c.edit-in-Append.new.self ending (out-Statement c.args.first.now) (Statement-F.Append c.in-Append.target c.in-Append.text)
-    c.requires.statement (ap out-Statement c.in-Append.is ∙ outs-Append c.in-Append.target c.in-Append.text) (append_kept script literals locals h c.in-Append.target c.in-Append.text ending c.edit-in-Append.new.self is))
+    carried_as script literals locals h c.edit-in-Append.new.self c.edit-in-Append.result (out-Statement c.args.first.now) (Statement-F.Append c.in-Append.target c.in-Append.text)
+    c.requires.statement (ap out-Statement c.in-Append.is ∙ outs-Append c.in-Append.target c.in-Append.text) (append_kept script literals locals h c.in-Append.target c.in-Append.text c.edit-in-Append.result c.edit-in-Append.new.self c.edit-in-Append.ensures.edited)
 
 pub returns-in-Insert-clause-kept : goal.returns-in-Insert-clause-kept
 returns-in-Insert-clause-kept c =
@@ -234,9 +232,8 @@ returns-in-Insert-clause-kept c =
     let literals = length script.literals in
     let locals = (main_of script).locals in
     let h = c.args.self.now in
-    if_ok c.insert.result _ _ c.insert.ensures.inserted (λ ending is.
-    carried_as script literals locals h c.insert.new.self ending (out-Statement c.args.first.now) (Statement-F.Insert c.in-Insert.target c.in-Insert.position c.in-Insert.text)
-    c.requires.statement (ap out-Statement c.in-Insert.is ∙ outs-Insert c.in-Insert.target c.in-Insert.position c.in-Insert.text) (insert_kept script literals locals h c.in-Insert.target c.in-Insert.position c.in-Insert.text ending c.insert.new.self is))
+    carried_as script literals locals h c.insert.new.self c.insert.result (out-Statement c.args.first.now) (Statement-F.Insert c.in-Insert.target c.in-Insert.position c.in-Insert.text)
+    c.requires.statement (ap out-Statement c.in-Insert.is ∙ outs-Insert c.in-Insert.target c.in-Insert.position c.in-Insert.text) (insert_kept script literals locals h c.in-Insert.target c.in-Insert.position c.in-Insert.text c.insert.result c.insert.new.self c.insert.ensures.inserted)
 
 pub returns-in-DeleteText-clause-kept : goal.returns-in-DeleteText-clause-kept
 returns-in-DeleteText-clause-kept c =
@@ -262,9 +259,8 @@ returns-in-Left-clause-kept c =
     let literals = length script.literals in
     let locals = (main_of script).locals in
     let h = c.args.self.now in
-    if_ok_with c.left.result _ _ _ c.left.ensures.ending c.left.ensures.held (λ ending e g.
-    carried_out script literals locals h c.left.new.self (left_carried script.literals h c.in-Left.local c.in-Left.text (number_read h c.in-Left.count)) ending (out-Statement c.args.first.now) (Statement-F.Left c.in-Left.local c.in-Left.text c.in-Left.count)
-    c.requires.statement (ap out-Statement c.in-Left.is ∙ outs-Left c.in-Left.local c.in-Left.text c.in-Left.count) e g (left_kept script literals locals h c.in-Left.local c.in-Left.text c.in-Left.count))
+    carried_out script literals locals h c.left.new.self (left_carried script.literals h c.in-Left.local c.in-Left.text (number_read h c.in-Left.count)) c.left.result (out-Statement c.args.first.now) (Statement-F.Left c.in-Left.local c.in-Left.text c.in-Left.count)
+    c.requires.statement (ap out-Statement c.in-Left.is ∙ outs-Left c.in-Left.local c.in-Left.text c.in-Left.count) c.left.ensures.ending c.left.ensures.held (left_kept script literals locals h c.in-Left.local c.in-Left.text c.in-Left.count)
 
 pub returns-in-Right-clause-kept : goal.returns-in-Right-clause-kept
 returns-in-Right-clause-kept c =
@@ -272,9 +268,8 @@ returns-in-Right-clause-kept c =
     let literals = length script.literals in
     let locals = (main_of script).locals in
     let h = c.args.self.now in
-    if_ok_with c.right.result _ _ _ c.right.ensures.ending c.right.ensures.held (λ ending e g.
-    carried_out script literals locals h c.right.new.self (right_carried script.literals h c.in-Right.local c.in-Right.text (number_read h c.in-Right.count)) ending (out-Statement c.args.first.now) (Statement-F.Right c.in-Right.local c.in-Right.text c.in-Right.count)
-    c.requires.statement (ap out-Statement c.in-Right.is ∙ outs-Right c.in-Right.local c.in-Right.text c.in-Right.count) e g (right_kept script literals locals h c.in-Right.local c.in-Right.text c.in-Right.count))
+    carried_out script literals locals h c.right.new.self (right_carried script.literals h c.in-Right.local c.in-Right.text (number_read h c.in-Right.count)) c.right.result (out-Statement c.args.first.now) (Statement-F.Right c.in-Right.local c.in-Right.text c.in-Right.count)
+    c.requires.statement (ap out-Statement c.in-Right.is ∙ outs-Right c.in-Right.local c.in-Right.text c.in-Right.count) c.right.ensures.ending c.right.ensures.held (right_kept script literals locals h c.in-Right.local c.in-Right.text c.in-Right.count)
 
 pub returns-in-Mid-clause-kept : goal.returns-in-Mid-clause-kept
 returns-in-Mid-clause-kept c =
@@ -282,9 +277,8 @@ returns-in-Mid-clause-kept c =
     let literals = length script.literals in
     let locals = (main_of script).locals in
     let h = c.args.self.now in
-    if_ok_with c.mid.result _ _ _ c.mid.ensures.ending c.mid.ensures.held (λ ending e g.
-    carried_out script literals locals h c.mid.new.self (mid_carried script.literals h c.in-Mid.local c.in-Mid.text (number_read h c.in-Mid.position) (number_read h c.in-Mid.count)) ending (out-Statement c.args.first.now) (Statement-F.Mid c.in-Mid.local c.in-Mid.text c.in-Mid.position c.in-Mid.count)
-    c.requires.statement (ap out-Statement c.in-Mid.is ∙ outs-Mid c.in-Mid.local c.in-Mid.text c.in-Mid.position c.in-Mid.count) e g (mid_kept script literals locals h c.in-Mid.local c.in-Mid.text c.in-Mid.position c.in-Mid.count))
+    carried_out script literals locals h c.mid.new.self (mid_carried script.literals h c.in-Mid.local c.in-Mid.text (number_read h c.in-Mid.position) (number_read h c.in-Mid.count)) c.mid.result (out-Statement c.args.first.now) (Statement-F.Mid c.in-Mid.local c.in-Mid.text c.in-Mid.position c.in-Mid.count)
+    c.requires.statement (ap out-Statement c.in-Mid.is ∙ outs-Mid c.in-Mid.local c.in-Mid.text c.in-Mid.position c.in-Mid.count) c.mid.ensures.ending c.mid.ensures.held (mid_kept script literals locals h c.in-Mid.local c.in-Mid.text c.in-Mid.position c.in-Mid.count)
 
 pub returns-in-GetLength-clause-kept : goal.returns-in-GetLength-clause-kept
 returns-in-GetLength-clause-kept c =
@@ -292,9 +286,8 @@ returns-in-GetLength-clause-kept c =
     let literals = length script.literals in
     let locals = (main_of script).locals in
     let h = c.args.self.now in
-    if_ok_with c.get_length.result _ _ _ c.get_length.ensures.ending c.get_length.ensures.held (λ ending e g.
-    carried_out script literals locals h c.get_length.new.self (length_carried script.literals h c.in-GetLength.local c.in-GetLength.text) ending (out-Statement c.args.first.now) (Statement-F.GetLength c.in-GetLength.local c.in-GetLength.text)
-    c.requires.statement (ap out-Statement c.in-GetLength.is ∙ outs-GetLength c.in-GetLength.local c.in-GetLength.text) e g (length_kept script literals locals h c.in-GetLength.local c.in-GetLength.text))
+    carried_out script literals locals h c.get_length.new.self (length_carried script.literals h c.in-GetLength.local c.in-GetLength.text) c.get_length.result (out-Statement c.args.first.now) (Statement-F.GetLength c.in-GetLength.local c.in-GetLength.text)
+    c.requires.statement (ap out-Statement c.in-GetLength.is ∙ outs-GetLength c.in-GetLength.local c.in-GetLength.text) c.get_length.ensures.ending c.get_length.ensures.held (length_kept script literals locals h c.in-GetLength.local c.in-GetLength.text)
 
 pub returns-in-GetMaximum-clause-kept : goal.returns-in-GetMaximum-clause-kept
 returns-in-GetMaximum-clause-kept c =
