@@ -1,26 +1,18 @@
 -- How many live cells there are, and their lengths together, over what is done to rows.
-use Rattle.std.proofs.Common.{◌≡◌, ◌≢◌, ℕ, suc, ◌+◌, ◌*◌, ◌≤◌, Bool, true, false, not, cond, List, [], ◌∷◌, length, All, AllPairs, Some, refl, sym, ◌∙◌, ap, arith}
-use Rattle.std.specs.Prelude.{nat_lt, nat_eq}
-use Rattle.std.proofs.lemmas.Bool.{eqb-true, ne_eqb, and_parts, and_right}
+use Rattle.std.proofs.Common.{◌≡◌, ◌≢◌, ℕ, suc, ◌+◌, ◌*◌, ◌≤◌, Bool, true, false, not, cond, List, [], ◌∷◌, length, AllPairs, Some, refl, sym, ◌∙◌, ap, arith}
+use Rattle.std.specs.Prelude.{nat_lt}
 use Rattle.wb_model.specs.declared.heap.Ptr.{Ptr}
 use Rattle.wb_model.specs.Row.{Cell, headers, is_at, cell_at, inserted, without, IsSpacedFrom, total_length, changed}
 use Rattle.wb_model.specs.LimitedHeap.{LimitedHeap, IsSoundHeap}
 use Rattle.wb_model.specs.CellRow.{with_level}
 use Rattle.wb_model.proofs.FreeRuns.{total_length-cons, free_runs-are}
 use Rattle.wb_model.proofs.LimitedHeaps.{top_of-committed}
+use Rattle.wb_model.proofs.Reallocations.{without-absent, others-apart}
 
 -- a release lowers the count by one, and the total by the cell's length
 pub record AreLess (row rest : List (Cell (List ℕ))) (length_less : ℕ) : Type 0 where
   pub counted : length rest + 1 ≡ length row
   pub totalled : total_length (headers rest) + length_less ≡ total_length (headers row)
-
-without_absent : (p : Ptr) (row : List (Cell (List ℕ))) → All (λ h. h.number ≢ p.number) (headers row) → without p row ≡ row
-without_absent p [] others = refl
-without_absent p (c ∷ cs) others =
-    let other : is_at p c.head ≡ false =
-    and_right (nat_eq p.place c.head.place) (nat_eq p.number c.head.number) (ne_eqb p.number c.head.number (λ e. others 0 c.head (omega arith) (sym e))) in
-    ap (λ b. cond (not b) (c ∷ without p cs) (without p cs)) other
-    ∙ ap (λ r. c ∷ r) (without_absent p cs (λ k d lt. others (suc k) d (omega arith)))
 
 pub without-less : (p : Ptr) (row : List (Cell (List ℕ))) (c : Cell (List ℕ)) → AllPairs (λ g h. g.number ≢ h.number) (headers row) →
     cell_at p row ≡ Some c → AreLess row (without p row) c.head.length
@@ -28,16 +20,11 @@ without-less p [] c apart e = cc
 without-less p (d ∷ ds) c apart e =
     by (is_at p d.head) refl e (without-less p ds c (λ i j x lt end. apart (suc i) (suc j) x (omega arith) (omega arith)))
   where
-    others : is_at p d.head ≡ true → All (λ h. h.number ≢ p.number) (headers ds)
-    others here k h lt same =
-        let number : p.number ≡ d.head.number = eqb-true p.number d.head.number (and_parts (nat_eq p.place d.head.place) (nat_eq p.number d.head.number) here).1 in
-        apart 0 (suc k) h (omega arith) (omega arith) (sym number ∙ sym same)
-
     by : (b : Bool) → is_at p d.head ≡ b → cond b (Some d) (cell_at p ds) ≡ Some c → (cell_at p ds ≡ Some c → AreLess ds (without p ds) c.head.length) →
         AreLess (d ∷ ds) (cond (not b) (d ∷ without p ds) (without p ds)) c.head.length
     by true here found rest =
         let same : d ≡ c = cc in
-        let gone : without p ds ≡ ds = without_absent p ds (others here) in
+        let gone : without p ds ≡ ds = without-absent p ds (others-apart p d ds apart here) in
         let long : d.head.length ≡ c.head.length = ap (λ x. x.head.length) same in
         record {
           counted = omega (arith, ap length gone);
