@@ -71,6 +71,7 @@ pub record IsCell (p : Ptr) (words : List ℕ) (segments : List Segment) (spare 
   pub is : segments ≡ front ++ live kind level p.number body ∷ back
   pub here : p.place ≡ total front
   pub rounded : total front % 16 ≡ 0
+  pub whole : length body % 4 ≡ 0
   pub payload : payload_of p (row_from 0 segments) ≡ body
   pub spelled : words ≡ words_of 0 front (next spare front kind level p.number body back)
       ++ ((16 + 4 * length body) ∷ state_of kind ∷ level ∷ p.number ∷ (body ++ past spare front kind level p.number body back))
@@ -92,6 +93,7 @@ named_cell words starts top first laid p some = go (named_or p laid.segments 0)
           is = s.is;
           here = s.here ∙ zero-add _;
           rounded = total-whole s.front (whole_front s.front _ w);
+          whole = (whole_back s.front (live s.kind s.level p.number s.body ∷ s.back) w).0;
           payload = ap (λ ys. payload_of p (row_from 0 ys)) s.is
               ∙ ap content_or_nil (cell_at-split p s.front s.kind s.level p.number s.body s.back 0 s.here
               ∙ cond-true (nat_eq p.number p.number) (Some (cell_from p.place s.kind s.level p.number s.body)) None (eq-eqb p.number p.number refl));

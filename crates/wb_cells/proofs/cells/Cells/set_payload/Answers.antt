@@ -14,11 +14,12 @@ set_word-requires c =
     let r = reached _ _ _ _ c.self.invariant c.args.ptr c.args.i _ (ap (λ v. v.row) c.self.view_is) c.requires in
     omega (arith, payload_within _ _ _ _ r.cell, r.within)
 
+-- whichever word of the payload is written
 pub invariant_of-self : goal.invariant_of-self
 invariant_of-self c =
     let r = reached _ _ _ _ c.self.invariant c.args.ptr c.args.i _ (ap (λ v. v.row) c.self.view_is) c.requires in
-    let holds = c.set_word.ensures ∙ set_holds _ _ _ _ r.cell c.args.i c.args.v r.within in
-    laid_held _ _ _ _ c.self.invariant c.args.ptr r.cell _ _ (length-set r.cell.body c.args.i c.args.v) holds
+    let holds = c.set_word.ensures ∙ set_holds _ _ _ _ r.cell _ c.args.v (omega (arith, r.within)) in
+    laid_held _ _ _ _ c.self.invariant c.args.ptr r.cell _ _ (length-set r.cell.body _ c.args.v) holds
 
 pub returns-clause-changed : goal.returns-clause-changed
 returns-clause-changed c =
