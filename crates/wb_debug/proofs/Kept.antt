@@ -1,8 +1,6 @@
 -- What each call leaves of the heap's fields, and what that tells callers.
-use Rattle.std.proofs.Common.{◌≡◌, ◌≢◌, ℕ, suc, ◌+◌, ◌%◌, ◌^◌, ◌<◌, ◌≤◌, ◌↔◌, ◌++◌, IsSome, All, List, [], ◌∷◌, length, length-append, Option, Some, None, IfSome, option_map, find, Bool, true, false, cond, refl, sym, ap, subst, ◌∙◌, arith}
-use Rattle.std.proofs.lemmas.List.{same_from_push}
+use Rattle.std.proofs.Common.{◌≡◌, ℕ, suc, ◌+◌, ◌%◌, ◌^◌, ◌<◌, ◌≤◌, ◌++◌, Result, Ok, Err, IsErr, IsOkAnd, IfOk, OnErr, OnOk, All, List, [], ◌∷◌, length, length-append, Some, IfSome, option_map, find, Bool, true, false, cond, refl, sym, ap, subst, ◌∙◌, arith}
 use Rattle.std.proofs.lemmas.List.Elements.{All-cons, All-nil}
-use Rattle.std.specs.Option.{option_to_list}
 use Rattle.wb_model.specs.declared.heap.Header.{Header}
 use Rattle.wb_model.specs.declared.heap.Kind.{Kind}
 use Rattle.wb_model.specs.declared.heap.Ptr.{Ptr}
@@ -120,16 +118,19 @@ pub refused-kept : (inside : Inside) (setting : Setting) (trace : List Attempt) 
 refused-kept inside setting trace line more fits kept =
     counted-kept inside inside.heap setting trace line refl (λ k h lt. omega (arith, kept.numbered k h lt)) kept.sound more fits kept
 
--- the next attempt's number is no live cell's
-pub next-unused : (inside : Inside) (number : ℕ) → number ≡ length inside.trace + 1 → IsKept inside → All (λ h. h.number ≢ number) (headers inside.heap.row)
-next-unused inside number next kept = λ k h lt same. absurd (omega (arith, kept.numbered k h lt, next, same))
+-- what a result says beside its value
+pub on-ok : {T E : Type 0} (r : Result T E) (P : T → Type 0) (Q : Type 0) → IsOkAnd r P → OnOk r Q → Q
+on-ok (Ok x) P Q given q = q
+on-ok (Err e) P Q given q = absurd given
 
--- a line that was taken back
-pub taken-back : (old pushed now : List Attempt) (line : Attempt) (o : Option Attempt) → pushed ≡ old ++ line ∷ [] → pushed ≡ now ++ option_to_list o →
-    (IsSome o ↔ (0 < length pushed)) → now ≡ old
-taken-back old pushed now line None more back some =
-    let none : IsSome {T = Attempt} None = some.1 (omega (arith, ap length more, length-append old (line ∷ []))) in cc
-taken-back old pushed now line (Some x) more back some = sym (same_from_push old now line x (sym more ∙ back)).0
+pub ok-value : {T E : Type 0} (r : Result T E) (P Q : T → Type 0) → IsOkAnd r P → IfOk r Q → (x : T) × P x × Q x
+ok-value (Ok x) P Q given q = (x, given, q)
+ok-value (Err e) P Q given q = absurd given
+
+-- and where it is an error
+pub on-err : {T E : Type 0} (r : Result T E) (Q : Type 0) → IsErr r → OnErr r Q → Q
+on-err (Ok x) Q given q = cc
+on-err (Err e) Q given q = q
 
 -- a compression
 pub compressed-kept : (inside : Inside) (heap : LimitedHeap) → heap ≡ heap_compressed inside.heap → IsSoundHeap heap → IsKept inside → IsKept (record inside { heap = heap })

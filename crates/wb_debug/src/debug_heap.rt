@@ -1,10 +1,11 @@
 //! The debug heap and its calls. The cells stand in the crate below.
 
-ghost use Rattle.std.specs.Prelude.{◌≡◌, ◌+◌, ◌*◌, ◌^◌, ◌<◌, ◌≤◌, ◌++◌, ◌↔◌, false, None, Some, length, take, drop, slice_index, slice_set, option_map, IfOk, IfErr, IfSome, IsOk, IsSome, OnOk, OnErr};
+ghost use Rattle.std.specs.Prelude.{◌≡◌, ◌+◌, ◌*◌, ◌^◌, ◌<◌, ◌≤◌, ◌++◌, ◌↔◌, false, None, Some, length, take, drop, slice_index, slice_set, option_map, IfOk, IfErr, IfSome, IsOk, IsErr, IsOkAnd, IsSome, OnOk, OnErr};
 ghost use Rattle.wb_chunk.specs.Halves.{half_of, with_half};
+ghost use Rattle.wb_debug.specs.Lines.{DropsLast};
 ghost use Rattle.wb_model.specs.CellRow.{payload_of};
-ghost use Rattle.wb_model.specs.Debug.{IsLiveIn, IsSoundDebug, alloc_made, check_all_refusal, check_refusal, debug_changed, debug_compressed, debug_without, first_debug, leaks_in, note_of_available, note_of_compress, note_of_heap, realloc_made, release_refusal, with_setting};
-ghost use Rattle.wb_model.specs.Heap.{after_mark, after_mark_end, mark_end_refusal};
+ghost use Rattle.wb_model.specs.Debug.{IsLiveIn, IsSoundDebug, alloc_made, answer_in, check_all_refusal, check_refusal, debug_changed, debug_compressed, debug_without, first_debug, leaks_in, line_of, note_of_available, note_of_compress, note_of_heap, number_in, realloc_made, release_refusal, with_setting};
+ghost use Rattle.wb_model.specs.Heap.{after_mark, after_mark_end, mark_end_refusal, request_at};
 ghost use Rattle.wb_model.specs.Row.{cell_at, cell_length, usable_of};
 ghost use Rattle.wb_model.specs.Rules.{each, never, next};
 ghost use Rattle.wb_model.specs.Space.{is_shape};
@@ -132,25 +133,16 @@ impl DebugHeap {
         ensures sound { IsSoundDebug self.new }
     {
         let length = cell_length(bytes);
-        let number = self.trace.len() as u32 + 1;
         let place = self.heap.place_for(length);
-        let Some(answer) = answer(self.setting.due(), self.rule, number, place + length) else {
+        let Some(line) = self.next_line(length, place) else {
             return Ok(Gave::Ceiling);
         };
-        self.trace.push(Attempt {
-            number,
-            length,
-            place,
-            answer,
-        })?;
-        let gave = match answer {
-            Answer::Granted => match self.heap.alloc(length, kind, number, self.level) {
-                Ok(ptr) => Gave::Granted(ptr),
-                Err(_) => {
-                    self.trace.pop();
-                    return Err(NoMemory);
-                }
-            },
+        self.trace.push(line)?;
+        let gave = match line.answer {
+            Answer::Granted => {
+                let granted = self.heap.alloc(length, kind, line.number, self.level);
+                granted_or_undone(granted, &mut self.trace)?
+            }
             Answer::Simulated | Answer::Refused => Gave::Denied,
         };
         self.setting = self.setting.counted();
@@ -176,36 +168,46 @@ impl DebugHeap {
         ensures sound { IsSoundDebug self.new }
     {
         let length = cell_length(bytes);
-        let number = self.trace.len() as u32 + 1;
         let cell = self.heap.header(ptr).unwrap();
         if length <= cell.length {
+            let number = self.attempts() + 1;
             return match self.heap.realloc(ptr, length, number) {
                 Ok(ptr) => Ok(Gave::Granted(ptr)),
                 Err(_) => unreachable!(),
             };
         }
         let place = self.heap.place_for_realloc(ptr, length);
-        let Some(answer) = answer(self.setting.due(), self.rule, number, place + length) else {
+        let Some(line) = self.next_line(length, place) else {
             return Ok(Gave::Ceiling);
         };
-        self.trace.push(Attempt {
-            number,
-            length,
-            place,
-            answer,
-        })?;
-        let gave = match answer {
-            Answer::Granted => match self.heap.realloc(ptr, length, number) {
-                Ok(ptr) => Gave::Granted(ptr),
-                Err(_) => {
-                    self.trace.pop();
-                    return Err(NoMemory);
-                }
-            },
+        self.trace.push(line)?;
+        let gave = match line.answer {
+            Answer::Granted => {
+                let granted = self.heap.realloc(ptr, length, line.number);
+                granted_or_undone(granted, &mut self.trace)?
+            }
             Answer::Simulated | Answer::Refused => Gave::Denied,
         };
         self.setting = self.setting.counted();
         Ok(gave)
+    }
+
+    /// The line that the next attempt adds to the trace, for a cell of this length at this place, both in bytes; none where
+    /// the ceiling cuts the run. The setting is asked first, then the rule, then the ceiling.
+    fn next_line(&self, len: u32, place: u32) -> Option<Attempt>
+        requires number { length self.now.trace + 1 < 2 ^ 32 }
+        requires end { place + len < 2 ^ 32 }
+        ensures answer { option_map (λ line. line.answer) result ≡ answer_in self.now (request_at self.now.heap place len) }
+        ensures line { IfSome result (λ line. line ≡ line_of (number_in self.now) (request_at self.now.heap place len) line.answer) }
+    {
+        let number = self.attempts() + 1;
+        let answer = answer(self.setting.due(), self.rule, number, place + len)?;
+        Some(Attempt {
+            number,
+            length: len,
+            place,
+            answer,
+        })
     }
 
     /// Releases the cell that the pointer names; null is nothing.
@@ -226,6 +228,23 @@ impl DebugHeap {
         match heap.free(ptr) {
             Ok(()) => Ok(()),
             Err(_) => Err(Panic::User(42)),
+        }
+    }
+}
+
+/// What an attempt gives that the heap was asked to grant. Where the workbench's own memory was wanting, it is no attempt:
+/// its line, the trace's last, is taken back.
+fn granted_or_undone(granted: Result<Ptr, HeapFault>, trace: &mut Trace) -> Result<Gave, NoMemory>
+    ensures granted { IfOk result (λ gave. IsOkAnd granted (λ ptr. gave ≡ Gave.Granted ptr)) }
+    ensures kept { OnOk result (trace.new ≡ trace.old) }
+    ensures wanting { OnErr result (IsErr granted) }
+    ensures undone { OnErr result (DropsLast trace.old trace.new) }
+{
+    match granted {
+        Ok(ptr) => Ok(Gave::Granted(ptr)),
+        Err(_) => {
+            trace.pop();
+            Err(NoMemory)
         }
     }
 }

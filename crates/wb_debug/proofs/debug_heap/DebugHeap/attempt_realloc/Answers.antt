@@ -1,6 +1,4 @@
-use Rattle.std.proofs.Common.{◌≡◌, ◌+◌, ◌++◌, ◌∷◌, [], IfSome, Some, refl, ap, length, subst, sym, ◌∙◌, arith}
-use Rattle.wb_model.specs.declared.heap.Answer.{Answer}
-use Rattle.wb_model.specs.declared.heap.Answer.TheVariants.{Granted}
+use Rattle.std.proofs.Common.{◌≡◌, IfSome, refl, ap, length, subst, sym, ◌∙◌, arith}
 use Rattle.wb_model.specs.declared.heap.Gave.{Gave}
 use Rattle.wb_model.specs.Debug.{Debug, IsSoundDebug, realloc_made}
 use Rattle.wb_model.specs.Row.{cell_at}
@@ -8,9 +6,9 @@ use Rattle.wb_model.specs.Rules.{after_attempt}
 use Rattle.wb_debug.specs.declared.debug_heap.DebugHeap.TheInside.{Inside}
 use Rattle.wb_debug.specs.Debug.{debug_of, IsKept}
 use Rattle.wb_debug.specs.Setting.{setting_of}
-use Rattle.wb_debug.proofs.Kept.{kept-sound, set-kept, refused-kept, taken-back}
-use Rattle.wb_debug.proofs.Longer.{IsAsked, asked, answered, answered-is, line, granted-debug, granted-gave, denied-debug, denied-gave, grown-kept, shortened-kept}
-use Rattle.wb_debug.proofs.debug_heap.DebugHeap.attempt_realloc.Goals.{in-Granted+in-Ok-realloc, in-Simulated}
+use Rattle.wb_debug.proofs.Kept.{kept-sound, set-kept, refused-kept, on-ok, on-err, ok-value}
+use Rattle.wb_debug.proofs.Longer.{IsAsked, asked, granted-debug, granted-gave, denied-debug, denied-gave, grown-kept, shortened-kept}
+use Rattle.wb_debug.proofs.debug_heap.DebugHeap.attempt_realloc.Goals.{in-Granted+in_ok-gave-in-Granted, in-Simulated}
 use Rattle.wb_debug.proofs.debug_heap.DebugHeap.attempt_realloc.Goals as goal
 
 pub invariant_of-self : goal.invariant_of-self
@@ -28,33 +26,29 @@ pub returns-in_err-push-clause-sound : goal.returns-in_err-push-clause-sound
 returns-in_err-push-clause-sound c =
     kept-sound _ (set-kept c.self.inside c.self.inside.heap c.self.inside.level c.self.inside.setting c.push.new.self refl c.in_err-push.ensures.unchanged c.self.invariant)
 
-pub returns-in-Err-realloc-clause-sound : goal.returns-in-Err-realloc-clause-sound
-returns-in-Err-realloc-clause-sound c =
-    kept-sound _ (set-kept c.self.inside c.realloc-in-Granted.new.self c.self.inside.level c.self.inside.setting c.pop.new.self c.in-Err-realloc.ensures.err
-    (taken-back c.self.inside.trace c.push.new.self c.pop.new.self _ c.pop.result c.in_ok-push.ensures.pushed c.pop.ensures.popped c.pop.ensures.some) c.self.invariant)
+pub returns-in_err-gave-in-Granted-clause-sound : goal.returns-in_err-gave-in-Granted-clause-sound
+returns-in_err-gave-in-Granted-clause-sound c =
+    kept-sound _ (set-kept c.self.inside c.realloc-granted.new.self c.self.inside.level c.self.inside.setting c.granted_or_undone.new.trace
+    (on-err c.realloc-granted.result _ c.in_err-gave-in-Granted.ensures.wanting c.realloc-granted.ensures.err)
+    (c.in_err-gave-in-Granted.ensures.undone c.self.inside.trace c.in-Some.line c.in_ok-push.ensures.pushed) c.self.invariant)
 
 -- what was asked, and what was answered
-asked-for : (c : goal.After-self-1) → IsAsked c.self.inside c.args.ptr c.args.bytes c.cell_length-length.result (c.len.result + 1) c.place_for_realloc-place.result
+asked-for : (c : goal.After-self-1) → IsAsked c.self.inside c.args.ptr c.args.bytes c.cell_length-length.result c.in-Some.line
 asked-for c =
-    asked c.self.inside c.args.ptr c.unwrap-cell.result c.args.bytes c.cell_length-length.result (c.len.result + 1) c.place_for_realloc-place.result
-    (sym c.header.ensures.header ∙ c.unwrap-cell.ensures) c.cell_length-length.ensures.exact (omega arith) (omega (arith, c.if-length-cell.false))
-    c.place_for_realloc-place.ensures.place
-
-answer-was : (c : goal.After-self-1) (answer : Answer) → c.in-Some.answer ≡ answer →
-    answered c.self.inside (c.len.result + 1) (c.place_for_realloc-place.result + c.cell_length-length.result) ≡ Some answer
-answer-was c answer e =
-    answered-is c.self.inside c.due.result (c.len.result + 1) (c.place_for_realloc-place.result + c.cell_length-length.result) c.answer.result (Some answer) c.due.ensures
-    c.answer.ensures (c.in-Some.is ∙ ap Some e)
+    asked c.self.inside c.args.self.now c.args.ptr c.unwrap-cell.result c.args.bytes c.cell_length-length.result c.place_for_realloc-place.result c.in-Some.line
+    c.self.view_is (sym c.header.ensures.header ∙ c.unwrap-cell.ensures) c.cell_length-length.ensures.exact (omega (arith, c.if-length-cell.false))
+    c.place_for_realloc-place.ensures.place c.in-Some.ensures.answer c.in-Some.ensures.line
 
 pub invariant_of-self-2 : goal.invariant_of-self-2
 invariant_of-self-2 c =
     let fits = ap (λ (d : Debug). length d.trace) c.self.view_is in
-    elim c.match-answer-2.branch [
-      | in-Granted+in-Ok-realloc w ↦
+    elim c.match-line.branch [
+      | in-Granted+in_ok-gave-in-Granted w ↦
           subst (λ (x : Inside). IsKept (record x { setting = c.counted-self-inside.result })) (sym w.self-inside-is)
-          (grown-kept c.self.inside c.args.ptr c.args.bytes c.cell_length-length.result (c.len.result + 1) c.place_for_realloc-place.result w.realloc-in-Granted.new.self
-          c.counted-self-inside.result c.push.new.self _ (asked-for c) w.in-Ok-realloc.ensures.done w.realloc-in-Granted.ensures.sound c.in_ok-push.ensures.pushed
-          (omega (arith, fits)) c.self.invariant)
+          (grown-kept c.self.inside c.args.ptr c.args.bytes c.cell_length-length.result c.in-Some.line w.realloc-granted.new.self
+          c.counted-self-inside.result w.granted_or_undone.new.trace (asked-for c)
+          (on-ok w.realloc-granted.result _ _ w.in_ok-gave-in-Granted.ensures.granted w.realloc-granted.ensures.done) w.realloc-granted.ensures.sound
+          (w.in_ok-gave-in-Granted.ensures.kept ∙ c.in_ok-push.ensures.pushed) (omega (arith, fits)) c.self.invariant)
       | in-Simulated w ↦
           subst (λ (x : Inside). IsKept (record x { setting = c.counted-self-inside.result })) (sym w.self-inside-is)
           (refused-kept c.self.inside c.counted-self-inside.result c.push.new.self _ c.in_ok-push.ensures.pushed (omega (arith, fits)) c.self.invariant)
@@ -66,14 +60,14 @@ returns-clause-sound c = kept-sound _ (invariant_of-self-2 c)
 pub returns-clause-gave : goal.returns-clause-gave
 returns-clause-gave c =
     let P : Gave → Type 0 = λ g. IfSome (cell_at c.args.ptr c.self.inside.heap.row) (λ x. g ≡ (realloc_made (debug_of c.self.inside) x c.args.bytes).gave) in
-    subst (λ (d : Debug). IfSome (cell_at c.args.ptr d.heap.row) (λ x. c.match-answer-2.gave ≡ (realloc_made d x c.args.bytes).gave)) c.self.view_is
-    (elim c.match-answer-2.branch [
-      | in-Granted+in-Ok-realloc w ↦
-          subst P (sym w.gave-is) (granted-gave c.self.inside c.args.ptr c.args.bytes c.cell_length-length.result (c.len.result + 1) c.place_for_realloc-place.result _
-          (asked-for c) (answer-was c Granted w.in-Granted.is) w.in-Ok-realloc.ensures.pointer)
+    subst (λ (d : Debug). IfSome (cell_at c.args.ptr d.heap.row) (λ x. c.match-line.gave ≡ (realloc_made d x c.args.bytes).gave)) c.self.view_is
+    (elim c.match-line.branch [
+      | in-Granted+in_ok-gave-in-Granted w ↦
+          let given = ok-value w.realloc-granted.result _ _ w.in_ok-gave-in-Granted.ensures.granted w.realloc-granted.ensures.pointer in
+          granted-gave c.self.inside c.args.ptr c.args.bytes c.cell_length-length.result c.in-Some.line c.match-line.gave given.0 (asked-for c)
+          w.in-Granted.is (w.gave-is ∙ given.1) given.2
       | in-Simulated w ↦
-          subst P (sym w.gave-is) (denied-gave c.self.inside c.args.ptr c.args.bytes c.cell_length-length.result (c.len.result + 1) c.place_for_realloc-place.result
-          c.in-Some.answer (asked-for c) (answer-was c c.in-Some.answer refl) w.in-Simulated.is)
+          subst P (sym w.gave-is) (denied-gave c.self.inside c.args.ptr c.args.bytes c.cell_length-length.result c.in-Some.line (asked-for c) w.in-Simulated.is)
     ])
 
 pub returns-clause-made : goal.returns-clause-made
@@ -81,16 +75,16 @@ returns-clause-made c =
     let P : Inside → Type 0 = λ i. IfSome (cell_at c.args.ptr c.self.inside.heap.row)
     (λ x. debug_of (record i { setting = c.counted-self-inside.result }) ≡ (realloc_made (debug_of c.self.inside) x c.args.bytes).debug) in
     subst (λ (d : Debug). IfSome (cell_at c.args.ptr d.heap.row)
-    (λ x. debug_of (record c.match-answer-2.self-inside { setting = c.counted-self-inside.result }) ≡ (realloc_made d x c.args.bytes).debug)) c.self.view_is
-    (elim c.match-answer-2.branch [
-      | in-Granted+in-Ok-realloc w ↦
-          subst P (sym w.self-inside-is) (granted-debug c.self.inside c.args.ptr c.args.bytes c.cell_length-length.result (c.len.result + 1)
-          c.place_for_realloc-place.result w.realloc-in-Granted.new.self c.counted-self-inside.result c.push.new.self (asked-for c) (answer-was c Granted w.in-Granted.is)
-          w.in-Ok-realloc.ensures.done (c.in_ok-push.ensures.pushed ∙ ap (λ a. c.self.inside.trace ++ line (c.len.result + 1) c.cell_length-length.result c.place_for_realloc-place.result a ∷ []) w.in-Granted.is)
+    (λ x. debug_of (record c.match-line.self-inside { setting = c.counted-self-inside.result }) ≡ (realloc_made d x c.args.bytes).debug)) c.self.view_is
+    (elim c.match-line.branch [
+      | in-Granted+in_ok-gave-in-Granted w ↦
+          subst P (sym w.self-inside-is) (granted-debug c.self.inside c.args.ptr c.args.bytes c.cell_length-length.result c.in-Some.line
+          w.realloc-granted.new.self c.counted-self-inside.result w.granted_or_undone.new.trace (asked-for c) w.in-Granted.is
+          (on-ok w.realloc-granted.result _ _ w.in_ok-gave-in-Granted.ensures.granted w.realloc-granted.ensures.done)
+          (w.in_ok-gave-in-Granted.ensures.kept ∙ c.in_ok-push.ensures.pushed)
           (c.counted-self-inside.ensures ∙ ap (λ (i : Inside). after_attempt (setting_of i.setting)) w.self-inside-is) c.self.invariant)
       | in-Simulated w ↦
-          subst P (sym w.self-inside-is) (denied-debug c.self.inside c.args.ptr c.args.bytes c.cell_length-length.result (c.len.result + 1)
-          c.place_for_realloc-place.result c.in-Some.answer c.counted-self-inside.result c.push.new.self (asked-for c) (answer-was c c.in-Some.answer refl)
-          w.in-Simulated.is c.in_ok-push.ensures.pushed
+          subst P (sym w.self-inside-is) (denied-debug c.self.inside c.args.ptr c.args.bytes c.cell_length-length.result c.in-Some.line
+          c.counted-self-inside.result c.push.new.self (asked-for c) w.in-Simulated.is c.in_ok-push.ensures.pushed
           (c.counted-self-inside.ensures ∙ ap (λ (i : Inside). after_attempt (setting_of i.setting)) w.self-inside-is))
     ])
