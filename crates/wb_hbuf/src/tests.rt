@@ -1,6 +1,7 @@
 //! Worked texts: what scripts make of texts in cells and buffers, and what they must read as then.
 
-ghost use Rattle.std.specs.Prelude.{◌≤◌, IfOk};
+ghost use Rattle.std.specs.Prelude.{◌+◌, ◌^◌, ◌<◌, ◌≤◌, ◌≢◌, IfOk};
+ghost use Rattle.wb_model.specs.Debug.{IsSoundDebug};
 ghost use Rattle.wb_model.specs.TextCells.{IsTextAt};
 
 use crate::hbuf::{delete, edit, edit_buf, length, make, max_len, print_units, remake, set_length};
@@ -34,6 +35,44 @@ fn granted(heap: &mut DebugHeap, n: u32) -> Result<Ptr, NoMemory>
         Gave::Granted(ptr) => Ok(ptr),
         Gave::Denied | Gave::Ceiling => Err(NoMemory),
     }
+}
+
+/// The same, in a cell beside that of another text, which stays.
+fn granted_beside(heap: &mut DebugHeap, other: Ptr, n: u32) -> Result<Ptr, NoMemory>
+    requires sound { IsSoundDebug heap.old }
+    requires other { IsTextAt other heap.old }
+    requires most { n ≤ 524286 }
+    ensures text { IfOk result (λ ptr. IsTextAt ptr heap.new) }
+    ensures other { IfOk result (λ _. IsTextAt other heap.new) }
+    ensures other_apart { IfOk result (λ ptr. other ≢ ptr) }
+    ensures apart { IfOk result (λ ptr. ptr ≢ other) }
+{
+    if heap.attempts() == u32::MAX {
+        return Err(NoMemory);
+    }
+    match make(heap, n)? {
+        Gave::Granted(ptr) if ptr != other => Ok(ptr),
+        _ => Err(NoMemory),
+    }
+}
+
+/// Changes a text by a part of the text in another cell, which stays one.
+fn edit_from(
+    heap: &mut DebugHeap,
+    ptr: Ptr,
+    change: Edit,
+    other: Ptr,
+    from: u32,
+    count: u32,
+) -> Result<(), Panic>
+    requires text { IsTextAt ptr heap.old }
+    requires other { IsTextAt other heap.old }
+    requires apart { other ≢ ptr }
+    requires ends { from + count < 2 ^ 32 }
+    ensures text { IsTextAt ptr heap.new }
+    ensures other { IsTextAt other heap.new }
+{
+    edit(heap, ptr, change, Source::Cell(other, from, count))
 }
 
 /// The pointer to a text once its cell was reallocated for so many units, and the old one where that was refused.
@@ -144,6 +183,83 @@ fn a_text_is_read_as_it_stood(rt: HostRuntime) -> Result<(), Fail> {
     let doubled = edit(&mut heap, ptr, Edit::Append, Source::Own(1, 5));
     assert_eq!(rt; doubled, Ok(()));
     assert_eq!(rt; printed(&heap, ptr).as_slice(), b"cdede...".as_slice());
+    Ok(())
+}
+
+#[test]
+fn a_text_is_changed_by_its_own_units(rt: HostRuntime) -> Result<(), Fail> {
+    let mut heap = DebugHeap::new(rt.alloc(), Rule::Unlimited, SHAPE)?;
+    let letters = chars(rt.alloc(), b"abc")?;
+    let ptr = granted(&mut heap, 4)?;
+    let copied = edit(&mut heap, ptr, Edit::Copy, Source::Literal(&letters, 0, 3));
+    assert_eq!(rt; copied, Ok(()));
+    let doubled = edit(&mut heap, ptr, Edit::Append, Source::Own(0, 3));
+    assert_eq!(rt; doubled, Ok(()));
+    let longer = edit(&mut heap, ptr, Edit::Append, Source::Own(6, 1));
+    assert_eq!(rt; longer, Err(Panic::User(11)));
+    let long = edit(&mut heap, ptr, Edit::Copy, Source::Own(5, 7));
+    assert_eq!(rt; long, Err(Panic::User(11)));
+    assert_eq!(rt; printed(&heap, ptr).as_slice(), b"abcabc".as_slice());
+    let behind = edit(&mut heap, ptr, Edit::Copy, Source::Own(5, 3));
+    assert_eq!(rt; behind, Ok(()));
+    assert_eq!(rt; printed(&heap, ptr).as_slice(), b"c..".as_slice());
+    let past = edit(&mut heap, ptr, Edit::Copy, Source::Own(3, 2));
+    assert_eq!(rt; past, Ok(()));
+    assert_eq!(rt; printed(&heap, ptr).as_slice(), b"..".as_slice());
+    Ok(())
+}
+
+#[test]
+fn a_text_is_changed_by_another_cells(rt: HostRuntime) -> Result<(), Fail> {
+    let mut heap = DebugHeap::new(rt.alloc(), Rule::Unlimited, SHAPE)?;
+    let letters = chars(rt.alloc(), b"abcdefg")?;
+    let other = granted(&mut heap, 8)?;
+    let filled = edit(
+        &mut heap,
+        other,
+        Edit::Copy,
+        Source::Literal(&letters, 0, 7),
+    );
+    assert_eq!(rt; filled, Ok(()));
+    let ptr = granted_beside(&mut heap, other, 4)?;
+    let copied = edit_from(&mut heap, ptr, Edit::Copy, other, 1, 3);
+    assert_eq!(rt; copied, Ok(()));
+    let appended = edit_from(&mut heap, ptr, Edit::Append, other, 6, 2);
+    assert_eq!(rt; appended, Ok(()));
+    let inserted = edit_from(&mut heap, ptr, Edit::Insert(1), other, 0, 1);
+    assert_eq!(rt; inserted, Ok(()));
+    let back = edit_from(&mut heap, other, Edit::Insert(7), ptr, 0, 2);
+    assert_eq!(rt; back, Ok(()));
+    assert_eq!(rt; printed(&heap, other).as_slice(), b"abcdefgba".as_slice());
+    assert_eq!(rt; printed(&heap, ptr).as_slice(), b"bacdg.".as_slice());
+    Ok(())
+}
+
+#[test]
+fn too_many_units_of_another_cell(rt: HostRuntime) -> Result<(), Fail> {
+    let mut heap = DebugHeap::new(rt.alloc(), Rule::Unlimited, SHAPE)?;
+    let letters = chars(rt.alloc(), b"abcdefg")?;
+    let other = granted(&mut heap, 8)?;
+    let filled = edit(
+        &mut heap,
+        other,
+        Edit::Copy,
+        Source::Literal(&letters, 0, 7),
+    );
+    assert_eq!(rt; filled, Ok(()));
+    let ptr = granted_beside(&mut heap, other, 4)?;
+    let fits = edit_from(&mut heap, ptr, Edit::Copy, other, 1, 6);
+    assert_eq!(rt; fits, Ok(()));
+    let copied = edit_from(&mut heap, ptr, Edit::Copy, other, 0, 7);
+    assert_eq!(rt; copied, Err(Panic::User(11)));
+    let appended = edit_from(&mut heap, ptr, Edit::Append, other, 0, 1);
+    assert_eq!(rt; appended, Err(Panic::User(11)));
+    let inserted = edit_from(&mut heap, ptr, Edit::Insert(6), other, 7, 1);
+    assert_eq!(rt; inserted, Err(Panic::User(11)));
+    let past = edit_from(&mut heap, ptr, Edit::Insert(7), other, 0, 1);
+    assert_eq!(rt; past, Err(Panic::User(10)));
+    assert_eq!(rt; printed(&heap, ptr).as_slice(), b"bcdefg".as_slice());
+    assert_eq!(rt; printed(&heap, other).as_slice(), b"abcdefg".as_slice());
     Ok(())
 }
 
