@@ -15,7 +15,7 @@ use wb_model::script::{
     Body, Holder, Local, Number, Pointer, Procedure, Readable, Refusal, Script, Statement,
 };
 
-const SHAPE: Shape = Shape {
+pub const SHAPE: Shape = Shape {
     min: 4096,
     step: 4096,
 };
@@ -242,7 +242,7 @@ const REUSES: [Order; 6] = [
 
 /// End a run ended, with as many leaks.
 #[derive(Clone, Copy, Debug, PartialEq, Eq)]
-enum End {
+pub enum End {
     Plainly(usize),
     Left,
     Panicked(Panic),
@@ -251,7 +251,7 @@ enum End {
 }
 
 /// End a run ended.
-fn end_of(outcome: &Outcome) -> End {
+pub fn end_of(outcome: &Outcome) -> End {
     match outcome {
         Outcome::Ended { left: None, leaks } => End::Plainly(leaks.len()),
         Outcome::Ended { left: Some(_), .. } => End::Left,
