@@ -21,7 +21,7 @@ use Rattle.wb_model.specs.declared.script.Statement.{Statement}
 use Rattle.wb_model.specs.declared.script.Statement.TheOpen.{Statement-F}
 use Rattle.wb_model.specs.declared.script.Statement.TheViews.{out-Statement}
 
--- No class has come, so a pointer local has none. A text of a local's own has at most 256 units.
+-- A script has no class, so a pointer local has none. A text of a local's own has at most 256 units.
 abbrev pub is_local : Local → Bool
 is_local (OfPointer None) = true
 is_local OfNumber = true
