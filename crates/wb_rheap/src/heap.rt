@@ -48,12 +48,13 @@ impl Heap {
     /// A heap with no cell, with the least committed length, for which it takes memory.
     ///
     /// The limit is in bytes, and need be no multiple of 16. `BadShape` where no heap may have the shape, and
-    /// else `NoMemory` at worst. Source: this project's profile.
+    /// else `NoMemory` at worst, and not even that where the length is 0. Source: this project's profile.
     pub fn new(alloc: Global, limit: u32, shape: Shape) -> Result<Heap, HeapFault>
         requires { limit ≤ CEILING }
         ensures ok { IfOk result (λ heap. heap ≡ empty_heap limit shape) }
         ensures shape { (result ≡ Err HeapFault.BadShape) ↔ (is_shape shape ≡ false) }
         ensures no_other { IfErr result (λ fault. fault ≢ HeapFault.BadShape → fault ≡ HeapFault.NoMemory) }
+        ensures no_growth { (empty_heap limit shape).held ≡ 0 → result ≢ Err HeapFault.NoMemory }
         ensures sound { IfOk result IsSoundHeap }
     {
         if !space::may_have_shape(shape) {
