@@ -29,12 +29,12 @@ All-lowered most level (c ∷ cs) all =
     by true = all 0 c.head (omega arith)
     by false = all 0 c.head (omega arith)
 
-pub lowered-kept : (inside : Inside) (heap : LimitedHeap) (level : ℕ) → heap ≡ record inside.heap { row = lowered inside.level inside.heap.row } →
+pub lowered-kept : (inside : Inside) (heap : LimitedHeap) (from level : ℕ) → heap ≡ record inside.heap { row = lowered from inside.heap.row } →
     IsSoundHeap heap → IsKept inside → IsKept (record inside { heap = heap; level = level })
-lowered-kept inside heap level is sound kept = record {
+lowered-kept inside heap from level is sound kept = record {
   sound = sound;
   limit = ap (λ (h : LimitedHeap). h.limit) is ∙ kept.limit;
   numbered = subst (λ (h : LimitedHeap). All (λ g. g.number ≤ length inside.trace) (headers h.row)) (sym is)
-      (All-lowered (length inside.trace) inside.level inside.heap.row kept.numbered);
+      (All-lowered (length inside.trace) from inside.heap.row kept.numbered);
   counted = kept.counted;
 }

@@ -18,7 +18,7 @@ pub returns-in_err-expect-clause-sound : goal.returns-in_err-expect-clause-sound
 returns-in_err-expect-clause-sound c = subst IsSoundDebug c.self.view_is (kept-sound c.self.inside c.self.invariant)
 
 pub invariant_of-self : goal.invariant_of-self
-invariant_of-self c = lowered-kept c.self.inside c.lower.new.heap _ c.lower.ensures.lowered c.lower.ensures.sound c.self.invariant
+invariant_of-self c = lowered-kept c.self.inside c.lower.new.heap _ _ c.lower.ensures.lowered c.lower.ensures.sound c.self.invariant
 
 pub returns-clause-sound : goal.returns-clause-sound
 returns-clause-sound c = kept-sound _ (invariant_of-self c)
