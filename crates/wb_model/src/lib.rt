@@ -15,6 +15,7 @@ pub mod lines;
 pub mod memory;
 pub mod run;
 pub mod script;
+pub mod size;
 #[cfg(test)]
 mod tests;
 pub mod text;
