@@ -11,7 +11,7 @@ ghost use Rattle.wb_model.specs.Space.{AreFreeRuns, free_runs};
 ghost use Rattle.wb_model.specs.Sweeps.{run_at, AreAllFine, IsLeastUnfine, least_bad_or_cut};
 ghost use Rattle.wb_model.specs.Texts.{units_of_part};
 ghost use Rattle.wb_model.specs.Traces.{asked_for, AreLines};
-ghost use Rattle.wb_model.specs.declared.heap.TheConstants.{CEILING};
+ghost use Rattle.wb_model.specs.declared.limits.TheConstants.{CEILING};
 ghost use Rattle.wb_model.specs.declared.heap.Attempt.{Attempt};
 ghost use Rattle.wb_model.specs.declared.heap.Header.{Header};
 ghost use Rattle.wb_model.specs.declared.heap.Rule.{Rule};
