@@ -1,16 +1,15 @@
 #!/usr/bin/env python3
 """Proves and builds the program, those crates at the same time that don't stand on one another.
 
-`rt` builds the libraries of a program one after another. This takes the same steps by the module behind `rt`, and leaves
-the last one, the program itself, to `rt run`, which builds whatever is missing. `RT_JOBS` says how many processors to use,
-in the place of all."""
+`rt` builds the libraries of a program one after another. This takes the same steps by the module behind `rt`, and then
+calls `rt run`, which builds whatever is missing. `RT_JOBS` says how many processors to use, in the place of all."""
 
 import importlib.util
 import os
-import re
 import shutil
 import subprocess
 import sys
+import tempfile
 from concurrent.futures import FIRST_COMPLETED, Future, ThreadPoolExecutor, wait
 from pathlib import Path
 from types import ModuleType
@@ -19,18 +18,11 @@ from typing import Any
 ROOT = Path(__file__).resolve().parent.parent
 PROGRAM = ROOT / "crates" / "workbench"
 
-# What a process of the prover takes at most, in bytes.
-MEMORY = 2_500_000_000
+# What a process of the prover takes, in bytes.
+MEMORY = 2_000_000_000
 
-
-def processors() -> int:
-    """How many processes of the prover may run at once: one a processor, as far as memory goes."""
-    given = os.environ.get("RT_JOBS", "")
-    if given.isdigit():
-        return max(1, int(given))
-    free = re.search(r"MemAvailable:\s+(\d+) kB", Path("/proc/meminfo").read_text())
-    room = int(free[1]) * 1024 // MEMORY if free else 1
-    return max(1, min(len(os.sched_getaffinity(0)), room))
+# The most crates that are built at once.
+AT_ONCE = 3
 
 
 def kit() -> ModuleType:
@@ -45,45 +37,71 @@ def kit() -> ModuleType:
     return module
 
 
-def build(crate: Any, jobs: int) -> bool:
-    """Builds a library by so many processes, and says whether it is proved."""
-    print(f"== {crate.name}: {jobs} at once", flush=True)
-    os.makedirs(f"{crate.folder}/out", exist_ok=True)
-    return crate.build_rlib(["--jobs", str(jobs)], anew=False) == 0
+class Libraries:
+    """The libraries below the program, lowest first. What a crate can be asked is the kit's."""
 
+    def __init__(self, rtlib: ModuleType, processors: int) -> None:
+        self.rtlib, self.processors = rtlib, processors
+        self.crates = rtlib.Crate(str(PROGRAM), str(ROOT), {}).below()
 
-def build_libraries(libraries: list[Any], most: int) -> bool:
-    """Builds each library as soon as those are built that it uses. One that is built beside others gets half of the processors."""
-    waiting, built = list(libraries), []
-    running: dict[Future[bool], Any] = {}
-    with ThreadPoolExecutor(most) as pool:
-        while waiting or running:
-            ready = [it for it in waiting if all(below in built for below in it.deps)][: most - len(running)]
-            jobs = most if len(ready) + len(running) == 1 else max(1, most // 2)
-            for crate in ready:
-                waiting.remove(crate)
-                running[pool.submit(build, crate, jobs)] = crate
-            for done in wait(running, return_when=FIRST_COMPLETED).done:
-                built.append(running.pop(done))
-                if not done.result():
-                    return False
-    return True
+    def jobs(self, processes: int, crates: int) -> int:
+        """How many processes a crate gets, of these at most: as many as there is memory for, if each crate gets that many."""
+        return next((it for it in range(processes, 1, -1) if self.rtlib.fits(it * crates * MEMORY)), 1)
+
+    def build_one(self, crate: Any, jobs: int) -> bool:
+        """Builds a library, prints what the prover says, and tells whether it is proved."""
+        os.makedirs(f"{crate.folder}/out", exist_ok=True)
+        with tempfile.TemporaryFile("w+", errors="replace") as crate.out:
+            status = crate.build_rlib(["--jobs", str(jobs)], anew=False)
+            crate.out.seek(0)
+            print(f"== {crate.name}\n{crate.out.read()}", end="", flush=True)
+        return status == 0
+
+    def build_all(self) -> bool:
+        """Builds each library once those are built that it uses. A crate beside others leaves them a processor."""
+        waiting, built = list(self.crates), []
+        running: dict[Future[bool], Any] = {}
+        lanes = min(AT_ONCE, self.processors)
+        with ThreadPoolExecutor(lanes) as pool:
+            while waiting or running:
+                ready = [it for it in waiting if all(below in built for below in it.deps)][: lanes - len(running)]
+                is_alone = len(ready) + len(running) == 1
+                jobs = self.jobs(self.processors, 1) if is_alone else self.jobs(self.processors - 1, lanes)
+                for crate in ready:
+                    waiting.remove(crate)
+                    running[pool.submit(self.build_one, crate, jobs)] = crate
+                for done in wait(running, return_when=FIRST_COMPLETED).done:
+                    built.append(running.pop(done))
+                    if not done.result():
+                        return False
+        return True
+
+    def build(self) -> bool:
+        """Builds the libraries while no other `rt` works on them, and tells whether all are proved."""
+        # as rt does it, before any thread starts: what runs ends with this process
+        self.rtlib.guarded()
+        held = self.rtlib.lock(self.crates)
+        try:
+            return self.build_all()
+        finally:
+            for it in held:
+                os.close(it)
 
 
 def main() -> int:
-    """Builds the libraries and then the program."""
-    most = processors()
-    rtlib = kit()
-    # as rt does it, before any thread starts: what runs ends with this process
-    rtlib.guarded()
-    libraries = rtlib.Crate(str(PROGRAM), str(ROOT), {}).below()
-    held = rtlib.lock(libraries)
-    if not build_libraries(libraries, most):
-        return 1
-    for lock in held:
-        os.close(lock)
-    # rt builds a program as it runs it: an empty script is refused, so the status says nothing of the build
-    subprocess.run(["rt", "run", "--jobs", str(most), "--", "run", os.devnull], cwd=PROGRAM)
+    """Builds the libraries, and then the program."""
+    given = os.environ.get("RT_JOBS", "")
+    processors = max(1, int(given)) if given.isdigit() else len(os.sched_getaffinity(0))
+    flags = []
+    try:
+        libraries = Libraries(kit(), processors)
+        if not libraries.build():
+            return 1
+        flags = ["--jobs", str(libraries.jobs(processors, 1))]
+    except (AttributeError, TypeError) as error:
+        print(f"this kit's module behind rt is another, so that crates are built one after another: {error}", flush=True)
+    # rt builds a program as it runs it: an empty script is refused, so that the status says nothing of the build
+    subprocess.run(["rt", "run", *flags, "--", "run", os.devnull], cwd=PROGRAM)
     return 0
 
 
