@@ -1,9 +1,13 @@
 -- What heaps of each length refuse first, and the table of the rises that tells it.
-use Rattle.std.specs.Prelude.{◌≡◌, ℕ, ◌<◌, ◌≤◌, List, [], ◌∷◌, Option, Some, None}
+use Rattle.std.specs.Prelude.{◌≡◌, ℕ, ◌<◌, ◌≤◌, List, [], ◌∷◌, Option, Some, None, IsSome}
 use Rattle.wb_model.specs.declared.heap.Answer.{Answer}
 use Rattle.wb_model.specs.declared.heap.Answer.TheVariants.{Refused}
 use Rattle.wb_model.specs.declared.heap.Attempt.{Attempt}
+use Rattle.wb_model.specs.declared.heap.Rule.TheVariants.{Limit}
+use Rattle.wb_model.specs.declared.heap.Shape.{Shape}
+use Rattle.wb_model.specs.declared.script.Script.{Script}
 use Rattle.wb_model.specs.declared.size.Rise.{Rise}
+use Rattle.wb_model.specs.Run.{run}
 
 abbrev pub refused_or_later : Attempt → Answer → Option ℕ → Option ℕ
 refused_or_later t Refused later = Some t.number
@@ -21,3 +25,14 @@ IsTable refused_by required from [] = (from ≡ required) × ((length : ℕ) →
 IsTable refused_by required from (r ∷ rs) =
     (from < r.top) × ((length : ℕ) → from ≤ length → length < r.top → refused_by length ≡ Some r.number)
     × IsTable refused_by required r.top rs
+
+-- the first attempt that a heap of a length refuses as it runs a script, whatever follows it; none where it refuses none
+abbrev pub refused_first : Script → ℕ → Shape → ℕ → Option ℕ
+refused_first script budget shape length = first_refused (run script (Limit length) budget shape).trace
+
+-- The length of heap that a script needs, and its table of rises: at that length and every greater one the run meets no
+-- refusal of the heap, at every smaller one it meets one, and the first attempt refused is the one that the table names.
+pub record IsHeapLength (script : Script) (budget : ℕ) (shape : Shape) (required : ℕ) (rises : List Rise) : Type 0 where
+  pub enough : (length : ℕ) → required ≤ length → refused_first script budget shape length ≡ None
+  pub short : (length : ℕ) → length < required → IsSome (refused_first script budget shape length)
+  pub table : IsTable (refused_first script budget shape) required 0 rises

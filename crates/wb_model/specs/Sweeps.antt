@@ -5,6 +5,7 @@ use Rattle.wb_model.specs.declared.heap.Shape.{Shape}
 use Rattle.wb_model.specs.declared.run.Outcome.{Outcome}
 use Rattle.wb_model.specs.declared.run.Outcome.TheVariants.{Cut}
 use Rattle.wb_model.specs.declared.run.RunResult.{RunResult}
+use Rattle.wb_model.specs.declared.run.Why.{Why}
 use Rattle.wb_model.specs.declared.script.Script.{Script}
 use Rattle.wb_model.specs.Run.{run, is_bad}
 
@@ -44,3 +45,14 @@ run_at script budget shape number = run script (Number number) budget shape
 -- that it is the least of all numbers
 abbrev pub least_bad_or_cut : Script → ℕ → Shape → Option ℕ
 least_bad_or_cut script budget shape = least_unfine (run_at script budget shape) (suc (length (run_at script budget shape 0).trace))
+
+-- the least number whose simulated failure leaks or panics, and the run in which it does; no smaller number's run is cut
+pub record IsLeastBad (script : Script) (budget : ℕ) (shape : Shape) (number : ℕ) (result : RunResult) : Type 0 where
+  pub bad : is_bad (run_at script budget shape number) ≡ true
+  pub least : AreFineBelow (run_at script budget shape) number
+  pub run_is : result ≡ run_at script budget shape number
+
+-- the least number whose run is cut, and why; no smaller number's run is bad
+pub record IsLeastCut (script : Script) (budget : ℕ) (shape : Shape) (number : ℕ) (why : Why) : Type 0 where
+  pub cut : (run_at script budget shape number).outcome ≡ Cut why
+  pub least : AreFineBelow (run_at script budget shape) number

@@ -1,0 +1,26 @@
+-- What a sweep says of every number: the least whose run is bad, or that none is.
+use Rattle.std.specs.Prelude.{◌≡◌, ℕ, ◌+◌, List, true, Some, None, IfSome, length, slice_get}
+use Rattle.wb_model.specs.declared.heap.Attempt.{Attempt}
+use Rattle.wb_model.specs.declared.heap.Shape.{Shape}
+use Rattle.wb_model.specs.declared.run.RunResult.{RunResult}
+use Rattle.wb_model.specs.declared.script.Script.{Script}
+use Rattle.wb_model.specs.Run.{is_bad}
+use Rattle.wb_model.specs.Sweeps.{run_at, AreAllFine, IsLeastBad}
+use Rattle.wb_sweep.specs.declared.found.Found.{Found}
+use Rattle.wb_sweep.specs.declared.found.Sweep.{Sweep}
+
+-- each line of a trace has its index, counted from 1, as its number
+abbrev pub IsNumbered : List Attempt → Type 0
+IsNumbered trace = (k : ℕ) (t : Attempt) → slice_get trace k ≡ Some t → t.number ≡ k + 1
+
+-- what is found of a bad run
+pub record IsBadAt (at : ℕ) (told : RunResult) (found : Found) : Type 0 where
+  pub bad : is_bad told ≡ true
+  pub number : found.number ≡ at
+  pub result : found.result ≡ told
+
+-- All numbers are spoken of, also those past the last attempt.
+pub record IsSweep (script : Script) (budget : ℕ) (shape : Shape) (sweep : Sweep) : Type 0 where
+  pub attempts : sweep.attempts ≡ length (run_at script budget shape 0).trace
+  pub found : IfSome sweep.found (λ found. IsLeastBad script budget shape found.number found.result)
+  pub none : sweep.found ≡ None → AreAllFine (run_at script budget shape)

@@ -1,0 +1,29 @@
+//! Why a sweep has no answer.
+
+use wb_machine::machine::RunFault;
+use wb_model::run::Why;
+
+/// Why a sweep has no answer.
+#[derive(Clone, Copy, Debug, PartialEq, Eq)]
+pub enum SweepFault {
+    /// A minimum length or a growth step that no heap may have.
+    BadShape,
+    /// The run under this number was cut, and no smaller number's run was bad or cut.
+    Cut { number: u32, why: Why },
+    /// The workbench's own memory ran out. This is never a refusal of the simulated heap.
+    NoMemory,
+}
+
+impl From<RunFault> for SweepFault {
+    ghost use Rattle.std.specs.Prelude.{◌≡◌};
+    ghost use Rattle.wb_sweep.specs.Fault.{fault_of};
+
+    ghost from_gives = { λ fault given. given ≡ fault_of fault };
+
+    fn from(fault: RunFault) -> SweepFault {
+        match fault {
+            RunFault::BadShape => SweepFault::BadShape,
+            RunFault::NoMemory => SweepFault::NoMemory,
+        }
+    }
+}
