@@ -1,5 +1,5 @@
 -- Each line of a run's trace is that of an attempt which the run asked for, answered by the script's own setting or the rule.
-use Rattle.std.proofs.Common.{◌≡◌, ◌≢◌, ℕ, zero, suc, ◌+◌, ◌<◌, ◌≤◌, ◌⊎◌, inl, inr, arith, Bool, true, false, List, [], ◌∷◌, ◌++◌, length, length-append, append-nil, append_assoc, refl, sym, ◌∙◌, ap, subst, Option, Some, None, cond}
+use Rattle.std.proofs.Common.{◌≡◌, ◌≢◌, ℕ, zero, suc, ◌+◌, ◌<◌, ◌≤◌, inl, inr, arith, Bool, true, false, List, [], ◌∷◌, ◌++◌, length, length-append, append-nil, append_assoc, refl, sym, ◌∙◌, ap, subst, Option, Some, None, cond}
 use Rattle.std.specs.Prelude.{nat_eq, nat_lt, slice_get}
 use Rattle.std.proofs.lemmas.Bool.{eqb-true, ltb-true, ltb-false}
 use Rattle.wb_model.specs.declared.heap.TheConstants.{CEILING}
@@ -16,7 +16,7 @@ use Rattle.wb_model.specs.State.{is_cut, Query, heap_note, available_note, compr
 use Rattle.wb_model.specs.Space.{Space, space_of}
 use Rattle.wb_model.specs.Account.{stopped, Account, settled, on_answer, recorded, noted, next_number}
 use Rattle.wb_model.specs.Run.{process, before, run, granted_end, highest_end, required}
-use Rattle.wb_model.specs.Traces.{asked_before, asked_for, refusal_by, end_of_attempt, IsLine, AreLines}
+use Rattle.wb_model.specs.Traces.{asked_before, asked_for, end_of_attempt, IsLine, AreLines}
 
 -- what a rule refuses, by the answer
 record IsRefusal (rule : Rule) (number end : ℕ) (w : Answer) : Type 0 where

@@ -6,7 +6,7 @@ pub mod Debug
 pub mod Forms
 pub mod Grammar
 pub mod Heap
-pub mod Keeping
+pub mod Throughout
 pub mod Keys
 pub mod Kinds
 pub mod LimitedHeap
