@@ -24,10 +24,10 @@ use Rattle.wb_model.specs.declared.script.Readable.TheVariants.{Of, ViewOf, Quot
 use Rattle.wb_model.specs.Row.{Cell, cell_at, cell_length, changed, without}
 use Rattle.wb_model.specs.Rules.{Request, Setting, is_due}
 use Rattle.wb_model.specs.Heap.{Heap, AfterAnswer, alloc_request, after_alloc, realloc_request, after_realloc, shortened, after_mark, after_mark_end}
-use Rattle.wb_model.specs.Throughout.{SuitsKind, HoldsItsKind}
+use Rattle.wb_model.specs.Throughout.{IsNoteOf, SuitsKind, HoldsItsKind}
 use Rattle.wb_model.specs.Texts.{Edited, Part}
 use Rattle.wb_model.specs.State.{Content, words, fields, units, none, State, Way, goes_on, returns, leaves, Process, ends, stops, asks, notes, and_then, on_plain_end, then_do, require, with_some, unless, set_heap}
-use Rattle.wb_model.specs.Operands.{words_of, set_field, with_cell, with_fields, with_pointer, set_pointer, set_row}
+use Rattle.wb_model.specs.Operands.{raw_words_of, set_field, with_cell, with_fields, with_pointer, set_pointer, set_row}
 use Rattle.wb_model.specs.Attempts.{attempt, allocate, resized, reallocate, reallocate_longer, grow_if, push, after_growth}
 use Rattle.wb_model.specs.Reading.{Source, whole, part, set_units, with_writable, with_readable, with_base, with_units, with_room, with_text_cell, write, write_view}
 use Rattle.wb_model.specs.Statements.{with_words, with_class, Piece, Where, Meaning, given_to, released, release, is_null}
@@ -63,7 +63,7 @@ abbrev pub Shows : (List ℕ → State → Type 0) → List ℕ → Process → 
 Shows P ns (ends way st) = P ns st
 Shows P ns (stops stop st) = P ns st
 Shows P ns (asks t cut go) = P ns cut × (t.due ≡ is_due cut.heap.setting) × ((n : ℕ) (a : Answer) → Shows P (n ∷ ns) (go n a))
-Shows P ns (notes q p) = Shows P ns p
+Shows P ns (notes q p) = ((st : State) × P ns st × IsNoteOf st q) × Shows P ns p
 
 -- content of the right kind stays so
 pub suits-set_field : (kind : Kind) (c : Content) (i : ℕ) (q : Ptr) → SuitsKind kind c → SuitsKind kind (set_field i q c)
@@ -84,7 +84,7 @@ suits-set_units K.Raw (units old) us is = absurd is
 suits-set_units (K.Object class) (units old) us is = absurd is
 suits-set_units K.Cleanup (units old) us is = absurd is
 
-suits-words : (kind : Kind) (c : Content) (ws us : List ℤ) → words_of kind c ≡ Some ws → SuitsKind kind (words us)
+suits-words : (kind : Kind) (c : Content) (ws us : List ℤ) → raw_words_of kind c ≡ Some ws → SuitsKind kind (words us)
 suits-words K.Raw (words old) ws us e = tt
 suits-words K.Raw (fields ps) ws us e = cc
 suits-words K.Raw (units old) ws us e = cc
@@ -114,7 +114,7 @@ module _ (L : Lasting) where
     (k.0, k.1, λ n a. (and_then-same (n ∷ ns) (answered n a) go go' (k.2 n a) h).1),
   )
   and_then-same ns (notes q p) go go' k h =
-      let ih = and_then-same ns p go go' k h in (ap (notes q) ih.0, ih.1)
+      let ih = and_then-same ns p go go' k.1 h in (ap (notes q) ih.0, (k.0, ih.1))
 
   pub and_then-alike : (ns : List ℕ) (p q : Process) (go go' : Way → State → Process) → Alike ns p q →
       ((ns : List ℕ) (w : Way) (st : State) → Fine ns st → Alike ns (go w st) (go' w st)) → Alike ns (and_then p go) (and_then q go')
@@ -180,7 +180,7 @@ module _ (L : Lasting) where
 
   -- words that are stored
   pub stored-fine : {ns : List ℕ} (st : State) (q : Ptr) (c : Cell Content) (ws us : List ℤ) → cell_at q st.heap.row ≡ Some c →
-      words_of c.head.kind c.content ≡ Some ws → Fine ns st → Fine ns (set_row st (changed q (λ _. words us) st.heap.row))
+      raw_words_of c.head.kind c.content ≡ Some ws → Fine ns st → Fine ns (set_row st (changed q (λ _. words us) st.heap.row))
   stored-fine {ns = ns} st q c ws us e w f =
       (f.0, L.rewritten ns st.heap q (λ _. words us) (λ d found is. let same : c ≡ d = cc in subst (λ x. SuitsKind x.head.kind (words us)) same (suits-words c.head.kind c.content ws us w)) f.1)
 
@@ -295,7 +295,7 @@ module _ (L : Lasting) where
       by false = released-alike _ _ _ f
 
   pub with_words-alike : {ns : List ℕ} (st : State) (p : Ptr) (go go' : Cell Content → List ℤ → Process) → Fine ns st →
-      ((c : Cell Content) (ws : List ℤ) → cell_at p st.heap.row ≡ Some c → words_of c.head.kind c.content ≡ Some ws → Alike ns (go c ws) (go' c ws)) →
+      ((c : Cell Content) (ws : List ℤ) → cell_at p st.heap.row ≡ Some c → raw_words_of c.head.kind c.content ≡ Some ws → Alike ns (go c ws) (go' c ws)) →
       Alike ns (with_words st p go) (with_words st p go')
   unfolding with_words
   with_words-alike _ _ _ _ f k = with_cell-alike _ _ _ _ f (λ c e. with_some-alike _ _ _ _ _ f (λ ws w. k c ws e w))

@@ -23,6 +23,6 @@ pub mod TextCellsHeap
 pub mod WordLemmas
 pub mod WritingLemmas
 pub mod TraceLemmas
-pub mod LimitLemmas
+pub mod SizeLemmas
 pub mod SameRuns
 pub mod SweepLemmas

@@ -69,7 +69,7 @@ throughout budget ns (asks t cut go) k counted = (
       let longer : length (n ∷ ns) ≡ length ns + 1 = omega arith in
       subst (λ m. Throughout HasCells m (go n a)) longer (throughout budget (n ∷ ns) (go n a) (k.2 n a) (refl, counted)),
 )
-throughout budget ns (notes q p) k counted = throughout budget ns p k counted
+throughout budget ns (notes q p) k counted = ((k.0.0, k.0.1.1 counted, k.0.2), throughout budget ns p k.1 counted)
 
 pub process-throughout : (script : Script) (budget : ℕ) → Throughout HasCells 0 (process script budget)
 process-throughout script budget = throughout budget [] (process script budget) (process-keeps cells script budget (λ counted. record {
@@ -83,7 +83,7 @@ tells : (L : Lasting) (ns : List ℕ) (p : Process) → Keeps L ns p → TellsSe
 tells L ns (ends way st) k = tt
 tells L ns (stops stop st) k = tt
 tells L ns (asks t cut go) k = (k.1, λ n a. tells L (n ∷ ns) (go n a) (k.2 n a))
-tells L ns (notes q p) k = tells L ns p k
+tells L ns (notes q p) k = tells L ns p k.1
 
 pub process-tells : (script : Script) (budget : ℕ) → TellsSettings (process script budget)
 process-tells script budget = tells (between anything 0 budget) [] (process script budget) (process-keeps anything script budget tt)
@@ -114,9 +114,9 @@ settled-holds P rule space (notes q p) a h = by q (λ q. settled-holds P rule sp
         ((q : Query) → Throughout P (length (noted space q a).trace) p →
         P (length (settled rule space p (noted space q a)).account.trace) (settled rule space p (noted space q a)).state) →
         P (length (settled rule space p (noted space q a)).account.trace) (settled rule space p (noted space q a)).state
-    by (heap_note count total) rest = rest (heap_note count total) h
-    by (available_note row) rest = rest (available_note row) h
-    by (compress_note top) rest = rest (compress_note top) h
+    by (heap_note count total) rest = rest (heap_note count total) h.1
+    by (available_note row) rest = rest (available_note row) h.1
+    by (compress_note top) rest = rest (compress_note top) h.1
 
 -- the leaks of a run are cells of its last row
 pub run-leaks : (script : Script) (budget : ℕ) (shape : Shape) (rule : Rule) (left : Option ℤ) (leaks : List Leak) →

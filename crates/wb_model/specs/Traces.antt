@@ -1,6 +1,6 @@
 -- What the lines of a run's trace say: which attempts the run asked for, and who answered them.
 use Rattle.std.specs.Prelude.{◌≡◌, ◌⊎◌, ℕ, ◌+◌, ◌<◌, ◌≤◌, List, [], ◌∷◌, true, Option, Some, None}
-use Rattle.wb_model.specs.declared.heap.TheConstants.{CEILING}
+use Rattle.wb_model.specs.declared.limits.TheConstants.{CEILING}
 use Rattle.wb_model.specs.declared.heap.Rule.{Rule}
 use Rattle.wb_model.specs.declared.heap.Rule.TheVariants.{Limit, Number}
 use Rattle.wb_model.specs.declared.heap.Answer.{Answer}

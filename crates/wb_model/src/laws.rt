@@ -2,7 +2,7 @@
 
 ghost use Rattle.std.specs.Prelude.{◌≡◌, ◌≢◌, ℕ, ℤ, ◌+◌, ◌%◌, ◌<◌, ◌≤◌, ◌↔◌, List, Option, Some, None, nat_eq, length, take, drop, slice_get, slice_index};
 ghost use Rattle.wb_model.specs.Agreement.{Agrees, RefusesAtLeast, RefusesNoGrant, IsSameRun, IsSameButNotes};
-ghost use Rattle.wb_model.specs.Limits.{first_refused, IsTable};
+ghost use Rattle.wb_model.specs.Sizes.{first_refused, IsTable};
 ghost use Rattle.wb_model.specs.Throughout.{Throughout, AreCellsAfter, AreLeaksAfter};
 ghost use Rattle.wb_model.specs.Rest.{Unfolds};
 ghost use Rattle.wb_model.specs.Row.{IsSpacedFrom, IsLeastPlace, place_of, top_of};
@@ -12,7 +12,7 @@ ghost use Rattle.wb_model.specs.Space.{AreFreeRuns, free_runs};
 ghost use Rattle.wb_model.specs.Sweeps.{run_at, AreAllFine, IsLeastUnfine, least_bad_or_cut};
 ghost use Rattle.wb_model.specs.Texts.{units_of_part};
 ghost use Rattle.wb_model.specs.Traces.{asked_for, AreLines, TellsSettings};
-ghost use Rattle.wb_model.specs.declared.heap.TheConstants.{CEILING};
+ghost use Rattle.wb_model.specs.declared.limits.TheConstants.{CEILING};
 ghost use Rattle.wb_model.specs.declared.heap.Attempt.{Attempt};
 ghost use Rattle.wb_model.specs.declared.heap.Header.{Header};
 ghost use Rattle.wb_model.specs.declared.heap.Rule.{Rule};
