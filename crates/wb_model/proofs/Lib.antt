@@ -1,5 +1,7 @@
 pub mod AgreementLemmas
 pub mod AlikeLemmas
+pub mod AlikePieces
+pub mod AlikeStatements
 pub mod LineExamples
 pub mod Places
 pub mod Reallocations
@@ -8,6 +10,8 @@ pub mod FreeRuns
 pub mod LimitedHeaps
 pub mod Onward
 pub mod Parts
+pub mod KeptCells
+pub mod ThroughoutLemmas
 pub mod Payloads
 pub mod Rows
 pub mod Settings
@@ -19,6 +23,6 @@ pub mod TextCellsHeap
 pub mod WordLemmas
 pub mod WritingLemmas
 pub mod TraceLemmas
-pub mod LimitLemmas
+pub mod SizeLemmas
 pub mod SameRuns
 pub mod SweepLemmas
