@@ -9,8 +9,8 @@ use Rattle.wb_model.specs.declared.run.Why.{Why}
 use Rattle.wb_model.specs.declared.run.Why.TheVariants.{Ceiling}
 use Rattle.wb_model.specs.declared.script.Script.{Script}
 use Rattle.wb_model.specs.Run.{run, required, rises, highest_end, rises_above, first_rise_above, refused_at}
-use Rattle.wb_model.specs.Limits.{refused_first, IsTable}
-use Rattle.wb_model.proofs.LimitLemmas.{limit_refuses_first, refused_at-none, limits_have_table}
+use Rattle.wb_model.specs.Sizes.{refused_first, IsTable}
+use Rattle.wb_model.proofs.SizeLemmas.{limit_refuses_first, refused_at-none, limits_have_table}
 use Rattle.wb_size.specs.declared.sizing.Sizing.{Sizing}
 use Rattle.wb_size.specs.Sizing.{refusal_in, IsSizing}
 

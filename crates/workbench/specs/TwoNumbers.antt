@@ -10,7 +10,7 @@ use Rattle.wb_model.specs.declared.run.Why.{Why}
 use Rattle.wb_model.specs.declared.run.Why.TheVariants.{Budget, Ceiling}
 use Rattle.wb_model.specs.declared.script.Script.{Script}
 use Rattle.wb_model.specs.declared.size.Rise.{Rise}
-use Rattle.wb_model.specs.Limits.{IsHeapLength}
+use Rattle.wb_model.specs.Sizes.{IsHeapLength}
 use Rattle.wb_model.specs.Run.{run}
 use Rattle.wb_model.specs.Sweeps.{run_at, AreAllFine, IsLeastBad, IsLeastCut}
 use Rattle.workbench.specs.RunText.{line, run_text}
