@@ -18,6 +18,7 @@ pub mod Settings
 pub mod ResumeLemmas
 pub mod WorkedCases
 pub mod MeaningLemmas
+pub mod Measures
 pub mod TextCells
 pub mod TextCellsHeap
 pub mod WordLemmas

@@ -2,12 +2,12 @@
 
 ghost use Rattle.std.specs.Prelude.{◌≡◌, ◌≢◌, ℕ, ℤ, ◌+◌, ◌%◌, ◌<◌, ◌≤◌, ◌↔◌, List, Option, Some, None, nat_eq, length, take, drop, slice_get, slice_index};
 ghost use Rattle.wb_model.specs.Agreement.{Agrees, RefusesAtLeast, RefusesNoGrant, IsSameRun, IsSameButNotes};
-ghost use Rattle.wb_model.specs.Sizes.{first_refused, IsTable};
+ghost use Rattle.wb_model.specs.Sizes.{first_refused, NoneIsRefused, IsFirstRefused, IsGreatestEnd, IsTable};
 ghost use Rattle.wb_model.specs.Throughout.{Throughout, AreCellsAfter, AreLeaksAfter};
 ghost use Rattle.wb_model.specs.Rest.{Unfolds};
 ghost use Rattle.wb_model.specs.Row.{IsSpacedFrom, IsLeastPlace, place_of, top_of};
 ghost use Rattle.wb_model.specs.Rules.{next, each, is_due, after_attempts};
-ghost use Rattle.wb_model.specs.Run.{process, run, required, rises, refused_at};
+ghost use Rattle.wb_model.specs.Run.{process, run, highest_end, required, rises, refused_at};
 ghost use Rattle.wb_model.specs.Space.{AreFreeRuns, free_runs};
 ghost use Rattle.wb_model.specs.Sweeps.{run_at, AreAllFine, IsLeastUnfine, least_bad_or_cut};
 ghost use Rattle.wb_model.specs.Texts.{units_of_part};
@@ -64,6 +64,14 @@ pub fn lines_are_answered()
     ensures numbered { (script : Script) (budget : ℕ) (shape : Shape) (r : Rule) (k : ℕ) (t : Attempt) →
         slice_get (run script r budget shape).trace k ≡ Some t → t.number ≡ k + 1 }
     ensures settings { (script : Script) (budget : ℕ) → TellsSettings (process script budget) }
+{}
+
+/// What is measured of a trace, in words: the number of the first line that the heap's limit refused, and none where no line
+/// is; and the greatest end of a granted line.
+pub fn traces_are_measured()
+    ensures refused { (trace : List Attempt) (number : ℕ) → (first_refused trace ≡ Some number) ↔ IsFirstRefused trace number }
+    ensures none { (trace : List Attempt) → (first_refused trace ≡ None) ↔ NoneIsRefused trace }
+    ensures end { (trace : List Attempt) → IsGreatestEnd trace (highest_end trace) }
 {}
 
 /// What a heap of each length refuses first, where the ceiling doesn't cut the run without a limit: the attempt that the
