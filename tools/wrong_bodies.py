@@ -30,8 +30,8 @@ from wrong_body_checks import Repository, Verdict, check, copy_room
 from wrong_body_edits import MUST_FAIL, WRONG_BODIES, Edit, apply, read_edits, rounds_of
 
 ROOT = Path(__file__).resolve().parent.parent
-# what a check of the largest crate takes, in bytes, with some to spare
-MEMORY = 4 << 30
+# what a check of a large crate takes, in bytes, with some to spare
+MEMORY = 3 << 30
 
 
 @dataclass
