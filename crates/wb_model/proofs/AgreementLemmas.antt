@@ -1,6 +1,6 @@
 -- The Agreement law, by induction on a process: no statement's meaning is looked at.
 use Rattle.std.proofs.Common.{◌≡◌, ◌≢◌, ℕ, ◌+◌, ◌≤◌, arith, ◌⊎◌, inl, inr, Bool, true, false, List, [], ◌∷◌, ◌++◌, length, refl, sym, ◌∙◌, ap, subst, append_assoc, append-nil, Option, Some, None, IsSome, cond}
-use Rattle.wb_model.specs.declared.heap.TheConstants.{CEILING}
+use Rattle.wb_model.specs.declared.limits.TheConstants.{CEILING}
 use Rattle.wb_model.specs.declared.heap.Rule.{Rule}
 use Rattle.wb_model.specs.declared.heap.Rule.TheVariants.{Unlimited, Limit, Number}
 use Rattle.wb_model.specs.declared.heap.Shape.{Shape}

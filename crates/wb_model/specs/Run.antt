@@ -1,5 +1,6 @@
 -- A whole run, which runs are bad, and what heap length a run needs.
 use Rattle.std.specs.Prelude.{ℤ, ℕ, ◌+◌, List, [], ◌∷◌, Bool, true, false, nat_eq, nat_lt, if◌then◌else◌, Option, Some, None, map, length, max}
+use Rattle.wb_model.specs.declared.heap.TheConstants.Panic.{ITEMS_LEFT}
 use Rattle.wb_model.specs.declared.heap.Ptr.{Ptr}
 use Rattle.wb_model.specs.declared.heap.Rule.{Rule}
 use Rattle.wb_model.specs.declared.heap.Rule.TheVariants.{Unlimited}
@@ -17,7 +18,6 @@ use Rattle.wb_model.specs.declared.script.Script.{Script}
 use Rattle.wb_model.specs.Row.{headers}
 use Rattle.wb_model.specs.Rules.{never}
 use Rattle.wb_model.specs.Heap.{cells_of_all_levels}
-use Rattle.wb_model.specs.declared.heap.Panic.TheVariants.{Workbench}
 use Rattle.wb_model.specs.State.{State, none, require, Way, goes_on, returns, leaves, panics, is_cut, no_cleanup, Process, ends, stops, and_then, then_do, null, initial}
 use Rattle.wb_model.specs.Attempts.{allocate}
 use Rattle.wb_model.specs.Statements.{all, destroy_items, Where, Meaning, procedure_at, done}
@@ -40,7 +40,7 @@ start = record {
 -- `main`'s own TRAP: a leave destroys the items, and its code goes on
 unfoldable pub main_trapped : Meaning → Where → Way → State → Process
 main_trapped rec at (leaves code) st = then_do (rec at (destroy_items (length st.items)) st) (λ st. ends (leaves code) st)
-main_trapped rec at _ st = require (nat_eq (length st.items) 0) (Workbench 5) st done
+main_trapped rec at _ st = require (nat_eq (length st.items) 0) ITEMS_LEFT st done
 
 unfoldable pub in_main : Meaning → Script → State → Process
 in_main rec script st =
