@@ -354,7 +354,7 @@ module _ (Counts : ℕ → Type 0) where
   statement-alike script rec rec' at (Statement-F.Repeat v body) st k f = with_some-alike _ _ _ _ _ f (λ n. k _ _ _ f)
   statement-alike script rec rec' at (Statement-F.Trap x body) st k f = and_then-alike _ _ _ _ (k _ _ _ f) (λ w st f. trapped-alike _ _ _ _ _ w st k f)
 
--- so many steps at least, and no more than the budget
+-- a number of steps at least, and no more than the budget
 abbrev pub Between : ℕ → ℕ → ℕ → Type 0
 Between low budget n = (low ≤ n) × (n ≤ budget)
 
