@@ -1,5 +1,6 @@
 #!/usr/bin/env python3
-"""Checks that pages quote the code as it stands: each line of their fenced blocks is a line of a crate's source.
+"""Checks that pages quote the code as it stands: each line of their fenced blocks is a line of a crate's source, however
+far it is indented there.
 
 It names each line that stands in no `src/*.rt` and no `specs/*.antt`, and prints the totals."""
 
@@ -14,7 +15,7 @@ BLOCK = re.compile(r"^```\n(.*?)^```$", re.MULTILINE | re.DOTALL)
 
 def quoted(page: Path) -> list[str]:
     """The lines of a page's fenced blocks, blank ones left out."""
-    return [line.rstrip() for block in BLOCK.findall(page.read_text()) for line in block.splitlines() if line.strip()]
+    return [line.strip() for block in BLOCK.findall(page.read_text()) for line in block.splitlines() if line.strip()]
 
 
 def main() -> int:
@@ -23,7 +24,7 @@ def main() -> int:
     parser.add_argument("pages", type=Path, nargs="*", default=[ROOT / "docs" / "THEOREM.md"])
     pages = parser.parse_args().pages
     sources = [*ROOT.glob("crates/*/src/**/*.rt"), *ROOT.glob("crates/*/specs/**/*.antt")]
-    known = {line.rstrip() for file in sources for line in file.read_text().splitlines()}
+    known = {line.strip() for file in sources for line in file.read_text().splitlines()}
     lines = [(page, line) for page in pages for line in quoted(page)]
     missing = [(page, line) for page, line in lines if line not in known]
     for page, line in missing:
