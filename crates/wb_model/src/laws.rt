@@ -41,8 +41,8 @@ pub fn free_runs_are()
     ensures { (row : List Header) (committed : ℕ) → IsSpacedFrom 0 row → top_of row ≤ committed → AreFreeRuns row committed (free_runs 0 row committed) }
 {}
 
-/// What a part of a text reads as: so many units, each of them the base's at its place, or zero past the base's end. A part
-/// of a part reads as that stretch of it, whatever the base holds.
+/// What a part of a text reads as: as many units as it is long, each of them the base's at its place, or zero past the
+/// base's end. A part of a part reads as that stretch of it, whatever the base holds.
 pub fn parts_are_read()
     ensures long { (base : List ℕ) (from count : ℕ) → length (units_of_part base from count) ≡ count }
     ensures units { (base : List ℕ) (from count k : ℕ) → k < count → slice_index (units_of_part base from count) k ≡ slice_index base (from + k) }
