@@ -107,9 +107,9 @@ pub fn sweeps_end()
     ensures none { (script : Script) (budget : ℕ) (shape : Shape) → (least_bad_or_cut script budget shape ≡ None) ↔ AreAllFine (run_at script budget shape) }
 {}
 
-/// The live cells that a run of any script passes through are a row, whatever its attempts are answered: they ascend without
-/// meeting, at multiples of 16, and have different numbers, each that of an attempt made before. Each cell holds what its kind
-/// holds. So the leaks that a run tells are cells of a row.
+/// The live cells that a run of any script passes through are a row, whatever its attempts are answered: they ascend
+/// without meeting, at multiples of 16, and have different numbers, each that of an attempt made before. Each cell
+/// holds what its kind holds. So the leaks that a run tells are cells of a row.
 pub fn cells_stay_a_row()
     ensures throughout { (script : Script) (budget : ℕ) → Throughout (λ made st. AreCellsAfter made st.heap.row) 0 (process script budget) }
     ensures leaks { (script : Script) (budget : ℕ) (shape : Shape) (r : Rule) (left : Option ℤ) (leaks : List Leak) →
