@@ -7,7 +7,7 @@ pub(crate) mod names;
 pub(crate) mod nesting;
 pub(crate) mod resolved;
 
-ghost use Rattle.std.specs.Prelude.{◌≡◌, ◌<◌, length, map, IfOk, IfSome};
+ghost use Rattle.std.specs.Prelude.{◌≡◌, ◌<◌, length, IfOk, IfSome};
 ghost use Rattle.wb_model.specs.Kinds.{has_wrong_kind};
 ghost use Rattle.wb_model.specs.Names.{uses_unknown, declares_again, passes_limit, first_refused};
 ghost use Rattle.wb_script.specs.Lent.{lent_form, lent_forms};

@@ -3,7 +3,7 @@
 #[cfg(test)]
 mod tests;
 
-ghost use Rattle.std.specs.Prelude.{◌≡◌, ◌≢◌, ◌≤◌, ◌+◌, false, length, map, IsTrue, IfOk, IfErr, MatchOption, None, Some};
+ghost use Rattle.std.specs.Prelude.{◌≡◌, ◌≢◌, ◌≤◌, ◌+◌, length, map, IsTrue, IfOk, IfErr, MatchOption, None, Some};
 ghost use Rattle.wb_model.specs.Forms.{role_of_form};
 ghost use Rattle.wb_model.specs.Grammar.{IsGrammatical, IsFirstMisfit};
 ghost use Rattle.wb_model.specs.Names.{first_refused, known_of};
@@ -100,7 +100,8 @@ fn script_of(
 {
     let lines = resolved(alloc, forms)?;
     let literals = literals_of(alloc, &known.literals)?;
-    let procedures = procedures_of(alloc, literals.len(), &lines)?;
+    let count = literals.len() as u32;
+    let procedures = procedures_of(alloc, count, &lines)?;
     Ok(Script {
         classes: Items::new(alloc),
         procedures: Items::from_vec(procedures),
@@ -173,7 +174,7 @@ fn read_text(alloc: Global, bytes: &[u8]) -> Result<Result<Script, ScriptFault>,
     read_forms(alloc, &forms)
 }
 
-/// The script that bytes spell, or their first fault. The language and its limits are this project's own.
+/// The script that bytes spell, or their first fault.
 ///
 /// The checks are made in the order of `ScriptFault`'s variants, each over the whole script, and the first
 /// that finds a fault names the first line where it stands; lines count from 1. `NoMemory` is answered only

@@ -140,12 +140,11 @@ enum Left {
 
 /// Adds a declaration to an open body; none where it has no place there.
 fn declared(
-    literals: usize,
+    literals: u32,
     body: Body,
     key: Key,
     operands: &[Operand<Meant>],
 ) -> Result<Option<Left>, AllocError>
-    requires literals { literals < 2 ^ 32 }
     requires sound { IsTrue (is_body literals body) }
     requires declares { role_of key ≡ Declaration }
     ensures lines { IfOk result (λ next. IfSome next (λ left. left_lines left ≡ body_lines body ++ Line key operands.now ∷ [])) }
@@ -161,12 +160,11 @@ fn declared(
 
 /// Adds a statement to an open body; none where its operands don't fit.
 fn stated(
-    literals: usize,
+    literals: u32,
     body: Body,
     key: Key,
     operands: &[Operand<Meant>],
 ) -> Result<Option<Left>, AllocError>
-    requires literals { literals < 2 ^ 32 }
     requires sound { IsTrue (is_body literals body) }
     requires plain { role_of key ≡ Plain }
     ensures lines { IfOk result (λ next. IfSome next (λ left. left_lines left ≡ body_lines body ++ Line key operands.now ∷ [])) }
@@ -186,12 +184,11 @@ fn stated(
 
 /// Adds a line to an open body; none where it has no place there.
 fn inside(
-    literals: usize,
+    literals: u32,
     body: Body,
     key: Key,
     operands: &[Operand<Meant>],
 ) -> Result<Option<Left>, AllocError>
-    requires literals { literals < 2 ^ 32 }
     requires sound { IsTrue (is_body literals body) }
     ensures lines { IfOk result (λ next. IfSome next (λ left. left_lines left ≡ body_lines body ++ Line key operands.now ∷ [])) }
     ensures sound { IfOk result (λ next. IfSome next (λ left. IsTrue (is_body literals (left_body left)))) }
@@ -215,11 +212,10 @@ fn inside(
 /// Adds a line to the tree; none where it has no place there.
 fn add_line(
     alloc: Global,
-    literals: usize,
+    literals: u32,
     building: Building,
     line: &Form<Meant>,
 ) -> Result<Option<Building>, AllocError>
-    requires literals { literals < 2 ^ 32 }
     requires sound { IsTrue (is_sound literals building) }
     ensures lines { IfOk result (λ next. IfSome next (λ b. building_lines b ≡ building_lines building ++ counted line.now)) }
     ensures sound { IfOk result (λ next. IfSome next (λ b. IsTrue (is_sound literals b))) }
@@ -273,10 +269,9 @@ fn add_line(
 /// The procedures of a script with so many literals, from all its lines.
 pub(crate) fn procedures_of(
     alloc: Global,
-    literals: usize,
+    literals: u32,
     lines: &[Form<Meant>],
 ) -> Result<Vec<Procedure>, AllocError>
-    requires literals { literals < 2 ^ 32 }
     requires grammar { IsGrammatical (map role_of_form lines.now) }
     requires fit { AllFit literals lines.now }
     ensures lines { IfOk result (λ ps. procedures_lines 0 ps.items ≡ flat_map counted lines.now) }

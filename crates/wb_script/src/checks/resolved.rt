@@ -1,6 +1,6 @@
 //! The lines of a script with what their names and literals stand for.
 
-ghost use Rattle.std.specs.Prelude.{◌≡◌, map, IfOk};
+ghost use Rattle.std.specs.Prelude.{◌≡◌, IfOk};
 ghost use Rattle.wb_model.specs.Names.{first_declaration_of};
 ghost use Rattle.wb_model.specs.Resolved.{local_meant, meant_at, name_meant, resolved_operand, resolved_operands, resolved_line, resolved};
 ghost use Rattle.wb_script.specs.Lent.{lent_operand, lent_operands, lent_form, lent_forms};

@@ -1,8 +1,8 @@
 //! Bytes cut into lines, and lines into words.
 
-ghost use Rattle.std.specs.Prelude.{◌≡◌, ◌≢◌, ◌∷◌, ◌<◌, [], length, map, IfOk};
+ghost use Rattle.std.specs.Prelude.{◌≡◌, ◌≢◌, ◌∷◌, ◌<◌, [], length, IfOk};
 ghost use Rattle.std.specs.List.{flat_map};
-ghost use Rattle.wb_model.specs.Lines.{is_blank, quoted_after, pieces, lines_of, words_of, unless_empty};
+ghost use Rattle.wb_model.specs.Lines.{quoted_after, pieces, lines_of, words_of, unless_empty};
 ghost use Rattle.wb_script.specs.Lent.{lent_texts};
 ghost use Rattle.wb_script.specs.Pieces.{ends_of};
 

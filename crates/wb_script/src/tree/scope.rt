@@ -1,6 +1,6 @@
 //! What the operands of a line spell, in the body where it stands: pointers, numbers and texts.
 
-ghost use Rattle.std.specs.Prelude.{◌≡◌, ◌<◌, ◌≤◌, ◌^◌, length};
+ghost use Rattle.std.specs.Prelude.{◌<◌, ◌≤◌, length};
 ghost use Rattle.wb_model.specs.declared.limits.TheConstants.{MOST_LOCALS};
 ghost use Rattle.wb_model.specs.Sound.{is_pointer, is_variable, is_number, is_view, is_writable, is_readable};
 ghost use Rattle.wb_model.specs.Trees.{pointer_operand, variable_operand, number_operand, view_operand, writable_operand, text_operand};
@@ -13,9 +13,8 @@ use wb_model::script_lines::{Meant, Operand};
 /// What the operands of a body's lines are found among: the locals of the body, and so many literals of the script.
 #[derive(Clone, Copy)]
 pub(crate) struct Scope<'a> {
-    pub literals: usize,
+    pub literals: u32,
     pub locals: &'a [Local],
-    ghost countable: { literals < 2 ^ 32 },
     ghost few: { length locals.now ≤ MOST_LOCALS },
 }
 
@@ -94,7 +93,7 @@ impl<'a> Scope<'a> {
     {
         match operand {
             Operand::Literal(Meant::Literal(index)) => {
-                if *index < self.literals {
+                if *index < self.literals as usize {
                     Some(Readable::Quoted(*index as u32))
                 } else {
                     None

@@ -57,10 +57,7 @@ fn set(here: Scope, operands: &[Operand<Meant>]) -> Option<Statement>
     match operands {
         [target, source] => match here.pointer(target) {
             Some(pointer) => Some(Statement::Set(pointer, here.pointer(source)?)),
-            None => Some(Statement::SetNumber(
-                here.variable(target)?,
-                here.number(source)?,
-            )),
+            None => Some(Statement::SetNumber(here.variable(target)?, here.number(source)?)),
         },
         _ => None,
     }
@@ -135,10 +132,7 @@ fn add(here: Scope, operands: &[Operand<Meant>]) -> Option<Statement>
     ensures { IsStatementOf here.entry key.Add operands.now result }
 {
     match operands {
-        [variable, number] => Some(Statement::Add(
-            here.variable(variable)?,
-            here.number(number)?,
-        )),
+        [variable, number] => Some(Statement::Add(here.variable(variable)?, here.number(number)?)),
         _ => None,
     }
 }

@@ -1,6 +1,6 @@
 //! The statements of lines on texts, each from its operands.
 
-ghost use Rattle.std.specs.Prelude.{◌≡◌, [], ◌∷◌};
+ghost use Rattle.std.specs.Prelude.{[], ◌∷◌};
 ghost use Rattle.wb_model.specs.declared.script_lines.Key.TheVariants as key;
 ghost use Rattle.wb_script.specs.Stated.{IsStatementOf};
 
@@ -38,10 +38,7 @@ pub(crate) fn copy(here: Scope, operands: &[Operand<Meant>]) -> Option<Statement
     ensures { IsStatementOf here.entry key.Copy operands.now result }
 {
     match operands {
-        [target, source] => Some(Statement::Copy(
-            here.writable(target)?,
-            here.readable(source)?,
-        )),
+        [target, source] => Some(Statement::Copy(here.writable(target)?, here.readable(source)?)),
         _ => None,
     }
 }
@@ -50,10 +47,7 @@ pub(crate) fn append(here: Scope, operands: &[Operand<Meant>]) -> Option<Stateme
     ensures { IsStatementOf here.entry key.Append operands.now result }
 {
     match operands {
-        [target, source] => Some(Statement::Append(
-            here.writable(target)?,
-            here.readable(source)?,
-        )),
+        [target, source] => Some(Statement::Append(here.writable(target)?, here.readable(source)?)),
         _ => None,
     }
 }

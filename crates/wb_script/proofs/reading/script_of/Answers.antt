@@ -9,10 +9,12 @@ use Rattle.std.proofs.lemmas.List.{length-map}
 use Rattle.wb_script.specs.Lent.{lent_texts, lent_forms}
 use Rattle.wb_script.proofs.reading.script_of.Goals as goal
 
-pub procedures_of-requires-clause-literals : goal.procedures_of-requires-clause-literals
-procedures_of-requires-clause-literals c =
+pub overflow_cast-count : goal.overflow_cast-count
+overflow_cast-count c =
     let is = c.in_ok-literals.ensures ∙ ap lent_texts c.deref.ensures.value ∙ ap (λ k. k.literals) c.requires.names in
-    rw c.len.ensures (few_enough (lent_forms c.args.forms.now) c.in_ok-literals.literals is (simp length-map c.requires.few))
+    let few = few_enough (lent_forms c.args.forms.now) c.in_ok-literals.literals is (simp length-map c.requires.few) in
+    let length = c.len-count.ensures in
+    omega arith
 
 pub procedures_of-requires-clause-grammar : goal.procedures_of-requires-clause-grammar
 procedures_of-requires-clause-grammar c =
@@ -21,7 +23,7 @@ procedures_of-requires-clause-grammar c =
 pub procedures_of-requires-clause-fit : goal.procedures_of-requires-clause-fit
 procedures_of-requires-clause-fit c =
     let is = c.in_ok-literals.ensures ∙ ap lent_texts c.deref.ensures.value ∙ ap (λ k. k.literals) c.requires.names in
-    rw (c.len.ensures, c.deref-2.ensures.value, c.in_ok-lines.ensures) (fit_tree (lent_forms c.args.forms.now) c.in_ok-literals.literals is c.requires.typed c.requires.faultless.named.right c.requires.faultless.within)
+    rw (c.len-count.ensures, c.deref-2.ensures.value, c.in_ok-lines.ensures) (fit_tree (lent_forms c.args.forms.now) c.in_ok-literals.literals is c.requires.typed c.requires.faultless.named.right c.requires.faultless.within)
 
 pub overflow_cast-result : goal.overflow_cast-result
 overflow_cast-result c =
@@ -36,6 +38,6 @@ returns-clause-sound c =
     let within = main_within (lent_forms c.args.forms.now) c.args.main c.in_ok-procedures.procedures.items c.requires.typed c.requires.faultless.main_is counted in
     let is = c.in_ok-literals.ensures ∙ ap lent_texts c.deref.ensures.value ∙ ap (λ k. k.literals) c.requires.names in
     let few = c.in_ok-procedures.ensures.few in
-    let sound = rw c.len.ensures at c.in_ok-procedures.ensures.sound in
+    let sound = rw c.len-count.ensures at c.in_ok-procedures.ensures.sound in
     let script : Script = record { classes = c.new.result; procedures = c.from_vec.result; operations = c.new-2.result; literals = c.in_ok-literals.literals; main = c.args.main } in
     sound_tree (lent_forms c.args.forms.now) script c.requires.typed c.new.ensures c.new-2.ensures (rw c.from_vec.ensures few) (rw c.from_vec.ensures within) is (rw c.from_vec.ensures sound)
