@@ -1,4 +1,4 @@
--- What attempts come to, over what is held.
+-- What attempts come to, from the state of a run on.
 use Rattle.std.proofs.Common.{◌≡◌, ℕ, ◌-◌, true, false, List, refl, ap, ◌∙◌, sym, Option, Some, None}
 use Rattle.wb_model.specs.declared.heap.Ptr.{Ptr}
 use Rattle.wb_model.specs.declared.heap.Kind.{Kind}
@@ -23,7 +23,7 @@ use Rattle.wb_model.specs.CellRow.{resized_words}
 use Rattle.wb_model.specs.LimitedHeap.{zero_words}
 use Rattle.wb_model.specs.Debug.{number_of_next, made_by, gave_of, shorter_made}
 use Rattle.wb_model.specs.Spelling.{read_as}
-use Rattle.wb_machine.specs.Held.{Held, field_count, read_cell, read_row, read_heap, state_of, account_of, with_debug}
+use Rattle.wb_machine.specs.RunState.{RunState, field_count, read_cell, read_row, read_heap, state_of, account_of, with_debug}
 use Rattle.wb_machine.specs.Flow.{flow}
 use Rattle.wb_machine.proofs.Rows.{headers_read, read_inserted, read_without, read_resized}
 
@@ -39,7 +39,7 @@ pub record ReadsAs (script : Script) (after : ℕ → Answer → AfterAnswer (Li
   pub given : (n : ℕ) (a : Answer) → (after n a).given ≡ (read n a).given
 
 -- an attempt comes to what follows its answer
-pub attempted : (r : Rule) (script : Script) (h : Held) (t : Request) (after : ℕ → Answer → AfterAnswer (List ℕ)) (read : ℕ → Answer → AfterAnswer Content)
+pub attempted : (r : Rule) (script : Script) (h : RunState) (t : Request) (after : ℕ → Answer → AfterAnswer (List ℕ)) (read : ℕ → Answer → AfterAnswer Content)
     (go : Option Ptr → State → Process) (k : Way → State → Process) (o : Option Answer) →
     ReadsAs script after read → answer_to r (number_of_next h.debug) t ≡ o → limit_under r ≡ limit_under h.debug.rule →
     flow r (and_then (attempt t read (state_of script h) (state_of script h) go) k) h
@@ -57,12 +57,12 @@ attempted r script h t after read go k o reads answer limit = ap F answer ∙ by
     F o = on_answer o (record { end = stopped (is_cut Ceiling); state = st; account = account_of h })
         (λ w. settled r (space_of r h.debug.shape) (and_then (go (read n w).given (set_heap st (read n w).heap)) k) (recorded (space_of r h.debug.shape) n t w (account_of h)))
 
-    held : Answer → Held
-    held w = with_debug h (made_by h.debug t after (Some w)).debug
+    counted : Answer → RunState
+    counted w = with_debug h (made_by h.debug t after (Some w)).debug
 
     follows : (w : Answer) (g : Option Ptr) →
-        settled r (space_of r h.debug.shape) (and_then (go g (state_of script (held w))) k) (account_of (held w))
-        ≡ settled r (space_of r h.debug.shape) (and_then (followed (gave_of g) go (state_of script (held w))) k) (account_of (held w))
+        settled r (space_of r h.debug.shape) (and_then (go g (state_of script (counted w))) k) (account_of (counted w))
+        ≡ settled r (space_of r h.debug.shape) (and_then (followed (gave_of g) go (state_of script (counted w))) k) (account_of (counted w))
     follows w None = refl
     follows w (Some p) = refl
 
@@ -72,7 +72,7 @@ attempted r script h t after read go k o reads answer limit = ap F answer ∙ by
     by (Some w) =
         ap (λ g. settled r (space_of r h.debug.shape) (and_then (go g (set_heap st (read n w).heap)) k) (recorded (space_of r h.debug.shape) n t w (account_of h))) (sym (reads.given n w))
         ∙ ap (λ x. settled r (space_of r h.debug.shape) (and_then (go (after n w).given (set_heap st x)) k) (recorded (space_of r h.debug.shape) n t w (account_of h))) (sym (reads.heap n w))
-        ∙ ap (λ b. settled r (space_of r h.debug.shape) (and_then (go (after n w).given (state_of script (held w))) k) (recorded (space_below (bound_below b) h.debug.shape) n t w (account_of h))) limit
+        ∙ ap (λ b. settled r (space_of r h.debug.shape) (and_then (go (after n w).given (state_of script (counted w))) k) (recorded (space_below (bound_below b) h.debug.shape) n t w (account_of h))) limit
         ∙ follows w (after n w).given
 
 -- the cell that a grant inserts
@@ -94,7 +94,7 @@ reads_alloc script heap t kind fresh is = record { heap = λ n a. row n a; given
     same n Refused = refl
 
 -- an allocation comes to what follows its answer
-pub allocated : (r : Rule) (script : Script) (h : Held) (bytes : ℕ) (kind : Kind) (fresh : Content) (go : Option Ptr → State → Process) (k : Way → State → Process) (o : Option Answer) →
+pub allocated : (r : Rule) (script : Script) (h : RunState) (bytes : ℕ) (kind : Kind) (fresh : Content) (go : Option Ptr → State → Process) (k : Way → State → Process) (o : Option Answer) →
     read_as (field_count script) kind (zero_words (cell_length bytes)) ≡ fresh → answer_to r (number_of_next h.debug) (alloc_request h.debug.heap bytes) ≡ o →
     limit_under r ≡ limit_under h.debug.rule →
     let t = alloc_request h.debug.heap bytes in
@@ -151,7 +151,7 @@ reads_longer script heap c bytes t reads = record { heap = λ n a. row n a; give
     same n Refused = refl
 
 -- a reallocation to a longer cell comes to what follows its answer
-pub made_longer : (r : Rule) (script : Script) (h : Held) (c : Cell (List ℕ)) (bytes : ℕ) (go : Option Ptr → State → Process) (k : Way → State → Process) (o : Option Answer) →
+pub made_longer : (r : Rule) (script : Script) (h : RunState) (c : Cell (List ℕ)) (bytes : ℕ) (go : Option Ptr → State → Process) (k : Way → State → Process) (o : Option Answer) →
     ReadsResized script c.head.kind bytes c.content → answer_to r (number_of_next h.debug) (realloc_request h.debug.heap c.head bytes) ≡ o → limit_under r ≡ limit_under h.debug.rule →
     let t = realloc_request h.debug.heap c.head bytes in
     let made = made_by h.debug t (after_realloc h.debug.heap t c.head (resized_words t.length c.content)) o in
@@ -168,7 +168,7 @@ made_longer r script h c bytes go k o reads answer limit =
     (reads_longer script h.debug.heap c bytes t reads) answer limit
 
 -- and one to a cell that isn't longer
-pub made_shorter : (r : Rule) (script : Script) (h : Held) (c : Cell (List ℕ)) (bytes : ℕ) (go : Option Ptr → State → Process) (k : Way → State → Process) →
+pub made_shorter : (r : Rule) (script : Script) (h : RunState) (c : Cell (List ℕ)) (bytes : ℕ) (go : Option Ptr → State → Process) (k : Way → State → Process) →
     ReadsResized script c.head.kind bytes c.content →
     let made = shorter_made h.debug c bytes in
     flow r (and_then (reallocate_longer false (read_cell script c) bytes (state_of script h) (state_of script h) go) k) h

@@ -7,9 +7,10 @@ use Rattle.wb_model.specs.Sound.{is_script}
 use Rattle.wb_model.specs.Run.{run}
 use Rattle.wb_model.specs.Rest.{Fits}
 use Rattle.wb_machine.specs.declared.machine.Machine.TheInside.{Inside}
+use Rattle.wb_machine.specs.declared.control.Ending.TheVariants.{GoesOn}
 use Rattle.wb_machine.specs.Seen.{Seen}
 use Rattle.wb_machine.specs.Flow.{is_over, are_sound, IsReady, IsFirst, rest_at}
-use Rattle.wb_machine.specs.Told.{leaks_held}
+use Rattle.wb_machine.specs.Told.{leaks_at_end}
 
 -- the run has ended
 abbrev pub has_ended : Inside → Bool
@@ -44,7 +45,7 @@ pub record IsSound (m : Inside) : Type 0 where
   -- a step is to come, or the run is over
   pub settled : m.begun ≡ true → (is_over m.control.ending m.control.pieces.items ≡ true) ⊎ IsReady m.control.ending m.control.pieces.items
   pub pieces : are_sound m.script.now m.control.pieces.items ≡ true
-  pub leaks : has_ended m ≡ true → m.leaks ≡ leaks_held m.state
+  pub leaks : has_ended m ≡ true → m.control.ending ≡ GoesOn → m.leaks ≡ leaks_at_end m.state
 
 -- under each rule that fits, the rest is the run under that rule
 abbrev pub Keeps : Inside → Type 0

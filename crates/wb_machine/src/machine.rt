@@ -1,13 +1,15 @@
 //! The machine that callers see, and a whole run. What a turn does stands in `control`.
 
-ghost use Rattle.std.specs.Prelude.{◌≡◌, ◌+◌, ◌≤◌, ◌↔◌, true, false, min, is_err, IsTrue, IfOk, OnOk, OnErr};
+ghost use Rattle.std.specs.Prelude.{◌≡◌, ◌+◌, ◌≤◌, ◌↔◌, true, false, min, is_err, IsTrue, IfOk, IsOk, OnOk, OnErr};
 ghost use Rattle.wb_model.specs.Sound.{is_script};
 ghost use Rattle.wb_model.specs.Space.{is_shape};
 ghost use Rattle.wb_model.specs.Run.{run};
 ghost use Rattle.wb_machine.specs.declared.machine.Turn.TheVariants.{GoesOn, Ended};
 ghost use Rattle.wb_machine.specs.declared.machine.RunFault.TheVariants.{BadShape};
+ghost use Rattle.wb_machine.specs.Flow.{is_stop};
+ghost use Rattle.wb_machine.specs.Told.{leaks_at_end};
 
-use crate::control::Control;
+use crate::control::{Control, Ending};
 use crate::state::State;
 use std::alloc::Global;
 use std::marker::Model;
@@ -80,7 +82,7 @@ impl<'a> Machine<'a> {
     /// A machine at the start of a run: no attempt is made yet.
     ///
     /// The budget counts steps. The shape's lengths are bytes. `BadShape` comes exactly where the shape is
-    /// none that a heap may have (source: this project's profile), and before `NoMemory`.
+    /// none that a heap may have, and before `NoMemory`.
     pub fn new(
         alloc: Global,
         script: &'a Script,
@@ -158,7 +160,7 @@ impl<'a> Machine<'a> {
             self.failed = false;
             return Ok(Turn::GoesOn);
         }
-        self.leaks = self.state.leaks()?;
+        list_leaks(&mut self.leaks, self.control.ending(), &self.state)?;
         self.failed = false;
         Ok(Turn::Ended)
     }
@@ -183,11 +185,23 @@ impl<'a> Machine<'a> {
     }
 }
 
+/// Lists the leaks of a run that ended so, where its outcome tells them. For any other outcome no memory is
+/// asked for.
+fn list_leaks(leaks: &mut Leaks, ending: Ending, state: &State) -> Result<(), NoMemory>
+    ensures told { OnOk result (ending ≡ Ending.GoesOn → leaks.new ≡ leaks_at_end state.now) }
+    ensures untold { is_stop ending ≡ true → (IsOk result) × (leaks.new ≡ leaks.old) }
+{
+    if let Ending::GoesOn = ending {
+        *leaks = state.leaks()?;
+    }
+    Ok(())
+}
+
 /// A whole run.
 ///
 /// An Ok is exactly what the definitions say of the script, the rule, the budget (in steps) and the shape
 /// (in bytes); a run that is cut is an outcome. `BadShape` comes exactly where the shape is none that a heap
-/// may have (source: this project's profile), and before `NoMemory`.
+/// may have, and before `NoMemory`.
 pub fn run(
     alloc: Global,
     script: &Script,

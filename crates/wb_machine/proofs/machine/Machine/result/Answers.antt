@@ -3,7 +3,7 @@ use Rattle.wb_model.specs.Run.{run}
 use Rattle.wb_machine.specs.Flow.{is_over, rest_at}
 use Rattle.wb_machine.specs.Told.{told_by}
 use Rattle.wb_machine.specs.Whole.{has_ended}
-use Rattle.wb_machine.proofs.Ends.{rest_over}
+use Rattle.wb_machine.proofs.Ends.{told_alike, rest_over}
 use Rattle.wb_machine.proofs.Scripts.{and_left, and_right}
 use Rattle.wb_machine.proofs.machine.Machine.result.Goals as goal
 
@@ -17,7 +17,7 @@ returns c =
     let script = m.script.now in
     c.finish.ensures
     ∙ ap (λ e. told_by e m.leaks m.state) c.ending.ensures
-    ∙ ap (λ leaks. told_by m.control.ending leaks m.state) ((c.self.invariant.sound well).leaks ended)
+    ∙ told_alike m.control.ending m.leaks m.state ((c.self.invariant.sound well).leaks ended)
     ∙ rest_over script m.budget m.state.debug.rule m.control.ending m.control.pieces.items m.state over
     ∙ sym (ap (λ b. rest_at script m.budget m.state.debug.rule b m.control.ending m.control.pieces.items m.state) begun)
     ∙ c.self.invariant.keeps well m.state.debug.rule (inl refl)

@@ -28,7 +28,7 @@ invariant_of-self-2 c =
         first = λ e. cc;
         settled = λ e. turn.settled;
         pieces = turn.sound;
-        leaks = λ e. c.in_ok-self-inside.ensures;
+        leaks = λ e goes. c.in_ok-list_leaks.ensures.told (c.ending.ensures ∙ goes);
       };
       keeps = λ well r f.
           let f' = subst (λ own. Fits r own (is_over c.turn.new.self.ending c.turn.new.self.pieces.items) (length c.turn.new.state.debug.trace)) turn.stays.rule f in
