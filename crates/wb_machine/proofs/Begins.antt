@@ -1,5 +1,5 @@
 -- The turn that makes attempt 1 and begins `main`.
-use Rattle.std.proofs.Common.{◌≡◌, ℕ, false, List, [], ◌∷◌, ◌++◌, length, map, refl, ap, ◌∙◌, sym, subst, inl, Option}
+use Rattle.std.proofs.Common.{◌≡◌, ℕ, false, List, [], ◌∷◌, ◌++◌, map, refl, ap, ◌∙◌, sym, subst, inl, Option, Some, None}
 use Rattle.std.proofs.Math.Path.{fun_ext}
 use Rattle.std.specs.Prelude.{min}
 use Rattle.wb_model.specs.declared.heap.Ptr.{Ptr}
@@ -15,7 +15,10 @@ use Rattle.wb_model.specs.Space.{space_of, bound_below, limit_under}
 use Rattle.wb_model.specs.State.{none, null, initial, State, goes_on, Process, ends, stops, asks, notes, and_then, on_plain_end}
 use Rattle.wb_model.specs.Heap.{alloc_request, after_alloc}
 use Rattle.wb_model.specs.LimitedHeap.{zero_words}
-use Rattle.wb_model.specs.Debug.{answer_in}
+use Rattle.wb_model.specs.declared.heap.Answer.{Answer}
+use Rattle.wb_model.specs.Row.{cell_length}
+use Rattle.wb_model.specs.Rules.{Request, refusal_of, unless_refused}
+use Rattle.wb_model.specs.Debug.{Debug, made_by, answer_in}
 use Rattle.wb_model.specs.declared.run.Why.TheVariants.{Ceiling}
 use Rattle.wb_model.specs.Statements.{all}
 use Rattle.wb_model.specs.Meaning.{meaning_of}
@@ -78,21 +81,39 @@ begun_rest r script budget h statements pieces (G.Granted cell) body is =
 begun_rest r script budget h statements pieces G.Denied body is = rest_flow script budget r NoCleanup pieces h
 
 -- under a rule that fits, attempt 1 is answered as under the machine's own
-first_alike : (r : Rule) (h : RunState) (locals : List Local) → Fits r h.debug.rule (is_stop (begun_carried h locals).ending) (length (begun_carried h locals).state.debug.trace) →
-    Fits r h.debug.rule (is_ceiling (first_gave h)) (length (first_made h).debug.trace)
+first_alike : (r : Rule) (h : RunState) (locals : List Local) → Fits r h.debug.rule (is_stop (begun_carried h locals).ending) (begun_carried h locals).state.debug.attempts →
+    Fits r h.debug.rule (is_ceiling (first_gave h)) (first_made h).debug.attempts
 first_alike r h locals f = by (first_gave h) f
   where
-    by : (gave : Gave) → Fits r h.debug.rule (is_stop (begun_by (after_first h) locals gave).ending) (length (begun_by (after_first h) locals gave).state.debug.trace) →
-        Fits r h.debug.rule (is_ceiling gave) (length (first_made h).debug.trace)
+    by : (gave : Gave) → Fits r h.debug.rule (is_stop (begun_by (after_first h) locals gave).ending) (begun_by (after_first h) locals gave).state.debug.attempts →
+        Fits r h.debug.rule (is_ceiling gave) (first_made h).debug.attempts
     by (G.Granted cell) f = f
     by G.Denied f = inl (fits-ended r h.debug.rule _ f)
     by G.Ceiling f = f
+
+-- attempt 1 is counted under each rule: its cell ends below the ceiling
+first_counted : (own : Rule) (shape : Shape) → (first_made (first_state own shape)).debug.attempts ≡ 1
+first_counted own shape = by (refusal_of own 1 (cell_length first_bytes))
+  where
+    d : Debug
+    d = (first_state own shape).debug
+
+    t : Request
+    t = alloc_request d.heap first_bytes
+
+    by : (o : Option Answer) → (made_by d t (after_alloc d.heap t Cleanup (zero_words t.length)) (unless_refused o (cell_length first_bytes))).debug.attempts ≡ 1
+    by None = refl
+    by (Some a) = refl
+
+pub one_attempt : (h g : RunState) → h ≡ first_state h.debug.rule h.debug.shape → g.debug ≡ (first_made h).debug → g.debug.attempts ≡ 1
+one_attempt h g start is =
+    ap (λ (d : Debug). d.attempts) is ∙ ap (λ (x : RunState). (first_made x).debug.attempts) start ∙ first_counted h.debug.rule h.debug.shape
 
 -- after the turn that begins a run its rest is the run
 rest_begun : (r own : Rule) (script : Script) (budget : ℕ) (shape : Shape) (statements : List Statement) (pieces : List Piece) →
     let h = first_state own shape in
     let c = begun_carried h (main_of script).locals in
-    Fits r own (is_stop c.ending) (length c.state.debug.trace) → statements ≡ (main_of script).statements →
+    Fits r own (is_stop c.ending) c.state.debug.attempts → statements ≡ (main_of script).statements →
     (c.ending ≡ GoesOn → pending_in pieces ≡ doing in_main_frame (all statements) ∷ main_catching in_main_frame ∷ []) →
     rest_from script budget r c.ending pieces c.state ≡ run script r budget shape
 unfolding flow process
@@ -105,7 +126,7 @@ rest_begun r own script budget shape statements pieces f body is =
     begun_rest r script budget (after_first h) statements pieces (first_gave h) body is
     ∙ ap result_of (
     ap (λ p. flow r p (after_first h)) (sym (and_then-ends (followed (first_gave h) go (state_of script (after_first h)))))
-    ∙ sym (allocated r script h first_bytes Cleanup none go ends (answer_in h.debug t) refl
+    ∙ sym (allocated r script h first_bytes Cleanup none go ends (answer_in h.debug t) refl refl
     (answered_alike r h.debug t (after_alloc h.debug.heap t Cleanup (zero_words t.length)) (answer_in h.debug t) refl fits) limit)
     ∙ ap (λ p. flow r p h) (and_then-ends (allocate first_bytes Cleanup none (state_of script h) go)))
     ∙ ap (λ b. result_of (settled r (space_of r shape) (process script budget) (record { trace = []; notes = []; committed = min shape.min (bound_below b) }))) (sym limit)
@@ -114,7 +135,7 @@ rest_begun r own script budget shape statements pieces f body is =
 pub run_begun : (r : Rule) (script : Script) (budget : ℕ) (h g : RunState) (ending : Ending) (statements : List Statement) (pieces : List Piece) →
     h ≡ first_state h.debug.rule h.debug.shape →
     ending ≡ (begun_carried h (main_of script).locals).ending → g ≡ (begun_carried h (main_of script).locals).state →
-    Fits r h.debug.rule (is_stop ending) (length g.debug.trace) → statements ≡ (main_of script).statements →
+    Fits r h.debug.rule (is_stop ending) g.debug.attempts → statements ≡ (main_of script).statements →
     (ending ≡ GoesOn → pending_in pieces ≡ doing in_main_frame (all statements) ∷ main_catching in_main_frame ∷ []) →
     rest_from script budget r ending pieces g ≡ run script r budget h.debug.shape
 run_begun r script budget h g ending statements pieces start ends_so holds f body is =
@@ -123,8 +144,8 @@ run_begun r script budget h g ending statements pieces start ends_so holds f bod
     let first : RunState = first_state own h.debug.shape in
     let e : ending ≡ (begun_carried first locals).ending = ends_so ∙ ap (λ x. (begun_carried x locals).ending) start in
     let k : g ≡ (begun_carried first locals).state = holds ∙ ap (λ x. (begun_carried x locals).state) start in
-    let f' : Fits r own (is_stop (begun_carried first locals).ending) (length (begun_carried first locals).state.debug.trace) =
-    subst (λ (x : RunState). Fits r own (is_stop (begun_carried first locals).ending) (length x.debug.trace)) k (subst (λ x. Fits r own (is_stop x) (length g.debug.trace)) e f) in
+    let f' : Fits r own (is_stop (begun_carried first locals).ending) (begun_carried first locals).state.debug.attempts =
+    subst (λ (x : RunState). Fits r own (is_stop (begun_carried first locals).ending) x.debug.attempts) k (subst (λ x. Fits r own (is_stop x) g.debug.attempts) e f) in
     ap (λ x. rest_from script budget r x pieces g) e ∙ ap (λ x. rest_from script budget r (begun_carried first locals).ending pieces x) k
     ∙ rest_begun r own script budget h.debug.shape statements pieces f' body (λ x. is (e ∙ x))
 

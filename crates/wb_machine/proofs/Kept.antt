@@ -1,5 +1,5 @@
 -- What was carried out comes to what a statement means: the frame of each proof, and operands.
-use Rattle.std.proofs.Common.{◌≡◌, ℕ, true, List, length, refl, ap, ◌∙◌, sym, subst}
+use Rattle.std.proofs.Common.{◌≡◌, ℕ, true, List, refl, ap, ◌∙◌, sym, subst}
 use Rattle.wb_model.specs.declared.heap.Ptr.{Ptr}
 use Rattle.wb_model.specs.declared.heap.Rule.{Rule}
 use Rattle.wb_model.specs.declared.script.Script.{Script}
@@ -13,10 +13,9 @@ use Rattle.wb_model.specs.Sound.{is_statement, is_pointer}
 use Rattle.wb_model.specs.State.{State, Process, and_then}
 use Rattle.wb_model.specs.Operands.{number_of, set_pointer, with_pointer}
 use Rattle.wb_model.specs.Statements.{Layer, statement}
-use Rattle.wb_model.specs.Rest.{Fits}
 use Rattle.wb_machine.specs.declared.control.Ending.{Ending}
 use Rattle.wb_machine.specs.RunState.{RunState, state_of}
-use Rattle.wb_machine.specs.Flow.{in_main_frame, flow, ended_by, is_stop, IsSameFlow, IsCarriedOut}
+use Rattle.wb_machine.specs.Flow.{in_main_frame, flow, ended_by, IsSameFlow, FitsStep, IsCarriedOut}
 pub use Rattle.wb_machine.proofs.Scripts.{and_left, and_right}
 use Rattle.wb_machine.specs.Carried.{Carried, pointer_read, number_read, pointer_stored}
 use Rattle.wb_machine.specs.Owed.{CarriesOut}
@@ -34,8 +33,7 @@ pub carried_out : {h : RunState} {c : Carried} {ending : Ending} {g : RunState} 
     is_statement literals locals layer ≡ true → layer ≡ was → CarriesOut h c ending g →
     (is_statement literals locals was ≡ true → Means script h was c) → IsCarriedOut script layer h ending g
 carried_out {h} {c} {ending} {g} script literals locals {layer} was ok is made means r f rec k =
-    let fits : Fits r h.debug.rule (is_stop c.ending) (length c.state.debug.trace) =
-    subst (λ (x : RunState). Fits r h.debug.rule (is_stop c.ending) (length x.debug.trace)) made.becomes (subst (λ e. Fits r h.debug.rule (is_stop e) (length g.debug.trace)) made.ends_so f) in
+    let fits : FitsStep r h c.ending c.state = subst (λ (x : RunState). FitsStep r h c.ending x) made.becomes (subst (λ e. FitsStep r h e g) made.ends_so f) in
     ap (λ e. flow r (and_then (ended_by e (state_of script g)) k) g) made.ends_so
     ∙ ap (λ x. flow r (and_then (ended_by c.ending (state_of script x)) k) x) made.becomes
     ∙ means (sym (ap (is_statement literals locals) is) ∙ ok) r fits rec k

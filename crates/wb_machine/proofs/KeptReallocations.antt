@@ -1,5 +1,5 @@
 -- Reallocations come to what they mean.
-use Rattle.std.proofs.Common.{◌≡◌, ℕ, ℤ, Bool, true, false, List, length, refl, ap, ◌∙◌, sym, cond, Option, Some, None}
+use Rattle.std.proofs.Common.{◌≡◌, ℕ, ℤ, Bool, true, false, List, refl, ap, ◌∙◌, sym, cond, Option, Some, None}
 use Rattle.std.specs.Prelude.{◌&&◌, nat_lt, option_map}
 use Rattle.wb_model.specs.declared.limits.TheConstants.{LARGEST_REQUEST}
 use Rattle.wb_model.specs.declared.heap.TheConstants.Panic.{NUMBER_OUT_OF_RANGE, BAD_CELL, WRONG_KIND}
@@ -25,7 +25,7 @@ use Rattle.wb_model.specs.Statements.{statement, given_to, is_null, is_raw, real
 use Rattle.wb_model.specs.Debug.{Made, answer_in, longer_made, shorter_made}
 use Rattle.wb_model.specs.Rest.{Fits}
 use Rattle.wb_machine.specs.RunState.{RunState, read_cell, state_of, with_debug}
-use Rattle.wb_machine.specs.Flow.{flow, is_stop}
+use Rattle.wb_machine.specs.Flow.{FitsStep, flow}
 use Rattle.wb_machine.specs.Carried.{Carried, panicked, pointer_read, number_read, made_carried, alloc_carried, realloc_within, realloc_found, realloc_carried}
 use Rattle.wb_machine.proofs.Rows.{read_cell_at}
 use Rattle.wb_machine.proofs.Flows.{ReadsResized, resized_content, made_longer, made_shorter}
@@ -35,7 +35,7 @@ use Rattle.wb_machine.proofs.KeptCells.{is_ceiling, given_kept, fits_made, answe
 
 -- a rule that fits once this was carried out
 abbrev pub FitsAfter : Rule → RunState → Carried → Type 0
-FitsAfter r h c = Fits r h.debug.rule (is_stop c.ending) (length c.state.debug.trace)
+FitsAfter r h c = FitsStep r h c.ending c.state
 
 -- to a cell that is longer, and to one that isn't
 pub resized_kept : (r : Rule) (script : Script) (locals : List Local) (h : RunState) (p : Pointer) (c : Cell (List ℕ)) (bytes : ℕ) (b : Bool) → is_pointer locals p ≡ true → ReadsResized script c.head.kind bytes c.content →
@@ -45,8 +45,8 @@ pub resized_kept : (r : Rule) (script : Script) (locals : List Local) (h : RunSt
 resized_kept r script locals h p c bytes true ok reads f k =
     let t = realloc_request h.debug.heap c.head bytes in
     let made : Made = longer_made h.debug c bytes in
-    let fits : Fits r h.debug.rule (is_ceiling made.gave) (length made.debug.trace) = fits_made r h.debug.rule h p made f in
-    sym (made_longer r script h c bytes (given_to p GivesNull) k (answer_in h.debug t) reads
+    let fits : Fits r h.debug.rule (is_ceiling made.gave) made.debug.attempts = fits_made r h.debug.rule h p made f.1 in
+    sym (made_longer r script h c bytes (given_to p GivesNull) k (answer_in h.debug t) f.0 reads
     (answered_alike r h.debug t (after_realloc h.debug.heap t c.head (resized_words t.length c.content)) (answer_in h.debug t) refl fits) (fits-limit r h.debug.rule _ _ fits)
     ∙ sym (given_kept r script locals (with_debug h made.debug) p made.gave ok k))
 resized_kept r script locals h p c bytes false ok reads f k =

@@ -56,8 +56,8 @@ new_text_made r script locals h p None ok f k = refl
 new_text_made r script locals h p (Some n) ok f k =
     let t = alloc_request h.debug.heap (4 + 2 * n) in
     let made : Made = alloc_made h.debug (4 + 2 * n) Text in
-    let fits : Fits r h.debug.rule (is_ceiling made.gave) (length made.debug.trace) = fits_made r h.debug.rule h p made f in
-    sym (allocated r script h (4 + 2 * n) Text (units []) (given_to p GivesNull) k (answer_in h.debug t) (read_empty script n)
+    let fits : Fits r h.debug.rule (is_ceiling made.gave) made.debug.attempts = fits_made r h.debug.rule h p made f.1 in
+    sym (allocated r script h (4 + 2 * n) Text (units []) (given_to p GivesNull) k (answer_in h.debug t) f.0 (read_empty script n)
     (answered_alike r h.debug t (after_alloc h.debug.heap t Text (zero_words t.length)) (answer_in h.debug t) refl fits)
     (fits-limit r h.debug.rule _ _ fits)
     ∙ sym (given_kept r script locals (with_debug h made.debug) p made.gave ok k))

@@ -17,12 +17,13 @@ use Rattle.wb_machine.specs.Owed.{Stays, KeepsCount}
 -- an attempt
 made_stays : (h : RunState) (t : Request) (after : ℕ → Answer → AfterAnswer (List ℕ)) → ((n : ℕ) (a : Answer) → (after n a).heap.level ≡ h.debug.heap.level) → (o : Option Answer) →
     Stays h (with_debug h (made_by h.debug t after o).debug)
-made_stays h t after same None = record { rule = refl; shape = refl; fewer = omega arith; more = omega arith; deeper = omega arith }
+made_stays h t after same None = record { rule = refl; shape = refl; fewer = omega arith; more = omega arith; lines = refl; deeper = omega arith }
 made_stays h t after same (Some a) = record {
   rule = refl;
   shape = refl;
-  fewer = omega (arith, length-append {A = Attempt});
-  more = omega (arith, length-append {A = Attempt});
+  fewer = omega arith;
+  more = omega arith;
+  lines = omega (arith, length-append {A = Attempt});
   deeper = omega (arith, same (number_of_next h.debug) a);
 }
 
@@ -42,7 +43,7 @@ pub called_keeps : {X Y : Type 0} (o : Result X Y) (h : RunState) (made d : Debu
 called_keeps (Ok x) h made d stays ok err = subst (λ (x : Debug). KeepsCount h (with_debug h x)) (sym ok) (record { steps = refl; stays = stays })
 called_keeps (Err e) h made d stays ok err =
     subst (λ (x : Debug). KeepsCount h (with_debug h x)) (sym err)
-    (record { steps = refl; stays = record { rule = refl; shape = refl; fewer = omega arith; more = omega arith; deeper = omega arith } })
+    (record { steps = refl; stays = record { rule = refl; shape = refl; fewer = omega arith; more = omega arith; lines = refl; deeper = omega arith } })
 
 realloc_after : (d : Debug) (t : Request) (c : Cell (List ℕ)) (n : ℕ) (a : Answer) → (after_realloc d.heap t c.head (resized_words t.length c.content) n a).heap.level ≡ d.heap.level
 realloc_after d t c n Granted = refl
@@ -58,7 +59,7 @@ realloc_stays h c bytes = by (nat_lt c.head.length (cell_length bytes))
 
     by : (b : Bool) → Stays h (with_debug h (cond b (longer_made h.debug c bytes) (shorter_made h.debug c bytes)).debug)
     by true = made_stays h t (after_realloc h.debug.heap t c.head (resized_words t.length c.content)) (realloc_after h.debug t c) (answer_in h.debug t)
-    by false = record { rule = refl; shape = refl; fewer = omega arith; more = omega arith; deeper = omega arith }
+    by false = record { rule = refl; shape = refl; fewer = omega arith; more = omega arith; lines = refl; deeper = omega arith }
 
 pub realloc_keeps : {X Y : Type 0} (o : Result X Y) (h : RunState) (d : Debug) (found : Option (Cell (List ℕ))) (bytes : ℕ) → IsSome found →
     OnOk o (IfSome found (λ c. d ≡ (realloc_made h.debug c bytes).debug)) → OnErr o (d ≡ h.debug) → KeepsCount h (with_debug h d)

@@ -22,7 +22,7 @@ use Rattle.wb_model.specs.declared.heap.Rule.{Rule}
 use Rattle.wb_model.specs.declared.heap.Rule.TheVariants.{Unlimited, Limit, Number}
 use Rattle.wb_model.specs.Space.{limit_under}
 use Rattle.wb_model.specs.Reading.{max_units, is_same_base, is_same_pointer}
-use Rattle.wb_model.specs.Debug.{Debug, made_by, answer_in, alloc_made, longer_made, shorter_made, realloc_made, debug_without, with_row}
+use Rattle.wb_model.specs.Debug.{Debug, number_of_next, made_by, answer_in, alloc_made, longer_made, shorter_made, realloc_made, debug_without, with_row}
 use Rattle.wb_model.specs.TextCells.{IsText, text_words, text_in, text_at, IsTextAt, debug_edited, room_in, max_at, usable_or_none}
 use Rattle.wb_model.proofs.TextCells.{text-read, zeros-text, resized-text}
 use Rattle.wb_machine.specs.TextInvariant.{IsTextCell, AreTexts}
@@ -96,7 +96,7 @@ texts_allocated d bytes kind some texts = by (answer_in d t)
 
     by : (o : Option Answer) → AreTexts (made_by d t (after_alloc d.heap t kind (zero_words t.length)) o).debug.heap.row
     by None = texts
-    by (Some Granted) = texts_inserted (new_cell d.heap (length d.trace + 1) t kind (zero_words t.length)) d.heap.row (λ is. fresh_text bytes (some is)) texts
+    by (Some Granted) = texts_inserted (new_cell d.heap (number_of_next d) t kind (zero_words t.length)) d.heap.row (λ is. fresh_text bytes (some is)) texts
     by (Some Simulated) = texts
     by (Some Refused) = texts
 
@@ -111,7 +111,7 @@ texts_reallocated d c bytes fine texts = by (nat_lt c.head.length (cell_length b
     answered : (o : Option Answer) → AreTexts (made_by d t (after_realloc d.heap t c.head (resized_words t.length c.content)) o).debug.heap.row
     answered None = texts
     answered (Some Granted) =
-        texts_inserted (record { head = moved c.head (length d.trace + 1) t; content = resized_words t.length c.content }) (without (pointer_to c.head) d.heap.row) fine
+        texts_inserted (record { head = moved c.head (number_of_next d) t; content = resized_words t.length c.content }) (without (pointer_to c.head) d.heap.row) fine
         (texts_without (pointer_to c.head) d.heap.row texts)
     answered (Some Simulated) = texts
     answered (Some Refused) = texts

@@ -14,7 +14,7 @@ use Rattle.wb_machine.specs.declared.control.Ending.{Ending}
 use Rattle.wb_machine.specs.declared.control.Ending.TheVariants.{GoesOn, Panics, Cut, NoCleanup}
 use Rattle.wb_machine.specs.declared.control.Piece.{Piece}
 use Rattle.wb_machine.specs.declared.control.Piece.TheVariants.{Code, MainTrap}
-use Rattle.wb_machine.specs.RunState.{RunState, first_state, main_of, state_of, account_of}
+use Rattle.wb_machine.specs.RunState.{RunState, HasLines, first_state, main_of, state_of, account_of}
 
 -- `main` stands in the first frame, over no items
 abbrev pub in_main_frame : Where
@@ -85,10 +85,14 @@ flow r p h = settled r (space_of r h.debug.shape) p (account_of h)
 abbrev pub IsSameFlow : Rule → Process → RunState → Process → RunState → Type 0
 IsSameFlow r p h q g = (k : Way → State → Process) → flow r (and_then p k) h ≡ flow r (and_then q k) g
 
+-- a rule fits what a statement left that ended so, from a state whose attempts have their lines
+abbrev pub FitsStep : Rule → RunState → Ending → RunState → Type 0
+FitsStep r h ending g = HasLines h × Fits r h.debug.rule (is_stop ending) g.debug.attempts
+
 -- a statement was carried out that ended so and left this state: under each rule that fits, it comes to what it means
 abbrev pub IsCarriedOut : Script → Layer → RunState → Ending → RunState → Type 0
 IsCarriedOut script layer h ending g =
-    (r : Rule) → Fits r h.debug.rule (is_stop ending) (length g.debug.trace) → (rec : Meaning) →
+    (r : Rule) → FitsStep r h ending g → (rec : Meaning) →
     IsSameFlow r (ended_by ending (state_of script g)) g (statement script rec in_main_frame layer (state_of script h)) h
 
 -- what is left of a run that was begun gives this under a rule

@@ -6,14 +6,16 @@ use Rattle.wb_machine.specs.Carried.{Carried}
 
 -- one attempt more has a number of 32 bits
 abbrev pub MayAttempt : RunState → Type 0
-MayAttempt h = length h.debug.trace + 1 < 2 ^ 32
+MayAttempt h = h.debug.attempts + 1 < 2 ^ 32
 
 -- what no turn changes, and that it makes at most one attempt and sets at most one mark
 pub record Stays (before after : RunState) : Type 0 where
   pub rule : after.debug.rule ≡ before.debug.rule
   pub shape : after.debug.shape ≡ before.debug.shape
-  pub fewer : length before.debug.trace ≤ length after.debug.trace
-  pub more : length after.debug.trace ≤ length before.debug.trace + 1
+  pub fewer : before.debug.attempts ≤ after.debug.attempts
+  pub more : after.debug.attempts ≤ before.debug.attempts + 1
+  -- each attempt has a line of the trace
+  pub lines : before.debug.attempts + length after.debug.trace ≡ after.debug.attempts + length before.debug.trace
   pub deeper : after.debug.heap.level ≤ before.debug.heap.level + 1
 
 -- the same of a statement, which counts no step itself

@@ -1,5 +1,5 @@
 -- The state of a run as a machine keeps it, and which state and account of the definitions that is.
-use Rattle.std.specs.Prelude.{ℕ, pos, List, [], map, length, slice_get, unwrap_or}
+use Rattle.std.specs.Prelude.{◌≡◌, ℕ, pos, List, [], map, length, slice_get, unwrap_or}
 use Rattle.wb_model.specs.declared.heap.Ptr.{Ptr}
 use Rattle.wb_model.specs.declared.heap.Rule.{Rule}
 use Rattle.wb_model.specs.declared.heap.Shape.{Shape}
@@ -73,3 +73,7 @@ with_debug h debug = record h { debug = debug }
 -- a local; out of range it reads as the number 0
 abbrev pub value_in : Values → ℕ → Value
 value_in locals i = unwrap_or (slice_get locals i) (number (pos 0))
+
+-- each attempt that was made has its line in the trace
+abbrev pub HasLines : RunState → Type 0
+HasLines h = h.debug.attempts ≡ length h.debug.trace

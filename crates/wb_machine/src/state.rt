@@ -64,6 +64,13 @@ impl State {
         })
     }
 
+    /// How many attempts were made.
+    pub fn attempts(&self) -> u32
+        ensures { result ≡ self.now.debug.attempts }
+    {
+        self.heap.attempts()
+    }
+
     /// How many steps were counted.
     pub fn steps(&self) -> u32
         ensures { result ≡ self.now.steps }

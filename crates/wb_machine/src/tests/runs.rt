@@ -122,12 +122,18 @@ fn a_run_prints_and_leaks(rt: HostRuntime) -> Result<(), Fail> {
 
 #[test]
 fn turns_of_a_machine(rt: HostRuntime) -> Result<(), Fail> {
-    let script = script(rt.alloc(), &[Order::PrintNumber(1), Order::PrintNumber(2)])?;
+    let script = script(
+        rt.alloc(),
+        &[Order::PrintNumber(1), Order::Alloc(Cell::First, 1)],
+    )?;
     let mut machine = Machine::new(rt.alloc(), &script, Rule::Unlimited, 9, SHAPE)?;
+    assert_eq!(rt; machine.attempts(), 0);
     assert_eq!(rt; machine.step()?, Turn::GoesOn);
+    assert_eq!(rt; machine.attempts(), 1);
     assert_eq!(rt; machine.step()?, Turn::GoesOn);
     assert_eq!(rt; machine.step()?, Turn::Ended);
     assert_eq!(rt; machine.step()?, Turn::Ended);
+    assert_eq!(rt; machine.attempts(), 2);
     assert_eq!(rt; machine.result().steps, 2);
     Ok(())
 }

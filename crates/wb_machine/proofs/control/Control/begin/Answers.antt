@@ -3,9 +3,9 @@ use Rattle.std.specs.List.{list_all}
 use Rattle.wb_model.specs.Sound.{is_local, are_statements}
 use Rattle.wb_machine.specs.declared.control.Ending.TheVariants.{NoCleanup}
 use Rattle.wb_machine.specs.declared.control.Piece.TheVariants.{Code}
-use Rattle.wb_machine.specs.RunState.{main_of, with_debug}
+use Rattle.wb_machine.specs.RunState.{RunState, main_of, with_debug}
 use Rattle.wb_machine.specs.Carried.{entered, first_made, begun_by}
-use Rattle.wb_machine.proofs.Begins.{run_begun, begun_pieces}
+use Rattle.wb_machine.proofs.Begins.{one_attempt, run_begun, begun_pieces}
 use Rattle.wb_machine.proofs.Scripts.{main_locals, main_statements, sound_begun}
 use Rattle.wb_machine.proofs.control.Control.begin.Goals as goal
 
@@ -46,3 +46,14 @@ returns-in-Denied-clause-kept c r budget f =
     let is = ap (begun_by after (main_of script).locals) (sym c.in_ok-cell.ensures.gave ∙ c.in-Denied.is) in
     run_begun r script budget h c.attempt.new.self NoCleanup (main_of script).statements c.args.self.now.pieces.items c.requires.start (sym (ap (λ x. x.ending) is))
     (c.in_ok-cell.ensures.made ∙ sym (ap (λ x. x.state) is)) f refl (λ e. cc)
+
+pub returns-in_ok-push-in-Granted-2-clause-one : goal.returns-in_ok-push-in-Granted-2-clause-one
+returns-in_ok-push-in-Granted-2-clause-one c =
+    one_attempt c.args.state.now c.enter.new.self c.requires.start
+    (ap (λ (x : RunState). x.debug) c.in_ok-enter-in-Granted.ensures.entered ∙ ap (λ (x : RunState). x.debug) c.in_ok-cell.ensures.made)
+
+pub returns-in-Denied-clause-one : goal.returns-in-Denied-clause-one
+returns-in-Denied-clause-one c = one_attempt c.args.state.now c.attempt.new.self c.requires.start (ap (λ (x : RunState). x.debug) c.in_ok-cell.ensures.made)
+
+pub returns-in-Ceiling-clause-one : goal.returns-in-Ceiling-clause-one
+returns-in-Ceiling-clause-one c = one_attempt c.args.state.now c.attempt.new.self c.requires.start (ap (λ (x : RunState). x.debug) c.in_ok-cell.ensures.made)

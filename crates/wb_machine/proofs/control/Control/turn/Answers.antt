@@ -1,4 +1,4 @@
-use Rattle.std.proofs.Common.{◌≡◌, ◌≤◌, ap, ◌∙◌, sym, subst, arith, length, true, false}
+use Rattle.std.proofs.Common.{◌≡◌, ◌≤◌, ap, ◌∙◌, sym, subst, arith, true, false}
 use Rattle.std.proofs.Common.{ℕ}
 use Rattle.wb_model.specs.declared.heap.Rule.{Rule}
 use Rattle.wb_model.specs.declared.run.RunResult.{RunResult}
@@ -24,12 +24,12 @@ returns-clause-sound c =
 
 -- a fact of what one of the branches made
 moved_on : (script : Script) (budget : ℕ) (r own : Rule) (made mid : Control) (st g : RunState) (told : RunResult) → mid ≡ made → g ≡ st →
-    Fits r own (is_stop mid.ending) (length g.debug.trace) →
-    (Fits r own (is_stop made.ending) (length st.debug.trace) → rest_from script budget r made.ending made.pieces.items st ≡ told) →
+    Fits r own (is_stop mid.ending) g.debug.attempts →
+    (Fits r own (is_stop made.ending) st.debug.attempts → rest_from script budget r made.ending made.pieces.items st ≡ told) →
     rest_from script budget r mid.ending mid.pieces.items g ≡ told
 moved_on script budget r own made mid st g told e d f go =
-    let f' : Fits r own (is_stop made.ending) (length st.debug.trace) =
-    subst (λ (x : RunState). Fits r own (is_stop made.ending) (length x.debug.trace)) d (subst (λ (x : Control). Fits r own (is_stop x.ending) (length g.debug.trace)) e f) in
+    let f' : Fits r own (is_stop made.ending) st.debug.attempts =
+    subst (λ (x : RunState). Fits r own (is_stop made.ending) x.debug.attempts) d (subst (λ (x : Control). Fits r own (is_stop x.ending) g.debug.attempts) e f) in
     ap (λ (x : Control). rest_from script budget r x.ending x.pieces.items g) e
     ∙ ap (λ (x : RunState). rest_from script budget r made.ending made.pieces.items x) d ∙ go f'
 
@@ -47,7 +47,7 @@ returns-clause-kept c r f =
     let g = c.if-not-begun.state in
     let goes : is_over c.settle.new.self.ending c.settle.new.self.pieces.items ≡ false → is_stop mid.ending ≡ false =
     λ e. sym (ap is_stop c.settle.ensures.ending) ∙ going_on c.settle.new.self.ending c.settle.new.self.pieces.items e in
-    let fits : Fits r own (is_stop mid.ending) (length g.debug.trace) = fits-before r own _ _ (length g.debug.trace) (length g.debug.trace) goes (omega arith) f in
+    let fits : Fits r own (is_stop mid.ending) g.debug.attempts = fits-before r own _ _ g.debug.attempts g.debug.attempts goes (omega arith) f in
     let steps : g.steps ≤ budget = elim c.if-not-begun.branch [
       | then-not-begun+in_ok-begin w ↦ steps_are g w.begin.new.state budget w.state-is (omega (arith, w.in_ok-begin.ensures.steps))
       | else-not-begun+then-steps-budget+in_ok-step w ↦ steps_are g w.step.new.state budget w.state-is (omega (arith, w.in_ok-step.ensures.steps, w.if-steps-budget.true, w.steps.ensures))
