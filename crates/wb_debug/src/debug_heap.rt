@@ -39,6 +39,8 @@ pub struct DebugHeap {
     /// How many marks are open.
     level: u32,
     setting: Setting,
+    /// How many attempts were made.
+    attempts: u32,
     trace: Trace,
 }
 
@@ -74,6 +76,7 @@ impl DebugHeap {
             rule,
             level: 0,
             setting: Setting::Never,
+            attempts: 0,
             trace: Items::new(alloc),
         })
     }
@@ -89,9 +92,9 @@ impl DebugHeap {
 
     /// How many attempts were made.
     pub fn attempts(&self) -> u32
-        ensures { result ≡ length self.now.trace }
+        ensures { result ≡ self.now.attempts }
     {
-        self.trace.len() as u32
+        self.attempts
     }
 
     /// The attempts that were made, in order.
@@ -111,6 +114,7 @@ impl DebugHeap {
             rule: _,
             level: _,
             setting: _,
+            attempts: _,
             trace,
         } = self;
         trace
@@ -126,7 +130,7 @@ impl DebugHeap {
     /// Symbian OS v9 SDK reference, RHeap, for the grant and the refusal, and this project's profile for their order.
     pub fn attempt_alloc(&mut self, bytes: u32, kind: Kind) -> Result<Gave, NoMemory>
         requires bytes { bytes ≤ CEILING }
-        requires number { length self.old.trace + 1 < 2 ^ 32 }
+        requires number { self.old.attempts + 1 < 2 ^ 32 }
         ensures gave { IfOk result (λ gave. gave ≡ (alloc_made self.old bytes kind).gave) }
         ensures made { OnOk result (self.new ≡ (alloc_made self.old bytes kind).debug) }
         ensures err { OnErr result (self.new ≡ self.old) }
@@ -146,6 +150,7 @@ impl DebugHeap {
             Answer::Simulated | Answer::Refused => Gave::Denied,
         };
         self.setting = self.setting.counted();
+        self.attempts = line.number;
         Ok(gave)
     }
 
@@ -160,7 +165,7 @@ impl DebugHeap {
     pub fn attempt_realloc(&mut self, ptr: Ptr, bytes: u32) -> Result<Gave, NoMemory>
         requires live { IsSome (cell_at ptr self.old.heap.row) }
         requires bytes { bytes ≤ CEILING }
-        requires number { length self.old.trace + 1 < 2 ^ 32 }
+        requires number { self.old.attempts + 1 < 2 ^ 32 }
         ensures gave { IfOk result (λ gave. IfSome (cell_at ptr self.old.heap.row) (λ c. gave ≡ (realloc_made self.old c bytes).gave)) }
         ensures made { OnOk result (IfSome (cell_at ptr self.old.heap.row) (λ c. self.new ≡ (realloc_made self.old c bytes).debug)) }
         ensures shorter { IfSome (cell_at ptr self.old.heap.row) (λ c. cell_length bytes ≤ c.head.length → IsOk result) }
@@ -170,7 +175,7 @@ impl DebugHeap {
         let length = cell_length(bytes);
         let cell = self.heap.header(ptr).unwrap();
         if length <= cell.length {
-            let number = self.attempts() + 1;
+            let number = self.attempts + 1;
             return match self.heap.realloc(ptr, length, number) {
                 Ok(ptr) => Ok(Gave::Granted(ptr)),
                 Err(_) => unreachable!(),
@@ -189,18 +194,19 @@ impl DebugHeap {
             Answer::Simulated | Answer::Refused => Gave::Denied,
         };
         self.setting = self.setting.counted();
+        self.attempts = line.number;
         Ok(gave)
     }
 
     /// The line that the next attempt adds to the trace, for a cell of this length at this place, both in bytes; none where
     /// the ceiling cuts the run. The setting is asked first, then the rule, then the ceiling.
     fn next_line(&self, len: u32, place: u32) -> Option<Attempt>
-        requires number { length self.now.trace + 1 < 2 ^ 32 }
+        requires number { self.now.attempts + 1 < 2 ^ 32 }
         requires end { place + len < 2 ^ 32 }
         ensures answer { option_map (λ line. line.answer) result ≡ answer_in self.now (request_at self.now.heap place len) }
         ensures line { IfSome result (λ line. line ≡ trace_line (number_of_next self.now) (request_at self.now.heap place len) line.answer) }
     {
-        let number = self.attempts() + 1;
+        let number = self.attempts + 1;
         let answer = answer(self.setting.due(), self.rule, number, place + len)?;
         Some(Attempt {
             number,

@@ -26,7 +26,7 @@ use wb_text::buf::Buf;
 /// reference, HBufC::New, and this project's profile for the length of the cell.
 pub fn make(heap: &mut DebugHeap, n: u32) -> Result<Gave, NoMemory>
     requires units { n ≤ MOST_UNITS }
-    requires number { length heap.old.trace + 1 < 2 ^ 32 }
+    requires number { heap.old.attempts + 1 < 2 ^ 32 }
     ensures gave { IfOk result (λ gave. gave ≡ (alloc_made heap.old (4 + 2 * n) Kind.Text).gave) }
     ensures made { OnOk result (heap.new ≡ (alloc_made heap.old (4 + 2 * n) Kind.Text).debug) }
     ensures empty { IfOk result (IsGrantedText heap.new []) }
@@ -45,7 +45,7 @@ pub fn remake(heap: &mut DebugHeap, ptr: Ptr, n: u32) -> Result<Gave, NoMemory>
     requires text { IsTextAt ptr heap.old }
     requires fits { length (text_at ptr heap.old) ≤ n }
     requires units { n ≤ MOST_UNITS }
-    requires number { length heap.old.trace + 1 < 2 ^ 32 }
+    requires number { heap.old.attempts + 1 < 2 ^ 32 }
     ensures gave { IfOk result (λ gave. IfSome (cell_at ptr heap.old.heap.row) (λ c. gave ≡ (realloc_made heap.old c (4 + 2 * n)).gave)) }
     ensures made { OnOk result (IfSome (cell_at ptr heap.old.heap.row) (λ c. heap.new ≡ (realloc_made heap.old c (4 + 2 * n)).debug)) }
     ensures kept { IfOk result (IsRemadeText heap.new ptr (text_at ptr heap.old)) }

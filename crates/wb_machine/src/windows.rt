@@ -2,7 +2,7 @@
 
 ghost use Rattle.std.specs.Prelude.{◌≡◌, ◌+◌, ◌^◌, ◌<◌};
 ghost use Rattle.wb_model.specs.Texts.{left_part, right_part, mid_part, view_of_part};
-ghost use Rattle.wb_machine.specs.Slots.{whole_window, no_window};
+ghost use Rattle.wb_machine.specs.LocalValues.{whole_window, no_window};
 
 use std::marker::Model;
 use wb_model::heap::Panic;

@@ -1,5 +1,5 @@
--- The debug heap: cells of words with levels, the script's own setting, a rule, and the trace of the attempts; and what each
--- of its calls makes of it and gives.
+-- The debug heap: cells of words with levels, the script's own setting, a rule, how many attempts were made, and their trace;
+-- and what each of its calls makes of it and gives.
 use Rattle.std.specs.Prelude.{◌≡◌, ℕ, ◌+◌, ◌-◌, ◌%◌, ◌≤◌, List, [], ◌∷◌, ◌++◌, Option, Some, None, All, true, length, nat_lt, sum, map, if◌then◌else◌}
 use Rattle.wb_model.specs.declared.heap.TheConstants.Panic.{BAD_CELL}
 use Rattle.wb_model.specs.declared.heap.Ptr.{Ptr}
@@ -32,6 +32,8 @@ pub record Debug : Type 0 where
   pub rule : Rule
   pub shape : Shape
   pub committed : ℕ
+  -- how many attempts were made
+  pub attempts : ℕ
   pub trace : List Attempt
 
 abbrev pub row_of : Debug → List (Cell (List ℕ))
@@ -47,12 +49,13 @@ first_debug rule shape = record {
   rule = rule;
   shape = shape;
   committed = (space_of rule shape).least;
+  attempts = 0;
   trace = [];
 }
 
 -- attempts count from 1
 abbrev pub number_of_next : Debug → ℕ
-number_of_next d = length d.trace + 1
+number_of_next d = d.attempts + 1
 
 -- the heap after a call, and what the call gives
 pub record Made : Type 0 where
@@ -74,6 +77,7 @@ made_by d t after (Some answer) = record {
   debug = record d {
     heap = (after (number_of_next d) answer).heap;
     committed = committed_after (space_under d) t answer d.committed;
+    attempts = number_of_next d;
     trace = d.trace ++ trace_line (number_of_next d) t answer ∷ [];
   };
   gave = gave_of (after (number_of_next d) answer).given;
@@ -167,12 +171,14 @@ pub record IsLiveIn (d : Debug) (h : Header) : Type 0 where
   pub aligned : h.length % 16 ≡ 0
   pub least : 16 ≤ h.length
   pub numbered : 1 ≤ h.number
-  pub counted : h.number ≤ length d.trace
+  pub counted : h.number ≤ d.attempts
   pub within : end_of h ≤ limit_under d.rule
 
--- what holds of every debug heap: its cells are a row, each of an attempt that was made, and their payloads fill them
+-- what holds of every debug heap: its cells are a row, each of an attempt that was made, their payloads fill them, and each
+-- attempt has its line
 pub record IsSoundDebug (d : Debug) : Type 0 where
   pub row : IsRow (headers d.heap.row)
   pub filled : All IsFilled d.heap.row
   pub live : All (IsLiveIn d) (headers d.heap.row)
+  pub attempts : d.attempts ≡ length d.trace
   pub shape : is_shape d.shape ≡ true

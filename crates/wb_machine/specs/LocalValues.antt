@@ -9,7 +9,7 @@ use Rattle.wb_model.specs.Reading.{buffer_text, max_in}
 use Rattle.wb_machine.specs.declared.locals.Slot.{Slot}
 use Rattle.wb_machine.specs.declared.locals.Slot.TheVariants as S
 use Rattle.wb_machine.specs.declared.locals.Locals.TheInside.{Inside}
-use Rattle.wb_machine.specs.Held.{Values}
+use Rattle.wb_machine.specs.RunState.{Values}
 
 abbrev pub value_of : Slot → Value
 value_of (S.Pointer p) = pointer p

@@ -1,5 +1,5 @@
--- What a machine holds of a run, and which state and account of the definitions that is.
-use Rattle.std.specs.Prelude.{ℕ, pos, List, [], map, length, slice_get, unwrap_or}
+-- The state of a run as a machine keeps it, and which state and account of the definitions that is.
+use Rattle.std.specs.Prelude.{◌≡◌, ℕ, pos, List, [], map, length, slice_get, unwrap_or}
 use Rattle.wb_model.specs.declared.heap.Ptr.{Ptr}
 use Rattle.wb_model.specs.declared.heap.Rule.{Rule}
 use Rattle.wb_model.specs.declared.heap.Shape.{Shape}
@@ -19,7 +19,7 @@ abbrev pub Values : Type 0
 Values = List Value
 
 -- the debug heap, the cleanup stack's cell, the locals, what was printed, the notes, and the steps
-pub record Held : Type 0 where
+pub record RunState : Type 0 where
   pub debug : Debug
   pub cleanup : Ptr
   pub locals : Values
@@ -28,8 +28,8 @@ pub record Held : Type 0 where
   pub steps : ℕ
 
 -- nothing is done yet
-abbrev pub start_held : Rule → Shape → Held
-start_held rule shape = record { debug = first_debug rule shape; cleanup = null; locals = []; lines = []; notes = []; steps = 0 }
+abbrev pub first_state : Rule → Shape → RunState
+first_state rule shape = record { debug = first_debug rule shape; cleanup = null; locals = []; lines = []; notes = []; steps = 0 }
 
 -- the body of `main`
 abbrev pub main_of : Script → Body
@@ -50,8 +50,8 @@ read_row script row = map (read_cell script) row
 abbrev pub read_heap : Script → Heap (List ℕ) → Heap Content
 read_heap script heap = record { row = read_row script heap.row; level = heap.level; setting = heap.setting }
 
--- the state that is held
-abbrev pub state_of : Script → Held → State
+-- the state of the definitions
+abbrev pub state_of : Script → RunState → State
 state_of script h = record {
   heap = read_heap script h.debug.heap;
   cleanup = h.cleanup;
@@ -63,13 +63,17 @@ state_of script h = record {
 }
 
 -- and the account
-abbrev pub account_of : Held → Account
+abbrev pub account_of : RunState → Account
 account_of h = record { trace = h.debug.trace; notes = h.notes; committed = h.debug.committed }
 
 -- the same with another debug heap
-abbrev pub with_debug : Held → Debug → Held
+abbrev pub with_debug : RunState → Debug → RunState
 with_debug h debug = record h { debug = debug }
 
 -- a local; out of range it reads as the number 0
 abbrev pub value_in : Values → ℕ → Value
 value_in locals i = unwrap_or (slice_get locals i) (number (pos 0))
+
+-- each attempt that was made has its line in the trace
+abbrev pub HasLines : RunState → Type 0
+HasLines h = h.debug.attempts ≡ length h.debug.trace

@@ -1,5 +1,5 @@
 -- Text cells hold texts, whatever is done to a row.
-use Rattle.std.proofs.Common.{◌≡◌, ℕ, zero, suc, ◌+◌, ◌-◌, ◌*◌, ◌/◌, ◌≤◌, Bool, true, false, not, List, [], ◌∷◌, length, refl, ap, ◌∙◌, sym, subst, arith, cond, ◌<◌, ◌^◌, Option, Some, None, Result, OnOk, OnErr, IsSome, IfSome, option_map}
+use Rattle.std.proofs.Common.{◌≡◌, ℕ, ◌+◌, ◌-◌, ◌*◌, ◌/◌, ◌≤◌, Bool, true, false, not, List, [], ◌∷◌, length, refl, ap, ◌∙◌, sym, subst, arith, cond, ◌<◌, ◌^◌, Option, Some, None, Result, OnOk, OnErr, IsSome, IfSome, option_map}
 use Rattle.std.proofs.lemmas.Bool.{eqb-true}
 use Rattle.std.specs.Prelude.{nat_eq, nat_lt, ◌&&◌, Ok, Err}
 use Rattle.wb_model.specs.declared.heap.TheConstants.Panic.{WRONG_KIND}
@@ -13,7 +13,7 @@ use Rattle.wb_model.specs.declared.heap.Answer.TheVariants.{Granted, Simulated, 
 use Rattle.wb_model.specs.Row.{Cell, end_of, usable_of, is_at, cell_at, without, inserted, pointer_to, cell_length}
 use Rattle.wb_model.specs.CellRow.{content_or_nil, payload_of, with_payload, resized_words}
 use Rattle.wb_model.specs.Rules.{Request}
-use Rattle.wb_model.specs.Heap.{AfterAnswer, alloc_request, after_alloc, realloc_request, after_realloc, new_cell, moved, is_cleanup, lower, lowered}
+use Rattle.wb_model.specs.Heap.{alloc_request, after_alloc, realloc_request, after_realloc, new_cell, moved, is_cleanup, lower, lowered}
 use Rattle.wb_model.specs.LimitedHeap.{zero_words}
 use Rattle.wb_model.specs.Texts.{Edited, answer_of, units_of_part}
 use Rattle.wb_model.specs.Statements.{is_null, is_raw}
@@ -22,15 +22,15 @@ use Rattle.wb_model.specs.declared.heap.Rule.{Rule}
 use Rattle.wb_model.specs.declared.heap.Rule.TheVariants.{Unlimited, Limit, Number}
 use Rattle.wb_model.specs.Space.{limit_under}
 use Rattle.wb_model.specs.Reading.{max_units, is_same_base, is_same_pointer}
-use Rattle.wb_model.specs.Debug.{Debug, Made, made_by, answer_in, alloc_made, longer_made, shorter_made, realloc_made, debug_without, with_row}
+use Rattle.wb_model.specs.Debug.{Debug, number_of_next, made_by, answer_in, alloc_made, longer_made, shorter_made, realloc_made, debug_without, with_row}
 use Rattle.wb_model.specs.TextCells.{IsText, text_words, text_in, text_at, IsTextAt, debug_edited, room_in, max_at, usable_or_none}
 use Rattle.wb_model.proofs.TextCells.{text-read, zeros-text, resized-text}
-use Rattle.wb_machine.specs.TextRows.{IsTextCell, AreTexts}
+use Rattle.wb_machine.specs.TextInvariant.{IsTextCell, AreTexts}
 use Rattle.wb_model.specs.declared.text.Base.{Base}
 use Rattle.wb_model.specs.declared.text.Base.TheVariants as B
 use Rattle.wb_model.specs.declared.text.View.{View}
 use Rattle.wb_machine.specs.declared.control.Ending.{Ending}
-use Rattle.wb_machine.specs.Held.{Held, with_debug}
+use Rattle.wb_machine.specs.RunState.{RunState, with_debug}
 use Rattle.wb_machine.specs.CarriedTexts.{IsWritten, ending_by}
 use Rattle.wb_machine.specs.TextOperands.{is_text, text_refusal, base_refusal, base_text, window_units}
 
@@ -96,7 +96,7 @@ texts_allocated d bytes kind some texts = by (answer_in d t)
 
     by : (o : Option Answer) → AreTexts (made_by d t (after_alloc d.heap t kind (zero_words t.length)) o).debug.heap.row
     by None = texts
-    by (Some Granted) = texts_inserted (new_cell d.heap (length d.trace + 1) t kind (zero_words t.length)) d.heap.row (λ is. fresh_text bytes (some is)) texts
+    by (Some Granted) = texts_inserted (new_cell d.heap (number_of_next d) t kind (zero_words t.length)) d.heap.row (λ is. fresh_text bytes (some is)) texts
     by (Some Simulated) = texts
     by (Some Refused) = texts
 
@@ -111,7 +111,7 @@ texts_reallocated d c bytes fine texts = by (nat_lt c.head.length (cell_length b
     answered : (o : Option Answer) → AreTexts (made_by d t (after_realloc d.heap t c.head (resized_words t.length c.content)) o).debug.heap.row
     answered None = texts
     answered (Some Granted) =
-        texts_inserted (record { head = moved c.head (length d.trace + 1) t; content = resized_words t.length c.content }) (without (pointer_to c.head) d.heap.row) fine
+        texts_inserted (record { head = moved c.head (number_of_next d) t; content = resized_words t.length c.content }) (without (pointer_to c.head) d.heap.row) fine
         (texts_without (pointer_to c.head) d.heap.row texts)
     answered (Some Simulated) = texts
     answered (Some Refused) = texts
@@ -248,9 +248,9 @@ max_small p d h e is within =
     omega (arith, same, max, within, limit_under-ceiling d.rule)
 
 -- the text of a base that isn't refused and is a cell
-pub text_of_base : (h g : Held) (base : Base) (p : Ptr) → h ≡ g → AreTexts h.debug.heap.row → base ≡ B.Cell p → base_refusal g base ≡ None → IsTextAt p h.debug
+pub text_of_base : (h g : RunState) (base : Base) (p : Ptr) → h ≡ g → AreTexts h.debug.heap.row → base ≡ B.Cell p → base_refusal g base ≡ None → IsTextAt p h.debug
 text_of_base h g base p same texts is fine =
-    is_text_at p h.debug texts (ap (λ (x : Held). base_refusal x (B.Cell p)) same ∙ ap (base_refusal g) (sym is) ∙ fine)
+    is_text_at p h.debug texts (ap (λ (x : RunState). base_refusal x (B.Cell p)) same ∙ ap (base_refusal g) (sym is) ∙ fine)
 
 pub none_is : {X : Type 0} (o : Option X) → ((x : X) → o ≡ Some x → ⊥) → o ≡ None
 none_is (Some x) never = absurd (never x refl)
@@ -266,13 +266,13 @@ same_pointer p q e =
     ap (λ n. record { place = n; number = p.number }) (eqb-true _ _ both.0) ∙ ap (λ n. record { place = q.place; number = n }) (eqb-true _ _ both.1)
 
 -- the text under a name that is the same cell's
-same_text : (literals : List (List ℕ)) (h : Held) (p : Ptr) (base : Base) → is_same_base (B.Cell p) base ≡ true → base_text literals h base ≡ text_at p h.debug
+same_text : (literals : List (List ℕ)) (h : RunState) (p : Ptr) (base : Base) → is_same_base (B.Cell p) base ≡ true → base_text literals h base ≡ text_at p h.debug
 same_text literals h p (B.Cell q) e = ap (λ x. text_at x h.debug) (sym (same_pointer p q e))
 same_text literals h p B.Nothing e = cc
 same_text literals h p (B.Literal i) e = cc
 same_text literals h p (B.Local i) e = cc
 
-pub same_units : (literals : List (List ℕ)) (h : Held) (p : Ptr) (v : View) → is_same_base (B.Cell p) v.base ≡ true →
+pub same_units : (literals : List (List ℕ)) (h : RunState) (p : Ptr) (v : View) → is_same_base (B.Cell p) v.base ≡ true →
     window_units literals h v ≡ units_of_part (text_at p h.debug) v.position v.length
 same_units literals h p v e = ap (λ us. units_of_part us v.position v.length) (same_text literals h p v.base e)
 
@@ -284,12 +284,12 @@ read_back (Ok done) ts us says now = sym (same_ok us ts now)
 read_back (Err panic) ts us says now = cc
 
 -- an edit of the text in a cell, as it was carried out
-written_as : (h g : Held) (p : Ptr) (e : Edited) (answer : Result (Unit {0}) Panic) (ending : Ending) → answer ≡ answer_of e → ending ≡ ending_by answer →
+written_as : (h g : RunState) (p : Ptr) (e : Edited) (answer : Result (Unit {0}) Panic) (ending : Ending) → answer ≡ answer_of e → ending ≡ ending_by answer →
     g ≡ with_debug h (debug_edited h.debug p e) → OnOk answer (e ≡ Ok (text_at p g.debug)) → IsWritten h (B.Cell p) e ending g
-written_as h g p (Err panic) answer ending says ends_so held now = (ends_so ∙ ap ending_by says, held)
-written_as h g p (Ok us) answer ending says ends_so held now = (ends_so ∙ ap ending_by says, held, read_back answer (text_at p g.debug) us says now)
+written_as h g p (Err panic) answer ending says ends_so leaves now = (ends_so ∙ ap ending_by says, leaves)
+written_as h g p (Ok us) answer ending says ends_so leaves now = (ends_so ∙ ap ending_by says, leaves, read_back answer (text_at p g.debug) us says now)
 
-pub cell_written : (h g : Held) (p : Ptr) (e f : Edited) (answer : Result (Unit {0}) Panic) (ending : Ending) → e ≡ f → answer ≡ answer_of e → ending ≡ ending_by answer →
+pub cell_written : (h g : RunState) (p : Ptr) (e f : Edited) (answer : Result (Unit {0}) Panic) (ending : Ending) → e ≡ f → answer ≡ answer_of e → ending ≡ ending_by answer →
     g ≡ with_debug h (debug_edited h.debug p e) → OnOk answer (e ≡ Ok (text_at p g.debug)) → IsWritten h (B.Cell p) f ending g
-cell_written h g p e f answer ending same says ends_so held now =
-    subst (λ (x : Edited). IsWritten h (B.Cell p) x ending g) same (written_as h g p e answer ending says ends_so held now)
+cell_written h g p e f answer ending same says ends_so leaves now =
+    subst (λ (x : Edited). IsWritten h (B.Cell p) x ending g) same (written_as h g p e answer ending says ends_so leaves now)
