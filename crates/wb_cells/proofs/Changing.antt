@@ -179,6 +179,12 @@ module _ (words : List ℕ) (starts : List Bool) (top first : ℕ) (laid : IsLai
       ap length holds ∙ length-append _ _ ∙ ap (λ n. length (before p words laid.segments laid.spare cell) + suc (suc (suc (suc n)))) (length-append body' _ ∙ ap (λ n. n + length (after p words laid.segments laid.spare cell)) same ∙ sym (length-append cell.body _))
       ∙ sym (ap length cell.spelled ∙ length-append _ _)
 
+  whole' : AreWhole segments'
+  whole' =
+      let w : AreWhole segments = subst (λ ys. AreWhole ys) cell.is laid.whole in
+      let v = whole_back cell.front (live cell.kind cell.level p.number cell.body ∷ cell.back) w in
+      whole_both cell.front (live cell.kind cell.level p.number body' ∷ cell.back) (whole_front cell.front _ w) (rw same v.0, v.1, v.2, v.3)
+
   pub laid_held : IsLaid words' starts top first
   laid_held = record {
     segments = segments';
@@ -188,10 +194,7 @@ module _ (words : List ℕ) (starts : List Bool) (top first : ℕ) (laid : IsLai
     marked = laid.marked ∙ ap (λ bs. bs ++ replicate laid.unset false) (ap starts_of cell.is ∙ sym starts');
     ends = laid.ends ∙ ap total cell.is ∙ sym total';
     linked = laid.linked ∙ ap (λ ys. first_free 0 ys NO_PLACE) cell.is ∙ sym first_free';
-    whole =
-        let w : AreWhole segments = subst (λ ys. AreWhole ys) cell.is laid.whole in
-        let v = whole_back cell.front (live cell.kind cell.level p.number cell.body ∷ cell.back) w in
-        whole_both cell.front (live cell.kind cell.level p.number body' ∷ cell.back) (whole_front cell.front _ w) (rw same v.0, v.1, v.2, v.3);
+    whole = whole';
     merged = merged_swap cell.front cell.kind cell.kind cell.level cell.level p.number p.number cell.body body' cell.back (subst (λ ys. AreMerged ys) cell.is laid.merged);
     numbered = subst (λ hs. AllPairs (λ g h. g.number ≢ h.number) hs) (sym headers') (subst (λ ys. AllPairs (λ g h. g.number ≢ h.number) (headers (row_from 0 ys))) cell.is laid.numbered);
     covered = rw length-held laid.covered;
@@ -201,7 +204,7 @@ module _ (words : List ℕ) (starts : List Bool) (top first : ℕ) (laid : IsLai
 
   pub spelled-held : spelled words' top ≡ with_payload p body' (spelled words top)
   spelled-held =
-      spelled_is words' laid.spare segments' top spelled' (laid.ends ∙ ap total cell.is ∙ sym total')
+      spelled_is words' laid.spare segments' top spelled' (laid.ends ∙ ap total cell.is ∙ sym total') whole'
       ∙ sym (changed-split p cell.front cell.kind cell.level cell.body body' cell.back 0 (cell.here ∙ sym (zero-add _)) same)
       ∙ ap (λ ys. with_payload p body' (row_from 0 ys)) (sym cell.is)
       ∙ ap (with_payload p body') (sym (spelled-laid words starts top first laid))

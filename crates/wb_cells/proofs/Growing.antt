@@ -47,7 +47,7 @@ module _ (words : List ℕ) (starts : List Bool) (top first : ℕ) (laid : IsLai
   pub spelled-grown : spelled (words ++ more) top ≡ spelled words top
   spelled-grown =
       spelled_is (words ++ more) (laid.spare ++ more) laid.segments top
-      (ap (λ ws. ws ++ more) laid.spelled ∙ append_assoc (words_of 0 laid.segments NO_PLACE) laid.spare more) laid.ends
+      (ap (λ ws. ws ++ more) laid.spelled ∙ append_assoc (words_of 0 laid.segments NO_PLACE) laid.spare more) laid.ends laid.whole
       ∙ sym (spelled-laid words starts top first laid)
 
 pub laid_marked : (words : List ℕ) (starts : List Bool) (top first bits : ℕ) → IsLaid words starts top first → IsLaid words (starts ++ replicate bits false) top first
