@@ -1,9 +1,10 @@
 //! The calls on texts in cells, and the edit of a buffer that may read one.
 
-ghost use Rattle.std.specs.Prelude.{◌≡◌, ◌+◌, ◌*◌, ◌^◌, ◌<◌, ◌≤◌, [], length, IfOk, IfSome, IsOk, OnErr, OnOk};
+ghost use Rattle.std.specs.Prelude.{◌≡◌, ◌+◌, ◌*◌, ◌^◌, ◌<◌, ◌≤◌, [], length, None, IfOk, IfSome, IsOk, OnErr, OnOk};
 ghost use Rattle.wb_hbuf.specs.Drafts.{IsEdited, IsMeasured};
 ghost use Rattle.wb_hbuf.specs.Sources.{IsApart, IsForeign, IsReadableAlone, IsSource, SuitsEdit, cell_edited, edit_text, source_units};
-ghost use Rattle.wb_model.specs.Debug.{IsSoundDebug, alloc_made, realloc_made};
+ghost use Rattle.wb_model.specs.Debug.{IsSoundDebug, alloc_made, answer_in, realloc_made};
+ghost use Rattle.wb_model.specs.Heap.{alloc_request, realloc_request};
 ghost use Rattle.wb_model.specs.Reading.{printed, printed_unit};
 ghost use Rattle.wb_model.specs.Row.{cell_at, cell_length};
 ghost use Rattle.wb_model.specs.TextCells.{IsGrantedText, IsRemadeText, IsTextAt, debug_edited, max_at, text_at};
@@ -13,22 +14,24 @@ use crate::reading::{Part, count, foreign_unit};
 use crate::sources::{Edit, Source};
 use crate::writing::{open_gap, settle, write_units};
 use arrayvec::ArrayVec;
-use wb_debug::debug_heap::DebugHeap;
+use wb_debug::DebugHeap;
 use wb_model::heap::{Gave, Kind, Panic, Ptr};
 use wb_model::limits::MOST_UNITS;
 use wb_model::memory::NoMemory;
 use wb_model::printed_line::Line;
-use wb_text::buf::Buf;
+use wb_text::Buf;
 
 /// An attempt to get a cell for an empty text that may have so many units.
 ///
-/// `Denied` and `Ceiling` are the heap's answers. `NoMemory` leaves the heap as it was. Source: Symbian OS v9 SDK
+/// `Denied` and `Ceiling` are the heap's answers. `NoMemory` leaves the heap as it was, and never comes in place of
+/// `Ceiling`. Source: Symbian OS v9 SDK
 /// reference, HBufC::New, and this project's profile for the length of the cell.
 pub fn make(heap: &mut DebugHeap, n: u32) -> Result<Gave, NoMemory>
     requires units { n ≤ MOST_UNITS }
     requires number { heap.old.attempts + 1 < 2 ^ 32 }
     ensures gave { IfOk result (λ gave. gave ≡ (alloc_made heap.old (4 + 2 * n) Kind.Text).gave) }
     ensures made { OnOk result (heap.new ≡ (alloc_made heap.old (4 + 2 * n) Kind.Text).debug) }
+    ensures cut { answer_in heap.old (alloc_request heap.old.heap (4 + 2 * n)) ≡ None → IsOk result }
     ensures empty { IfOk result (IsGrantedText heap.new []) }
     ensures err { OnErr result (heap.new ≡ heap.old) }
     ensures sound { IsSoundDebug heap.new }
@@ -39,7 +42,7 @@ pub fn make(heap: &mut DebugHeap, n: u32) -> Result<Gave, NoMemory>
 /// Gives a text another maximum: a reallocation of its cell for so many units, which keeps the text.
 ///
 /// Its length may not pass them. `Denied` and `Ceiling` are the heap's answers, and leave the cell as it was.
-/// `NoMemory` leaves the heap as it was, and doesn't come where the cell gets no longer. Source: Symbian OS v9 SDK
+/// `NoMemory` leaves the heap as it was, and doesn't come where the cell gets no longer or in place of `Ceiling`. Source: Symbian OS v9 SDK
 /// reference, HBufC::ReAlloc, and this project's profile for the length of the cell.
 pub fn remake(heap: &mut DebugHeap, ptr: Ptr, n: u32) -> Result<Gave, NoMemory>
     requires text { IsTextAt ptr heap.old }
@@ -50,6 +53,7 @@ pub fn remake(heap: &mut DebugHeap, ptr: Ptr, n: u32) -> Result<Gave, NoMemory>
     ensures made { OnOk result (IfSome (cell_at ptr heap.old.heap.row) (λ c. heap.new ≡ (realloc_made heap.old c (4 + 2 * n)).debug)) }
     ensures kept { IfOk result (IsRemadeText heap.new ptr (text_at ptr heap.old)) }
     ensures shorter { IfSome (cell_at ptr heap.old.heap.row) (λ c. cell_length (4 + 2 * n) ≤ c.head.length → IsOk result) }
+    ensures cut { IfSome (cell_at ptr heap.old.heap.row) (λ c. answer_in heap.old (realloc_request heap.old.heap c.head (4 + 2 * n)) ≡ None → IsOk result) }
     ensures err { OnErr result (heap.new ≡ heap.old) }
     ensures sound { IsSoundDebug heap.new }
 {
@@ -87,7 +91,7 @@ fn measure(heap: &DebugHeap, ptr: Ptr) -> Measured
     match heap.header(ptr) {
         Some(header) => Measured {
             length: length(heap, ptr),
-            max: (header.length - 20) / 2,
+            max: (header.usable() - 4) / 2,
         },
         None => unreachable!(),
     }
@@ -95,8 +99,8 @@ fn measure(heap: &DebugHeap, ptr: Ptr) -> Measured
 
 /// Changes the text in a cell by the units of a source, which count as they stood before.
 ///
-/// `Panic::POSITION_OUT_OF_BOUNDS` where an insertion's position is past the end, then `Panic::TOO_LONG` where the text would be longer than its
-/// maximum. A refusal leaves the heap as it was. Other cells stay. Source: Symbian OS v9 SDK reference, 16-bit
+/// `Panic::POSITION_OUT_OF_BOUNDS` where an insertion's position is past the end, then `Panic::TOO_LONG` where the text
+/// would be longer than its maximum. A refusal leaves the heap as it was. Other cells stay. Source: Symbian OS v9 SDK reference, 16-bit
 /// descriptors.
 pub fn edit(heap: &mut DebugHeap, ptr: Ptr, change: Edit, source: Source) -> Result<(), Panic>
     requires text { IsTextAt ptr heap.old }
@@ -171,8 +175,8 @@ fn insert(heap: &mut DebugHeap, ptr: Ptr, at: u32, source: Source) -> Result<(),
 
 /// Takes so many units from a position on out of the text in a cell, or all from there where there are fewer.
 ///
-/// `Panic::POSITION_OUT_OF_BOUNDS` where the position is past the end, and then the heap is as it was. Units past the new end are zero. Other
-/// cells stay. Source: Symbian OS v9 SDK reference, 16-bit descriptors.
+/// `Panic::POSITION_OUT_OF_BOUNDS` where the position is past the end, and then the heap is as it was. Units past the new
+/// end are zero. Other cells stay. Source: Symbian OS v9 SDK reference, 16-bit descriptors.
 pub fn delete(heap: &mut DebugHeap, ptr: Ptr, position: u32, count: u32) -> Result<(), Panic>
     requires { IsTextAt ptr heap.old }
     ensures answer { result ≡ answer_of (delete_text (text_at ptr heap.old) position count) }
@@ -199,8 +203,8 @@ pub fn delete(heap: &mut DebugHeap, ptr: Ptr, position: u32, count: u32) -> Resu
 
 /// Gives the text in a cell another length: units past it become zero, and a longer text gains zeros.
 ///
-/// `Panic::TOO_LONG` where the length is above the maximum, and then the heap is as it was. Other cells stay. Source: Symbian OS
-/// v9 SDK reference, 16-bit descriptors.
+/// `Panic::TOO_LONG` where the length is above the maximum, and then the heap is as it was. Other cells stay. Source:
+/// Symbian OS v9 SDK reference, 16-bit descriptors.
 pub fn set_length(heap: &mut DebugHeap, ptr: Ptr, n: u32) -> Result<(), Panic>
     requires { IsTextAt ptr heap.old }
     ensures answer { result ≡ answer_of (set_length_text (max_at ptr heap.old) (text_at ptr heap.old) n) }
@@ -219,8 +223,8 @@ pub fn set_length(heap: &mut DebugHeap, ptr: Ptr, n: u32) -> Result<(), Panic>
 /// Changes a buffer by the units of a source, which count as they stood before. The heap is where the source's cell
 /// stands.
 ///
-/// `Panic::POSITION_OUT_OF_BOUNDS` where an insertion's position is past the end, then `Panic::TOO_LONG` where the text would be longer than its
-/// maximum. A refusal leaves the buffer as it was. Source: Symbian OS v9 SDK reference, 16-bit descriptors.
+/// `Panic::POSITION_OUT_OF_BOUNDS` where an insertion's position is past the end, then `Panic::TOO_LONG` where the text
+/// would be longer than its maximum. A refusal leaves the buffer as it was. Source: Symbian OS v9 SDK reference, 16-bit descriptors.
 pub fn edit_buf(heap: &DebugHeap, buf: &mut Buf, change: Edit, source: Source) -> Result<(), Panic>
     requires source { IsSource heap.now source }
     requires suits { SuitsEdit change source }
@@ -270,8 +274,7 @@ fn printed_unit(unit: u16) -> u8
     }
 }
 
-/// The line that a source prints: its first 80 units, each that isn't a printable ASCII character as a dot. Source: this
-/// project's profile.
+/// The line that a source prints: its first 80 units, each that isn't a printable ASCII character as a dot.
 pub fn print_units(heap: &DebugHeap, source: Source) -> Line
     requires source { IsSource heap.now source }
     requires foreign { IsForeign source }
