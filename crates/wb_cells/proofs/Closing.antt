@@ -5,6 +5,7 @@ use Rattle.std.specs.List.{replace_range}
 use Rattle.std.proofs.lemmas.List.{append-nil, length-drop, replicate-append-replicate}
 use Rattle.std.proofs.lemmas.List.Kept.{AllPairs-filter}
 use Rattle.std.proofs.lemmas.Bool.{eq-eqb, ne_eqb, cases_eq}
+use Rattle.wb_chunk.specs.declared.TheConstants.{MOST_WORDS}
 use Rattle.wb_model.specs.declared.heap.Ptr.{Ptr}
 use Rattle.wb_model.specs.Row.{Cell, headers, is_at, without}
 use Rattle.wb_model.specs.Spelling.{spelled}
@@ -32,7 +33,7 @@ begins_total (free body ∷ xs) b = absurd b
 
 -- what a closed hole leaves
 pub record IsClosed (words : List ℕ) (bits : List Bool) (top first : ℕ) (cells : List (Cell (List ℕ))) (count : ℕ) : Type 0 where
-  pub laid : length words ≡ count → AllPairs (λ g h. g.number ≢ h.number) (headers cells) → count ≤ 4 * length bits → count % 4 ≡ 0 → count ≤ 4194304 →
+  pub laid : length words ≡ count → AllPairs (λ g h. g.number ≢ h.number) (headers cells) → count ≤ 4 * length bits → count % 4 ≡ 0 → count ≤ MOST_WORDS →
       IsLaid words bits top first
   pub row : spelled words top ≡ cells
 

@@ -2,6 +2,7 @@
 use Rattle.std.proofs.Common.{◌≡◌, ◌≢◌, ℕ, suc, ◌+◌, ◌-◌, ◌*◌, ◌/◌, ◌%◌, ◌<◌, ◌≤◌, List, [], ◌∷◌, ◌++◌, length, slice_set, Bool, true, false, take, drop, replicate, refl, sym, ◌∙◌, ap, subst, arith, zero-add, append_assoc, length-append, All, AllPairs}
 use Rattle.std.specs.List.{replace_range}
 use Rattle.std.proofs.lemmas.List.{append-nil, length-drop, length-take-le, length-replicate, replicate-append-replicate, take-append-drop, length-set, set_at, drop_all}
+use Rattle.wb_chunk.specs.declared.TheConstants.{MOST_WORDS}
 use Rattle.wb_model.specs.declared.heap.Kind.{Kind}
 use Rattle.wb_model.specs.Row.{Cell, headers, inserted}
 use Rattle.wb_model.specs.Spelling.{spelled}
@@ -130,7 +131,7 @@ module _ (words : List ℕ) (starts : List Bool) (top first place bytes : ℕ) (
 
   pub laid_taken : 1 ≤ number → state_of kind < 65552 → All (λ h. h.number ≢ number) (headers (row_from 0 segments)) →
       AllPairs (λ g h. g.number ≢ h.number) (headers (row_from 0 segments)) →
-      length words ≤ 4 * length starts → length words % 4 ≡ 0 → length words ≤ 4194304 → IsLaid written (slice_set starts (place / 16) true) top first
+      length words ≤ 4 * length starts → length words % 4 ≡ 0 → length words ≤ MOST_WORDS → IsLaid written (slice_set starts (place / 16) true) top first
   laid_taken numbered bound unused apart covered four bounded = record {
     segments = after;
     spare = hole.spare;

@@ -8,7 +8,7 @@ ghost use Rattle.wb_cells.specs.Segments.{state_of};
 ghost use Rattle.wb_cells.specs.States.{IsState};
 
 use std::alloc::AllocError;
-use wb_chunk::Chunk;
+use wb_chunk::{Chunk, MOST_WORDS};
 use wb_model::heap::{Header, Kind};
 
 /// The link of the last free cell.
@@ -86,7 +86,7 @@ pub fn write_header(words: &mut Chunk, place: u32, bytes: u32, state: u32, link:
 /// Appends words that are 0, up to so many words. Where memory is refused, the words are as they were; it takes none
 /// where there are so many.
 pub fn grow_to(words: &mut Chunk, count: u32) -> Result<(), AllocError>
-    requires { count ≤ 4194304 }
+    requires { count ≤ MOST_WORDS }
     ensures grown { OnOk result (words.new ≡ words.old ++ replicate (count - length words.old) 0) }
     ensures enough { count ≤ length words.old → IsOk result }
     ensures refused { OnErr result (words.new ≡ words.old) }

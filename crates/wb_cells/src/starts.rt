@@ -20,14 +20,16 @@ pub struct Starts {
 }
 
 impl Model for Starts {
-    ghost use Rattle.std.specs.Prelude.{List, Bool, length, ◌≤◌};
+    ghost use Rattle.std.specs.Prelude.{List, Bool, length, ◌*◌, ◌≤◌};
     ghost use Rattle.wb_cells.specs.Bits.{bits_of};
 
     ghost Value = { List Bool };
 
     ghost view = { λ s. bits_of s.words };
 
-    ghost invariant = { λ s. length s.words ≤ 32768 };
+    ghost use Rattle.wb_cells.specs.declared.starts.TheConstants.{MOST_PLACES};
+
+    ghost invariant = { λ s. 32 * length s.words ≤ MOST_PLACES };
 }
 
 impl Starts {

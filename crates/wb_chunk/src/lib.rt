@@ -32,13 +32,13 @@ pub struct Chunk {
 
 impl Model for Chunk {
     ghost use Rattle.std.specs.Prelude.{ℕ, List};
-    ghost use Rattle.wb_chunk.specs.Holding.{words_of, IsHeld};
+    ghost use Rattle.wb_chunk.specs.Fields.{words_of, IsKept};
 
     ghost Value = { List ℕ };
 
     ghost view = { λ c. words_of c.region };
 
-    ghost invariant = { λ c. IsHeld c.region c.count c.capacity c.alloc };
+    ghost invariant = { λ c. IsKept c.region c.count c.capacity c.alloc };
 }
 
 impl Drop for Chunk {

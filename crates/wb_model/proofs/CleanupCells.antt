@@ -3,6 +3,7 @@ use Rattle.std.proofs.Common.{◌≡◌, ℕ, suc, ◌+◌, ◌*◌, ◌^◌, �
 use Rattle.std.specs.Prelude.{nat_lt}
 use Rattle.std.proofs.lemmas.Bool.{lt-ltb}
 use Rattle.std.proofs.lemmas.List.{take-append-drop}
+use Rattle.std.proofs.lemmas.Option.{same_Some}
 use Rattle.wb_model.specs.declared.heap.Ptr.{Ptr}
 use Rattle.wb_model.specs.declared.heap.Item.{Item}
 use Rattle.wb_model.specs.declared.heap.Item.TheVariants.{Free, Delete, Call}
@@ -25,6 +26,11 @@ cleanup-read slots ws items is =
     let n = 4 * length items in
     ap (items_in (length items)) (sym (take-append-drop n ws) ∙ ap (λ vs. vs ++ drop n ws) is.words)
     ∙ items-read items (drop n ws) is.are_items
+
+-- so many slots spell one list of items at most
+pub same-items : (slots : ℕ) (ws : List ℕ) (a b : List Item) → length a ≡ length b → IsCleanup slots ws a → IsCleanup slots ws b → a ≡ b
+same-items slots ws a b n x y =
+    same_Some a b (sym (cleanup-read slots ws a x) ∙ ap (λ k. items_in k ws) n ∙ cleanup-read slots ws b y)
 
 abbrev at : ℕ → ℕ → Ptr
 at place number = record { place = place; number = number }

@@ -105,12 +105,10 @@ impl Heap {
         requires unused { All (λ h. h.number ≢ number) (headers self.old.row) }
         ensures pointer { IfOk result (λ ptr. ptr ≡ record { place = place_in self.old length; number = number }) }
         ensures granted { OnOk result (self.new ≡ heap_with self.old length kind number level) }
-
         ensures short { (result ≡ Err HeapFault.TooShort) ↔ (self.old.limit < place_in self.old length + length) }
         ensures no_other { IfErr result (λ fault. fault ≢ HeapFault.TooShort → fault ≡ HeapFault.NoMemory) }
         ensures no_growth { committed_with self.old length ≤ self.old.held → result ≢ Err HeapFault.NoMemory }
         ensures err { OnErr result (self.new ≡ self.old) }
-
         ensures sound { IsSoundHeap self.new }
     {
         let place = self.place_for(length);

@@ -3,7 +3,7 @@ use Rattle.std.specs.Prelude.{slice_range}
 use Rattle.std.specs.List.{replace_range}
 use Rattle.wb_model.specs.CellRow.{payload_of, with_payload}
 use Rattle.wb_cells.specs.Inside.{cells_in}
-use Rattle.wb_cells.proofs.Changing.{valid, some_cell, payload_within, copy_holds, length-copied, laid_held, view_held}
+use Rattle.wb_cells.proofs.Changing.{valid, some_cell, payload_within, copy_holds, length-copied, laid_changed, view_changed}
 use Rattle.wb_cells.proofs.Sound.{sound_laid}
 use Rattle.wb_cells.proofs.cells.Cells.copy_payload.Goals as goal
 
@@ -26,7 +26,7 @@ invariant_of-self c =
     let moved = c.copy.ensures ∙ ap (λ k. replace_range c.self.inside.words c.payload_at-2.result (c.payload_at-2.result + c.args.n) (slice_range c.self.inside.words k (k + c.args.n))) c.payload_at.ensures
     ∙ ap (λ k. replace_range c.self.inside.words k (k + c.args.n) (slice_range c.self.inside.words (c.args.from.place / 16 * 4 + 4) (c.args.from.place / 16 * 4 + 4 + c.args.n))) c.payload_at-2.ensures in
     let same = length-copied _ _ _ _ _ v.cell w.cell c.args.n source target in
-    laid_held _ _ _ _ c.self.invariant c.args.to w.cell _ _ same (moved ∙ copy_holds _ _ _ _ _ v.cell w.cell c.args.n source target)
+    laid_changed _ _ _ _ c.self.invariant c.args.to w.cell _ _ same (moved ∙ copy_holds _ _ _ _ _ v.cell w.cell c.args.n source target)
 
 pub returns-clause-copied : goal.returns-clause-copied
 returns-clause-copied c =
@@ -38,7 +38,7 @@ returns-clause-copied c =
     ∙ ap (λ k. replace_range c.self.inside.words k (k + c.args.n) (slice_range c.self.inside.words (c.args.from.place / 16 * 4 + 4) (c.args.from.place / 16 * 4 + 4 + c.args.n))) c.payload_at-2.ensures in
     let same = length-copied _ _ _ _ _ v.cell w.cell c.args.n source target in
     subst (λ s. cells_in c.copy.new.self c.self.inside.ends.top ≡ record { row = with_payload c.args.to (take c.args.n s ++ drop c.args.n (payload_of c.args.to c.args.self.now.row)) c.args.self.now.row; held = c.args.self.now.held }) (sym v.payload)
-    (view_held _ _ _ _ c.self.invariant c.args.to w.cell _ (λ b. take c.args.n v.cell.body ++ drop c.args.n b) same
+    (view_changed _ _ _ _ c.self.invariant c.args.to w.cell _ (λ b. take c.args.n v.cell.body ++ drop c.args.n b) same
     (moved ∙ copy_holds _ _ _ _ _ v.cell w.cell c.args.n source target) c.args.self.now c.self.view_is w.payload)
 
 pub returns-clause-sound : goal.returns-clause-sound

@@ -3,7 +3,7 @@ use Rattle.std.proofs.lemmas.List.{length-set}
 use Rattle.wb_chunk.specs.Halves.{with_half}
 use Rattle.wb_model.specs.CellRow.{payload_of}
 use Rattle.wb_cells.proofs.Halving.{mixed, with_half-at}
-use Rattle.wb_cells.proofs.Changing.{reached, payload_within, word_of-payload, set_holds, laid_held, view_held}
+use Rattle.wb_cells.proofs.Changing.{reached, payload_within, word_of-payload, set_holds, laid_changed, view_changed}
 use Rattle.wb_cells.proofs.Sound.{sound_laid}
 use Rattle.wb_cells.proofs.cells.Cells.set_payload_half.Goals as goal
 
@@ -27,7 +27,7 @@ invariant_of-self c =
     let new = mixed (get_or r.cell.body (c.args.i / 2) 0) c.args.i c.args.v in
     let holds = c.set_half.ensures ∙ ap (λ k. with_half c.self.inside.words (2 * k + c.args.i) c.args.v) c.payload_at.ensures ∙ with_half-at c.self.inside.words r.cell.body (c.args.ptr.place / 16 * 4 + 4) c.args.i c.args.v word
     ∙ set_holds _ _ _ _ r.cell (c.args.i / 2) new r.within in
-    laid_held _ _ _ _ c.self.invariant c.args.ptr r.cell _ _ (length-set r.cell.body (c.args.i / 2) new) holds
+    laid_changed _ _ _ _ c.self.invariant c.args.ptr r.cell _ _ (length-set r.cell.body (c.args.i / 2) new) holds
 
 pub returns-clause-changed : goal.returns-clause-changed
 returns-clause-changed c =
@@ -37,7 +37,7 @@ returns-clause-changed c =
     let new = mixed (get_or r.cell.body (c.args.i / 2) 0) c.args.i c.args.v in
     let holds = c.set_half.ensures ∙ ap (λ k. with_half c.self.inside.words (2 * k + c.args.i) c.args.v) c.payload_at.ensures ∙ with_half-at c.self.inside.words r.cell.body (c.args.ptr.place / 16 * 4 + 4) c.args.i c.args.v word
     ∙ set_holds _ _ _ _ r.cell (c.args.i / 2) new r.within in
-    view_held _ _ _ _ c.self.invariant c.args.ptr r.cell _ (λ b. with_half b c.args.i c.args.v) (length-set r.cell.body (c.args.i / 2) new) holds
+    view_changed _ _ _ _ c.self.invariant c.args.ptr r.cell _ (λ b. with_half b c.args.i c.args.v) (length-set r.cell.body (c.args.i / 2) new) holds
     c.args.self.now c.self.view_is r.payload
 
 pub returns-clause-sound : goal.returns-clause-sound
