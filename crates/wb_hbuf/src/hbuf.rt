@@ -1,14 +1,14 @@
 //! The calls on texts in cells, and the edit of a buffer that may read one.
 
-ghost use Rattle.std.specs.Prelude.{◌≡◌, ◌+◌, ◌*◌, ◌^◌, ◌<◌, ◌≤◌, [], length, None, IfOk, IfSome, IsOk, OnErr, OnOk};
-ghost use Rattle.wb_hbuf.specs.Drafts.{IsEdited, IsMeasured};
+ghost use Rattle.std.specs.Prelude.{◌≡◌, ◌+◌, ◌*◌, ◌^◌, ◌<◌, ◌≤◌, ◌++◌, [], length, take, None, IfOk, IfSome, IsOk, OnErr, OnOk};
+ghost use Rattle.wb_hbuf.specs.Drafts.{IsAhead, IsEdited, IsMeasured};
 ghost use Rattle.wb_hbuf.specs.Sources.{IsApart, IsForeign, IsReadableAlone, IsSource, SuitsEdit, cell_edited, edit_text, source_units};
 ghost use Rattle.wb_model.specs.Debug.{IsSoundDebug, alloc_made, answer_in, realloc_made};
 ghost use Rattle.wb_model.specs.Heap.{alloc_request, realloc_request};
 ghost use Rattle.wb_model.specs.Reading.{printed, printed_unit};
 ghost use Rattle.wb_model.specs.Row.{cell_at, cell_length};
 ghost use Rattle.wb_model.specs.TextCells.{IsGrantedText, IsRemadeText, IsTextAt, debug_edited, max_at, text_at};
-ghost use Rattle.wb_model.specs.Texts.{answer_of, delete_text, edited, set_length_text};
+ghost use Rattle.wb_model.specs.Texts.{answer_of, at_most, delete_text, edited, set_length_text};
 
 use crate::reading::{Part, count, foreign_unit};
 use crate::sources::{Edit, Source};
@@ -114,25 +114,28 @@ pub fn edit(heap: &mut DebugHeap, ptr: Ptr, change: Edit, source: Source) -> Res
     ensures sound { IsSoundDebug heap.new }
 {
     match change {
-        Edit::Copy => copy(heap, ptr, source),
+        Edit::Copy => overwrite(heap, ptr, 0, source),
         Edit::Append => append(heap, ptr, source),
         Edit::Insert(at) => insert(heap, ptr, at, source),
     }
 }
 
-fn copy(heap: &mut DebugHeap, ptr: Ptr, source: Source) -> Result<(), Panic>
+/// Puts the units of a source in place of the text from a position on.
+fn overwrite(heap: &mut DebugHeap, ptr: Ptr, at: u32, source: Source) -> Result<(), Panic>
     requires text { IsTextAt ptr heap.old }
     requires source { IsSource heap.old source }
     requires apart { IsApart ptr source }
-    ensures { IsEdited ptr heap.old heap.new result (cell_edited heap.old ptr Edit.Copy source.entry) }
+    requires within { at ≤ length (text_at ptr heap.old) }
+    requires ahead { IsAhead at (length (text_at ptr heap.old)) source }
+    ensures { IsEdited ptr heap.old heap.new result (at_most (max_at ptr heap.old) (take at (text_at ptr heap.old) ++ source_units heap.old (text_at ptr heap.old) source.entry)) }
 {
     let text = measure(heap, ptr);
     let n = count(source);
-    if text.max < n {
+    if text.max - at < n {
         return Err(Panic::TOO_LONG);
     }
-    write_units(heap, ptr, 0, source);
-    settle(heap, ptr, n);
+    write_units(heap, ptr, at, source);
+    settle(heap, ptr, at + n);
     Ok(())
 }
 
@@ -142,14 +145,8 @@ fn append(heap: &mut DebugHeap, ptr: Ptr, source: Source) -> Result<(), Panic>
     requires apart { IsApart ptr source }
     ensures { IsEdited ptr heap.old heap.new result (cell_edited heap.old ptr Edit.Append source.entry) }
 {
-    let text = measure(heap, ptr);
-    let n = count(source);
-    if text.max - text.length < n {
-        return Err(Panic::TOO_LONG);
-    }
-    write_units(heap, ptr, text.length, source);
-    settle(heap, ptr, text.length + n);
-    Ok(())
+    let end = length(heap, ptr);
+    overwrite(heap, ptr, end, source)
 }
 
 fn insert(heap: &mut DebugHeap, ptr: Ptr, at: u32, source: Source) -> Result<(), Panic>
