@@ -219,8 +219,7 @@ impl Cells {
         ensures changed { self.new ≡ record self.old { row = with_level ptr level self.old.row } }
         ensures sound { IsSoundCells self.new }
     {
-        self.words
-            .set_word(layout::words_in(ptr.place) + 2, level);
+        self.words.set_word(layout::words_in(ptr.place) + 2, level);
     }
 
     /// The word at an index of a payload. An index within a payload says that the pointer names a cell.

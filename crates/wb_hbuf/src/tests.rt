@@ -4,7 +4,9 @@ ghost use Rattle.std.specs.Prelude.{◌+◌, ◌^◌, ◌<◌, ◌≤◌, ◌≢
 ghost use Rattle.wb_model.specs.Debug.{IsSoundDebug};
 ghost use Rattle.wb_model.specs.TextCells.{IsTextAt};
 
-use crate::{Edit, Source, delete, edit, edit_buf, length, make, max_len, print_units, remake, set_length};
+use crate::{
+    Edit, Source, delete, edit, edit_buf, length, make, max_len, print_units, remake, set_length,
+};
 use std::alloc::{AllocError, Global};
 use std::test::Fail;
 use wb_debug::DebugHeap;
@@ -115,8 +117,24 @@ fn a_text_is_as_long_as_its_cell_has_room(rt: HostRuntime) -> Result<(), Fail> {
     let letters = chars(rt.alloc(), b"abcdefg")?;
     let ptr = granted(&mut heap, 4)?;
     assert_eq!(rt; (length(&heap, ptr), max_len(&heap, ptr)), (0, 6));
-    assert_eq!(rt; edit(&mut heap, ptr, Edit::Append, Source::Literal(&letters, 0, 6)), Ok(()));
-    assert_eq!(rt; edit(&mut heap, ptr, Edit::Append, Source::Literal(&letters, 6, 1)), Err(Panic::TOO_LONG));
+    assert_eq!(rt;
+        edit(
+            &mut heap,
+            ptr,
+            Edit::Append,
+            Source::Literal(&letters, 0, 6)
+        ),
+        Ok(())
+    );
+    assert_eq!(rt;
+        edit(
+            &mut heap,
+            ptr,
+            Edit::Append,
+            Source::Literal(&letters, 6, 1)
+        ),
+        Err(Panic::TOO_LONG)
+    );
     assert_eq!(rt; length(&heap, ptr), 6);
     assert_eq!(rt; printed(&heap, ptr).as_slice(), b"abcdef".as_slice());
     Ok(())
@@ -128,10 +146,21 @@ fn edits_one_after_another(rt: HostRuntime) -> Result<(), Fail> {
     let small = chars(rt.alloc(), b"abcd")?;
     let large = chars(rt.alloc(), b"XY")?;
     let ptr = filled(&mut heap, 8, &small, 4)?;
-    assert_eq!(rt; edit(&mut heap, ptr, Edit::Insert(1), Source::Literal(&large, 0, 2)), Ok(()));
+    assert_eq!(rt;
+        edit(
+            &mut heap,
+            ptr,
+            Edit::Insert(1),
+            Source::Literal(&large, 0, 2)
+        ),
+        Ok(())
+    );
     assert_eq!(rt; printed(&heap, ptr).as_slice(), b"aXYbcd".as_slice());
     assert_eq!(rt; delete(&mut heap, ptr, 4, 99), Ok(()));
-    assert_eq!(rt; edit(&mut heap, ptr, Edit::Append, Source::Own(2, 2)), Ok(()));
+    assert_eq!(rt;
+        edit(&mut heap, ptr, Edit::Append, Source::Own(2, 2)),
+        Ok(())
+    );
     assert_eq!(rt; set_length(&mut heap, ptr, 8), Ok(()));
     assert_eq!(rt; printed(&heap, ptr).as_slice(), b"aXYbYb..".as_slice());
     Ok(())
@@ -143,10 +172,24 @@ fn edits_of_a_buffer(rt: HostRuntime) -> Result<(), Fail> {
     let small = chars(rt.alloc(), b"abcd")?;
     let large = chars(rt.alloc(), b"XY")?;
     let mut buf = Buf::new(8);
-    assert_eq!(rt; edit_buf(&heap, &mut buf, Edit::Copy, Source::Literal(&small, 0, 4)), Ok(()));
-    assert_eq!(rt; edit_buf(&heap, &mut buf, Edit::Insert(1), Source::Literal(&large, 0, 2)), Ok(()));
+    assert_eq!(rt;
+        edit_buf(&heap, &mut buf, Edit::Copy, Source::Literal(&small, 0, 4)),
+        Ok(())
+    );
+    assert_eq!(rt;
+        edit_buf(
+            &heap,
+            &mut buf,
+            Edit::Insert(1),
+            Source::Literal(&large, 0, 2)
+        ),
+        Ok(())
+    );
     assert_eq!(rt; buf.delete(4, 99), Ok(()));
-    assert_eq!(rt; edit_buf(&heap, &mut buf, Edit::Append, Source::Own(2, 2)), Ok(()));
+    assert_eq!(rt;
+        edit_buf(&heap, &mut buf, Edit::Append, Source::Own(2, 2)),
+        Ok(())
+    );
     assert_eq!(rt; buf.set_length(8), Ok(()));
     let line = print_units(&heap, Source::Buffer(&buf, 0, 8));
     assert_eq!(rt; line.as_slice(), b"aXYbYb..".as_slice());
@@ -160,7 +203,10 @@ fn a_text_is_read_as_it_stood(rt: HostRuntime) -> Result<(), Fail> {
     let ptr = filled(&mut heap, 20, &letters, 6)?;
     assert_eq!(rt; edit(&mut heap, ptr, Edit::Copy, Source::Own(2, 3)), Ok(()));
     assert_eq!(rt; printed(&heap, ptr).as_slice(), b"cde".as_slice());
-    assert_eq!(rt; edit(&mut heap, ptr, Edit::Append, Source::Own(1, 5)), Ok(()));
+    assert_eq!(rt;
+        edit(&mut heap, ptr, Edit::Append, Source::Own(1, 5)),
+        Ok(())
+    );
     assert_eq!(rt; printed(&heap, ptr).as_slice(), b"cdede...".as_slice());
     Ok(())
 }
@@ -170,9 +216,18 @@ fn a_text_is_changed_by_its_own_units(rt: HostRuntime) -> Result<(), Fail> {
     let mut heap = DebugHeap::new(rt.alloc(), Rule::Unlimited, SHAPE)?;
     let letters = chars(rt.alloc(), b"abc")?;
     let ptr = filled(&mut heap, 4, &letters, 3)?;
-    assert_eq!(rt; edit(&mut heap, ptr, Edit::Append, Source::Own(0, 3)), Ok(()));
-    assert_eq!(rt; edit(&mut heap, ptr, Edit::Append, Source::Own(6, 1)), Err(Panic::TOO_LONG));
-    assert_eq!(rt; edit(&mut heap, ptr, Edit::Copy, Source::Own(5, 7)), Err(Panic::TOO_LONG));
+    assert_eq!(rt;
+        edit(&mut heap, ptr, Edit::Append, Source::Own(0, 3)),
+        Ok(())
+    );
+    assert_eq!(rt;
+        edit(&mut heap, ptr, Edit::Append, Source::Own(6, 1)),
+        Err(Panic::TOO_LONG)
+    );
+    assert_eq!(rt;
+        edit(&mut heap, ptr, Edit::Copy, Source::Own(5, 7)),
+        Err(Panic::TOO_LONG)
+    );
     assert_eq!(rt; printed(&heap, ptr).as_slice(), b"abcabc".as_slice());
     assert_eq!(rt; edit(&mut heap, ptr, Edit::Copy, Source::Own(5, 3)), Ok(()));
     assert_eq!(rt; printed(&heap, ptr).as_slice(), b"c..".as_slice());
@@ -188,9 +243,18 @@ fn a_text_is_changed_by_another_cells(rt: HostRuntime) -> Result<(), Fail> {
     let other = filled(&mut heap, 8, &letters, 7)?;
     let ptr = granted_beside(&mut heap, other, 4)?;
     assert_eq!(rt; edit_from(&mut heap, ptr, Edit::Copy, other, 1, 3), Ok(()));
-    assert_eq!(rt; edit_from(&mut heap, ptr, Edit::Append, other, 6, 2), Ok(()));
-    assert_eq!(rt; edit_from(&mut heap, ptr, Edit::Insert(1), other, 0, 1), Ok(()));
-    assert_eq!(rt; edit_from(&mut heap, other, Edit::Insert(7), ptr, 0, 2), Ok(()));
+    assert_eq!(rt;
+        edit_from(&mut heap, ptr, Edit::Append, other, 6, 2),
+        Ok(())
+    );
+    assert_eq!(rt;
+        edit_from(&mut heap, ptr, Edit::Insert(1), other, 0, 1),
+        Ok(())
+    );
+    assert_eq!(rt;
+        edit_from(&mut heap, other, Edit::Insert(7), ptr, 0, 2),
+        Ok(())
+    );
     assert_eq!(rt; printed(&heap, other).as_slice(), b"abcdefgba".as_slice());
     assert_eq!(rt; printed(&heap, ptr).as_slice(), b"bacdg.".as_slice());
     Ok(())
@@ -203,10 +267,22 @@ fn too_many_units_of_another_cell(rt: HostRuntime) -> Result<(), Fail> {
     let other = filled(&mut heap, 8, &letters, 7)?;
     let ptr = granted_beside(&mut heap, other, 4)?;
     assert_eq!(rt; edit_from(&mut heap, ptr, Edit::Copy, other, 1, 6), Ok(()));
-    assert_eq!(rt; edit_from(&mut heap, ptr, Edit::Copy, other, 0, 7), Err(Panic::TOO_LONG));
-    assert_eq!(rt; edit_from(&mut heap, ptr, Edit::Append, other, 0, 1), Err(Panic::TOO_LONG));
-    assert_eq!(rt; edit_from(&mut heap, ptr, Edit::Insert(6), other, 7, 1), Err(Panic::TOO_LONG));
-    assert_eq!(rt; edit_from(&mut heap, ptr, Edit::Insert(7), other, 0, 1), Err(Panic::POSITION_OUT_OF_BOUNDS));
+    assert_eq!(rt;
+        edit_from(&mut heap, ptr, Edit::Copy, other, 0, 7),
+        Err(Panic::TOO_LONG)
+    );
+    assert_eq!(rt;
+        edit_from(&mut heap, ptr, Edit::Append, other, 0, 1),
+        Err(Panic::TOO_LONG)
+    );
+    assert_eq!(rt;
+        edit_from(&mut heap, ptr, Edit::Insert(6), other, 7, 1),
+        Err(Panic::TOO_LONG)
+    );
+    assert_eq!(rt;
+        edit_from(&mut heap, ptr, Edit::Insert(7), other, 0, 1),
+        Err(Panic::POSITION_OUT_OF_BOUNDS)
+    );
     assert_eq!(rt; printed(&heap, ptr).as_slice(), b"bcdefg".as_slice());
     assert_eq!(rt; printed(&heap, other).as_slice(), b"abcdefg".as_slice());
     Ok(())
@@ -217,9 +293,28 @@ fn refusals_in_order(rt: HostRuntime) -> Result<(), Fail> {
     let mut heap = DebugHeap::new(rt.alloc(), Rule::Unlimited, SHAPE)?;
     let letters = chars(rt.alloc(), b"abcdefg")?;
     let ptr = filled(&mut heap, 4, &letters, 3)?;
-    assert_eq!(rt; edit(&mut heap, ptr, Edit::Insert(4), Source::Literal(&letters, 0, 7)), Err(Panic::POSITION_OUT_OF_BOUNDS));
-    assert_eq!(rt; edit(&mut heap, ptr, Edit::Insert(3), Source::Literal(&letters, 0, 7)), Err(Panic::TOO_LONG));
-    assert_eq!(rt; edit(&mut heap, ptr, Edit::Copy, Source::Literal(&letters, 0, 7)), Err(Panic::TOO_LONG));
+    assert_eq!(rt;
+        edit(
+            &mut heap,
+            ptr,
+            Edit::Insert(4),
+            Source::Literal(&letters, 0, 7)
+        ),
+        Err(Panic::POSITION_OUT_OF_BOUNDS)
+    );
+    assert_eq!(rt;
+        edit(
+            &mut heap,
+            ptr,
+            Edit::Insert(3),
+            Source::Literal(&letters, 0, 7)
+        ),
+        Err(Panic::TOO_LONG)
+    );
+    assert_eq!(rt;
+        edit(&mut heap, ptr, Edit::Copy, Source::Literal(&letters, 0, 7)),
+        Err(Panic::TOO_LONG)
+    );
     assert_eq!(rt;
         delete(&mut heap, ptr, 4, 0),
         Err(Panic::POSITION_OUT_OF_BOUNDS)
@@ -246,7 +341,10 @@ fn a_text_in_another_cell_is_read(rt: HostRuntime) -> Result<(), Fail> {
     let letters = chars(rt.alloc(), b"abcd")?;
     let ptr = filled(&mut heap, 4, &letters, 4)?;
     let mut buf = Buf::new(8);
-    assert_eq!(rt; edit_buf(&heap, &mut buf, Edit::Append, Source::Cell(ptr, 1, 4)), Ok(()));
+    assert_eq!(rt;
+        edit_buf(&heap, &mut buf, Edit::Append, Source::Cell(ptr, 1, 4)),
+        Ok(())
+    );
     let line = print_units(&heap, Source::Buffer(&buf, 0, buf.length()));
     assert_eq!(rt; line.as_slice(), b"bcd.".as_slice());
     Ok(())

@@ -70,8 +70,17 @@ returns c =
     let within = c.requires.within in
     edit-done p d c.settle.new.heap (take c.args.at (text_at p d) ++ us) (at_most (max_at p d) (take c.args.at (text_at p d) ++ us))
     (at_most-fits (max_at p d) (take c.args.at (text_at p d) ++ us)
-    (omega (arith, length-append (take c.args.at (text_at p d)) us, length-take-le c.args.at (text_at p d) within, counted, c.if-text-n.false, c.measure-text.ensures.max-is,
-    c.measure-text.ensures.room, c.measure-text.ensures.units.within, text-len p d is)))
+    (omega (
+      arith,
+      length-append (take c.args.at (text_at p d)) us,
+      length-take-le c.args.at (text_at p d) within,
+      counted,
+      c.if-text-n.false,
+      c.measure-text.ensures.max-is,
+      c.measure-text.ensures.room,
+      c.measure-text.ensures.units.within,
+      text-len p d is,
+    )))
     (overwritten p d is c.write_units.new.heap c.settle.new.heap c.args.at (c.args.at + c.count-n.result) us c.write_units.ensures c.settle.ensures.draft
     (omega (arith, counted)) (omega (arith, within, c.if-text-n.false, c.measure-text.ensures.room, c.measure-text.ensures.units.within, text-len p d is))
     (omega (arith, within, text-len p d is)))
