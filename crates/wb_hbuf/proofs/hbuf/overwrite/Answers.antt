@@ -1,4 +1,4 @@
-use Rattle.std.proofs.Common.{◌≡◌, ◌++◌, length, take, sym, subst, ◌∙◌, arith, length-append}
+use Rattle.std.proofs.Common.{◌≡◌, ◌+◌, ◌++◌, length, take, sym, subst, ◌∙◌, arith, length-append}
 use Rattle.std.proofs.lemmas.List.{length-take-le}
 use Rattle.wb_model.specs.TextCells.{text_at, max_at}
 use Rattle.wb_model.specs.Texts.{at_most}
@@ -23,7 +23,7 @@ write_units-requires-clause-room c =
       arith,
       c.count-n.ensures,
       c.measure-text.ensures.room,
-      c.if-text-n.false,
+      c.if-text-at.false,
       c.requires.within,
       c.measure-text.ensures.units.within,
       text-len c.args.ptr c.args.heap.now c.requires.text,
@@ -43,21 +43,21 @@ settle-requires-clause-room c =
       arith,
       draft-words c.args.ptr c.args.heap.now c.write_units.new.heap _ _ c.measure-text.ensures.units c.write_units.ensures,
       c.measure-text.ensures.room,
-      c.if-text-n.false,
+      c.if-text-at.false,
       c.requires.within,
       c.measure-text.ensures.units.within,
       text-len c.args.ptr c.args.heap.now c.requires.text,
     )
 
-pub returns-then-text-n : goal.returns-then-text-n
-returns-then-text-n c =
+pub returns-then-text-at : goal.returns-then-text-at
+returns-then-text-at c =
     let d = c.args.heap.now in
     let p = c.args.ptr in
     let us = source_units d (text_at p d) c.args.source in
     let counted : length us ≡ c.count-n.result = units-counted d (text_at p d) c.args.source ∙ sym c.count-n.ensures in
     edit-refused p d _ (at_most (max_at p d) (take c.args.at (text_at p d) ++ us))
     (at_most-refuses (max_at p d) (take c.args.at (text_at p d) ++ us)
-    (omega (arith, length-append (take c.args.at (text_at p d)) us, length-take-le c.args.at (text_at p d) c.requires.within, counted, c.if-text-n.true, c.measure-text.ensures.max-is)))
+    (omega (arith, length-append (take c.args.at (text_at p d)) us, length-take-le c.args.at (text_at p d) c.requires.within, counted, c.if-text-at.true, c.measure-text.ensures.max-is)))
     c.requires.text c.measure-text.ensures.sound
 
 pub returns : goal.returns
@@ -75,13 +75,13 @@ returns c =
       length-append (take c.args.at (text_at p d)) us,
       length-take-le c.args.at (text_at p d) within,
       counted,
-      c.if-text-n.false,
+      c.if-text-at.false,
       c.measure-text.ensures.max-is,
       c.measure-text.ensures.room,
       c.measure-text.ensures.units.within,
       text-len p d is,
     )))
     (overwritten p d is c.write_units.new.heap c.settle.new.heap c.args.at (c.args.at + c.count-n.result) us c.write_units.ensures c.settle.ensures.draft
-    (omega (arith, counted)) (omega (arith, within, c.if-text-n.false, c.measure-text.ensures.room, c.measure-text.ensures.units.within, text-len p d is))
+    (omega (arith, counted)) (omega (arith, within, c.if-text-at.false, c.measure-text.ensures.room, c.measure-text.ensures.units.within, text-len p d is))
     (omega (arith, within, text-len p d is)))
     c.settle.ensures.sound
