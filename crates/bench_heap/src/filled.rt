@@ -6,7 +6,7 @@ ghost use Rattle.wb_model.specs.Row.{headers};
 use std::alloc::{AllocError, Global};
 use wb_model::heap::{Kind, Ptr, Shape};
 use wb_model::limits::CEILING;
-use wb_rheap::heap::Heap;
+use wb_rheap::Heap;
 
 /// The cell length, in bytes: a header and four words.
 const LENGTH: u32 = 32;

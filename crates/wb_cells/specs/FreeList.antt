@@ -1,6 +1,7 @@
 -- The free cells that words link, in order of place.
 use Rattle.std.specs.Prelude.{ℕ, ◌+◌, ◌-◌, ◌*◌, ◌/◌, ◌≡◌, ◌≤◌, ◌<◌, List, [], ◌∷◌, length, slice_index, slice_set, nat_eq, nat_le, if◌then◌else◌}
 use Rattle.std.specs.List.{replace_range}
+use Rattle.wb_chunk.specs.declared.TheConstants.{MOST_WORDS}
 
 -- the link of the last free cell
 abbrev pub NO_PLACE : ℕ
@@ -82,4 +83,4 @@ parted_words words place bytes =
 pub record IsWithin (words : List ℕ) (place : ℕ) : Type 0 where
   pub least : 16 ≤ slice_index words (place / 16 * 4)
   pub end : place + slice_index words (place / 16 * 4) ≤ 4 * length words
-  pub bounded : length words ≤ 4194304
+  pub bounded : length words ≤ MOST_WORDS

@@ -2,7 +2,7 @@
 
 use wb_model::heap::Ptr;
 use wb_model::script::Chars;
-use wb_text::buf::Buf;
+use wb_text::Buf;
 
 /// How the units of a source change a text.
 #[derive(Clone, Copy, Debug, PartialEq, Eq)]

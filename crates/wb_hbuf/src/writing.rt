@@ -10,7 +10,7 @@ ghost use Rattle.wb_model.specs.TextCells.{room_in, text_at, units_behind};
 
 use crate::reading::{count, unit_for};
 use crate::sources::Source;
-use wb_debug::debug_heap::DebugHeap;
+use wb_debug::DebugHeap;
 use wb_model::heap::Ptr;
 
 /// Writes the units of a source from a position on, the first one first.

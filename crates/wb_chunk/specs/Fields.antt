@@ -15,7 +15,7 @@ HasRoom None capacity alloc = capacity ≡ 0
 HasRoom (Some r) capacity alloc = (r.capacity ≡ capacity) × (r.alloc ≡ alloc)
 
 -- what holds of a chunk's fields
-pub record IsHeld (region : Option (Region Global)) (count capacity : ℕ) (alloc : Global) : Type 0 where
+pub record IsKept (region : Option (Region Global)) (count capacity : ℕ) (alloc : Global) : Type 0 where
   pub counted : count ≡ length (words_of region)
   pub room : HasRoom region capacity alloc
   pub within : count ≤ capacity
