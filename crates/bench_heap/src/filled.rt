@@ -4,7 +4,8 @@ ghost use Rattle.std.specs.Prelude.{◌≡◌, ◌+◌, ◌<◌, ◌≤◌, All}
 ghost use Rattle.wb_model.specs.Row.{headers};
 
 use std::alloc::{AllocError, Global};
-use wb_model::heap::{CEILING, Kind, Ptr, Shape};
+use wb_model::heap::{Kind, Ptr, Shape};
+use wb_model::limits::CEILING;
 use wb_rheap::heap::Heap;
 
 /// The cell length, in bytes: a header and four words.

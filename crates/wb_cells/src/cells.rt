@@ -13,7 +13,8 @@ use crate::starts::Starts;
 use std::alloc::Global;
 use std::marker::Model;
 use wb_chunk::Chunk;
-use wb_model::heap::{CEILING, Header, Ptr};
+use wb_model::heap::{Header, Ptr};
+use wb_model::limits::CEILING;
 use wb_model::memory::NoMemory;
 
 /// Cells end to end in a chunk of words, from place 0 up to the end of the last live one. Contracts see the row that the

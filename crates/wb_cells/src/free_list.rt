@@ -7,6 +7,7 @@ ghost use Rattle.wb_cells.specs.Holes.{IsOpenable, IsOpened, IsRaised, hole_of, 
 
 use crate::layout::{self, NONE};
 use wb_chunk::Chunk;
+use wb_model::limits::CEILING;
 
 /// The free cells on both sides of a place, or NONE.
 #[derive(Clone, Copy, Debug)]
@@ -117,7 +118,7 @@ pub struct Ends {
 /// Makes room for a cell, in a free cell or at the top. The room is no free cell then, and its words are as they were.
 pub fn open(words: &mut Chunk, ends: Ends, place: u32, bytes: u32) -> Ends
     requires rounded { bytes % 16 ≡ 0 }
-    requires below { place + bytes ≤ 16777216 }
+    requires below { place + bytes ≤ CEILING }
     requires linked { (gaps : List Gap) × Links words.old ends.first gaps }
     requires gap { place ≢ ends.top → IsOpenable words.old place bytes }
     ensures count { length words.new ≡ length words.old }

@@ -3,8 +3,8 @@ use Rattle.std.proofs.Common.{◌≡◌, ◌≢◌, ℕ, ◌-◌, ◌≤◌, suc
 use Rattle.std.specs.Prelude.{◌&&◌, not, nat_eq}
 use Rattle.std.proofs.lemmas.Bool.{ne_eqb}
 use Rattle.std.proofs.lemmas.List.Elements.{All-cons, All-nil}
+use Rattle.wb_model.specs.declared.heap.TheConstants.Panic.{NO_OPEN_MARK}
 use Rattle.wb_model.specs.declared.heap.Panic.{Panic}
-use Rattle.wb_model.specs.declared.heap.Panic.TheVariants.{Workbench}
 use Rattle.wb_model.specs.Debug.{Debug, check_refusal}
 use Rattle.wb_model.specs.Heap.{is_cleanup, lower, lowered, mark_end_refusal}
 use Rattle.wb_model.specs.LimitedHeap.{LimitedHeap, IsSoundHeap}
@@ -16,7 +16,7 @@ use Rattle.wb_debug.specs.Debug.{IsKept}
 pub mark_end-checks : (d e : Debug) (n : ℕ) (panic : Panic) → d ≡ e → d.heap.level ≢ 0 → check_refusal d n ≡ Some panic → mark_end_refusal e.heap n ≡ Some panic
 mark_end-checks d e n panic is deeper refused =
     subst (λ (x : Debug). mark_end_refusal x.heap n ≡ Some panic) is
-    (ap (λ b. cond b (Some (Workbench 6)) (check_refusal d n)) (ne_eqb d.heap.level 0 deeper) ∙ refused)
+    (ap (λ b. cond b (Some NO_OPEN_MARK) (check_refusal d n)) (ne_eqb d.heap.level 0 deeper) ∙ refused)
 
 -- the cells keep their numbers
 All-lowered : (most level : ℕ) (row : List (Cell (List ℕ))) → All (λ h. h.number ≤ most) (headers row) → All (λ h. h.number ≤ most) (headers (lowered level row))

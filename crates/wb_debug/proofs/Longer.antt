@@ -10,7 +10,7 @@ use Rattle.wb_model.specs.declared.heap.Gave.{Gave}
 use Rattle.wb_model.specs.declared.heap.Gave.TheVariants as G
 use Rattle.wb_model.specs.declared.heap.Ptr.{Ptr}
 use Rattle.wb_model.specs.CellRow.{resized_words}
-use Rattle.wb_model.specs.Debug.{Debug, Made, made_by, number_in, line_of, answer_in, longer_made, shorter_made, realloc_made}
+use Rattle.wb_model.specs.Debug.{Debug, Made, made_by, number_of_next, trace_line, answer_in, longer_made, shorter_made, realloc_made}
 use Rattle.wb_model.specs.Heap.{after_realloc, request_at}
 use Rattle.wb_model.specs.LimitedHeap.{LimitedHeap, IsSoundHeap, heap_grown, heap_shortened, heap_reallocated, grown_pointer, reallocated_pointer, place_to_grow}
 use Rattle.wb_model.specs.Row.{Cell, headers, cell_at, cell_length, pointer_to, without}
@@ -51,12 +51,12 @@ pub record IsAsked (inside : Inside) (p : Ptr) (bytes len : ℕ) (line : Attempt
   pub long : len ≡ cell_length bytes
   pub longer : nat_lt cell.head.length len ≡ true
   pub answer : answer_in (debug_of inside) (growth inside cell.head len) ≡ Some line.answer
-  pub added : line ≡ line_of (number_in (debug_of inside)) (growth inside cell.head len) line.answer
+  pub added : line ≡ trace_line (number_of_next (debug_of inside)) (growth inside cell.head len) line.answer
 
 pub asked : (inside : Inside) (d : Debug) (p : Ptr) (h : Header) (bytes len place : ℕ) (line : Attempt) → debug_of inside ≡ d →
     option_map (λ c. c.head) (cell_at p inside.heap.row) ≡ Some h → len ≡ cell_length bytes → h.length < len →
     IfSome (cell_at p inside.heap.row) (λ c. place ≡ place_to_grow inside.heap c.head len) → Some line.answer ≡ answer_in d (request_at d.heap place len) →
-    line ≡ line_of (number_in d) (request_at d.heap place len) line.answer → IsAsked inside p bytes len line
+    line ≡ trace_line (number_of_next d) (request_at d.heap place len) line.answer → IsAsked inside p bytes len line
 asked inside d p h bytes len place line view e long longer placed answer added =
     let is = named p inside.heap.row h e in
     let at : place ≡ place_to_grow inside.heap is.cell.head len = subst (λ o. IfSome o (λ c. place ≡ place_to_grow inside.heap c.head len)) is.found placed in
@@ -67,8 +67,8 @@ asked inside d p h bytes len place line view e long longer placed answer added =
       longer = ap (λ (g : Header). nat_lt g.length len) is.head ∙ lt-ltb h.length len longer;
       answer = subst (λ q. answer_in (debug_of inside) (request_at (debug_of inside).heap q len) ≡ Some line.answer) at
           (subst (λ (x : Debug). answer_in x (request_at x.heap place len) ≡ Some line.answer) (sym view) (sym answer));
-      added = subst (λ q. line ≡ line_of (number_in (debug_of inside)) (request_at (debug_of inside).heap q len) line.answer) at
-          (subst (λ (x : Debug). line ≡ line_of (number_in x) (request_at x.heap place len) line.answer) (sym view) added);
+      added = subst (λ q. line ≡ trace_line (number_of_next (debug_of inside)) (request_at (debug_of inside).heap q len) line.answer) at
+          (subst (λ (x : Debug). line ≡ trace_line (number_of_next x) (request_at x.heap place len) line.answer) (sym view) added);
     }
 
 -- what the definitions make of an answer
@@ -98,9 +98,9 @@ told inside heap setting trace = record {
 -- the trace with the attempt's line
 lines-added : (inside : Inside) (p : Ptr) (bytes len : ℕ) (line : Attempt) (trace : List Attempt) (answer : Answer) → (is : IsAsked inside p bytes len line) →
     line.answer ≡ answer → trace ≡ inside.trace ++ line ∷ [] →
-    trace ≡ inside.trace ++ line_of (number_in (debug_of inside)) (growth inside is.cell.head len) answer ∷ []
+    trace ≡ inside.trace ++ trace_line (number_of_next (debug_of inside)) (growth inside is.cell.head len) answer ∷ []
 lines-added inside p bytes len line trace answer is e more =
-    more ∙ ap (λ a. inside.trace ++ a ∷ []) (is.added ∙ ap (line_of (number_in (debug_of inside)) (growth inside is.cell.head len)) e)
+    more ∙ ap (λ a. inside.trace ++ a ∷ []) (is.added ∙ ap (trace_line (number_of_next (debug_of inside)) (growth inside is.cell.head len)) e)
 
 -- a grant
 pub granted-debug : (inside : Inside) (p : Ptr) (bytes len : ℕ) (line : Attempt) (heap : LimitedHeap) (setting : Setting) (trace : List Attempt) →
@@ -109,7 +109,7 @@ pub granted-debug : (inside : Inside) (p : Ptr) (bytes len : ℕ) (line : Attemp
     IfSome (cell_at p inside.heap.row) (λ c. debug_of (record inside { heap = heap; setting = setting; trace = trace }) ≡ (realloc_made (debug_of inside) c bytes).debug)
 granted-debug inside p bytes len line heap setting trace is e done more counted kept =
     let c = is.cell in
-    let number : ℕ = number_in (debug_of inside) in
+    let number : ℕ = number_of_next (debug_of inside) in
     let t : Request = growth inside c.head len in
     let after : rules.Setting = after_attempt (setting_of inside.setting) in
     let grown : heap ≡ heap_grown inside.heap c len number =
@@ -120,7 +120,7 @@ granted-debug inside p bytes len line heap setting trace is e done more counted 
     (ap (λ (h : LimitedHeap). debug_of (record inside { heap = h; setting = setting; trace = trace })) grown
     ∙ ap (λ s. told inside (heap_grown inside.heap c len number) s trace) counted
     ∙ ap (told inside (heap_grown inside.heap c len number) after) (lines-added inside p bytes len line trace Granted is e more)
-    ∙ ap (λ b. record (told inside (heap_grown inside.heap c len number) after (inside.trace ++ line_of number t Granted ∷ []))
+    ∙ ap (λ b. record (told inside (heap_grown inside.heap c len number) after (inside.trace ++ trace_line number t Granted ∷ []))
     { committed = committed_by (space_below (bound_below b) inside.heap.shape) inside.heap.committed (t.place + t.length) }) kept.limit
     ∙ sym (ap (λ (m : Made). m.debug) (made-longer inside p bytes len line is ∙ ap (λ a. made_of inside c t (Some a)) e)))
 
@@ -129,7 +129,7 @@ pub granted-gave : (inside : Inside) (p : Ptr) (bytes len : ℕ) (line : Attempt
     IfSome (cell_at p inside.heap.row) (λ c. gave ≡ (realloc_made (debug_of inside) c bytes).gave)
 granted-gave inside p bytes len line gave q is e given pointer =
     let c = is.cell in
-    let grown : q ≡ grown_pointer inside.heap c.head len (number_in (debug_of inside)) =
+    let grown : q ≡ grown_pointer inside.heap c.head len (number_of_next (debug_of inside)) =
     subst (λ o. IsSomeAnd o (λ d. q ≡ reallocated_pointer inside.heap d.head len line.number)) is.found pointer
     ∙ ap (λ b. cond b (grown_pointer inside.heap c.head len line.number) (pointer_to c.head)) is.longer
     ∙ ap (λ (a : Attempt). grown_pointer inside.heap c.head len a.number) is.added in
@@ -151,7 +151,7 @@ denied-debug inside p bytes len line setting trace is denied more counted =
   where
     by : (a : Answer) → (a ≡ Simulated) ⊎ (a ≡ Refused) →
         told inside inside.heap (after_attempt (setting_of inside.setting))
-        (inside.trace ++ line_of (number_in (debug_of inside)) (growth inside is.cell.head len) a ∷ [])
+        (inside.trace ++ trace_line (number_of_next (debug_of inside)) (growth inside is.cell.head len) a ∷ [])
         ≡ (made_of inside is.cell (growth inside is.cell.head len) (Some a)).debug
     by Granted (inl e) = cc
     by Granted (inr e) = cc

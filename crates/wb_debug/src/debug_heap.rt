@@ -4,7 +4,7 @@ ghost use Rattle.std.specs.Prelude.{◌≡◌, ◌+◌, ◌*◌, ◌^◌, ◌<�
 ghost use Rattle.wb_chunk.specs.Halves.{half_of, with_half};
 ghost use Rattle.wb_debug.specs.Lines.{DropsLast};
 ghost use Rattle.wb_model.specs.CellRow.{payload_of};
-ghost use Rattle.wb_model.specs.Debug.{IsLiveIn, IsSoundDebug, alloc_made, answer_in, check_all_refusal, check_refusal, debug_changed, debug_compressed, debug_without, first_debug, leaks_in, line_of, note_of_available, note_of_compress, note_of_heap, number_in, realloc_made, release_refusal, with_setting};
+ghost use Rattle.wb_model.specs.Debug.{IsLiveIn, IsSoundDebug, alloc_made, answer_in, check_all_refusal, check_refusal, debug_changed, debug_compressed, debug_without, first_debug, leaks_of_heap, trace_line, note_of_available, note_of_compress, note_of_heap, number_of_next, realloc_made, release_refusal, with_setting};
 ghost use Rattle.wb_model.specs.Heap.{after_mark, after_mark_end, mark_end_refusal, request_at};
 ghost use Rattle.wb_model.specs.Row.{cell_at, cell_length, usable_of};
 ghost use Rattle.wb_model.specs.Rules.{each, never, next};
@@ -19,6 +19,7 @@ use std::alloc::Global;
 use std::marker::Model;
 use wb_model::heap::{Answer, Attempt, Gave, Header, Kind, Panic, Ptr, Rule, Shape};
 use wb_model::items::Items;
+use wb_model::limits::CEILING;
 use wb_model::memory::NoMemory;
 use wb_model::run::{Leaks, Note, Trace};
 use wb_rheap::fault::HeapFault;
@@ -82,7 +83,7 @@ impl DebugHeap {
     ///
     /// `NoMemory` where there is no room for the list. Source: this project's profile.
     pub fn leaks(&self) -> Result<Leaks, NoMemory>
-        ensures { IfOk result (λ leaks. leaks ≡ leaks_in self.now) }
+        ensures { IfOk result (λ leaks. leaks ≡ leaks_of_heap self.now) }
     {
         marks::leaks(self.alloc, &self.heap)
     }
@@ -125,7 +126,7 @@ impl DebugHeap {
     /// would end past the ceiling: nothing is counted, and the heap is as it was; so it is on `NoMemory`. Source:
     /// Symbian OS v9 SDK reference, RHeap, for the grant and the refusal, and this project's profile for their order.
     pub fn attempt_alloc(&mut self, bytes: u32, kind: Kind) -> Result<Gave, NoMemory>
-        requires bytes { bytes ≤ 16777216 }
+        requires bytes { bytes ≤ CEILING }
         requires number { length self.old.trace + 1 < 2 ^ 32 }
         ensures gave { IfOk result (λ gave. gave ≡ (alloc_made self.old bytes kind).gave) }
         ensures made { OnOk result (self.new ≡ (alloc_made self.old bytes kind).debug) }
@@ -159,7 +160,7 @@ impl DebugHeap {
     /// cell, and this project's profile for places and numbers.
     pub fn attempt_realloc(&mut self, ptr: Ptr, bytes: u32) -> Result<Gave, NoMemory>
         requires live { IsSome (cell_at ptr self.old.heap.row) }
-        requires bytes { bytes ≤ 16777216 }
+        requires bytes { bytes ≤ CEILING }
         requires number { length self.old.trace + 1 < 2 ^ 32 }
         ensures gave { IfOk result (λ gave. IfSome (cell_at ptr self.old.heap.row) (λ c. gave ≡ (realloc_made self.old c bytes).gave)) }
         ensures made { OnOk result (IfSome (cell_at ptr self.old.heap.row) (λ c. self.new ≡ (realloc_made self.old c bytes).debug)) }
@@ -198,7 +199,7 @@ impl DebugHeap {
         requires number { length self.now.trace + 1 < 2 ^ 32 }
         requires end { place + len < 2 ^ 32 }
         ensures answer { option_map (λ line. line.answer) result ≡ answer_in self.now (request_at self.now.heap place len) }
-        ensures line { IfSome result (λ line. line ≡ line_of (number_in self.now) (request_at self.now.heap place len) line.answer) }
+        ensures line { IfSome result (λ line. line ≡ trace_line (number_of_next self.now) (request_at self.now.heap place len) line.answer) }
     {
         let number = self.attempts() + 1;
         let answer = answer(self.setting.due(), self.rule, number, place + len)?;
@@ -212,7 +213,7 @@ impl DebugHeap {
 
     /// Releases the cell that the pointer names; null is nothing.
     ///
-    /// `User(42)` exactly where the pointer isn't null and names no live cell, and then the heap is as it was. Source:
+    /// `Panic::BAD_CELL` exactly where the pointer isn't null and names no live cell, and then the heap is as it was. Source:
     /// Symbian OS v9 SDK reference, RHeap.
     pub fn release(&mut self, ptr: Ptr) -> Result<(), Panic>
         ensures refused { IfErr result (λ panic. release_refusal self.old ptr ≡ Some panic) }
@@ -227,7 +228,7 @@ impl DebugHeap {
         }
         match heap.free(ptr) {
             Ok(()) => Ok(()),
-            Err(_) => Err(Panic::User(42)),
+            Err(_) => Err(Panic::BAD_CELL),
         }
     }
 }
@@ -262,7 +263,7 @@ impl DebugHeap {
 
     /// Closes the innermost mark, where so many live cells are of its level: they take the level below.
     ///
-    /// `Workbench(6)` where no mark is open, and else what `check` refuses; the heap is then as it was. Source: Symbian OS
+    /// `Panic::NO_OPEN_MARK` where no mark is open, and else what `check` refuses; the heap is then as it was. Source: Symbian OS
     /// v9 SDK reference, `__UHEAP_MARKEND` and `__UHEAP_MARKENDC`, and this project's profile for the levels.
     pub fn mark_end(&mut self, n: u32) -> Result<(), Panic>
         ensures refused { IfErr result (λ panic. mark_end_refusal self.old.heap n ≡ Some panic) }
@@ -273,7 +274,7 @@ impl DebugHeap {
     {
         let level = self.level;
         if level == 0 {
-            return Err(Panic::Workbench(6));
+            return Err(Panic::NO_OPEN_MARK);
         }
         marks::expect(&self.heap, Levels::One(level), n)?;
         marks::lower(&mut self.heap, level);

@@ -6,7 +6,8 @@ ghost use Rattle.wb_model.specs.Row.{cell_length};
 ghost use Rattle.wb_model.specs.Rules.{refusal_of, unless_refused};
 ghost use Rattle.wb_model.specs.Space.{limit_under};
 
-use wb_model::heap::{Answer, CEILING, Rule};
+use wb_model::heap::{Answer, Rule};
+use wb_model::limits::CEILING;
 
 /// What a rule says of an attempt whose cell would end here.
 fn refusal(rule: Rule, number: u32, end: u32) -> Option<Answer>
@@ -45,7 +46,7 @@ pub fn limit_under(rule: Rule) -> u32
 
 /// The length of the cell for so many bytes.
 pub fn cell_length(bytes: u32) -> u32
-    requires { bytes ≤ 16777216 }
+    requires { bytes ≤ CEILING }
     ensures exact { result ≡ cell_length bytes }
     ensures fits { IsCellLength result }
 {

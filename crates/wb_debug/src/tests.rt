@@ -7,6 +7,7 @@ use crate::fault::DebugFault;
 use std::alloc::Global;
 use std::test::Fail;
 use wb_model::heap::{Answer, Attempt, Gave, Header, Kind, Panic, Ptr, Rule, Shape};
+use wb_model::limits::CEILING;
 use wb_model::run::{Leak, Note};
 
 const SHAPE: Shape = Shape { min: 0, step: 4096 };
@@ -32,7 +33,7 @@ impl Worked {
 
     /// An attempt to get a cell.
     fn attempt(&mut self, bytes: u32, kind: Kind) -> Result<Gave, DebugFault>
-        requires { bytes ≤ 16777216 }
+        requires { bytes ≤ CEILING }
     {
         if self.heap.attempts() == u32::MAX {
             return Err(DebugFault::NoMemory);
@@ -43,14 +44,14 @@ impl Worked {
 
     /// An attempt to get a raw cell.
     fn alloc(&mut self, bytes: u32) -> Result<Gave, DebugFault>
-        requires { bytes ≤ 16777216 }
+        requires { bytes ≤ CEILING }
     {
         self.attempt(bytes, Kind::Raw)
     }
 
     /// A reallocation of a cell, where the pointer names one.
     fn realloc(&mut self, ptr: Ptr, bytes: u32) -> Result<Gave, DebugFault>
-        requires { bytes ≤ 16777216 }
+        requires { bytes ≤ CEILING }
     {
         if self.heap.attempts() == u32::MAX || self.heap.header(ptr).is_none() {
             return Err(DebugFault::NoMemory);
@@ -238,9 +239,9 @@ fn a_stale_pointer_is_not_released(rt: HostRuntime) -> Result<(), Fail> {
     worked.alloc(16)?;
     let old = cell(144, 2);
     assert!(rt; worked.release(old).is_ok());
-    assert_eq!(rt; worked.release(old), Err(Panic::User(42)));
+    assert_eq!(rt; worked.release(old), Err(Panic::BAD_CELL));
     worked.alloc(16)?;
-    assert_eq!(rt; worked.release(old), Err(Panic::User(42)));
+    assert_eq!(rt; worked.release(old), Err(Panic::BAD_CELL));
     assert!(rt; worked.release(cell(0, 0)).is_ok());
     let header = Header {
         place: 144,
@@ -276,7 +277,7 @@ fn a_check_counts_the_current_level(rt: HostRuntime) -> Result<(), Fail> {
 #[test]
 fn a_mark_that_finds_cells_stays_open(rt: HostRuntime) -> Result<(), Fail> {
     let mut worked = Worked::start(rt.alloc(), Rule::Unlimited, SHAPE)?;
-    assert_eq!(rt; worked.mark_end(0), Err(Panic::Workbench(6)));
+    assert_eq!(rt; worked.mark_end(0), Err(Panic::NO_OPEN_MARK));
     worked.mark()?;
     worked.alloc(16)?;
     worked.alloc(16)?;
@@ -284,7 +285,7 @@ fn a_mark_that_finds_cells_stays_open(rt: HostRuntime) -> Result<(), Fail> {
     assert!(rt; worked.heap.check(2).is_ok());
     assert!(rt; worked.mark_end(2).is_ok());
     assert!(rt; worked.heap.check(2).is_ok());
-    assert_eq!(rt; worked.mark_end(2), Err(Panic::Workbench(6)));
+    assert_eq!(rt; worked.mark_end(2), Err(Panic::NO_OPEN_MARK));
     Ok(())
 }
 
@@ -320,7 +321,7 @@ fn growth_fills_the_hole_behind(rt: HostRuntime) -> Result<(), Fail> {
     assert_eq!(rt; word(&worked.heap, a, 11), Some(0));
     assert_eq!(rt; worked.realloc(a, 49)?, granted(240, 6));
     assert_eq!(rt; word(&worked.heap, cell(240, 6), 3), Some(7));
-    assert_eq!(rt; worked.release(a), Err(Panic::User(42)));
+    assert_eq!(rt; worked.release(a), Err(Panic::BAD_CELL));
     Ok(())
 }
 

@@ -2,9 +2,9 @@
 use Rattle.std.proofs.Common.{◌≡◌, ℕ, ◌+◌, ◌-◌, ◌<◌, ◌≤◌, ◌⊎◌, inl, inr, min, List, ◌∷◌, ◌++◌, length, take, drop, replicate, slice_index, Ok, Err, cond, refl, sym, ap, subst, ◌∙◌, arith, get_or, append_assoc, append-nil}
 use Rattle.std.proofs.lemmas.Bool.{cases_lt, le-leb, lt-leb, lt-ltb, le-ltb}
 use Rattle.std.proofs.lemmas.List.{length-append, length-drop, length-take-le, length-take, take_at, drop_at, take_all, drop_all, take-append-le, take-take, get_or-take, ext_get_or}
+use Rattle.wb_model.specs.declared.heap.TheConstants.Panic.{TOO_LONG, POSITION_OUT_OF_BOUNDS}
 use Rattle.wb_model.specs.declared.heap.Ptr.{Ptr}
 use Rattle.wb_model.specs.declared.heap.Panic.{Panic}
-use Rattle.wb_model.specs.declared.heap.Panic.TheVariants.{User}
 use Rattle.wb_model.specs.CellRow.{content_or_nil, payload_of}
 use Rattle.wb_model.specs.Texts.{Edited, exactly, units_of_part, answer_of, at_most, insert_text, delete_text, set_length_text}
 use Rattle.wb_model.specs.Debug.{Debug, IsSoundDebug, debug_changed}
@@ -217,35 +217,35 @@ module _ (p : Ptr) (d : Debug) (is : IsTextAt p d) where
 
 -- what the definitions say where an edit fits, and where it is refused
 pub at_most-fits : (max : ℕ) (t : List ℕ) → length t ≤ max → at_most max t ≡ Ok t
-at_most-fits max t le = ap (λ b. cond b (Ok t) (Err (User 11))) (le-leb (length t) max le)
+at_most-fits max t le = ap (λ b. cond b (Ok t) (Err TOO_LONG)) (le-leb (length t) max le)
 
-pub at_most-refuses : (max : ℕ) (t : List ℕ) → max < length t → at_most max t ≡ Err (User 11)
-at_most-refuses max t lt = ap (λ b. cond b (Ok t) (Err (User 11))) (lt-leb (length t) max lt)
+pub at_most-refuses : (max : ℕ) (t : List ℕ) → max < length t → at_most max t ≡ Err TOO_LONG
+at_most-refuses max t lt = ap (λ b. cond b (Ok t) (Err TOO_LONG)) (lt-leb (length t) max lt)
 
 pub insert-within : (max : ℕ) (t : List ℕ) (at : ℕ) (us : List ℕ) → at ≤ length t → insert_text max t at us ≡ at_most max (take at t ++ us ++ drop at t)
-insert-within max t at us le = ap (λ b. cond b (Err (User 10)) (at_most max (take at t ++ us ++ drop at t))) (le-ltb (length t) at le)
+insert-within max t at us le = ap (λ b. cond b (Err POSITION_OUT_OF_BOUNDS) (at_most max (take at t ++ us ++ drop at t))) (le-ltb (length t) at le)
 
-pub insert-past : (max : ℕ) (t : List ℕ) (at : ℕ) (us : List ℕ) → length t < at → insert_text max t at us ≡ Err (User 10)
-insert-past max t at us lt = ap (λ b. cond b (Err (User 10)) (at_most max (take at t ++ us ++ drop at t))) (lt-ltb (length t) at lt)
+pub insert-past : (max : ℕ) (t : List ℕ) (at : ℕ) (us : List ℕ) → length t < at → insert_text max t at us ≡ Err POSITION_OUT_OF_BOUNDS
+insert-past max t at us lt = ap (λ b. cond b (Err POSITION_OUT_OF_BOUNDS) (at_most max (take at t ++ us ++ drop at t))) (lt-ltb (length t) at lt)
 
 pub length-inserted : (t : List ℕ) (at : ℕ) (us : List ℕ) → at ≤ length t → length (take at t ++ us ++ drop at t) ≡ length t + length us
 length-inserted t at us le =
     omega (arith, length-append (take at t ++ us) (drop at t), length-append (take at t) us, length-take-le at t le, length-drop at t)
 
-pub delete-past : (t : List ℕ) (at count : ℕ) → length t < at → delete_text t at count ≡ Err (User 10)
-delete-past t at count lt = ap (λ b. cond b (Err (User 10)) (Ok (take at t ++ drop (at + count) t))) (lt-ltb (length t) at lt)
+pub delete-past : (t : List ℕ) (at count : ℕ) → length t < at → delete_text t at count ≡ Err POSITION_OUT_OF_BOUNDS
+delete-past t at count lt = ap (λ b. cond b (Err POSITION_OUT_OF_BOUNDS) (Ok (take at t ++ drop (at + count) t))) (lt-ltb (length t) at lt)
 
 -- a count that runs past the end is cut
 pub delete-within : (t : List ℕ) (at count cut : ℕ) → at ≤ length t → cut ≡ min count (length t - at) → delete_text t at count ≡ Ok (take at t ++ drop (at + cut) t)
 delete-within t at count cut le is =
-    ap (λ b. cond b (Err (User 10)) (Ok (take at t ++ drop (at + count) t))) (le-ltb (length t) at le) ∙ ap (λ vs. gives (take at t ++ vs)) (by (cases_lt count (length t - at)))
+    ap (λ b. cond b (Err POSITION_OUT_OF_BOUNDS) (Ok (take at t ++ drop (at + count) t))) (le-ltb (length t) at le) ∙ ap (λ vs. gives (take at t ++ vs)) (by (cases_lt count (length t - at)))
   where
     by : (count < length t - at) ⊎ (length t - at ≤ count) → drop (at + count) t ≡ drop (at + cut) t
     by (inl lt) = let e : count ≡ cut = omega (arith, is, lt) in ap (λ k. drop (at + k) t) e
     by (inr ge) = drop_all (at + count) t (omega (arith, ge)) ∙ sym (drop_all (at + cut) t (omega (arith, is, ge, le)))
 
 pub set_length-fits : (max : ℕ) (t : List ℕ) (n : ℕ) → n ≤ max → set_length_text max t n ≡ Ok (exactly n t)
-set_length-fits max t n le = ap (λ b. cond b (Ok (exactly n t)) (Err (User 11))) (le-leb n max le)
+set_length-fits max t n le = ap (λ b. cond b (Ok (exactly n t)) (Err TOO_LONG)) (le-leb n max le)
 
-pub set_length-refuses : (max : ℕ) (t : List ℕ) (n : ℕ) → max < n → set_length_text max t n ≡ Err (User 11)
-set_length-refuses max t n lt = ap (λ b. cond b (Ok (exactly n t)) (Err (User 11))) (lt-leb n max lt)
+pub set_length-refuses : (max : ℕ) (t : List ℕ) (n : ℕ) → max < n → set_length_text max t n ≡ Err TOO_LONG
+set_length-refuses max t n lt = ap (λ b. cond b (Ok (exactly n t)) (Err TOO_LONG)) (lt-leb n max lt)

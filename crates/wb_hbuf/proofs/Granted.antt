@@ -13,7 +13,7 @@ use Rattle.wb_model.specs.CellRow.{content_or_nil, resized_words}
 use Rattle.wb_model.specs.Rules.{Request}
 use Rattle.wb_model.specs.Heap.{alloc_request, new_cell, after_alloc, realloc_request, moved, after_realloc}
 use Rattle.wb_model.specs.LimitedHeap.{zero_words}
-use Rattle.wb_model.specs.Debug.{Debug, IsSoundDebug, made_by, answer_in, number_in, alloc_made, longer_made, shorter_made, realloc_made}
+use Rattle.wb_model.specs.Debug.{Debug, IsSoundDebug, made_by, answer_in, number_of_next, alloc_made, longer_made, shorter_made, realloc_made}
 use Rattle.wb_model.specs.TextCells.{text_in, text_at, IsText, IsTextAt, IsGrantedText, IsRemadeText}
 use Rattle.wb_model.proofs.TextCells.{text-read, zeros-text, resized-text}
 
@@ -80,7 +80,7 @@ alloc-text d new bytes gave some given made sound = by (answer_in d t) given mad
     by None g n = subst (IsGrantedText new []) (sym g) tt
     by (Some Granted) g n =
         subst (IsGrantedText new []) (sym g)
-        (granted-text new (new_cell d.heap (number_in d) (alloc_request d.heap bytes) Text (zero_words (cell_length bytes))) d.heap.row []
+        (granted-text new (new_cell d.heap (number_of_next d) (alloc_request d.heap bytes) Text (zero_words (cell_length bytes))) d.heap.row []
         (ap (λ (x : Debug). x.heap.row) n) sound refl (zeros-text (cell_length bytes / 4 - 4) (omega arith)))
     by (Some Simulated) g n = subst (IsGrantedText new []) (sym g) tt
     by (Some Refused) g n = subst (IsGrantedText new []) (sym g) tt
@@ -121,7 +121,7 @@ module _ (p : Ptr) (d new : Debug) (is : IsTextAt p d) (n : ℕ) (fits : length 
       by None g m = subst (IsRemadeText new p t) (sym g) (stays (ap (λ (x : Debug). x.heap.row) m))
       by (Some Granted) g m =
           subst (IsRemadeText new p t) (sym g)
-          (granted-text new (record { head = moved c.head (number_in d) asked; content = resized_words to c.content })
+          (granted-text new (record { head = moved c.head (number_of_next d) asked; content = resized_words to c.content })
           (without (pointer_to c.head) d.heap.row) t (ap (λ (x : Debug). x.heap.row) m) sound is.kind kept)
       by (Some Simulated) g m = subst (IsRemadeText new p t) (sym g) (stays (ap (λ (x : Debug). x.heap.row) m))
       by (Some Refused) g m = subst (IsRemadeText new p t) (sym g) (stays (ap (λ (x : Debug). x.heap.row) m))

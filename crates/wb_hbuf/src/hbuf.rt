@@ -15,8 +15,9 @@ use crate::writing::{open_gap, settle, write_units};
 use arrayvec::ArrayVec;
 use wb_debug::debug_heap::DebugHeap;
 use wb_model::heap::{Gave, Kind, Panic, Ptr};
-use wb_model::line::Line;
+use wb_model::limits::MOST_UNITS;
 use wb_model::memory::NoMemory;
+use wb_model::printed_line::Line;
 use wb_text::buf::Buf;
 
 /// An attempt to get a cell for an empty text that may have so many units.
@@ -24,7 +25,7 @@ use wb_text::buf::Buf;
 /// `Denied` and `Ceiling` are the heap's answers. `NoMemory` leaves the heap as it was. Source: Symbian OS v9 SDK
 /// reference, HBufC::New, and this project's profile for the length of the cell.
 pub fn make(heap: &mut DebugHeap, n: u32) -> Result<Gave, NoMemory>
-    requires units { n ≤ 524286 }
+    requires units { n ≤ MOST_UNITS }
     requires number { length heap.old.trace + 1 < 2 ^ 32 }
     ensures gave { IfOk result (λ gave. gave ≡ (alloc_made heap.old (4 + 2 * n) Kind.Text).gave) }
     ensures made { OnOk result (heap.new ≡ (alloc_made heap.old (4 + 2 * n) Kind.Text).debug) }
@@ -43,7 +44,7 @@ pub fn make(heap: &mut DebugHeap, n: u32) -> Result<Gave, NoMemory>
 pub fn remake(heap: &mut DebugHeap, ptr: Ptr, n: u32) -> Result<Gave, NoMemory>
     requires text { IsTextAt ptr heap.old }
     requires fits { length (text_at ptr heap.old) ≤ n }
-    requires units { n ≤ 524286 }
+    requires units { n ≤ MOST_UNITS }
     requires number { length heap.old.trace + 1 < 2 ^ 32 }
     ensures gave { IfOk result (λ gave. IfSome (cell_at ptr heap.old.heap.row) (λ c. gave ≡ (realloc_made heap.old c (4 + 2 * n)).gave)) }
     ensures made { OnOk result (IfSome (cell_at ptr heap.old.heap.row) (λ c. heap.new ≡ (realloc_made heap.old c (4 + 2 * n)).debug)) }
@@ -94,7 +95,7 @@ fn measure(heap: &DebugHeap, ptr: Ptr) -> Measured
 
 /// Changes the text in a cell by the units of a source, which count as they stood before.
 ///
-/// `User(10)` where an insertion's position is past the end, then `User(11)` where the text would be longer than its
+/// `Panic::POSITION_OUT_OF_BOUNDS` where an insertion's position is past the end, then `Panic::TOO_LONG` where the text would be longer than its
 /// maximum. A refusal leaves the heap as it was. Other cells stay. Source: Symbian OS v9 SDK reference, 16-bit
 /// descriptors.
 pub fn edit(heap: &mut DebugHeap, ptr: Ptr, change: Edit, source: Source) -> Result<(), Panic>
@@ -124,7 +125,7 @@ fn copy(heap: &mut DebugHeap, ptr: Ptr, source: Source) -> Result<(), Panic>
     let text = measure(heap, ptr);
     let n = count(source);
     if text.max < n {
-        return Err(Panic::User(11));
+        return Err(Panic::TOO_LONG);
     }
     write_units(heap, ptr, 0, source);
     settle(heap, ptr, n);
@@ -140,7 +141,7 @@ fn append(heap: &mut DebugHeap, ptr: Ptr, source: Source) -> Result<(), Panic>
     let text = measure(heap, ptr);
     let n = count(source);
     if text.max - text.length < n {
-        return Err(Panic::User(11));
+        return Err(Panic::TOO_LONG);
     }
     write_units(heap, ptr, text.length, source);
     settle(heap, ptr, text.length + n);
@@ -156,11 +157,11 @@ fn insert(heap: &mut DebugHeap, ptr: Ptr, at: u32, source: Source) -> Result<(),
 {
     let text = measure(heap, ptr);
     if text.length < at {
-        return Err(Panic::User(10));
+        return Err(Panic::POSITION_OUT_OF_BOUNDS);
     }
     let n = count(source);
     if text.max - text.length < n {
-        return Err(Panic::User(11));
+        return Err(Panic::TOO_LONG);
     }
     open_gap(heap, ptr, at, n);
     write_units(heap, ptr, at, source);
@@ -170,7 +171,7 @@ fn insert(heap: &mut DebugHeap, ptr: Ptr, at: u32, source: Source) -> Result<(),
 
 /// Takes so many units from a position on out of the text in a cell, or all from there where there are fewer.
 ///
-/// `User(10)` where the position is past the end, and then the heap is as it was. Units past the new end are zero. Other
+/// `Panic::POSITION_OUT_OF_BOUNDS` where the position is past the end, and then the heap is as it was. Units past the new end are zero. Other
 /// cells stay. Source: Symbian OS v9 SDK reference, 16-bit descriptors.
 pub fn delete(heap: &mut DebugHeap, ptr: Ptr, position: u32, count: u32) -> Result<(), Panic>
     requires { IsTextAt ptr heap.old }
@@ -182,7 +183,7 @@ pub fn delete(heap: &mut DebugHeap, ptr: Ptr, position: u32, count: u32) -> Resu
 {
     let text = measure(heap, ptr);
     if text.length < position {
-        return Err(Panic::User(10));
+        return Err(Panic::POSITION_OUT_OF_BOUNDS);
     }
     let count = count.min(text.length - position);
     let behind = position + count;
@@ -198,7 +199,7 @@ pub fn delete(heap: &mut DebugHeap, ptr: Ptr, position: u32, count: u32) -> Resu
 
 /// Gives the text in a cell another length: units past it become zero, and a longer text gains zeros.
 ///
-/// `User(11)` where the length is above the maximum, and then the heap is as it was. Other cells stay. Source: Symbian OS
+/// `Panic::TOO_LONG` where the length is above the maximum, and then the heap is as it was. Other cells stay. Source: Symbian OS
 /// v9 SDK reference, 16-bit descriptors.
 pub fn set_length(heap: &mut DebugHeap, ptr: Ptr, n: u32) -> Result<(), Panic>
     requires { IsTextAt ptr heap.old }
@@ -209,7 +210,7 @@ pub fn set_length(heap: &mut DebugHeap, ptr: Ptr, n: u32) -> Result<(), Panic>
     ensures sound { IsSoundDebug heap.new }
 {
     if measure(heap, ptr).max < n {
-        return Err(Panic::User(11));
+        return Err(Panic::TOO_LONG);
     }
     settle(heap, ptr, n);
     Ok(())
@@ -218,7 +219,7 @@ pub fn set_length(heap: &mut DebugHeap, ptr: Ptr, n: u32) -> Result<(), Panic>
 /// Changes a buffer by the units of a source, which count as they stood before. The heap is where the source's cell
 /// stands.
 ///
-/// `User(10)` where an insertion's position is past the end, then `User(11)` where the text would be longer than its
+/// `Panic::POSITION_OUT_OF_BOUNDS` where an insertion's position is past the end, then `Panic::TOO_LONG` where the text would be longer than its
 /// maximum. A refusal leaves the buffer as it was. Source: Symbian OS v9 SDK reference, 16-bit descriptors.
 pub fn edit_buf(heap: &DebugHeap, buf: &mut Buf, change: Edit, source: Source) -> Result<(), Panic>
     requires source { IsSource heap.now source }

@@ -11,8 +11,9 @@ use std::test::Fail;
 use wb_debug::debug_heap::DebugHeap;
 use wb_model::heap::{Gave, Panic, Ptr, Rule, Shape};
 use wb_model::items::Items;
-use wb_model::line::Line;
+use wb_model::limits::MOST_UNITS;
 use wb_model::memory::NoMemory;
+use wb_model::printed_line::Line;
 use wb_model::script::Chars;
 use wb_text::buf::Buf;
 
@@ -25,7 +26,7 @@ fn chars(alloc: Global, bytes: &[u8]) -> Result<Chars, AllocError> {
 
 /// An empty text that may have so many units.
 fn granted(heap: &mut DebugHeap, n: u32) -> Result<Ptr, NoMemory>
-    requires { n ≤ 524286 }
+    requires { n ≤ MOST_UNITS }
     ensures { IfOk result (λ ptr. IsTextAt ptr heap.new) }
 {
     if heap.attempts() == u32::MAX {
@@ -41,7 +42,7 @@ fn granted(heap: &mut DebugHeap, n: u32) -> Result<Ptr, NoMemory>
 fn granted_beside(heap: &mut DebugHeap, other: Ptr, n: u32) -> Result<Ptr, NoMemory>
     requires sound { IsSoundDebug heap.old }
     requires other { IsTextAt other heap.old }
-    requires most { n ≤ 524286 }
+    requires most { n ≤ MOST_UNITS }
     ensures text { IfOk result (λ ptr. IsTextAt ptr heap.new) }
     ensures other { IfOk result (λ _. IsTextAt other heap.new) }
     ensures other_apart { IfOk result (λ ptr. other ≢ ptr) }
@@ -78,7 +79,7 @@ fn edit_from(
 /// The pointer to a text once its cell was reallocated for so many units, and the old one where that was refused.
 fn remade(heap: &mut DebugHeap, ptr: Ptr, n: u32) -> Result<Ptr, NoMemory>
     requires text { IsTextAt ptr heap.old }
-    requires most { n ≤ 524286 }
+    requires most { n ≤ MOST_UNITS }
     ensures { IfOk result (λ p. IsTextAt p heap.new) }
 {
     if heap.attempts() == u32::MAX || n < length(heap, ptr) {
@@ -116,7 +117,7 @@ fn a_text_is_as_long_as_its_cell_has_room(rt: HostRuntime) -> Result<(), Fail> {
         Edit::Append,
         Source::Literal(&letters, 6, 1),
     );
-    assert_eq!(rt; one_more, Err(Panic::User(11)));
+    assert_eq!(rt; one_more, Err(Panic::TOO_LONG));
     assert_eq!(rt; length(&heap, ptr), 6);
     assert_eq!(rt; printed(&heap, ptr).as_slice(), b"abcdef".as_slice());
     Ok(())
@@ -196,9 +197,9 @@ fn a_text_is_changed_by_its_own_units(rt: HostRuntime) -> Result<(), Fail> {
     let doubled = edit(&mut heap, ptr, Edit::Append, Source::Own(0, 3));
     assert_eq!(rt; doubled, Ok(()));
     let longer = edit(&mut heap, ptr, Edit::Append, Source::Own(6, 1));
-    assert_eq!(rt; longer, Err(Panic::User(11)));
+    assert_eq!(rt; longer, Err(Panic::TOO_LONG));
     let long = edit(&mut heap, ptr, Edit::Copy, Source::Own(5, 7));
-    assert_eq!(rt; long, Err(Panic::User(11)));
+    assert_eq!(rt; long, Err(Panic::TOO_LONG));
     assert_eq!(rt; printed(&heap, ptr).as_slice(), b"abcabc".as_slice());
     let behind = edit(&mut heap, ptr, Edit::Copy, Source::Own(5, 3));
     assert_eq!(rt; behind, Ok(()));
@@ -251,13 +252,13 @@ fn too_many_units_of_another_cell(rt: HostRuntime) -> Result<(), Fail> {
     let fits = edit_from(&mut heap, ptr, Edit::Copy, other, 1, 6);
     assert_eq!(rt; fits, Ok(()));
     let copied = edit_from(&mut heap, ptr, Edit::Copy, other, 0, 7);
-    assert_eq!(rt; copied, Err(Panic::User(11)));
+    assert_eq!(rt; copied, Err(Panic::TOO_LONG));
     let appended = edit_from(&mut heap, ptr, Edit::Append, other, 0, 1);
-    assert_eq!(rt; appended, Err(Panic::User(11)));
+    assert_eq!(rt; appended, Err(Panic::TOO_LONG));
     let inserted = edit_from(&mut heap, ptr, Edit::Insert(6), other, 7, 1);
-    assert_eq!(rt; inserted, Err(Panic::User(11)));
+    assert_eq!(rt; inserted, Err(Panic::TOO_LONG));
     let past = edit_from(&mut heap, ptr, Edit::Insert(7), other, 0, 1);
-    assert_eq!(rt; past, Err(Panic::User(10)));
+    assert_eq!(rt; past, Err(Panic::POSITION_OUT_OF_BOUNDS));
     assert_eq!(rt; printed(&heap, ptr).as_slice(), b"bcdefg".as_slice());
     assert_eq!(rt; printed(&heap, other).as_slice(), b"abcdefg".as_slice());
     Ok(())
@@ -276,18 +277,21 @@ fn refusals_in_order(rt: HostRuntime) -> Result<(), Fail> {
         Edit::Insert(4),
         Source::Literal(&letters, 0, 7),
     );
-    assert_eq!(rt; past, Err(Panic::User(10)));
+    assert_eq!(rt; past, Err(Panic::POSITION_OUT_OF_BOUNDS));
     let long = edit(
         &mut heap,
         ptr,
         Edit::Insert(3),
         Source::Literal(&letters, 0, 7),
     );
-    assert_eq!(rt; long, Err(Panic::User(11)));
+    assert_eq!(rt; long, Err(Panic::TOO_LONG));
     let copied = edit(&mut heap, ptr, Edit::Copy, Source::Literal(&letters, 0, 7));
-    assert_eq!(rt; copied, Err(Panic::User(11)));
-    assert_eq!(rt; delete(&mut heap, ptr, 4, 0), Err(Panic::User(10)));
-    assert_eq!(rt; set_length(&mut heap, ptr, 7), Err(Panic::User(11)));
+    assert_eq!(rt; copied, Err(Panic::TOO_LONG));
+    assert_eq!(rt;
+        delete(&mut heap, ptr, 4, 0),
+        Err(Panic::POSITION_OUT_OF_BOUNDS)
+    );
+    assert_eq!(rt; set_length(&mut heap, ptr, 7), Err(Panic::TOO_LONG));
     assert_eq!(rt; printed(&heap, ptr).as_slice(), b"abc".as_slice());
     Ok(())
 }

@@ -21,7 +21,7 @@ use Rattle.wb_model.specs.Attempts.{attempt, allocate, resized, reallocate_longe
 use Rattle.wb_model.specs.Account.{stopped, Settled, settled, on_answer, recorded}
 use Rattle.wb_model.specs.CellRow.{resized_words}
 use Rattle.wb_model.specs.LimitedHeap.{zero_words}
-use Rattle.wb_model.specs.Debug.{number_in, made_by, gave_of, shorter_made}
+use Rattle.wb_model.specs.Debug.{number_of_next, made_by, gave_of, shorter_made}
 use Rattle.wb_model.specs.Spelling.{read_as}
 use Rattle.wb_machine.specs.Held.{Held, field_count, read_cell, read_row, read_heap, state_of, account_of, with_debug}
 use Rattle.wb_machine.specs.Flow.{flow}
@@ -41,7 +41,7 @@ pub record ReadsAs (script : Script) (after : ℕ → Answer → AfterAnswer (Li
 -- an attempt comes to what follows its answer
 pub attempted : (r : Rule) (script : Script) (h : Held) (t : Request) (after : ℕ → Answer → AfterAnswer (List ℕ)) (read : ℕ → Answer → AfterAnswer Content)
     (go : Option Ptr → State → Process) (k : Way → State → Process) (o : Option Answer) →
-    ReadsAs script after read → answer_to r (number_in h.debug) t ≡ o → limit_under r ≡ limit_under h.debug.rule →
+    ReadsAs script after read → answer_to r (number_of_next h.debug) t ≡ o → limit_under r ≡ limit_under h.debug.rule →
     flow r (and_then (attempt t read (state_of script h) (state_of script h) go) k) h
     ≡ flow r (and_then (followed (made_by h.debug t after o).gave go (state_of script (with_debug h (made_by h.debug t after o).debug))) k) (with_debug h (made_by h.debug t after o).debug)
 unfolding flow attempt and_then
@@ -51,7 +51,7 @@ attempted r script h t after read go k o reads answer limit = ap F answer ∙ by
     st = state_of script h
 
     n : ℕ
-    n = number_in h.debug
+    n = number_of_next h.debug
 
     F : Option Answer → Settled
     F o = on_answer o (record { end = stopped (is_cut Ceiling); state = st; account = account_of h })
@@ -95,7 +95,7 @@ reads_alloc script heap t kind fresh is = record { heap = λ n a. row n a; given
 
 -- an allocation comes to what follows its answer
 pub allocated : (r : Rule) (script : Script) (h : Held) (bytes : ℕ) (kind : Kind) (fresh : Content) (go : Option Ptr → State → Process) (k : Way → State → Process) (o : Option Answer) →
-    read_as (field_count script) kind (zero_words (cell_length bytes)) ≡ fresh → answer_to r (number_in h.debug) (alloc_request h.debug.heap bytes) ≡ o →
+    read_as (field_count script) kind (zero_words (cell_length bytes)) ≡ fresh → answer_to r (number_of_next h.debug) (alloc_request h.debug.heap bytes) ≡ o →
     limit_under r ≡ limit_under h.debug.rule →
     let t = alloc_request h.debug.heap bytes in
     let made = made_by h.debug t (after_alloc h.debug.heap t kind (zero_words t.length)) o in
@@ -152,7 +152,7 @@ reads_longer script heap c bytes t reads = record { heap = λ n a. row n a; give
 
 -- a reallocation to a longer cell comes to what follows its answer
 pub made_longer : (r : Rule) (script : Script) (h : Held) (c : Cell (List ℕ)) (bytes : ℕ) (go : Option Ptr → State → Process) (k : Way → State → Process) (o : Option Answer) →
-    ReadsResized script c.head.kind bytes c.content → answer_to r (number_in h.debug) (realloc_request h.debug.heap c.head bytes) ≡ o → limit_under r ≡ limit_under h.debug.rule →
+    ReadsResized script c.head.kind bytes c.content → answer_to r (number_of_next h.debug) (realloc_request h.debug.heap c.head bytes) ≡ o → limit_under r ≡ limit_under h.debug.rule →
     let t = realloc_request h.debug.heap c.head bytes in
     let made = made_by h.debug t (after_realloc h.debug.heap t c.head (resized_words t.length c.content)) o in
     flow r (and_then (reallocate_longer true (read_cell script c) bytes (state_of script h) (state_of script h) go) k) h

@@ -1,6 +1,8 @@
 -- Statements that allocate and release cells come to what they mean.
 use Rattle.std.proofs.Common.{◌≡◌, ℕ, Bool, true, false, List, length, length-append, refl, ap, ◌∙◌, sym, arith, cond, Option, Some, None}
 use Rattle.std.specs.Prelude.{option_map}
+use Rattle.wb_model.specs.declared.limits.TheConstants.{LARGEST_REQUEST}
+use Rattle.wb_model.specs.declared.heap.TheConstants.Panic.{NUMBER_OUT_OF_RANGE}
 use Rattle.wb_model.specs.declared.heap.Ptr.{Ptr}
 use Rattle.wb_model.specs.declared.heap.Attempt.{Attempt}
 use Rattle.wb_model.specs.declared.heap.Rule.{Rule}
@@ -8,7 +10,6 @@ use Rattle.wb_model.specs.declared.heap.Kind.TheVariants.{Raw}
 use Rattle.wb_model.specs.declared.heap.Answer.{Answer}
 use Rattle.wb_model.specs.declared.heap.Gave.{Gave}
 use Rattle.wb_model.specs.declared.heap.Gave.TheVariants.{Granted, Denied, Ceiling}
-use Rattle.wb_model.specs.declared.heap.Panic.TheVariants.{Workbench}
 use Rattle.wb_model.specs.declared.script.Script.{Script}
 use Rattle.wb_model.specs.declared.script.Local.{Local}
 use Rattle.wb_model.specs.declared.script.Holder.TheVariants as H
@@ -26,7 +27,7 @@ use Rattle.wb_model.specs.LimitedHeap.{zero_words}
 use Rattle.wb_model.specs.State.{Content, State, goes_on, ends, and_then, with_some}
 use Rattle.wb_model.specs.Operands.{number_of, set_row, within}
 use Rattle.wb_model.specs.Statements.{statement, given_to, alloc_raw, released, release, is_null, done, fresh_words}
-use Rattle.wb_model.specs.Debug.{Debug, Made, number_in, made_by, answer_in, alloc_made, refusal_unless_found, with_row}
+use Rattle.wb_model.specs.Debug.{Debug, Made, number_of_next, made_by, answer_in, alloc_made, refusal_unless_found, with_row}
 use Rattle.wb_model.specs.Rest.{Fits}
 use Rattle.wb_machine.specs.Held.{Held, field_count, read_cell, state_of, with_debug}
 use Rattle.wb_machine.specs.Flow.{flow, ended_by, is_stop}
@@ -70,9 +71,9 @@ fits_made r own h p made f = by p made.gave f
 
 -- under a rule that fits, an attempt is answered as under the machine's own
 pub answered_alike : (r : Rule) (d : Debug) (t : Request) (after : ℕ → Answer → AfterAnswer (List ℕ)) (o : Option Answer) → answer_in d t ≡ o →
-    Fits r d.rule (is_ceiling (made_by d t after o).gave) (length (made_by d t after o).debug.trace) → answer_to r (number_in d) t ≡ o
-answered_alike r d t after None e f = ap (λ q. answer_to q (number_in d) t) (fits-ended r d.rule _ f) ∙ e
-answered_alike r d t after (Some w) e f = fits-answer r d.rule _ _ (number_in d) t f (omega arith) (omega (arith, length-append {A = Attempt})) ∙ e
+    Fits r d.rule (is_ceiling (made_by d t after o).gave) (length (made_by d t after o).debug.trace) → answer_to r (number_of_next d) t ≡ o
+answered_alike r d t after None e f = ap (λ q. answer_to q (number_of_next d) t) (fits-ended r d.rule _ f) ∙ e
+answered_alike r d t after (Some w) e f = fits-answer r d.rule _ _ (number_of_next d) t f (omega arith) (omega (arith, length-append {A = Attempt})) ∙ e
 
 -- an allocation of so many bytes
 alloc_made_kept : (r : Rule) (script : Script) (locals : List Local) (h : Held) (p : Pointer) (bytes : ℕ) → is_pointer locals p ≡ true →
@@ -91,7 +92,7 @@ alloc_made_kept r script locals h p bytes ok f k =
 -- or of a number that may be out of its range
 pub alloc_within_kept : (r : Rule) (script : Script) (locals : List Local) (h : Held) (p : Pointer) (o : Option ℕ) → is_pointer locals p ≡ true →
     Fits r h.debug.rule (is_stop (alloc_within h p o).ending) (length (alloc_within h p o).held.debug.trace) →
-    ComesTo r script h (with_some o (Workbench 9) (state_of script h) (λ bytes. alloc_raw p GivesNull bytes (state_of script h))) (alloc_within h p o)
+    ComesTo r script h (with_some o NUMBER_OUT_OF_RANGE (state_of script h) (λ bytes. alloc_raw p GivesNull bytes (state_of script h))) (alloc_within h p o)
 unfolding with_some
 alloc_within_kept r script locals h p None ok f k = refl
 alloc_within_kept r script locals h p (Some bytes) ok f k = alloc_made_kept r script locals h p bytes ok f k
@@ -103,9 +104,9 @@ alloc_kept script literals locals h p v Leaves ok r f rec k = cc
 alloc_kept script literals locals h p v GivesNull ok r f rec k =
     let st = state_of script h in
     let named = and_left (is_pointer locals p) (is_number locals v) ok in
-    alloc_within_kept r script locals h p (within 1048576 (number_read h v)) named f k
-    ∙ sym (ap (λ x. flow r (and_then x k) h) (pointer_is script locals h p (λ _. with_some (within 1048576 (number_of st v)) (Workbench 9) st (λ bytes. alloc_raw p GivesNull bytes st)) named)
-    ∙ ap (λ z. flow r (and_then (with_some (within 1048576 z) (Workbench 9) st (λ bytes. alloc_raw p GivesNull bytes st)) k) h) (number_is script h v))
+    alloc_within_kept r script locals h p (within LARGEST_REQUEST (number_read h v)) named f k
+    ∙ sym (ap (λ x. flow r (and_then x k) h) (pointer_is script locals h p (λ _. with_some (within LARGEST_REQUEST (number_of st v)) NUMBER_OUT_OF_RANGE st (λ bytes. alloc_raw p GivesNull bytes st)) named)
+    ∙ ap (λ z. flow r (and_then (with_some (within LARGEST_REQUEST z) NUMBER_OUT_OF_RANGE st (λ bytes. alloc_raw p GivesNull bytes st)) k) h) (number_is script h v))
 
 -- the release of a pointer
 pub release_kept : (r : Rule) (script : Script) (h : Held) (p : Ptr) → ComesTo r script h (release p (state_of script h)) (free_carried h p)

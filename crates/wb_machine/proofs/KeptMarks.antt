@@ -1,9 +1,9 @@
 -- Marks, checks and settings of failures come to what they mean.
 use Rattle.std.proofs.Common.{◌≡◌, ℕ, List, true, refl, ap, ◌∙◌, sym, Option, Some, None}
 use Rattle.std.specs.Prelude.{nat_eq, if◌then◌else◌}
+use Rattle.wb_model.specs.declared.heap.TheConstants.Panic.{NUMBER_OUT_OF_RANGE, NO_OPEN_MARK}
 use Rattle.wb_model.specs.declared.heap.Header.{Header}
 use Rattle.wb_model.specs.declared.heap.Panic.{Panic}
-use Rattle.wb_model.specs.declared.heap.Panic.TheVariants.{Workbench}
 use Rattle.wb_model.specs.declared.heap.Rule.{Rule}
 use Rattle.wb_model.specs.declared.script.Script.{Script}
 use Rattle.wb_model.specs.declared.script.Local.{Local}
@@ -39,14 +39,14 @@ mark_end_by r script h None k =
     (read_lowered script h.debug.heap.level h.debug.heap.row)
 
 mark_end_in : (r : Rule) (script : Script) (h : Held) (o : Option ℕ) →
-    ComesTo r script h (with_some o (Workbench 9) (state_of script h) (λ n. unless (mark_end_refusal (state_of script h).heap n) (state_of script h) (λ st. done (set_heap st (after_mark_end st.heap)))))
+    ComesTo r script h (with_some o NUMBER_OUT_OF_RANGE (state_of script h) (λ n. unless (mark_end_refusal (state_of script h).heap n) (state_of script h) (λ st. done (set_heap st (after_mark_end st.heap)))))
     (mark_end_within h o)
 unfolding flow with_some
 mark_end_in r script h None k = refl
 mark_end_in r script h (Some n) k =
     let st = state_of script h in
     mark_end_by r script h (mark_end_refusal h.debug.heap n) k
-    ∙ ap (λ (hs : List Header). flow r (and_then (unless (if nat_eq h.debug.heap.level 0 then Some (Workbench 6) else checked (cells_of_level h.debug.heap.level hs) n) st (λ st. done (set_heap st (after_mark_end st.heap)))) k) h)
+    ∙ ap (λ (hs : List Header). flow r (and_then (unless (if nat_eq h.debug.heap.level 0 then Some NO_OPEN_MARK else checked (cells_of_level h.debug.heap.level hs) n) st (λ st. done (set_heap st (after_mark_end st.heap)))) k) h)
     (sym (headers_read script h.debug.heap.row))
 
 pub mark_end_kept : (script : Script) (literals : ℕ) (locals : List Local) (h : Held) (v : Number) → is_statement literals locals (Statement-F.MarkEnd v) ≡ true →
@@ -55,7 +55,7 @@ unfolding statement
 mark_end_kept script literals locals h v ok r f rec k =
     let st = state_of script h in
     mark_end_in r script h (not_negative (number_read h v)) k
-    ∙ sym (ap (λ z. flow r (and_then (with_some (not_negative z) (Workbench 9) st (λ n. unless (mark_end_refusal st.heap n) st (λ st. done (set_heap st (after_mark_end st.heap))))) k) h)
+    ∙ sym (ap (λ z. flow r (and_then (with_some (not_negative z) NUMBER_OUT_OF_RANGE st (λ n. unless (mark_end_refusal st.heap n) st (λ st. done (set_heap st (after_mark_end st.heap))))) k) h)
     (number_is script h v))
 
 -- a check of some cells
@@ -65,7 +65,7 @@ check_by r script h (Some panic) k = refl
 check_by r script h None k = refl
 
 check_in : (r : Rule) (script : Script) (h : Held) (cells : List Header → List Header) (o : Option ℕ) →
-    ComesTo r script h (with_some o (Workbench 9) (state_of script h) (λ n. unless (checked (cells (headers (read_row script h.debug.heap.row))) n) (state_of script h) done))
+    ComesTo r script h (with_some o NUMBER_OUT_OF_RANGE (state_of script h) (λ n. unless (checked (cells (headers (read_row script h.debug.heap.row))) n) (state_of script h) done))
     (check_within h (λ n. checked (cells (headers h.debug.heap.row)) n) o)
 unfolding flow with_some
 check_in r script h cells None k = refl
@@ -79,7 +79,7 @@ unfolding statement
 check_kept script literals locals h v ok r f rec k =
     let st = state_of script h in
     check_in r script h (cells_of_level h.debug.heap.level) (not_negative (number_read h v)) k
-    ∙ sym (ap (λ z. flow r (and_then (with_some (not_negative z) (Workbench 9) st (λ n. unless (checked (cells_of_level st.heap.level (headers st.heap.row)) n) st done)) k) h) (number_is script h v))
+    ∙ sym (ap (λ z. flow r (and_then (with_some (not_negative z) NUMBER_OUT_OF_RANGE st (λ n. unless (checked (cells_of_level st.heap.level (headers st.heap.row)) n) st done)) k) h) (number_is script h v))
 
 pub check_all_kept : (script : Script) (literals : ℕ) (locals : List Local) (h : Held) (v : Number) → is_statement literals locals (Statement-F.CheckAll v) ≡ true →
     Means script h (Statement-F.CheckAll v) (check_within h (check_all_refusal h.debug) (not_negative (number_read h v)))
@@ -87,11 +87,11 @@ unfolding statement
 check_all_kept script literals locals h v ok r f rec k =
     let st = state_of script h in
     check_in r script h cells_of_all_levels (not_negative (number_read h v)) k
-    ∙ sym (ap (λ z. flow r (and_then (with_some (not_negative z) (Workbench 9) st (λ n. unless (checked (cells_of_all_levels (headers st.heap.row)) n) st done)) k) h) (number_is script h v))
+    ∙ sym (ap (λ z. flow r (and_then (with_some (not_negative z) NUMBER_OUT_OF_RANGE st (λ n. unless (checked (cells_of_all_levels (headers st.heap.row)) n) st done)) k) h) (number_is script h v))
 
 -- a setting of a rate
 set_in : (r : Rule) (script : Script) (h : Held) (setting : ℕ → Setting) (o : Option ℕ) →
-    ComesTo r script h (with_some o (Workbench 9) (state_of script h) (λ n. done (set_setting (state_of script h) (setting n)))) (set_within h setting o)
+    ComesTo r script h (with_some o NUMBER_OUT_OF_RANGE (state_of script h) (λ n. done (set_setting (state_of script h) (setting n)))) (set_within h setting o)
 unfolding flow with_some
 set_in r script h setting None k = refl
 set_in r script h setting (Some n) k = refl
@@ -102,7 +102,7 @@ unfolding statement
 fail_next_kept script literals locals h v ok r f rec k =
     let st = state_of script h in
     set_in r script h (λ n. next n) (at_least_one (number_read h v)) k
-    ∙ sym (ap (λ z. flow r (and_then (with_some (at_least_one z) (Workbench 9) st (λ n. done (set_setting st (next n)))) k) h) (number_is script h v))
+    ∙ sym (ap (λ z. flow r (and_then (with_some (at_least_one z) NUMBER_OUT_OF_RANGE st (λ n. done (set_setting st (next n)))) k) h) (number_is script h v))
 
 pub fail_every_kept : (script : Script) (literals : ℕ) (locals : List Local) (h : Held) (v : Number) → is_statement literals locals (Statement-F.FailEvery v) ≡ true →
     Means script h (Statement-F.FailEvery v) (set_within h (λ n. each n n) (at_least_one (number_read h v)))
@@ -110,7 +110,7 @@ unfolding statement
 fail_every_kept script literals locals h v ok r f rec k =
     let st = state_of script h in
     set_in r script h (λ n. each n n) (at_least_one (number_read h v)) k
-    ∙ sym (ap (λ z. flow r (and_then (with_some (at_least_one z) (Workbench 9) st (λ n. done (set_setting st (each n n)))) k) h) (number_is script h v))
+    ∙ sym (ap (λ z. flow r (and_then (with_some (at_least_one z) NUMBER_OUT_OF_RANGE st (λ n. done (set_setting st (each n n)))) k) h) (number_is script h v))
 
 pub fail_none_kept : (script : Script) (literals : ℕ) (locals : List Local) (h : Held) → is_statement literals locals Statement-F.FailNone ≡ true →
     Means script h Statement-F.FailNone (gone_on (with_debug h (with_setting h.debug never)))

@@ -1,6 +1,6 @@
 -- Statements that set locals come to what they mean.
 use Rattle.std.proofs.Common.{◌≡◌, ℕ, ℤ, ◌+ℤ◌, Bool, true, false, List, refl, ap, ◌∙◌, sym, cond}
-use Rattle.wb_model.specs.declared.heap.Panic.TheVariants.{Workbench}
+use Rattle.wb_model.specs.declared.heap.TheConstants.Panic.{NUMBER_OUT_OF_RANGE}
 use Rattle.wb_model.specs.declared.heap.Rule.{Rule}
 use Rattle.wb_model.specs.declared.script.Script.{Script}
 use Rattle.wb_model.specs.declared.script.Local.{Local}
@@ -44,7 +44,7 @@ set_number_kept script literals locals h x v ok r f rec k =
 
 -- a sum within the range of an int, and one past it
 sum_kept : (r : Rule) (script : Script) (h : Held) (x : ℕ) (z : ℤ) →
-    ComesTo r script h (require (in_range z) (Workbench 9) (state_of script h) (λ st. done (set_local st x (number z)))) (sum_stored h x z)
+    ComesTo r script h (require (in_range z) NUMBER_OUT_OF_RANGE (state_of script h) (λ st. done (set_local st x (number z)))) (sum_stored h x z)
 unfolding flow require
 sum_kept r script h x z k = by (in_range z) k
   where
@@ -52,7 +52,7 @@ sum_kept r script h x z k = by (in_range z) k
     st = state_of script h
 
     by : (b : Bool) →
-        ComesTo r script h (require b (Workbench 9) st (λ st. done (set_local st x (number z)))) (cond b (gone_on (stored h x (number z))) (panicked h (Workbench 9)))
+        ComesTo r script h (require b NUMBER_OUT_OF_RANGE st (λ st. done (set_local st x (number z)))) (cond b (gone_on (stored h x (number z))) (panicked h NUMBER_OUT_OF_RANGE))
     by true = λ k. refl
     by false = λ k. refl
 
@@ -62,5 +62,5 @@ unfolding statement
 add_kept script literals locals h x v ok r f rec k =
     let st = state_of script h in
     sum_kept r script h x (number_in (value_in h.locals x) +ℤ number_read h v) k
-    ∙ sym (ap (λ y. flow r (and_then (require (in_range (number_in (value_in h.locals x) +ℤ y)) (Workbench 9) st (λ st. done (set_local st x (number (number_in (value_in h.locals x) +ℤ y))))) k) h)
+    ∙ sym (ap (λ y. flow r (and_then (require (in_range (number_in (value_in h.locals x) +ℤ y)) NUMBER_OUT_OF_RANGE st (λ st. done (set_local st x (number (number_in (value_in h.locals x) +ℤ y))))) k) h)
     (number_is script h v))

@@ -1,11 +1,12 @@
 -- Reallocations come to what they mean.
 use Rattle.std.proofs.Common.{◌≡◌, ℕ, ℤ, Bool, true, false, List, length, refl, ap, ◌∙◌, sym, cond, Option, Some, None}
 use Rattle.std.specs.Prelude.{◌&&◌, nat_lt, option_map}
+use Rattle.wb_model.specs.declared.limits.TheConstants.{LARGEST_REQUEST}
+use Rattle.wb_model.specs.declared.heap.TheConstants.Panic.{NUMBER_OUT_OF_RANGE, BAD_CELL, WRONG_KIND}
 use Rattle.wb_model.specs.declared.heap.Ptr.{Ptr}
 use Rattle.wb_model.specs.declared.heap.Rule.{Rule}
 use Rattle.wb_model.specs.declared.heap.Kind.{Kind}
 use Rattle.wb_model.specs.declared.heap.Kind.TheVariants.{Raw, Object, Text, Cleanup}
-use Rattle.wb_model.specs.declared.heap.Panic.TheVariants.{User, Workbench}
 use Rattle.wb_model.specs.declared.script.Script.{Script}
 use Rattle.wb_model.specs.declared.script.Local.{Local}
 use Rattle.wb_model.specs.declared.script.Pointer.{Pointer}
@@ -55,7 +56,7 @@ resized_kept r script locals h p c bytes false ok reads f k =
 -- a reallocation of a cell to so many bytes, or to a number that may be out of its range
 within_kept : (r : Rule) (script : Script) (locals : List Local) (h : Held) (p : Pointer) (c : Cell (List ℕ)) (o : Option ℕ) → is_pointer locals p ≡ true → c.head.kind ≡ Raw →
     FitsAfter r h (realloc_within h p c o) →
-    ComesTo r script h (with_some o (Workbench 9) (state_of script h) (λ bytes. reallocate (read_cell script c) bytes (state_of script h) (state_of script h) (given_to p GivesNull)))
+    ComesTo r script h (with_some o NUMBER_OUT_OF_RANGE (state_of script h) (λ bytes. reallocate (read_cell script c) bytes (state_of script h) (state_of script h) (given_to p GivesNull)))
     (realloc_within h p c o)
 unfolding with_some reallocate flow
 within_kept r script locals h p c None ok raw f k = refl
@@ -65,20 +66,20 @@ within_kept r script locals h p c (Some bytes) ok raw f k =
 -- of a cell of any kind, and of a pointer that names none
 found_kept : (r : Rule) (script : Script) (locals : List Local) (h : Held) (p : Pointer) (z : ℤ) (o : Option (Cell (List ℕ))) → is_pointer locals p ≡ true →
     FitsAfter r h (realloc_found h p z o) →
-    ComesTo r script h (with_some (option_map (read_cell script) o) (User 42) (state_of script h) (λ c.
-    require (is_raw c.head.kind) (Workbench 2) (state_of script h) (λ st.
-    with_some (within 1048576 z) (Workbench 9) st (λ bytes. reallocate c bytes st st (given_to p GivesNull))))) (realloc_found h p z o)
+    ComesTo r script h (with_some (option_map (read_cell script) o) BAD_CELL (state_of script h) (λ c.
+    require (is_raw c.head.kind) WRONG_KIND (state_of script h) (λ st.
+    with_some (within LARGEST_REQUEST z) NUMBER_OUT_OF_RANGE st (λ bytes. reallocate c bytes st st (given_to p GivesNull))))) (realloc_found h p z o)
 unfolding with_some require flow
 found_kept r script locals h p z None ok f k = refl
 found_kept r script locals h p z (Some c) ok f k = by c.head.kind refl f k
   where
     carried : Kind → Carried
-    carried kind = cond (is_raw kind) (realloc_within h p c (within 1048576 z)) (panicked h (Workbench 2))
+    carried kind = cond (is_raw kind) (realloc_within h p c (within LARGEST_REQUEST z)) (panicked h WRONG_KIND)
 
     by : (kind : Kind) → c.head.kind ≡ kind → FitsAfter r h (carried kind) →
-        ComesTo r script h (require (is_raw kind) (Workbench 2) (state_of script h) (λ st.
-        with_some (within 1048576 z) (Workbench 9) st (λ bytes. reallocate (read_cell script c) bytes st st (given_to p GivesNull)))) (carried kind)
-    by Raw raw f = within_kept r script locals h p c (within 1048576 z) ok raw f
+        ComesTo r script h (require (is_raw kind) WRONG_KIND (state_of script h) (λ st.
+        with_some (within LARGEST_REQUEST z) NUMBER_OUT_OF_RANGE st (λ bytes. reallocate (read_cell script c) bytes st st (given_to p GivesNull)))) (carried kind)
+    by Raw raw f = within_kept r script locals h p c (within LARGEST_REQUEST z) ok raw f
     by (Object class) raw f = λ k. refl
     by Text raw f = λ k. refl
     by Cleanup raw f = λ k. refl
@@ -91,11 +92,11 @@ of_kept r script locals h p q z ok f k = by (is_null q) f k
   where
     by : (b : Bool) → FitsAfter r h (cond b (alloc_carried h p z) (realloc_found h p z (cell_at q h.debug.heap.row))) →
         ComesTo r script h (realloc_of b p GivesNull q z (state_of script h)) (cond b (alloc_carried h p z) (realloc_found h p z (cell_at q h.debug.heap.row)))
-    by true f = alloc_within_kept r script locals h p (within 1048576 z) ok f
+    by true f = alloc_within_kept r script locals h p (within LARGEST_REQUEST z) ok f
     by false f = λ k.
         found_kept r script locals h p z (cell_at q h.debug.heap.row) ok f k
-        ∙ ap (λ o. flow r (and_then (with_some o (User 42) (state_of script h) (λ c. require (is_raw c.head.kind) (Workbench 2) (state_of script h) (λ st.
-        with_some (within 1048576 z) (Workbench 9) st (λ bytes. reallocate c bytes st st (given_to p GivesNull))))) k) h) (sym (read_cell_at script q h.debug.heap.row))
+        ∙ ap (λ o. flow r (and_then (with_some o BAD_CELL (state_of script h) (λ c. require (is_raw c.head.kind) WRONG_KIND (state_of script h) (λ st.
+        with_some (within LARGEST_REQUEST z) NUMBER_OUT_OF_RANGE st (λ bytes. reallocate c bytes st st (given_to p GivesNull))))) k) h) (sym (read_cell_at script q h.debug.heap.row))
 
 pub realloc_kept : (script : Script) (literals : ℕ) (locals : List Local) (h : Held) (p q : Pointer) (v : Number) (x : Refusal) →
     is_statement literals locals (Statement-F.Realloc p q v x) ≡ true → Means script h (Statement-F.Realloc p q v x) (realloc_carried h p (pointer_read h q) (number_read h v))

@@ -2,11 +2,12 @@
 use Rattle.std.proofs.Common.{◌≡◌, ℕ, zero, suc, ℤ, ◌+◌, ◌-◌, ◌*◌, ◌/◌, ◌≤◌, Bool, true, false, List, [], length, refl, ap, ◌∙◌, sym, arith, cond, Option, Some, None, take, replicate}
 use Rattle.std.specs.Prelude.{◌&&◌, nat_le, nat_lt, option_map}
 use Rattle.std.proofs.lemmas.Bool.{leb-true}
+use Rattle.wb_model.specs.declared.limits.TheConstants.{MOST_UNITS}
+use Rattle.wb_model.specs.declared.heap.TheConstants.Panic.{NUMBER_OUT_OF_RANGE, SHORTER_THAN_TEXT, NULL_OR_STALE, WRONG_KIND}
 use Rattle.wb_model.specs.declared.heap.Ptr.{Ptr}
 use Rattle.wb_model.specs.declared.heap.Rule.{Rule}
 use Rattle.wb_model.specs.declared.heap.Kind.{Kind}
 use Rattle.wb_model.specs.declared.heap.Kind.TheVariants.{Raw, Object, Text, Cleanup}
-use Rattle.wb_model.specs.declared.heap.Panic.TheVariants.{Workbench}
 use Rattle.wb_model.specs.declared.script.Script.{Script}
 use Rattle.wb_model.specs.declared.script.Local.{Local}
 use Rattle.wb_model.specs.declared.script.Pointer.{Pointer}
@@ -51,7 +52,7 @@ read_empty script n =
     ap units (text-read words [] empty).text
 
 new_text_made : (r : Rule) (script : Script) (locals : List Local) (h : Held) (p : Pointer) (o : Option ℕ) → is_pointer locals p ≡ true → FitsAfter r h (new_text_within h p o) →
-    ComesTo r script h (with_some o (Workbench 9) (state_of script h) (λ n. allocate (4 + 2 * n) Text (units []) (state_of script h) (given_to p GivesNull))) (new_text_within h p o)
+    ComesTo r script h (with_some o NUMBER_OUT_OF_RANGE (state_of script h) (λ n. allocate (4 + 2 * n) Text (units []) (state_of script h) (given_to p GivesNull))) (new_text_within h p o)
 unfolding with_some
 new_text_made r script locals h p None ok f k = refl
 new_text_made r script locals h p (Some n) ok f k =
@@ -70,9 +71,9 @@ new_text_kept script literals locals h p v Leaves ok r f rec k = cc
 new_text_kept script literals locals h p v GivesNull ok r f rec k =
     let st = state_of script h in
     let named = and_left (is_pointer locals p) (is_number locals v) ok in
-    new_text_made r script locals h p (within 524286 (number_read h v)) named f k
-    ∙ sym (ap (λ x. flow r (and_then x k) h) (pointer_is script locals h p (λ _. with_some (within 524286 (number_of st v)) (Workbench 9) st (λ n. allocate (4 + 2 * n) Text (units []) st (given_to p GivesNull))) named)
-    ∙ ap (λ z. flow r (and_then (with_some (within 524286 z) (Workbench 9) st (λ n. allocate (4 + 2 * n) Text (units []) st (given_to p GivesNull))) k) h) (number_is script h v))
+    new_text_made r script locals h p (within MOST_UNITS (number_read h v)) named f k
+    ∙ sym (ap (λ x. flow r (and_then x k) h) (pointer_is script locals h p (λ _. with_some (within MOST_UNITS (number_of st v)) NUMBER_OUT_OF_RANGE st (λ n. allocate (4 + 2 * n) Text (units []) st (given_to p GivesNull))) named)
+    ∙ ap (λ z. flow r (and_then (with_some (within MOST_UNITS z) NUMBER_OUT_OF_RANGE st (λ n. allocate (4 + 2 * n) Text (units []) st (given_to p GivesNull))) k) h) (number_is script h v))
 
 -- a text that has room in a cell of another length
 text_resized_reads : (script : Script) (kind : Kind) (n : ℕ) (ws : List ℕ) → kind ≡ Text → IsText ws (text_in ws) → length (text_in ws) ≤ n → ReadsResized script kind (4 + 2 * n) ws
@@ -87,7 +88,7 @@ text_resized_reads script Cleanup n ws text is fits = cc
 -- to so many units, or to a number that is out of its range
 remade_kept : (r : Rule) (script : Script) (locals : List Local) (h : Held) (p : Pointer) (c : Cell (List ℕ)) (o : Option ℕ) → is_pointer locals p ≡ true → c.head.kind ≡ Text →
     IsText c.content (text_in c.content) → FitsAfter r h (realloc_text_within h p c o) →
-    ComesTo r script h (with_some o (Workbench 9) (state_of script h) (λ n. realloc_text p (read_cell script c) (text_in c.content) n (state_of script h))) (realloc_text_within h p c o)
+    ComesTo r script h (with_some o NUMBER_OUT_OF_RANGE (state_of script h) (λ n. realloc_text p (read_cell script c) (text_in c.content) n (state_of script h))) (realloc_text_within h p c o)
 unfolding with_some realloc_text reallocate require flow
 remade_kept r script locals h p c None ok text is f k = refl
 remade_kept r script locals h p c (Some n) ok text is f k = by (nat_le (length (text_in c.content)) n) refl f k
@@ -96,10 +97,10 @@ remade_kept r script locals h p c (Some n) ok text is f k = by (nat_le (length (
     st = state_of script h
 
     after : Bool → Carried
-    after b = cond b (made_carried h p (realloc_made h.debug c (4 + 2 * n))) (panicked h (Workbench 8))
+    after b = cond b (made_carried h p (realloc_made h.debug c (4 + 2 * n))) (panicked h SHORTER_THAN_TEXT)
 
     by : (b : Bool) → nat_le (length (text_in c.content)) n ≡ b → FitsAfter r h (after b) →
-        ComesTo r script h (require b (Workbench 8) st (λ st. reallocate (read_cell script c) (4 + 2 * n) st st (given_to p GivesNull))) (after b)
+        ComesTo r script h (require b SHORTER_THAN_TEXT st (λ st. reallocate (read_cell script c) (4 + 2 * n) st st (given_to p GivesNull))) (after b)
     by false e f k = refl
     by true e f k =
         resized_kept r script locals h p c (4 + 2 * n) (nat_lt c.head.length (cell_length (4 + 2 * n))) ok
@@ -108,8 +109,8 @@ remade_kept r script locals h p c (Some n) ok text is f k = by (nat_le (length (
 -- of a cell of any kind, and of a pointer that names none
 remade_found : (r : Rule) (script : Script) (locals : List Local) (h : Held) (p : Pointer) (z : ℤ) (o : Option (Cell (List ℕ))) → is_pointer locals p ≡ true →
     ((c : Cell (List ℕ)) → o ≡ Some c → IsTextCell c) → FitsAfter r h (realloc_text_found h p z o) →
-    ComesTo r script h (with_some (option_map (read_cell script) o) (Workbench 1) (state_of script h) (λ c. with_some (units_of c.head.kind c.content) (Workbench 2) (state_of script h) (λ us.
-    with_some (within 524286 z) (Workbench 9) (state_of script h) (λ n. realloc_text p c us n (state_of script h))))) (realloc_text_found h p z o)
+    ComesTo r script h (with_some (option_map (read_cell script) o) NULL_OR_STALE (state_of script h) (λ c. with_some (units_of c.head.kind c.content) WRONG_KIND (state_of script h) (λ us.
+    with_some (within MOST_UNITS z) NUMBER_OUT_OF_RANGE (state_of script h) (λ n. realloc_text p c us n (state_of script h))))) (realloc_text_found h p z o)
 unfolding with_some
 remade_found r script locals h p z None ok texts f k = refl
 remade_found r script locals h p z (Some c) ok texts f k = by c.head.kind (texts c refl) refl f k
@@ -118,12 +119,12 @@ remade_found r script locals h p z (Some c) ok texts f k = by c.head.kind (texts
     st = state_of script h
 
     after : Kind → Carried
-    after kind = unless_panics h (cond (is_text kind) None (Some (Workbench 2))) (realloc_text_within h p c (within 524286 z))
+    after kind = unless_panics h (cond (is_text kind) None (Some WRONG_KIND)) (realloc_text_within h p c (within MOST_UNITS z))
 
     by : (kind : Kind) → (kind ≡ Text → IsText c.content (text_in c.content)) → c.head.kind ≡ kind → FitsAfter r h (after kind) →
-        ComesTo r script h (with_some (units_of kind (read_as (field_count script) kind c.content)) (Workbench 2) st (λ us.
-        with_some (within 524286 z) (Workbench 9) st (λ n. realloc_text p (read_cell script c) us n st))) (after kind)
-    by Text is e f k = remade_kept r script locals h p c (within 524286 z) ok e (is refl) f k
+        ComesTo r script h (with_some (units_of kind (read_as (field_count script) kind c.content)) WRONG_KIND st (λ us.
+        with_some (within MOST_UNITS z) NUMBER_OUT_OF_RANGE st (λ n. realloc_text p (read_cell script c) us n st))) (after kind)
+    by Text is e f k = remade_kept r script locals h p c (within MOST_UNITS z) ok e (is refl) f k
     by Raw is e f k = refl
     by (Object class) is e f k = refl
     by Cleanup is e f k = refl
@@ -135,8 +136,8 @@ realloc_text_kept script literals locals h p q v texts ok r f rec k =
     let st = state_of script h in
     let row = h.debug.heap.row in
     let old = pointer_read h q in
-    let from : Option (Cell Content) → ℤ → Process = λ o z. with_some o (Workbench 1) st (λ c. with_some (units_of c.head.kind c.content) (Workbench 2) st (λ us.
-    with_some (within 524286 z) (Workbench 9) st (λ n. realloc_text p c us n st))) in
+    let from : Option (Cell Content) → ℤ → Process = λ o z. with_some o NULL_OR_STALE st (λ c. with_some (units_of c.head.kind c.content) WRONG_KIND st (λ us.
+    with_some (within MOST_UNITS z) NUMBER_OUT_OF_RANGE st (λ n. realloc_text p c us n st))) in
     let target = and_left (is_pointer locals p) (is_pointer locals q && is_number locals v) ok in
     let source = and_left (is_pointer locals q) (is_number locals v) (and_right (is_pointer locals p) (is_pointer locals q && is_number locals v) ok) in
     remade_found r script locals h p (number_read h v) (cell_at old row) target (λ c e. text_cell_at old row c texts e) f k

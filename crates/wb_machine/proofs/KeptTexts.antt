@@ -1,10 +1,10 @@
 -- Statements that change texts come to what they mean.
 use Rattle.std.proofs.Common.{◌≡◌, ℕ, ℤ, List, [], ◌∷◌, length, Bool, true, false, refl, ap, ◌∙◌, sym, subst, cond, Option, Some, None, Ok, Err}
 use Rattle.std.specs.Prelude.{◌&&◌, not}
+use Rattle.wb_model.specs.declared.heap.TheConstants.Panic.{NUMBER_OUT_OF_RANGE}
 use Rattle.wb_model.specs.declared.heap.Kind.{Kind}
 use Rattle.wb_model.specs.declared.heap.Kind.TheVariants.{Raw, Object, Text, Cleanup}
 use Rattle.wb_model.specs.declared.heap.Panic.{Panic}
-use Rattle.wb_model.specs.declared.heap.Panic.TheVariants.{Workbench}
 use Rattle.wb_model.specs.declared.heap.Ptr.{Ptr}
 use Rattle.wb_model.specs.declared.heap.Rule.{Rule}
 use Rattle.wb_model.specs.declared.script.Script.{Script}
@@ -60,9 +60,9 @@ through_comes r script h ending g None p X is next = next refl is
 
 -- past a number
 number_comes : (r : Rule) (script : Script) (h : Held) (ending : Ending) (g : Held) (o : Option ℕ) (p : ℕ → Process) (X : ℕ → Type 0) → WithNumber h o ending g X →
-    ((n : ℕ) → X n → Comes r script h ending g (p n)) → Comes r script h ending g (with_some o (Workbench 9) (state_of script h) p)
+    ((n : ℕ) → X n → Comes r script h ending g (p n)) → Comes r script h ending g (with_some o NUMBER_OUT_OF_RANGE (state_of script h) p)
 unfolding with_some
-number_comes r script h ending g None p X is next = panicked_comes r script h (Workbench 9) ending g is
+number_comes r script h ending g None p X is next = panicked_comes r script h NUMBER_OUT_OF_RANGE ending g is
 number_comes r script h ending g (Some n) p X is next = next n is
 
 -- another text in a cell
@@ -143,10 +143,10 @@ append_kept script literals locals h d t ending g is ok r f rec =
 
 -- past the question whether a text is put into itself
 apart_comes : (r : Rule) (script : Script) (h : Held) (ending : Ending) (g : Held) (b : Bool) (p : State → Process) (X : Type 0) →
-    UnlessRefused h (cond b (Some (Workbench 9)) None) ending g X → (X → Comes r script h ending g (p (state_of script h))) →
-    Comes r script h ending g (require (not b) (Workbench 9) (state_of script h) p)
+    UnlessRefused h (cond b (Some NUMBER_OUT_OF_RANGE) None) ending g X → (X → Comes r script h ending g (p (state_of script h))) →
+    Comes r script h ending g (require (not b) NUMBER_OUT_OF_RANGE (state_of script h) p)
 unfolding require
-apart_comes r script h ending g true p X is next = panicked_comes r script h (Workbench 9) ending g is
+apart_comes r script h ending g true p X is next = panicked_comes r script h NUMBER_OUT_OF_RANGE ending g is
 apart_comes r script h ending g false p X is next = next is
 
 pub insert_kept : (script : Script) (literals : ℕ) (locals : List Local) (h : Held) (d : Writable) (z : Number) (t : Readable) (ending : Ending) (g : Held) →
@@ -161,18 +161,18 @@ insert_kept script literals locals h d z t ending g is ok r f rec =
     let rest = and_right (is_writable locals d) (is_number locals z && is_readable literals locals t) ok in
     let writable = named_writable h d in
     let put : Base → List ℕ → ℕ → List ℕ → ℕ → Process = λ from us max old n.
-    require (not (is_same_base to from)) (Workbench 9) st (λ st. write (insert_text max old n us) st to max) in
-    let made : Process = with_some (not_negative (number_read h z)) (Workbench 9) st (put v.base (window_units script.literals h v) (base_max h to) (base_text script.literals h to)) in
+    require (not (is_same_base to from)) NUMBER_OUT_OF_RANGE st (λ st. write (insert_text max old n us) st to max) in
+    let made : Process = with_some (not_negative (number_read h z)) NUMBER_OUT_OF_RANGE st (put v.base (window_units script.literals h v) (base_max h to) (base_text script.literals h to)) in
     comes_as r script h ending g (through (base_refusal h to) st (through (base_refusal h v.base) st made)) _
     (writable_is script locals h d (λ to. with_readable st t (λ from. with_room st to (λ max old. with_units script.literals st from (λ us.
-    with_some (not_negative (number_of st z)) (Workbench 9) st (λ n. require (not (is_same_base to (base_of from))) (Workbench 9) st (λ st. write (insert_text max old n us) st to max))))))
+    with_some (not_negative (number_of st z)) NUMBER_OUT_OF_RANGE st (λ n. require (not (is_same_base to (base_of from))) NUMBER_OUT_OF_RANGE st (λ st. write (insert_text max old n us) st to max))))))
     (and_left (is_writable locals d) (is_number locals z && is_readable literals locals t) ok)
-    ∙ readable_is script literals locals h t (λ from. with_room st to (λ max old. with_units script.literals st from (λ us. with_some (not_negative (number_of st z)) (Workbench 9) st (put (base_of from) us max old))))
+    ∙ readable_is script literals locals h t (λ from. with_room st to (λ max old. with_units script.literals st from (λ us. with_some (not_negative (number_of st z)) NUMBER_OUT_OF_RANGE st (put (base_of from) us max old))))
     (and_right (is_number locals z) (is_readable literals locals t) rest)
-    ∙ room_is script h to (λ max old. with_units script.literals st s (λ us. with_some (not_negative (number_of st z)) (Workbench 9) st (put (base_of s) us max old))) writable
-    ∙ ap (through (base_refusal h to) st) ((shown script h t).units (λ us. with_some (not_negative (number_of st z)) (Workbench 9) st (put (base_of s) us (base_max h to) (base_text script.literals h to)))
-    ∙ ap (λ y. through (base_refusal h v.base) st (with_some (not_negative y) (Workbench 9) st (put (base_of s) (window_units script.literals h v) (base_max h to) (base_text script.literals h to)))) (number_is script h z)
-    ∙ ap (λ b. through (base_refusal h v.base) st (with_some (not_negative (number_read h z)) (Workbench 9) st (put b (window_units script.literals h v) (base_max h to) (base_text script.literals h to)))) (shown script h t).base))
+    ∙ room_is script h to (λ max old. with_units script.literals st s (λ us. with_some (not_negative (number_of st z)) NUMBER_OUT_OF_RANGE st (put (base_of s) us max old))) writable
+    ∙ ap (through (base_refusal h to) st) ((shown script h t).units (λ us. with_some (not_negative (number_of st z)) NUMBER_OUT_OF_RANGE st (put (base_of s) us (base_max h to) (base_text script.literals h to)))
+    ∙ ap (λ y. through (base_refusal h v.base) st (with_some (not_negative y) NUMBER_OUT_OF_RANGE st (put (base_of s) (window_units script.literals h v) (base_max h to) (base_text script.literals h to)))) (number_is script h z)
+    ∙ ap (λ b. through (base_refusal h v.base) st (with_some (not_negative (number_read h z)) NUMBER_OUT_OF_RANGE st (put b (window_units script.literals h v) (base_max h to) (base_text script.literals h to)))) (shown script h t).base))
     (through_comes r script h ending g (base_refusal h to) _ _ is (λ fine is.
     through_comes r script h ending g (base_refusal h v.base) made _ is (λ there is.
     number_comes r script h ending g (not_negative (number_read h z)) _ _ is (λ n is.
@@ -195,15 +195,15 @@ delete_kept script literals locals h d z y ending g is ok r f rec =
     let to = base_named h d in
     let writable = named_writable h d in
     let cut : ℕ → List ℕ → ℕ → ℕ → Process = λ max old n m. write (delete_text old n m) st to max in
-    let made : Process = with_some (not_negative (number_read h z)) (Workbench 9) st (λ n. with_some (not_negative (number_read h y)) (Workbench 9) st (cut (base_max h to) (base_text [] h to) n)) in
+    let made : Process = with_some (not_negative (number_read h z)) NUMBER_OUT_OF_RANGE st (λ n. with_some (not_negative (number_read h y)) NUMBER_OUT_OF_RANGE st (cut (base_max h to) (base_text [] h to) n)) in
     comes_as r script h ending g (through (base_refusal h to) st made) _
-    (writable_is script locals h d (λ to. with_room st to (λ max old. with_some (not_negative (number_of st z)) (Workbench 9) st (λ n.
-    with_some (not_negative (number_of st y)) (Workbench 9) st (λ m. write (delete_text old n m) st to max)))) (and_left (is_writable locals d) (is_number locals z && is_number locals y) ok)
-    ∙ room_is script h to (λ max old. with_some (not_negative (number_of st z)) (Workbench 9) st (λ n. with_some (not_negative (number_of st y)) (Workbench 9) st (cut max old n))) writable
-    ∙ ap (λ old. through (base_refusal h to) st (with_some (not_negative (number_of st z)) (Workbench 9) st (λ n. with_some (not_negative (number_of st y)) (Workbench 9) st (cut (base_max h to) old n))))
+    (writable_is script locals h d (λ to. with_room st to (λ max old. with_some (not_negative (number_of st z)) NUMBER_OUT_OF_RANGE st (λ n.
+    with_some (not_negative (number_of st y)) NUMBER_OUT_OF_RANGE st (λ m. write (delete_text old n m) st to max)))) (and_left (is_writable locals d) (is_number locals z && is_number locals y) ok)
+    ∙ room_is script h to (λ max old. with_some (not_negative (number_of st z)) NUMBER_OUT_OF_RANGE st (λ n. with_some (not_negative (number_of st y)) NUMBER_OUT_OF_RANGE st (cut max old n))) writable
+    ∙ ap (λ old. through (base_refusal h to) st (with_some (not_negative (number_of st z)) NUMBER_OUT_OF_RANGE st (λ n. with_some (not_negative (number_of st y)) NUMBER_OUT_OF_RANGE st (cut (base_max h to) old n))))
     (text_alone script.literals h to writable)
-    ∙ ap (λ x. through (base_refusal h to) st (with_some (not_negative x) (Workbench 9) st (λ n. with_some (not_negative (number_of st y)) (Workbench 9) st (cut (base_max h to) (base_text [] h to) n)))) (number_is script h z)
-    ∙ ap (λ x. through (base_refusal h to) st (with_some (not_negative (number_read h z)) (Workbench 9) st (λ n. with_some (not_negative x) (Workbench 9) st (cut (base_max h to) (base_text [] h to) n)))) (number_is script h y))
+    ∙ ap (λ x. through (base_refusal h to) st (with_some (not_negative x) NUMBER_OUT_OF_RANGE st (λ n. with_some (not_negative (number_of st y)) NUMBER_OUT_OF_RANGE st (cut (base_max h to) (base_text [] h to) n)))) (number_is script h z)
+    ∙ ap (λ x. through (base_refusal h to) st (with_some (not_negative (number_read h z)) NUMBER_OUT_OF_RANGE st (λ n. with_some (not_negative x) NUMBER_OUT_OF_RANGE st (cut (base_max h to) (base_text [] h to) n)))) (number_is script h y))
     (through_comes r script h ending g (base_refusal h to) made _ is (λ fine is.
     number_comes r script h ending g (not_negative (number_read h z)) _ _ is (λ n is.
     number_comes r script h ending g (not_negative (number_read h y)) _ _ is (λ m is.
@@ -218,13 +218,13 @@ length_set_kept script literals locals h d z ending g is ok r f rec =
     let to = base_named h d in
     let writable = named_writable h d in
     let cut : ℕ → List ℕ → ℕ → Process = λ max old n. write (set_length_text max old n) st to max in
-    let made : Process = with_some (not_negative (number_read h z)) (Workbench 9) st (cut (base_max h to) (base_text [] h to)) in
+    let made : Process = with_some (not_negative (number_read h z)) NUMBER_OUT_OF_RANGE st (cut (base_max h to) (base_text [] h to)) in
     comes_as r script h ending g (through (base_refusal h to) st made) _
-    (writable_is script locals h d (λ to. with_room st to (λ max old. with_some (not_negative (number_of st z)) (Workbench 9) st (λ n. write (set_length_text max old n) st to max)))
+    (writable_is script locals h d (λ to. with_room st to (λ max old. with_some (not_negative (number_of st z)) NUMBER_OUT_OF_RANGE st (λ n. write (set_length_text max old n) st to max)))
     (and_left (is_writable locals d) (is_number locals z) ok)
-    ∙ room_is script h to (λ max old. with_some (not_negative (number_of st z)) (Workbench 9) st (cut max old)) writable
-    ∙ ap (λ old. through (base_refusal h to) st (with_some (not_negative (number_of st z)) (Workbench 9) st (cut (base_max h to) old))) (text_alone script.literals h to writable)
-    ∙ ap (λ x. through (base_refusal h to) st (with_some (not_negative x) (Workbench 9) st (cut (base_max h to) (base_text [] h to)))) (number_is script h z))
+    ∙ room_is script h to (λ max old. with_some (not_negative (number_of st z)) NUMBER_OUT_OF_RANGE st (cut max old)) writable
+    ∙ ap (λ old. through (base_refusal h to) st (with_some (not_negative (number_of st z)) NUMBER_OUT_OF_RANGE st (cut (base_max h to) old))) (text_alone script.literals h to writable)
+    ∙ ap (λ x. through (base_refusal h to) st (with_some (not_negative x) NUMBER_OUT_OF_RANGE st (cut (base_max h to) (base_text [] h to)))) (number_is script h z))
     (through_comes r script h ending g (base_refusal h to) made _ is (λ fine is.
     number_comes r script h ending g (not_negative (number_read h z)) _ _ is (λ n is.
     written_comes r script h to _ ending g fine is writable)))

@@ -1,8 +1,8 @@
 -- Statements that read texts come to what they mean.
 use Rattle.std.proofs.Common.{◌≡◌, ℕ, ◌+◌, ℤ, pos, List, length, Bool, true, refl, ap, ◌∙◌, sym, subst, Option, Some, None, Result, Ok, Err}
 use Rattle.std.specs.Prelude.{◌&&◌}
+use Rattle.wb_model.specs.declared.heap.TheConstants.Panic.{NUMBER_OUT_OF_RANGE}
 use Rattle.wb_model.specs.declared.heap.Panic.{Panic}
-use Rattle.wb_model.specs.declared.heap.Panic.TheVariants.{Workbench}
 use Rattle.wb_model.specs.declared.heap.Rule.{Rule}
 use Rattle.wb_model.specs.declared.script.Script.{Script}
 use Rattle.wb_model.specs.declared.script.Local.{Local}
@@ -37,7 +37,7 @@ through_kept r script h None p c comes k = comes k
 
 -- past a number
 with_number_kept : (r : Rule) (script : Script) (h : Held) (o : Option ℕ) (p : ℕ → Process) (c : ℕ → Carried) → ((n : ℕ) → ComesTo r script h (p n) (c n)) →
-    ComesTo r script h (with_some o (Workbench 9) (state_of script h) p) (with_number h o c)
+    ComesTo r script h (with_some o NUMBER_OUT_OF_RANGE (state_of script h) p) (with_number h o c)
 unfolding with_some
 with_number_kept r script h None p c comes k = refl
 with_number_kept r script h (Some n) p c comes k = comes n k
@@ -105,10 +105,10 @@ left_kept script literals locals h w t z ok r f rec =
     let st = state_of script h in
     let us = window_units script.literals h (window_read script.literals h t) in
     let s = source_named h t in
-    read_kept r script literals locals h t (λ from us. with_some (not_negative (number_of st z)) (Workbench 9) st (λ n. write_view (left_part (length us) n) st w from)) _
+    read_kept r script literals locals h t (λ from us. with_some (not_negative (number_of st z)) NUMBER_OUT_OF_RANGE st (λ n. write_view (left_part (length us) n) st w from)) _
     (and_left (is_readable literals locals t) (is_number locals z) (and_right (is_view locals w) (is_readable literals locals t && is_number locals z) ok))
-    (same_process r script h (with_some (not_negative (number_read h z)) (Workbench 9) st (λ n. write_view (left_part (length us) n) st w s)) _ _
-    (ap (λ y. with_some (not_negative y) (Workbench 9) st (λ n. write_view (left_part (length us) n) st w s)) (number_is script h z))
+    (same_process r script h (with_some (not_negative (number_read h z)) NUMBER_OUT_OF_RANGE st (λ n. write_view (left_part (length us) n) st w s)) _ _
+    (ap (λ y. with_some (not_negative y) NUMBER_OUT_OF_RANGE st (λ n. write_view (left_part (length us) n) st w s)) (number_is script h z))
     (with_number_kept r script h (not_negative (number_read h z)) _ _ (λ n. part_of_kept r script h w t (λ len. left_part len n))))
 
 pub right_kept : (script : Script) (literals : ℕ) (locals : List Local) (h : Held) (w : ℕ) (t : Readable) (z : Number) → is_statement literals locals (Statement-F.Right w t z) ≡ true →
@@ -118,10 +118,10 @@ right_kept script literals locals h w t z ok r f rec =
     let st = state_of script h in
     let us = window_units script.literals h (window_read script.literals h t) in
     let s = source_named h t in
-    read_kept r script literals locals h t (λ from us. with_some (not_negative (number_of st z)) (Workbench 9) st (λ n. write_view (right_part (length us) n) st w from)) _
+    read_kept r script literals locals h t (λ from us. with_some (not_negative (number_of st z)) NUMBER_OUT_OF_RANGE st (λ n. write_view (right_part (length us) n) st w from)) _
     (and_left (is_readable literals locals t) (is_number locals z) (and_right (is_view locals w) (is_readable literals locals t && is_number locals z) ok))
-    (same_process r script h (with_some (not_negative (number_read h z)) (Workbench 9) st (λ n. write_view (right_part (length us) n) st w s)) _ _
-    (ap (λ y. with_some (not_negative y) (Workbench 9) st (λ n. write_view (right_part (length us) n) st w s)) (number_is script h z))
+    (same_process r script h (with_some (not_negative (number_read h z)) NUMBER_OUT_OF_RANGE st (λ n. write_view (right_part (length us) n) st w s)) _ _
+    (ap (λ y. with_some (not_negative y) NUMBER_OUT_OF_RANGE st (λ n. write_view (right_part (length us) n) st w s)) (number_is script h z))
     (with_number_kept r script h (not_negative (number_read h z)) _ _ (λ n. part_of_kept r script h w t (λ len. right_part len n))))
 
 pub mid_kept : (script : Script) (literals : ℕ) (locals : List Local) (h : Held) (w : ℕ) (t : Readable) (z y : Number) → is_statement literals locals (Statement-F.Mid w t z y) ≡ true →
@@ -132,11 +132,11 @@ mid_kept script literals locals h w t z y ok r f rec =
     let us = window_units script.literals h (window_read script.literals h t) in
     let s = source_named h t in
     let part : ℕ → ℕ → Process = λ n m. write_view (mid_part (length us) n m) st w s in
-    read_kept r script literals locals h t (λ from us. with_some (not_negative (number_of st z)) (Workbench 9) st (λ n. with_some (not_negative (number_of st y)) (Workbench 9) st (λ m. write_view (mid_part (length us) n m) st w from))) _
+    read_kept r script literals locals h t (λ from us. with_some (not_negative (number_of st z)) NUMBER_OUT_OF_RANGE st (λ n. with_some (not_negative (number_of st y)) NUMBER_OUT_OF_RANGE st (λ m. write_view (mid_part (length us) n m) st w from))) _
     (and_left (is_readable literals locals t) (is_number locals z && is_number locals y) (and_right (is_view locals w) (is_readable literals locals t && (is_number locals z && is_number locals y)) ok))
-    (same_process r script h (with_some (not_negative (number_read h z)) (Workbench 9) st (λ n. with_some (not_negative (number_read h y)) (Workbench 9) st (part n))) _ _
-    (ap (λ x. with_some (not_negative x) (Workbench 9) st (λ n. with_some (not_negative (number_of st y)) (Workbench 9) st (part n))) (number_is script h z)
-    ∙ ap (λ x. with_some (not_negative (number_read h z)) (Workbench 9) st (λ n. with_some (not_negative x) (Workbench 9) st (part n))) (number_is script h y))
+    (same_process r script h (with_some (not_negative (number_read h z)) NUMBER_OUT_OF_RANGE st (λ n. with_some (not_negative (number_read h y)) NUMBER_OUT_OF_RANGE st (part n))) _ _
+    (ap (λ x. with_some (not_negative x) NUMBER_OUT_OF_RANGE st (λ n. with_some (not_negative (number_of st y)) NUMBER_OUT_OF_RANGE st (part n))) (number_is script h z)
+    ∙ ap (λ x. with_some (not_negative (number_read h z)) NUMBER_OUT_OF_RANGE st (λ n. with_some (not_negative x) NUMBER_OUT_OF_RANGE st (part n))) (number_is script h y))
     (with_number_kept r script h (not_negative (number_read h z)) _ _ (λ n.
     with_number_kept r script h (not_negative (number_read h y)) _ _ (λ m. part_of_kept r script h w t (λ len. mid_part len n m)))))
 

@@ -3,11 +3,11 @@ use Rattle.std.proofs.Common.{◌≡◌, ℕ, zero, suc, ℤ, pos, List, [], ◌
 use Rattle.std.specs.Prelude.{◌&&◌, option_map, slice_get, slice_index, unwrap_or}
 use Rattle.std.specs.Int.{cast_unsigned}
 use Rattle.std.proofs.lemmas.List.{map-set}
+use Rattle.wb_model.specs.declared.heap.TheConstants.Panic.{NUMBER_OUT_OF_RANGE, NULL_OR_STALE, WRONG_KIND, BAD_CELL}
 use Rattle.wb_model.specs.declared.heap.Ptr.{Ptr}
 use Rattle.wb_model.specs.declared.heap.Kind.{Kind}
 use Rattle.wb_model.specs.declared.heap.Kind.TheVariants.{Raw, Object, Text, Cleanup}
 use Rattle.wb_model.specs.declared.heap.Rule.{Rule}
-use Rattle.wb_model.specs.declared.heap.Panic.TheVariants.{User, Workbench}
 use Rattle.wb_model.specs.declared.script.Script.{Script}
 use Rattle.wb_model.specs.declared.script.Local.{Local}
 use Rattle.wb_model.specs.declared.script.Pointer.{Pointer}
@@ -18,7 +18,7 @@ use Rattle.wb_model.specs.Row.{Cell, cell_at, changed, usable_of}
 use Rattle.wb_model.specs.CellRow.{content_or_nil, payload_of, with_payload}
 use Rattle.wb_model.specs.Spelling.{signed, read_as}
 use Rattle.wb_model.specs.State.{Content, words, number, State, goes_on, Process, ends, and_then, with_some, set_local}
-use Rattle.wb_model.specs.Operands.{number_of, set_row, words_of, with_cell}
+use Rattle.wb_model.specs.Operands.{number_of, set_row, raw_words_of, with_cell}
 use Rattle.wb_model.specs.Statements.{statement, done, is_raw, index_in, with_words}
 use Rattle.wb_machine.specs.Held.{Held, field_count, read_cell, read_row, state_of}
 use Rattle.wb_machine.specs.Flow.{flow}
@@ -29,11 +29,11 @@ use Rattle.wb_machine.proofs.Kept.{Means, ComesTo, and_left, and_right, number_i
 -- the process of a store, from the words of a cell on, from the cell on, and from the pointer on
 abbrev in_words : State → Ptr → ℕ → ℤ → ℤ → List ℤ → Process
 in_words st p usable x z ws =
-    with_some (index_in usable x) (Workbench 9) st (λ k. done (set_row st (changed p (λ _. words (slice_set ws k z)) st.heap.row)))
+    with_some (index_in usable x) NUMBER_OUT_OF_RANGE st (λ k. done (set_row st (changed p (λ _. words (slice_set ws k z)) st.heap.row)))
 
 abbrev in_cell : State → Ptr → ℤ → ℤ → Option (Cell Content) → Process
 in_cell st p x z o =
-    with_some o (Workbench 1) st (λ c. with_some (words_of c.head.kind c.content) (Workbench 2) st (in_words st p (usable_of c.head) x z))
+    with_some o NULL_OR_STALE st (λ c. with_some (raw_words_of c.head.kind c.content) WRONG_KIND st (in_words st p (usable_of c.head) x z))
 
 -- the row with the word, read
 row_stored : (script : Script) (p : Ptr) (row : List (Cell (List ℕ))) (c : Cell (List ℕ)) (k : ℕ) (z : ℤ) → FitsSigned w32 z → cell_at p row ≡ Some c → c.head.kind ≡ Raw →
@@ -49,7 +49,7 @@ row_stored script p row c k z fits found raw =
 -- a word of a Raw cell
 word_kept : (r : Rule) (script : Script) (h : Held) (p : Ptr) (c : Cell (List ℕ)) (z : ℤ) (o : Option ℕ) → FitsSigned w32 z →
     cell_at p h.debug.heap.row ≡ Some c → c.head.kind ≡ Raw →
-    ComesTo r script h (with_some o (Workbench 9) (state_of script h) (λ i. done (set_row (state_of script h)
+    ComesTo r script h (with_some o NUMBER_OUT_OF_RANGE (state_of script h) (λ i. done (set_row (state_of script h)
     (changed p (λ _. words (slice_set (map signed c.content) i z)) (read_row script h.debug.heap.row))))) (word_stored h p o (cast_unsigned w32 z))
 unfolding flow with_some
 word_kept r script h p c z None fits found raw k = refl
@@ -64,9 +64,9 @@ found_kept r script h p x z None fits found k = refl
 found_kept r script h p x z (Some c) fits found k = by c.head.kind refl k
   where
     by : (kind : Kind) → c.head.kind ≡ kind →
-        ComesTo r script h (with_some (words_of kind (read_as (field_count script) kind c.content)) (Workbench 2) (state_of script h)
+        ComesTo r script h (with_some (raw_words_of kind (read_as (field_count script) kind c.content)) WRONG_KIND (state_of script h)
         (in_words (state_of script h) p (usable_of c.head) x z))
-        (cond (is_raw kind) (word_stored h p (index_in (usable_of c.head) x) (cast_unsigned w32 z)) (panicked h (Workbench 2)))
+        (cond (is_raw kind) (word_stored h p (index_in (usable_of c.head) x) (cast_unsigned w32 z)) (panicked h WRONG_KIND))
     by Raw raw = word_kept r script h p c z (index_in (usable_of c.head) x) fits found raw
     by (Object class) raw = λ k. refl
     by Text raw = λ k. refl
@@ -90,10 +90,10 @@ store_kept script literals locals h p v w fits ok r f rec k =
 
 -- the process of a load, from the words of a cell on, and from the cell on
 abbrev from_words : State → ℕ → ℕ → ℤ → List ℤ → Process
-from_words st x usable i ws = with_some (index_in usable i) (Workbench 9) st (λ k. done (set_local st x (number (unwrap_or (slice_get ws k) (pos 0)))))
+from_words st x usable i ws = with_some (index_in usable i) NUMBER_OUT_OF_RANGE st (λ k. done (set_local st x (number (unwrap_or (slice_get ws k) (pos 0)))))
 
 abbrev from_cell : State → ℕ → ℤ → Option (Cell Content) → Process
-from_cell st x i o = with_some o (Workbench 1) st (λ c. with_some (words_of c.head.kind c.content) (Workbench 2) st (from_words st x (usable_of c.head) i))
+from_cell st x i o = with_some o NULL_OR_STALE st (λ c. with_some (raw_words_of c.head.kind c.content) WRONG_KIND st (from_words st x (usable_of c.head) i))
 
 -- a word that is loaded reads as the number that the cell holds
 word_read : (ws : List ℕ) (k : ℕ) → signed (slice_index ws k) ≡ unwrap_or (slice_get (map signed ws) k) (pos 0)
@@ -103,7 +103,7 @@ word_read (w ∷ ws) (suc k) = word_read ws k
 
 -- a word of a Raw cell
 loaded_kept : (r : Rule) (script : Script) (h : Held) (x : ℕ) (p : Ptr) (c : Cell (List ℕ)) (o : Option ℕ) → cell_at p h.debug.heap.row ≡ Some c →
-    ComesTo r script h (with_some o (Workbench 9) (state_of script h) (λ k. done (set_local (state_of script h) x (number (unwrap_or (slice_get (map signed c.content) k) (pos 0))))))
+    ComesTo r script h (with_some o NUMBER_OUT_OF_RANGE (state_of script h) (λ k. done (set_local (state_of script h) x (number (unwrap_or (slice_get (map signed c.content) k) (pos 0))))))
     (word_loaded h x p o)
 unfolding flow with_some
 loaded_kept r script h x p c None found k = refl
@@ -119,8 +119,8 @@ load_found_kept r script h x p i None found k = refl
 load_found_kept r script h x p i (Some c) found k = by c.head.kind refl k
   where
     by : (kind : Kind) → c.head.kind ≡ kind →
-        ComesTo r script h (with_some (words_of kind (read_as (field_count script) kind c.content)) (Workbench 2) (state_of script h) (from_words (state_of script h) x (usable_of c.head) i))
-        (cond (is_raw kind) (word_loaded h x p (index_in (usable_of c.head) i)) (panicked h (Workbench 2)))
+        ComesTo r script h (with_some (raw_words_of kind (read_as (field_count script) kind c.content)) WRONG_KIND (state_of script h) (from_words (state_of script h) x (usable_of c.head) i))
+        (cond (is_raw kind) (word_loaded h x p (index_in (usable_of c.head) i)) (panicked h WRONG_KIND))
     by Raw raw = loaded_kept r script h x p c (index_in (usable_of c.head) i) found
     by (Object class) raw = λ k. refl
     by Text raw = λ k. refl
@@ -140,7 +140,7 @@ load_kept script literals locals h x p v ok r f rec k =
 
 -- the usable bytes of a cell
 usable_found_kept : (r : Rule) (script : Script) (h : Held) (x : ℕ) (o : Option (Cell (List ℕ))) →
-    ComesTo r script h (with_some (option_map (read_cell script) o) (User 42) (state_of script h) (λ c. done (set_local (state_of script h) x (number (pos (usable_of c.head))))))
+    ComesTo r script h (with_some (option_map (read_cell script) o) BAD_CELL (state_of script h) (λ c. done (set_local (state_of script h) x (number (pos (usable_of c.head))))))
     (usable_found h x o)
 unfolding flow with_some
 usable_found_kept r script h x None k = refl
@@ -152,7 +152,7 @@ unfolding statement
 usable_kept script literals locals h x p ok r f rec k =
     let st = state_of script h in
     let q = pointer_read h p in
-    let go : Option (Cell Content) → Process = λ o. with_some o (User 42) st (λ c. done (set_local st x (number (pos (usable_of c.head))))) in
+    let go : Option (Cell Content) → Process = λ o. with_some o BAD_CELL st (λ c. done (set_local st x (number (pos (usable_of c.head))))) in
     usable_found_kept r script h x (cell_at q h.debug.heap.row) k
     ∙ ap (λ o. flow r (and_then (go o) k) h) (sym (read_cell_at script q h.debug.heap.row))
     ∙ sym (ap (λ y. flow r (and_then y k) h) (pointer_is script locals h p (λ q. go (cell_at q st.heap.row)) (and_right (is_variable locals x) (is_pointer locals p) ok)))

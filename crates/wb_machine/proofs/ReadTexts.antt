@@ -2,10 +2,10 @@
 use Rattle.std.proofs.Common.{◌≡◌, ℕ, ◌+◌, ◌-◌, List, [], ◌∷◌, ◌++◌, length, Bool, true, false, refl, ap, ◌∙◌, sym, arith, cond, Option, Some, None, take, drop, replicate}
 use Rattle.std.specs.Prelude.{option_map}
 use Rattle.std.proofs.lemmas.List.{take_all, append-nil}
+use Rattle.wb_model.specs.declared.heap.TheConstants.Panic.{NULL_OR_STALE, WRONG_KIND}
 use Rattle.wb_model.specs.declared.heap.Kind.{Kind}
 use Rattle.wb_model.specs.declared.heap.Kind.TheVariants.{Raw, Object, Text, Cleanup}
 use Rattle.wb_model.specs.declared.heap.Panic.{Panic}
-use Rattle.wb_model.specs.declared.heap.Panic.TheVariants.{Workbench}
 use Rattle.wb_model.specs.declared.heap.Ptr.{Ptr}
 use Rattle.wb_model.specs.declared.script.Script.{Script}
 use Rattle.wb_model.specs.declared.script.Local.{Local}
@@ -48,10 +48,10 @@ cell_is script h p go = ap from (read_cell_at script p h.debug.heap.row) ∙ fou
     st = state_of script h
 
     from : Option (Cell Content) → Process
-    from o = with_some o (Workbench 1) st (λ c. with_some (units_of c.head.kind c.content) (Workbench 2) st (λ us. go (usable_of c.head) us))
+    from o = with_some o NULL_OR_STALE st (λ c. with_some (units_of c.head.kind c.content) WRONG_KIND st (λ us. go (usable_of c.head) us))
 
     kind : (k : Kind) (u : ℕ) (ws : List ℕ) →
-        with_some (units_of k (read_as (field_count script) k ws)) (Workbench 2) st (go u) ≡ through (cond (is_text k) None (Some (Workbench 2))) st (go u (text_in ws))
+        with_some (units_of k (read_as (field_count script) k ws)) WRONG_KIND st (go u) ≡ through (cond (is_text k) None (Some WRONG_KIND)) st (go u (text_in ws))
     kind Text u ws = refl
     kind Raw u ws = refl
     kind (Object class) u ws = refl

@@ -10,7 +10,7 @@ use Rattle.wb_model.specs.CellRow.{resized_words}
 use Rattle.wb_model.specs.Rules.{Request}
 use Rattle.wb_model.specs.Heap.{AfterAnswer, alloc_request, after_alloc, realloc_request, after_realloc}
 use Rattle.wb_model.specs.LimitedHeap.{zero_words}
-use Rattle.wb_model.specs.Debug.{Debug, number_in, made_by, answer_in, alloc_made, longer_made, shorter_made, realloc_made}
+use Rattle.wb_model.specs.Debug.{Debug, number_of_next, made_by, answer_in, alloc_made, longer_made, shorter_made, realloc_made}
 use Rattle.wb_machine.specs.Held.{Held, with_debug}
 use Rattle.wb_machine.specs.Flow.{Stays}
 
@@ -23,7 +23,7 @@ made_stays h t after same (Some a) = record {
   shape = refl;
   fewer = omega (arith, length-append {A = Attempt});
   more = omega (arith, length-append {A = Attempt});
-  deeper = omega (arith, same (number_in h.debug) a);
+  deeper = omega (arith, same (number_of_next h.debug) a);
 }
 
 alloc_after : (d : Debug) (t : Request) (kind : Kind) (n : ℕ) (a : Answer) → (after_alloc d.heap t kind (zero_words t.length) n a).heap.level ≡ d.heap.level

@@ -2,11 +2,11 @@
 use Rattle.std.proofs.Common.{◌≡◌, ℕ, zero, suc, ◌+◌, ◌-◌, ◌*◌, ◌/◌, ◌≤◌, Bool, true, false, not, List, [], ◌∷◌, length, refl, ap, ◌∙◌, sym, subst, arith, cond, ◌<◌, ◌^◌, Option, Some, None, Result, OnOk, OnErr, IsSome, IfSome, option_map}
 use Rattle.std.proofs.lemmas.Bool.{eqb-true}
 use Rattle.std.specs.Prelude.{nat_eq, nat_lt, ◌&&◌, Ok, Err}
+use Rattle.wb_model.specs.declared.heap.TheConstants.Panic.{WRONG_KIND}
 use Rattle.wb_model.specs.declared.heap.Ptr.{Ptr}
 use Rattle.wb_model.specs.declared.heap.Header.{Header}
 use Rattle.wb_model.specs.declared.heap.Kind.{Kind}
 use Rattle.wb_model.specs.declared.heap.Panic.{Panic}
-use Rattle.wb_model.specs.declared.heap.Panic.TheVariants.{Workbench}
 use Rattle.wb_model.specs.declared.heap.Kind.TheVariants.{Raw, Object, Text, Cleanup}
 use Rattle.wb_model.specs.declared.heap.Answer.{Answer}
 use Rattle.wb_model.specs.declared.heap.Answer.TheVariants.{Granted, Simulated, Refused}
@@ -17,7 +17,7 @@ use Rattle.wb_model.specs.Heap.{AfterAnswer, alloc_request, after_alloc, realloc
 use Rattle.wb_model.specs.LimitedHeap.{zero_words}
 use Rattle.wb_model.specs.Texts.{Edited, answer_of, units_of_part}
 use Rattle.wb_model.specs.Statements.{is_null, is_raw}
-use Rattle.wb_model.specs.declared.heap.TheConstants.{CEILING}
+use Rattle.wb_model.specs.declared.limits.TheConstants.{CEILING}
 use Rattle.wb_model.specs.declared.heap.Rule.{Rule}
 use Rattle.wb_model.specs.declared.heap.Rule.TheVariants.{Unlimited, Limit, Number}
 use Rattle.wb_model.specs.Space.{limit_under}
@@ -151,7 +151,7 @@ none_only false panic e = cc
 -- a cell that isn't refused is a text's
 pub found_text : (o : Option (Cell (List ℕ))) → text_refusal o ≡ None → (c : Cell (List ℕ)) × (o ≡ Some c) × (c.head.kind ≡ Text)
 found_text None e = cc
-found_text (Some c) e = (c, refl, is_text_kind c.head.kind (none_only (is_text c.head.kind) (Workbench 2) e))
+found_text (Some c) e = (c, refl, is_text_kind c.head.kind (none_only (is_text c.head.kind) WRONG_KIND e))
 
 pub is_text_at : (p : Ptr) (d : Debug) → AreTexts d.heap.row → text_refusal (cell_at p d.heap.row) ≡ None → IsTextAt p d
 is_text_at p d texts e =

@@ -1,12 +1,13 @@
 -- What carrying out a statement makes of what is held, and how it ends.
 use Rattle.std.specs.Prelude.{ℕ, ℤ, pos, ◌+◌, ◌+ℤ◌, List, [], ◌∷◌, ◌++◌, if◌then◌else◌, Option, Some, None, slice_index, slice_set, map}
 use Rattle.std.specs.Int.{w32, cast_unsigned}
+use Rattle.wb_model.specs.declared.limits.TheConstants.{LARGEST_REQUEST}
+use Rattle.wb_model.specs.declared.heap.TheConstants.Panic.{NUMBER_OUT_OF_RANGE, BAD_CELL, WRONG_KIND, NULL_OR_STALE}
 use Rattle.wb_model.specs.declared.heap.Ptr.{Ptr}
 use Rattle.wb_model.specs.declared.heap.Kind.TheVariants.{Raw, Cleanup}
 use Rattle.wb_model.specs.declared.heap.Gave.{Gave}
 use Rattle.wb_model.specs.declared.heap.Gave.TheVariants.{Granted, Denied, Ceiling}
 use Rattle.wb_model.specs.declared.heap.Panic.{Panic}
-use Rattle.wb_model.specs.declared.heap.Panic.TheVariants.{User, Workbench}
 use Rattle.wb_model.specs.declared.run.Note.{Note}
 use Rattle.wb_model.specs.declared.run.Why.TheVariants as why
 use Rattle.wb_model.specs.declared.script.Holder.TheVariants as H
@@ -76,20 +77,20 @@ made_carried h p made = given_carried (with_debug h made.debug) p made.gave
 
 -- an allocation of so many bytes, or of a number that is out of its range
 abbrev pub alloc_within : Held → Pointer → Option ℕ → Carried
-alloc_within h p None = panicked h (Workbench 9)
+alloc_within h p None = panicked h NUMBER_OUT_OF_RANGE
 alloc_within h p (Some bytes) = made_carried h p (alloc_made h.debug bytes Raw)
 
 abbrev pub alloc_carried : Held → Pointer → ℤ → Carried
-alloc_carried h p z = alloc_within h p (within 1048576 z)
+alloc_carried h p z = alloc_within h p (within LARGEST_REQUEST z)
 
 -- a reallocation of a cell to so many bytes, or to a number that is out of its range
 abbrev pub realloc_within : Held → Pointer → Cell (List ℕ) → Option ℕ → Carried
-realloc_within h p c None = panicked h (Workbench 9)
+realloc_within h p c None = panicked h NUMBER_OUT_OF_RANGE
 realloc_within h p c (Some bytes) = made_carried h p (realloc_made h.debug c bytes)
 
 abbrev pub realloc_found : Held → Pointer → ℤ → Option (Cell (List ℕ)) → Carried
-realloc_found h p z None = panicked h (User 42)
-realloc_found h p z (Some c) = if is_raw c.head.kind then realloc_within h p c (within 1048576 z) else panicked h (Workbench 2)
+realloc_found h p z None = panicked h BAD_CELL
+realloc_found h p z (Some c) = if is_raw c.head.kind then realloc_within h p c (within LARGEST_REQUEST z) else panicked h WRONG_KIND
 
 -- a reallocation; of null it is an allocation
 abbrev pub realloc_carried : Held → Pointer → Ptr → ℤ → Carried
@@ -101,13 +102,13 @@ free_carried h p = unless_refused h (release_refusal h.debug p) (with_debug h (d
 
 -- a word of a payload gets another
 abbrev pub word_stored : Held → Ptr → Option ℕ → ℕ → Carried
-word_stored h p None word = panicked h (Workbench 9)
+word_stored h p None word = panicked h NUMBER_OUT_OF_RANGE
 word_stored h p (Some k) word = gone_on (with_debug h (debug_changed h.debug p (slice_set (payload_of p h.debug.heap.row) k word)))
 
 abbrev pub store_found : Held → Ptr → ℤ → ℕ → Option (Cell (List ℕ)) → Carried
-store_found h p index word None = panicked h (Workbench 1)
+store_found h p index word None = panicked h NULL_OR_STALE
 store_found h p index word (Some c) =
-    if is_raw c.head.kind then word_stored h p (index_in (usable_of c.head) index) word else panicked h (Workbench 2)
+    if is_raw c.head.kind then word_stored h p (index_in (usable_of c.head) index) word else panicked h WRONG_KIND
 
 -- a number stored, as its word in two's complement
 abbrev pub store_carried : Held → Ptr → ℤ → ℤ → Carried
@@ -115,7 +116,7 @@ store_carried h p index value = store_found h p index (cast_unsigned w32 value) 
 
 -- a number local gets the usable bytes of a cell
 abbrev pub usable_found : Held → ℕ → Option (Cell (List ℕ)) → Carried
-usable_found h x None = panicked h (User 42)
+usable_found h x None = panicked h BAD_CELL
 usable_found h x (Some c) = gone_on (stored h x (number (pos (usable_of c.head))))
 
 abbrev pub usable_carried : Held → ℕ → Ptr → Carried
@@ -123,19 +124,19 @@ usable_carried h x p = usable_found h x (cell_at p h.debug.heap.row)
 
 -- a number local gets a word of a payload, as a signed number
 abbrev pub word_loaded : Held → ℕ → Ptr → Option ℕ → Carried
-word_loaded h x p None = panicked h (Workbench 9)
+word_loaded h x p None = panicked h NUMBER_OUT_OF_RANGE
 word_loaded h x p (Some k) = gone_on (stored h x (number (signed (slice_index (payload_of p h.debug.heap.row) k))))
 
 abbrev pub load_found : Held → ℕ → Ptr → ℤ → Option (Cell (List ℕ)) → Carried
-load_found h x p index None = panicked h (Workbench 1)
-load_found h x p index (Some c) = if is_raw c.head.kind then word_loaded h x p (index_in (usable_of c.head) index) else panicked h (Workbench 2)
+load_found h x p index None = panicked h NULL_OR_STALE
+load_found h x p index (Some c) = if is_raw c.head.kind then word_loaded h x p (index_in (usable_of c.head) index) else panicked h WRONG_KIND
 
 abbrev pub load_carried : Held → ℕ → Ptr → ℤ → Carried
 load_carried h x p index = load_found h x p index (cell_at p h.debug.heap.row)
 
 -- a number that is added to a number local
 abbrev pub sum_stored : Held → ℕ → ℤ → Carried
-sum_stored h x z = if in_range z then gone_on (stored h x (number z)) else panicked h (Workbench 9)
+sum_stored h x z = if in_range z then gone_on (stored h x (number z)) else panicked h NUMBER_OUT_OF_RANGE
 
 abbrev pub add_carried : Held → ℕ → ℤ → Carried
 add_carried h x z = sum_stored h x (number_in (value_in h.locals x) +ℤ z)
@@ -146,17 +147,17 @@ marked h = with_debug h (record h.debug { heap = after_mark h.debug.heap })
 
 -- the end of a mark that expects so many cells
 abbrev pub mark_end_within : Held → Option ℕ → Carried
-mark_end_within h None = panicked h (Workbench 9)
+mark_end_within h None = panicked h NUMBER_OUT_OF_RANGE
 mark_end_within h (Some n) = unless_refused h (mark_end_refusal h.debug.heap n) (with_debug h (record h.debug { heap = after_mark_end h.debug.heap }))
 
 -- a check that expects so many cells, with what refuses them
 abbrev pub check_within : Held → (ℕ → Option Panic) → Option ℕ → Carried
-check_within h refusal None = panicked h (Workbench 9)
+check_within h refusal None = panicked h NUMBER_OUT_OF_RANGE
 check_within h refusal (Some n) = unless_refused h (refusal n) h
 
 -- a setting of a rate
 abbrev pub set_within : Held → (ℕ → Setting) → Option ℕ → Carried
-set_within h setting None = panicked h (Workbench 9)
+set_within h setting None = panicked h NUMBER_OUT_OF_RANGE
 set_within h setting (Some n) = gone_on (with_debug h (with_setting h.debug (setting n)))
 
 -- one more note

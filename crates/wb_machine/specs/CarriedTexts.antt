@@ -1,8 +1,9 @@
 -- What statements on texts make of what is held, and how they end.
 use Rattle.std.specs.Prelude.{◌≡◌, ℕ, ℤ, pos, ◌+◌, ◌*◌, List, [], false, nat_le, length, if◌then◌else◌, Option, Some, None, Result, Ok, Err}
+use Rattle.wb_model.specs.declared.limits.TheConstants.{MOST_UNITS}
+use Rattle.wb_model.specs.declared.heap.TheConstants.Panic.{NUMBER_OUT_OF_RANGE, SHORTER_THAN_TEXT, NULL_OR_STALE}
 use Rattle.wb_model.specs.declared.heap.Kind.TheVariants.{Text}
 use Rattle.wb_model.specs.declared.heap.Panic.{Panic}
-use Rattle.wb_model.specs.declared.heap.Panic.TheVariants.{Workbench}
 use Rattle.wb_model.specs.declared.heap.Ptr.{Ptr}
 use Rattle.wb_model.specs.declared.script.Pointer.{Pointer}
 use Rattle.wb_model.specs.declared.text.Base.{Base}
@@ -27,11 +28,11 @@ use Rattle.wb_machine.specs.TextOperands.{text_refusal, base_refusal, base_text,
 
 -- a new text of so many units, or of a number that is out of its range
 abbrev pub new_text_within : Held → Pointer → Option ℕ → Carried
-new_text_within h p None = panicked h (Workbench 9)
+new_text_within h p None = panicked h NUMBER_OUT_OF_RANGE
 new_text_within h p (Some n) = made_carried h p (alloc_made h.debug (4 + 2 * n) Text)
 
 abbrev pub new_text_carried : Held → Pointer → ℤ → Carried
-new_text_carried h p z = new_text_within h p (within 524286 z)
+new_text_carried h p z = new_text_within h p (within MOST_UNITS z)
 
 -- a panic with a refusal, or what follows where there is none
 abbrev pub unless_panics : Held → Option Panic → Carried → Carried
@@ -40,13 +41,13 @@ unless_panics h None c = c
 
 -- a cell's text gets room for so many units, or for a number that is out of its range
 abbrev pub realloc_text_within : Held → Pointer → Cell (List ℕ) → Option ℕ → Carried
-realloc_text_within h p c None = panicked h (Workbench 9)
+realloc_text_within h p c None = panicked h NUMBER_OUT_OF_RANGE
 realloc_text_within h p c (Some n) =
-    if nat_le (length (text_in c.content)) n then made_carried h p (realloc_made h.debug c (4 + 2 * n)) else panicked h (Workbench 8)
+    if nat_le (length (text_in c.content)) n then made_carried h p (realloc_made h.debug c (4 + 2 * n)) else panicked h SHORTER_THAN_TEXT
 
 abbrev pub realloc_text_found : Held → Pointer → ℤ → Option (Cell (List ℕ)) → Carried
-realloc_text_found h p z None = panicked h (Workbench 1)
-realloc_text_found h p z (Some c) = unless_panics h (text_refusal (Some c)) (realloc_text_within h p c (within 524286 z))
+realloc_text_found h p z None = panicked h NULL_OR_STALE
+realloc_text_found h p z (Some c) = unless_panics h (text_refusal (Some c)) (realloc_text_within h p c (within MOST_UNITS z))
 
 abbrev pub realloc_text_carried : Held → Pointer → Ptr → ℤ → Carried
 realloc_text_carried h p q z = realloc_text_found h p z (cell_at q h.debug.heap.row)
@@ -84,7 +85,7 @@ UnlessRefused h None ending g go = go
 
 -- a number in its range, for what follows
 abbrev pub WithNumber : Held → Option ℕ → Ending → Held → (ℕ → Type 0) → Type 0
-WithNumber h None ending g go = HasPanicked h (Workbench 9) ending g
+WithNumber h None ending g go = HasPanicked h NUMBER_OUT_OF_RANGE ending g
 WithNumber h (Some n) ending g go = go n
 
 -- a text was changed by what a view shows, where neither's base is gone
@@ -95,7 +96,7 @@ IsEditedBy literals h to v change ending g =
 
 -- a text isn't put into itself
 abbrev pub same_refusal : Base → Base → Option Panic
-same_refusal to from = if is_same_base to from then Some (Workbench 9) else None
+same_refusal to from = if is_same_base to from then Some NUMBER_OUT_OF_RANGE else None
 
 abbrev pub IsInsertedBy : List (List ℕ) → Held → Base → View → ℤ → Ending → Held → Type 0
 IsInsertedBy literals h to v z ending g =
@@ -123,7 +124,7 @@ part_stored h w (Err panic) = panicked h panic
 
 -- what a number in its range leads to
 abbrev pub with_number : Held → Option ℕ → (ℕ → Carried) → Carried
-with_number h None go = panicked h (Workbench 9)
+with_number h None go = panicked h NUMBER_OUT_OF_RANGE
 with_number h (Some n) go = go n
 
 -- what a view whose base isn't gone leads to

@@ -5,7 +5,7 @@ use Rattle.wb_model.specs.declared.text.Base.TheVariants.{Nothing}
 use Rattle.wb_model.specs.declared.text.View.{View}
 use Rattle.wb_model.specs.Texts.{Buffer}
 use Rattle.wb_model.specs.State.{Value, pointer, number, buffer, view}
-use Rattle.wb_model.specs.Reading.{text_in, max_in}
+use Rattle.wb_model.specs.Reading.{buffer_text, max_in}
 use Rattle.wb_machine.specs.declared.locals.Slot.{Slot}
 use Rattle.wb_machine.specs.declared.locals.Slot.TheVariants as S
 use Rattle.wb_machine.specs.declared.locals.Locals.TheInside.{Inside}
@@ -22,7 +22,7 @@ values_in l = map value_of l.slots.items
 
 -- the buffer in a value; a value that holds none reads as an empty one of maximum 0
 abbrev pub buffer_in : Value → Buffer
-buffer_in v = record { max = max_in v; units = text_in v }
+buffer_in v = record { max = max_in v; units = buffer_text v }
 
 -- so many units of a base from its first on
 abbrev pub whole_window : Base → ℕ → View

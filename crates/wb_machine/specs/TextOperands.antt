@@ -1,9 +1,9 @@
 -- What text operands stand for, over what is held.
 use Rattle.std.specs.Prelude.{◌≡◌, ℕ, List, [], length, Bool, true, false, if◌then◌else◌, Option, Some, None, Result, Ok, Err}
+use Rattle.wb_model.specs.declared.heap.TheConstants.Panic.{NULL_OR_STALE, WRONG_KIND}
 use Rattle.wb_model.specs.declared.heap.Kind.{Kind}
 use Rattle.wb_model.specs.declared.heap.Kind.TheVariants.{Raw, Object, Text, Cleanup}
 use Rattle.wb_model.specs.declared.heap.Panic.{Panic}
-use Rattle.wb_model.specs.declared.heap.Panic.TheVariants.{Workbench}
 use Rattle.wb_model.specs.declared.script.Writable.{Writable}
 use Rattle.wb_model.specs.declared.script.Writable.TheVariants.{OwnBuffer, InCell}
 use Rattle.wb_model.specs.declared.script.Readable.{Readable}
@@ -13,7 +13,7 @@ use Rattle.wb_model.specs.declared.text.Base.TheVariants as B
 use Rattle.wb_model.specs.declared.text.View.{View}
 use Rattle.wb_model.specs.Row.{Cell, cell_at}
 use Rattle.wb_model.specs.Texts.{Buffer, units_of_part}
-use Rattle.wb_model.specs.Reading.{literal_of, text_in, max_in}
+use Rattle.wb_model.specs.Reading.{literal_at, buffer_text, max_in}
 use Rattle.wb_model.specs.TextCells.{text_at, max_at}
 use Rattle.wb_machine.specs.Held.{Held, value_in}
 use Rattle.wb_machine.specs.Slots.{buffer_in, whole_window, window_in}
@@ -30,8 +30,8 @@ is_text _ = false
 
 -- what is refused of a cell that is to hold a text
 abbrev pub text_refusal : Option (Cell (List ℕ)) → Option Panic
-text_refusal None = Some (Workbench 1)
-text_refusal (Some c) = if is_text c.head.kind then None else Some (Workbench 2)
+text_refusal None = Some NULL_OR_STALE
+text_refusal (Some c) = if is_text c.head.kind then None else Some WRONG_KIND
 
 -- what is refused of a base: only a cell can be gone, or hold no text
 abbrev pub base_refusal : Held → Base → Option Panic
@@ -41,8 +41,8 @@ base_refusal h _ = None
 -- the text of a base, over these literals
 abbrev pub base_text : List (List ℕ) → Held → Base → List ℕ
 base_text literals h B.Nothing = []
-base_text literals h (B.Literal i) = literal_of literals i
-base_text literals h (B.Local i) = text_in (value_in h.locals i)
+base_text literals h (B.Literal i) = literal_at literals i
+base_text literals h (B.Local i) = buffer_text (value_in h.locals i)
 base_text literals h (B.Cell p) = text_at p h.debug
 
 -- and its maximum, where it can be changed

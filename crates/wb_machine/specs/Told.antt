@@ -4,14 +4,14 @@ use Rattle.wb_model.specs.declared.run.Leak.{Leak}
 use Rattle.wb_model.specs.declared.run.Outcome.{Outcome}
 use Rattle.wb_model.specs.declared.run.Outcome.TheVariants as outcomes
 use Rattle.wb_model.specs.declared.run.RunResult.{RunResult}
-use Rattle.wb_model.specs.Debug.{leaks_in}
+use Rattle.wb_model.specs.Debug.{leaks_of_heap}
 use Rattle.wb_machine.specs.declared.control.Ending.{Ending}
 use Rattle.wb_machine.specs.declared.control.Ending.TheVariants.{GoesOn, Panics, Cut, NoCleanup}
 use Rattle.wb_machine.specs.Held.{Held}
 
 -- the live cells but the cleanup stack's, by place
 abbrev pub leaks_held : Held → List Leak
-leaks_held h = leaks_in h.debug
+leaks_held h = leaks_of_heap h.debug
 
 abbrev pub outcome_by : Ending → List Leak → Outcome
 outcome_by GoesOn leaks = outcomes.Ended None leaks

@@ -1,5 +1,6 @@
 -- A whole machine: what callers see of it, and what it keeps.
 use Rattle.std.specs.Prelude.{◌≡◌, ◌⊎◌, ◌+◌, ◌≤◌, Bool, true, false, ◌&&◌, length}
+use Rattle.wb_model.specs.declared.limits.TheConstants.{LARGEST_BUDGET}
 use Rattle.wb_model.specs.declared.heap.Rule.{Rule}
 use Rattle.wb_model.specs.declared.run.RunResult.{RunResult}
 use Rattle.wb_model.specs.Sound.{is_script}
@@ -34,7 +35,7 @@ rest_in r m = rest_at m.script.now m.budget r m.begun m.control.ending m.control
 -- a machine that met no want of memory
 pub record IsSound (m : Inside) : Type 0 where
   pub script : is_script m.script.now ≡ true
-  pub small : m.budget ≤ 1000000
+  pub small : m.budget ≤ LARGEST_BUDGET
   pub within : m.state.steps ≤ m.budget
   pub counted : length m.state.debug.trace ≤ m.state.steps + 1
   -- each mark took a step

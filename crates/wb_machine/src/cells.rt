@@ -10,10 +10,11 @@ ghost use Rattle.wb_machine.specs.Carried.{pointer_read, number_read, given_carr
 
 use crate::control::Ending;
 use crate::locals::{NULL, Slot};
-use crate::operands::bytes_within;
+use crate::operands::number_within;
 use crate::state::State;
 use crate::words::is_raw;
 use wb_model::heap::{Gave, Kind, Panic, Ptr};
+use wb_model::limits::{CEILING, LARGEST_REQUEST};
 use wb_model::memory::NoMemory;
 use wb_model::run::Why;
 use wb_model::script::{Number, Pointer};
@@ -24,7 +25,7 @@ impl State {
     /// The heap chooses the place first, then the setting is asked, the rule, and the ceiling. Past the
     /// ceiling nothing is counted; nor is it where memory is wanting.
     pub fn attempt(&mut self, bytes: u32, kind: Kind) -> Result<Gave, NoMemory>
-        requires bytes { bytes ≤ 16777216 }
+        requires bytes { bytes ≤ CEILING }
         requires text { kind ≡ Text → 1 ≤ bytes }
         requires number { length self.old.debug.trace + 1 < 2 ^ 32 }
         ensures gave { IfOk result (λ gave. gave ≡ (alloc_made self.old.debug bytes kind).gave) }
@@ -42,7 +43,7 @@ impl State {
     fn attempt_again(&mut self, ptr: Ptr, bytes: u32) -> Result<Gave, NoMemory>
         requires live { IsSome (cell_at ptr self.old.debug.heap.row) }
         requires raw { IfSome (cell_at ptr self.old.debug.heap.row) (λ c. c.head.kind ≡ Raw) }
-        requires bytes { bytes ≤ 16777216 }
+        requires bytes { bytes ≤ CEILING }
         requires number { length self.old.debug.trace + 1 < 2 ^ 32 }
         ensures gave { IfOk result (λ gave. IfSome (cell_at ptr self.old.debug.heap.row) (λ c. gave ≡ (realloc_made self.old.debug c bytes).gave)) }
         ensures held { OnOk result (IfSome (cell_at ptr self.old.debug.heap.row) (λ c. self.new ≡ with_debug self.old (realloc_made self.old.debug c bytes).debug)) }
@@ -75,8 +76,8 @@ impl State {
         ensures steps { OnOk result (self.new.steps ≡ self.old.steps) }
         ensures stays { Stays self.old self.new }
     {
-        let Some(bytes) = bytes_within(self.number(bytes)) else {
-            return Ok(Ending::Panics(Panic::Workbench(9)));
+        let Some(bytes) = number_within(LARGEST_REQUEST, self.number(bytes)) else {
+            return Ok(Ending::Panics(Panic::NUMBER_OUT_OF_RANGE));
         };
         let gave = self.attempt(bytes, Kind::Raw)?;
         Ok(self.give(target, gave))
@@ -101,13 +102,13 @@ impl State {
             return self.alloc(target, bytes);
         }
         let Some(header) = self.heap.header(ptr) else {
-            return Ok(Ending::Panics(Panic::User(42)));
+            return Ok(Ending::Panics(Panic::BAD_CELL));
         };
         if !is_raw(header.kind) {
-            return Ok(Ending::Panics(Panic::Workbench(2)));
+            return Ok(Ending::Panics(Panic::WRONG_KIND));
         }
-        let Some(bytes) = bytes_within(self.number(bytes)) else {
-            return Ok(Ending::Panics(Panic::Workbench(9)));
+        let Some(bytes) = number_within(LARGEST_REQUEST, self.number(bytes)) else {
+            return Ok(Ending::Panics(Panic::NUMBER_OUT_OF_RANGE));
         };
         let gave = self.attempt_again(ptr, bytes)?;
         Ok(self.give(target, gave))
@@ -120,7 +121,7 @@ impl State {
         ensures stays { Stays self.old self.new }
     {
         let Some(header) = self.heap.header(self.pointer(pointer)) else {
-            return Ending::Panics(Panic::User(42));
+            return Ending::Panics(Panic::BAD_CELL);
         };
         let usable = header.length - 16;
         self.set(local, Slot::Number(usable.cast_signed()));

@@ -17,6 +17,7 @@ ghost use Rattle.wb_machine.specs.Flow.{in_main_frame, pending_of, needs_step, i
 use crate::state::State;
 use std::alloc::{AllocError, Global};
 use wb_model::heap::{Gave, Kind, Panic};
+use wb_model::limits::LARGEST_BUDGET;
 use wb_model::memory::NoMemory;
 use wb_model::run::Why;
 use wb_model::script::{Body, Script, Statement};
@@ -240,7 +241,7 @@ impl<'a> Control<'a> {
         requires first { begun ≡ false → IsFirst self.old.ending self.old.pieces.items state.old }
         requires later { begun ≡ true → IsReady self.old.ending self.old.pieces.items }
         requires sound { are_sound script.now self.old.pieces.items ≡ true }
-        requires small { budget ≤ 1000000 }
+        requires small { budget ≤ LARGEST_BUDGET }
         requires within { state.old.steps ≤ budget }
         requires counted { length state.old.debug.trace ≤ state.old.steps + 1 }
         requires level { state.old.debug.heap.level ≤ state.old.steps }

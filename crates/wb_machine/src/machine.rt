@@ -14,6 +14,7 @@ use std::marker::Model;
 use wb_debug::fault::DebugFault;
 use wb_model::heap::{Rule, Shape};
 use wb_model::items::Items;
+use wb_model::limits::LARGEST_BUDGET;
 use wb_model::memory::NoMemory;
 use wb_model::run::{Leaks, RunResult};
 use wb_model::script::Script;
@@ -89,7 +90,7 @@ impl<'a> Machine<'a> {
     ) -> Result<Machine<'a>, RunFault>
         requires script { IsTrue (is_script script.now) }
         requires least { 1 ≤ budget }
-        requires greatest { budget ≤ 1000000 }
+        requires greatest { budget ≤ LARGEST_BUDGET }
         ensures shape { (result ≡ Err RunFault.BadShape) ↔ (is_shape shape ≡ false) }
         ensures seen { IfOk result (λ m. m ≡ record {
           script = script.now;
@@ -196,7 +197,7 @@ pub fn run(
 ) -> Result<RunResult, RunFault>
     requires script { IsTrue (is_script script.now) }
     requires least { 1 ≤ budget }
-    requires greatest { budget ≤ 1000000 }
+    requires greatest { budget ≤ LARGEST_BUDGET }
     ensures ran { IfOk result (λ told. told ≡ run script.now rule budget shape) }
     ensures shape { (result ≡ Err RunFault.BadShape) ↔ (is_shape shape ≡ false) }
 {

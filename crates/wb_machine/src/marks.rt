@@ -35,7 +35,7 @@ impl State {
         ensures stays { Stays self.old self.new }
     {
         let Some(count) = not_negative(self.number(count)) else {
-            return Ending::Panics(Panic::Workbench(9));
+            return Ending::Panics(Panic::NUMBER_OUT_OF_RANGE);
         };
         match self.heap.mark_end(count) {
             Ok(()) => Ending::GoesOn,
@@ -50,7 +50,7 @@ impl State {
         ensures stays { Stays self.old self.new }
     {
         let Some(count) = not_negative(self.number(count)) else {
-            return Ending::Panics(Panic::Workbench(9));
+            return Ending::Panics(Panic::NUMBER_OUT_OF_RANGE);
         };
         match self.heap.check(count) {
             Ok(()) => Ending::GoesOn,
@@ -65,7 +65,7 @@ impl State {
         ensures stays { Stays self.old self.new }
     {
         let Some(count) = not_negative(self.number(count)) else {
-            return Ending::Panics(Panic::Workbench(9));
+            return Ending::Panics(Panic::NUMBER_OUT_OF_RANGE);
         };
         match self.heap.check_all(count) {
             Ok(()) => Ending::GoesOn,
@@ -80,7 +80,7 @@ impl State {
         ensures stays { Stays self.old self.new }
     {
         let Some(rate) = at_least_one(self.number(rate)) else {
-            return Ending::Panics(Panic::Workbench(9));
+            return Ending::Panics(Panic::NUMBER_OUT_OF_RANGE);
         };
         self.heap.fail_next(rate);
         Ending::GoesOn
@@ -93,7 +93,7 @@ impl State {
         ensures stays { Stays self.old self.new }
     {
         let Some(rate) = at_least_one(self.number(rate)) else {
-            return Ending::Panics(Panic::Workbench(9));
+            return Ending::Panics(Panic::NUMBER_OUT_OF_RANGE);
         };
         self.heap.fail_every(rate);
         Ending::GoesOn

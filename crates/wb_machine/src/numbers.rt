@@ -56,7 +56,7 @@ impl State {
     {
         let value = self.number(value);
         let Some(sum) = self.locals.number(local).checked_add(value) else {
-            return Ending::Panics(Panic::Workbench(9));
+            return Ending::Panics(Panic::NUMBER_OUT_OF_RANGE);
         };
         self.set(local, Slot::Number(sum));
         Ending::GoesOn

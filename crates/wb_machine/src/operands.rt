@@ -4,14 +4,12 @@ ghost use Rattle.std.specs.Prelude.{◌≡◌, ◌≤◌, IfSome};
 ghost use Rattle.wb_model.specs.Operands.{within, not_negative};
 ghost use Rattle.wb_model.specs.Statements.{index_in, at_least_one};
 
-/// The greatest number of bytes that a statement may ask for.
-const GREATEST: i32 = 1_048_576;
-
-/// A number of bytes that may be asked for.
-pub fn bytes_within(number: i32) -> Option<u32>
-    ensures { result ≡ within 1048576 number }
+/// A number from 0 to a greatest one.
+pub fn number_within(greatest: u32, number: i32) -> Option<u32>
+    ensures value { result ≡ within greatest number }
+    ensures most { IfSome result (λ n. n ≤ greatest) }
 {
-    if 0 <= number && number <= GREATEST {
+    if 0 <= number && number as u32 <= greatest {
         Some(number as u32)
     } else {
         None

@@ -5,7 +5,7 @@ ghost use Rattle.std.specs.Fmt.{signed_decimal};
 
 use arrayvec::ArrayVec;
 use itoa::Buffer;
-use wb_model::line::Line;
+use wb_model::printed_line::Line;
 
 /// The line that a number prints: its decimal digits, behind a minus where it is negative.
 pub fn number_line(number: i32) -> Line

@@ -9,8 +9,8 @@ ghost use Rattle.wb_machine.specs.Carried.{number_read, line_printed, with_note,
 use crate::control::Ending;
 use crate::print::number_line;
 use crate::state::State;
-use wb_model::line::Line;
 use wb_model::memory::NoMemory;
+use wb_model::printed_line::Line;
 use wb_model::run::Note;
 use wb_model::script::Number;
 

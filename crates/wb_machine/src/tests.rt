@@ -326,7 +326,7 @@ fn runs_that_stop(rt: HostRuntime) -> Result<(), Fail> {
             &[over],
             Rule::Unlimited,
             9,
-            End::Panicked(Panic::Workbench(9)),
+            End::Panicked(Panic::NUMBER_OUT_OF_RANGE),
             1,
             1,
         ),
@@ -334,7 +334,7 @@ fn runs_that_stop(rt: HostRuntime) -> Result<(), Fail> {
             &[most, Order::Free(0), Order::Free(0)],
             Rule::Unlimited,
             9,
-            End::Panicked(Panic::User(42)),
+            End::Panicked(Panic::BAD_CELL),
             3,
             2,
         ),
@@ -370,27 +370,27 @@ fn stores_that_stop_a_run(rt: HostRuntime) -> Result<(), Fail> {
         ),
         (
             &[Order::Store(0, 0, 1)],
-            End::Panicked(Panic::Workbench(1)),
+            End::Panicked(Panic::NULL_OR_STALE),
             1,
         ),
         (
             &[get, Order::Free(0), Order::Store(0, 4, 1)],
-            End::Panicked(Panic::Workbench(1)),
+            End::Panicked(Panic::NULL_OR_STALE),
             3,
         ),
         (
             &[get, Order::Store(0, 4, 1)],
-            End::Panicked(Panic::Workbench(9)),
+            End::Panicked(Panic::NUMBER_OUT_OF_RANGE),
             2,
         ),
         (
             &[get, Order::Store(0, -1, 1), get],
-            End::Panicked(Panic::Workbench(9)),
+            End::Panicked(Panic::NUMBER_OUT_OF_RANGE),
             2,
         ),
         (
             &[get, Order::Store(1, 0, 1)],
-            End::Panicked(Panic::Workbench(1)),
+            End::Panicked(Panic::NULL_OR_STALE),
             2,
         ),
     ];
@@ -513,13 +513,13 @@ fn marks_and_failures(rt: HostRuntime) -> Result<(), Fail> {
 fn numbers_that_stop_a_run(rt: HostRuntime) -> Result<(), Fail> {
     let get = Order::Alloc(0, 16);
     let most = Order::Add(3, 999_999_999);
-    let range = Panic::Workbench(9);
+    let range = Panic::NUMBER_OUT_OF_RANGE;
     let cases: [(&[Order], Panic, u32); 17] = [
         (&[most, most, most], range, 3),
         (&[get, Order::Load(3, 0, 4)], range, 2),
         (&[get, Order::Load(3, 0, -1)], range, 2),
-        (&[Order::Load(3, 0, 0)], Panic::Workbench(1), 1),
-        (&[Order::AllocLen(3, 0)], Panic::User(42), 1),
+        (&[Order::Load(3, 0, 0)], Panic::NULL_OR_STALE, 1),
+        (&[Order::AllocLen(3, 0)], Panic::BAD_CELL, 1),
         (
             &[
                 get,
@@ -527,13 +527,13 @@ fn numbers_that_stop_a_run(rt: HostRuntime) -> Result<(), Fail> {
                 Order::Free(0),
                 Order::Realloc(0, 1, 9),
             ],
-            Panic::User(42),
+            Panic::BAD_CELL,
             4,
         ),
         (&[get, Order::Realloc(0, 0, -1)], range, 2),
         (&[Order::Realloc(0, 0, 1_048_577)], range, 1),
         (&[Order::MarkEnd(-1)], range, 1),
-        (&[Order::MarkEnd(0)], Panic::Workbench(6), 1),
+        (&[Order::MarkEnd(0)], Panic::NO_OPEN_MARK, 1),
         (&[get, Order::Mark, Order::MarkEnd(1)], Panic::Alloc(0), 3),
         (&[get, Order::Check(0)], Panic::Alloc(144), 2),
         (&[Order::Check(-1)], range, 1),
@@ -578,7 +578,7 @@ fn words_that_look_like_a_header_are_no_cell(rt: HostRuntime) -> Result<(), Fail
         attempt(4, 80, 144, Answer::Granted),
     ];
     assert_eq!(rt; told.trace.as_slice(), trace.as_slice());
-    assert_eq!(rt; end_of(&told.outcome), End::Panicked(Panic::User(42)));
+    assert_eq!(rt; end_of(&told.outcome), End::Panicked(Panic::BAD_CELL));
     assert_eq!(rt; told.steps, 10);
     Ok(())
 }

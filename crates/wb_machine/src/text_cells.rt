@@ -2,7 +2,6 @@
 
 ghost use Rattle.std.specs.Prelude.{◌≡◌, ◌+◌, ◌*◌, ◌^◌, ◌<◌, ◌≤◌, None, length, IfOk, IfSome, OnOk};
 ghost use Rattle.wb_model.specs.Debug.{realloc_made};
-ghost use Rattle.wb_model.specs.Operands.{within};
 ghost use Rattle.wb_model.specs.Row.{cell_at};
 ghost use Rattle.wb_model.specs.TextCells.{text_at};
 ghost use Rattle.wb_machine.specs.Held.{with_debug};
@@ -13,33 +12,20 @@ ghost use Rattle.wb_machine.specs.Carried.{pointer_read, number_read};
 ghost use Rattle.wb_machine.specs.CarriedTexts.{new_text_carried, realloc_text_carried};
 
 use crate::control::Ending;
+use crate::operands::number_within;
 use crate::state::State;
 use wb_model::heap::{Gave, Kind, Panic, Ptr};
+use wb_model::limits::MOST_UNITS;
 use wb_model::memory::NoMemory;
 use wb_model::script::{Number, Pointer};
 use wb_text::Base;
-
-/// The greatest number of units that a statement may ask for.
-const MOST: i32 = 524_286;
-
-/// A number of units that may be asked for.
-fn units_within(number: i32) -> Option<u32>
-    ensures value { result ≡ within 524286 number }
-    ensures most { IfSome result (λ n. n ≤ 524286) }
-{
-    if 0 <= number && number <= MOST {
-        Some(number as u32)
-    } else {
-        None
-    }
-}
 
 impl State {
     /// An attempt to give the text in a cell room for so many units.
     fn remake(&mut self, ptr: Ptr, units: u32) -> Result<Gave, NoMemory>
         requires text { text_refusal (cell_at ptr self.old.debug.heap.row) ≡ None }
         requires fits { length (text_at ptr self.old.debug) ≤ units }
-        requires units { units ≤ 524286 }
+        requires units { units ≤ MOST_UNITS }
         requires number { length self.old.debug.trace + 1 < 2 ^ 32 }
         ensures gave { IfOk result (λ gave. IfSome (cell_at ptr self.old.debug.heap.row) (λ c. gave ≡ (realloc_made self.old.debug c (4 + 2 * units)).gave)) }
         ensures held { OnOk result (IfSome (cell_at ptr self.old.debug.heap.row) (λ c. self.new ≡ with_debug self.old (realloc_made self.old.debug c (4 + 2 * units)).debug)) }
@@ -57,8 +43,8 @@ impl State {
         ensures steps { OnOk result (self.new.steps ≡ self.old.steps) }
         ensures stays { Stays self.old self.new }
     {
-        let Some(units) = units_within(self.number(units)) else {
-            return Ok(Ending::Panics(Panic::Workbench(9)));
+        let Some(units) = number_within(MOST_UNITS, self.number(units)) else {
+            return Ok(Ending::Panics(Panic::NUMBER_OUT_OF_RANGE));
         };
         let gave = self.attempt(4 + 2 * units, Kind::Text)?;
         Ok(self.give(target, gave))
@@ -82,11 +68,11 @@ impl State {
         if let Some(panic) = self.refusal(Base::Cell(ptr)) {
             return Ok(Ending::Panics(panic));
         }
-        let Some(units) = units_within(self.number(units)) else {
-            return Ok(Ending::Panics(Panic::Workbench(9)));
+        let Some(units) = number_within(MOST_UNITS, self.number(units)) else {
+            return Ok(Ending::Panics(Panic::NUMBER_OUT_OF_RANGE));
         };
         if units < wb_hbuf::length(&self.heap, ptr) {
-            return Ok(Ending::Panics(Panic::Workbench(8)));
+            return Ok(Ending::Panics(Panic::SHORTER_THAN_TEXT));
         }
         let gave = self.remake(ptr, units)?;
         Ok(self.give(target, gave))

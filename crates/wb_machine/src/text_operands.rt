@@ -68,9 +68,9 @@ impl State {
             return None;
         };
         match self.heap.header(ptr) {
-            None => Some(Panic::Workbench(1)),
+            None => Some(Panic::NULL_OR_STALE),
             Some(header) if is_text(header.kind) => None,
-            Some(_) => Some(Panic::Workbench(2)),
+            Some(_) => Some(Panic::WRONG_KIND),
         }
     }
 

@@ -370,7 +370,10 @@ fn positions_behind_the_end(rt: HostRuntime) -> Result<(), Fail> {
         &[Order::Mid(Window::Whole, Text::Cdef, 5, 0)],
     ];
     for orders in &scripts {
-        assert_eq!(rt; refusal(rt.alloc(), orders)?, Some(Panic::User(10)));
+        assert_eq!(rt;
+            refusal(rt.alloc(), orders)?,
+            Some(Panic::POSITION_OUT_OF_BOUNDS)
+        );
     }
     Ok(())
 }
@@ -399,7 +402,7 @@ fn texts_that_get_too_long(rt: HostRuntime) -> Result<(), Fail> {
         ],
     ];
     for orders in &scripts {
-        assert_eq!(rt; refusal(rt.alloc(), orders)?, Some(Panic::User(11)));
+        assert_eq!(rt; refusal(rt.alloc(), orders)?, Some(Panic::TOO_LONG));
     }
     Ok(())
 }
@@ -426,7 +429,7 @@ fn texts_whose_cell_is_gone(rt: HostRuntime) -> Result<(), Fail> {
         &[Order::ReallocText(Cell::Second, Cell::First, -1)],
     ];
     for orders in &scripts {
-        assert_eq!(rt; refusal(rt.alloc(), orders)?, Some(Panic::Workbench(1)));
+        assert_eq!(rt; refusal(rt.alloc(), orders)?, Some(Panic::NULL_OR_STALE));
     }
     Ok(())
 }
@@ -445,7 +448,7 @@ fn cells_that_hold_no_text(rt: HostRuntime) -> Result<(), Fail> {
         &[get, Order::ReallocText(Cell::Second, Cell::First, -1)],
     ];
     for orders in &scripts {
-        assert_eq!(rt; refusal(rt.alloc(), orders)?, Some(Panic::Workbench(2)));
+        assert_eq!(rt; refusal(rt.alloc(), orders)?, Some(Panic::WRONG_KIND));
     }
     Ok(())
 }
@@ -466,7 +469,10 @@ fn numbers_below_zero(rt: HostRuntime) -> Result<(), Fail> {
         &[Order::Mid(Window::Whole, Text::Ab, 3, -1)],
     ];
     for orders in &scripts {
-        assert_eq!(rt; refusal(rt.alloc(), orders)?, Some(Panic::Workbench(9)));
+        assert_eq!(rt;
+            refusal(rt.alloc(), orders)?,
+            Some(Panic::NUMBER_OUT_OF_RANGE)
+        );
     }
     Ok(())
 }
@@ -485,7 +491,10 @@ fn texts_that_go_into_themselves(rt: HostRuntime) -> Result<(), Fail> {
         &[get, Order::Insert(cell, 0, Text::Of(cell))],
     ];
     for orders in &scripts {
-        assert_eq!(rt; refusal(rt.alloc(), orders)?, Some(Panic::Workbench(9)));
+        assert_eq!(rt;
+            refusal(rt.alloc(), orders)?,
+            Some(Panic::NUMBER_OUT_OF_RANGE)
+        );
     }
     Ok(())
 }
@@ -498,6 +507,9 @@ fn a_text_is_not_cut_by_its_cell(rt: HostRuntime) -> Result<(), Fail> {
         Order::ReallocText(Cell::First, Cell::First, 2),
         Order::ReallocText(Cell::First, Cell::First, 1),
     ];
-    assert_eq!(rt; refusal(rt.alloc(), &orders)?, Some(Panic::Workbench(8)));
+    assert_eq!(rt;
+        refusal(rt.alloc(), &orders)?,
+        Some(Panic::SHORTER_THAN_TEXT)
+    );
     Ok(())
 }

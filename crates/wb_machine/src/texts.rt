@@ -144,10 +144,10 @@ impl State {
             Err(panic) => return Ending::Panics(panic),
         };
         let Some(at) = not_negative(self.number(position)) else {
-            return Ending::Panics(Panic::Workbench(9));
+            return Ending::Panics(Panic::NUMBER_OUT_OF_RANGE);
         };
         if is_same_base(to, window.view().base) {
-            return Ending::Panics(Panic::Workbench(9));
+            return Ending::Panics(Panic::NUMBER_OUT_OF_RANGE);
         }
         self.write(script, to, Edit::Insert(at), window)
     }
@@ -204,10 +204,10 @@ impl State {
             return Ending::Panics(panic);
         }
         let Some(position) = not_negative(self.number(position)) else {
-            return Ending::Panics(Panic::Workbench(9));
+            return Ending::Panics(Panic::NUMBER_OUT_OF_RANGE);
         };
         let Some(count) = not_negative(self.number(count)) else {
-            return Ending::Panics(Panic::Workbench(9));
+            return Ending::Panics(Panic::NUMBER_OUT_OF_RANGE);
         };
         self.take_out(to, position, count)
     }
@@ -223,7 +223,7 @@ impl State {
             return Ending::Panics(panic);
         }
         let Some(length) = not_negative(self.number(length)) else {
-            return Ending::Panics(Panic::Workbench(9));
+            return Ending::Panics(Panic::NUMBER_OUT_OF_RANGE);
         };
         self.cut_to(to, length)
     }

@@ -49,7 +49,7 @@ impl State {
             Err(panic) => return Ending::Panics(panic),
         };
         let Some(count) = not_negative(self.number(count)) else {
-            return Ending::Panics(Panic::Workbench(9));
+            return Ending::Panics(Panic::NUMBER_OUT_OF_RANGE);
         };
         self.set_part(local, window.left(count))
     }
@@ -67,7 +67,7 @@ impl State {
             Err(panic) => return Ending::Panics(panic),
         };
         let Some(count) = not_negative(self.number(count)) else {
-            return Ending::Panics(Panic::Workbench(9));
+            return Ending::Panics(Panic::NUMBER_OUT_OF_RANGE);
         };
         self.set_part(local, window.right(count))
     }
@@ -92,10 +92,10 @@ impl State {
             Err(panic) => return Ending::Panics(panic),
         };
         let Some(position) = not_negative(self.number(position)) else {
-            return Ending::Panics(Panic::Workbench(9));
+            return Ending::Panics(Panic::NUMBER_OUT_OF_RANGE);
         };
         let Some(count) = not_negative(self.number(count)) else {
-            return Ending::Panics(Panic::Workbench(9));
+            return Ending::Panics(Panic::NUMBER_OUT_OF_RANGE);
         };
         self.set_part(local, window.mid(position, count))
     }

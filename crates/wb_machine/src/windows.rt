@@ -62,7 +62,7 @@ impl Window {
         Window { view: self.view }
     }
 
-    /// The first so many units of it. `User(10)` where there are fewer.
+    /// The first so many units of it. `Panic::POSITION_OUT_OF_BOUNDS` where there are fewer.
     pub fn left(self, count: u32) -> Result<Window, Panic>
         ensures { result ≡ view_of_part self (left_part self.length count) }
     {
@@ -70,7 +70,7 @@ impl Window {
         Ok(Window { view })
     }
 
-    /// The last so many units of it. `User(10)` where there are fewer.
+    /// The last so many units of it. `Panic::POSITION_OUT_OF_BOUNDS` where there are fewer.
     pub fn right(self, count: u32) -> Result<Window, Panic>
         ensures { result ≡ view_of_part self (right_part self.length count) }
     {
@@ -78,7 +78,7 @@ impl Window {
         Ok(Window { view })
     }
 
-    /// So many units of it from a position on. `User(10)` where there are fewer.
+    /// So many units of it from a position on. `Panic::POSITION_OUT_OF_BOUNDS` where there are fewer.
     pub fn mid(self, position: u32, count: u32) -> Result<Window, Panic>
         ensures { result ≡ view_of_part self (mid_part self.length position count) }
     {

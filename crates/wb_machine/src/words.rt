@@ -31,13 +31,13 @@ impl State {
     {
         let ptr = self.pointer(pointer);
         let Some(header) = self.heap.header(ptr) else {
-            return Ending::Panics(Panic::Workbench(1));
+            return Ending::Panics(Panic::NULL_OR_STALE);
         };
         if !is_raw(header.kind) {
-            return Ending::Panics(Panic::Workbench(2));
+            return Ending::Panics(Panic::WRONG_KIND);
         }
         let Some(word) = word_within(header.length - 16, self.number(index)) else {
-            return Ending::Panics(Panic::Workbench(9));
+            return Ending::Panics(Panic::NUMBER_OUT_OF_RANGE);
         };
         self.heap.set_payload(ptr, word, value.cast_unsigned());
         Ending::GoesOn
@@ -51,13 +51,13 @@ impl State {
     {
         let ptr = self.pointer(pointer);
         let Some(header) = self.heap.header(ptr) else {
-            return Ending::Panics(Panic::Workbench(1));
+            return Ending::Panics(Panic::NULL_OR_STALE);
         };
         if !is_raw(header.kind) {
-            return Ending::Panics(Panic::Workbench(2));
+            return Ending::Panics(Panic::WRONG_KIND);
         }
         let Some(at) = word_within(header.length - 16, self.number(index)) else {
-            return Ending::Panics(Panic::Workbench(9));
+            return Ending::Panics(Panic::NUMBER_OUT_OF_RANGE);
         };
         let value = self.heap.payload(ptr, at);
         self.set(local, Slot::Number(value.cast_signed()));

@@ -5,7 +5,7 @@ use Rattle.std.proofs.lemmas.Bool.{ltb-true, ltb-false}
 use Rattle.std.proofs.Math.Nat.{mul-mod_left, mul_assoc}
 use Rattle.std.proofs.lemmas.List.{length-replicate}
 use Rattle.std.proofs.lemmas.List.Elements.{All-nil, All-filter}
-use Rattle.wb_model.specs.declared.heap.TheConstants.{CEILING}
+use Rattle.wb_model.specs.declared.limits.TheConstants.{CEILING, LARGEST_MINIMUM, LARGEST_STEP}
 use Rattle.wb_model.specs.declared.heap.Header.{Header}
 use Rattle.wb_model.specs.declared.heap.Kind.{Kind}
 use Rattle.wb_model.specs.declared.heap.Ptr.{Ptr}
@@ -20,10 +20,10 @@ use Rattle.wb_model.proofs.Payloads.{filled-changed}
 
 pub record IsShape (shape : Shape) : Type 0 where
   pub min_aligned : shape.min % 16 ≡ 0
-  pub min_greatest : shape.min ≤ 1048576
+  pub min_greatest : shape.min ≤ LARGEST_MINIMUM
   pub step_aligned : shape.step % 16 ≡ 0
   pub step_least : 16 ≤ shape.step
-  pub step_greatest : shape.step ≤ 1048576
+  pub step_greatest : shape.step ≤ LARGEST_STEP
 
 pub shape_is : (shape : Shape) → is_shape shape ≡ true → IsShape shape
 shape_is shape e = search rules

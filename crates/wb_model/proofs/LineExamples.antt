@@ -1,11 +1,11 @@
 -- What the definitions make of bytes where a reader might doubt: each example is proved by computing.
 use Rattle.std.specs.Prelude.{◌≡◌, pos, negsuc, [], ◌∷◌, ◌++◌, Some, None, codes, map, replicate}
 use Rattle.std.proofs.Common.{refl}
-use Rattle.wb_model.specs.declared.lines.Key.TheVariants.{Proc, Ptr, Buf, Alloc, Free, Store, Set, Insert, Left, Print, Heap, Available, Compress, End}
-use Rattle.wb_model.specs.declared.lines.Operand.TheVariants.{Name, Number, Literal}
-use Rattle.wb_model.specs.declared.lines.Form.TheVariants.{Skip, Unknown, Line}
+use Rattle.wb_model.specs.declared.script_lines.Key.TheVariants.{Proc, Ptr, Buf, Alloc, Free, Store, Set, Insert, Left, Print, Heap, Available, Compress, End}
+use Rattle.wb_model.specs.declared.script_lines.Operand.TheVariants.{Name, Number, Literal}
+use Rattle.wb_model.specs.declared.script_lines.Form.TheVariants.{Skip, Unknown, Line}
 use Rattle.wb_model.specs.Lines.{lines_of, words_of, first_foreign_line}
-use Rattle.wb_model.specs.Words.{declared_name, number_of}
+use Rattle.wb_model.specs.Words.{declared_name, number_spelled}
 use Rattle.wb_model.specs.Keys.{keys}
 use Rattle.wb_model.specs.Forms.{line_form}
 
@@ -143,16 +143,16 @@ negative : line_form (codes "alloc p -007") ≡ Line Alloc (Name (codes "p") ∷
 unfolding keys
 negative = refl
 
-no_negative_zero : number_of (codes "-0") ≡ Some (pos 0)
+no_negative_zero : number_spelled (codes "-0") ≡ Some (pos 0)
 no_negative_zero = refl
 
-nine_digits : number_of (codes "999999999") ≡ Some (pos 999999999)
+nine_digits : number_spelled (codes "999999999") ≡ Some (pos 999999999)
 nine_digits = refl
 
-nine_digits_below_zero : number_of (codes "-999999999") ≡ Some (negsuc 999999998)
+nine_digits_below_zero : number_spelled (codes "-999999999") ≡ Some (negsuc 999999998)
 nine_digits_below_zero = refl
 
-no_numbers : map number_of (codes "0000000001" ∷ codes "+5" ∷ codes "-" ∷ codes "--5" ∷ codes "5-" ∷ codes "1a" ∷ []) ≡ replicate 6 None
+no_numbers : map number_spelled (codes "0000000001" ∷ codes "+5" ∷ codes "-" ∷ codes "--5" ∷ codes "5-" ∷ codes "1a" ∷ []) ≡ replicate 6 None
 no_numbers = refl
 
 no_numbers_of_bytes : map line_form (codes "alloc p 1n" ∷ codes "alloc p \"4\"" ∷ []) ≡ replicate 2 Unknown

@@ -7,15 +7,15 @@ use Rattle.std.specs.Str.{bytes_eq}
 use Rattle.std.specs.Cmp.Lexicographic.{same_text}
 use Rattle.std.proofs.lemmas.Bool.Decides.{nat_tests}
 use borrow.Author.Tests.{ne_eqb, eqb-true}
-use Rattle.wb_model.specs.declared.lines.Key.{Key}
-use Rattle.wb_model.specs.declared.lines.Letter.{Letter}
-use Rattle.wb_model.specs.declared.lines.Letter.TheVariants.{Declared, Pointer, Value, Variable, Target, Source, Size, Writable, Readable, ViewName, Printed}
-use Rattle.wb_model.specs.declared.lines.Operand.{Operand}
-use Rattle.wb_model.specs.declared.lines.Operand.TheVariants.{Name, Number, Literal}
-use Rattle.wb_model.specs.declared.lines.Form.{Form}
-use Rattle.wb_model.specs.declared.lines.Form.TheVariants.{Line}
+use Rattle.wb_model.specs.declared.script_lines.Key.{Key}
+use Rattle.wb_model.specs.declared.script_lines.Letter.{Letter}
+use Rattle.wb_model.specs.declared.script_lines.Letter.TheVariants.{Declared, Pointer, Value, Variable, Target, Source, Size, Writable, Readable, ViewName, Printed}
+use Rattle.wb_model.specs.declared.script_lines.Operand.{Operand}
+use Rattle.wb_model.specs.declared.script_lines.Operand.TheVariants.{Name, Number, Literal}
+use Rattle.wb_model.specs.declared.script_lines.Form.{Form}
+use Rattle.wb_model.specs.declared.script_lines.Form.TheVariants.{Line}
 use Rattle.wb_model.specs.Lines.{is_blank, words_of}
-use Rattle.wb_model.specs.Words.{is_reserved, with_digit, is_digit, is_name_byte, is_name, is_letter, declared_name, used_name, digits_of, number_of, literal_of}
+use Rattle.wb_model.specs.Words.{is_reserved, with_digit, is_digit, is_name_byte, is_name, is_letter, declared_name, used_name, digits_of, number_spelled, literal_spelled}
 use Rattle.wb_model.specs.Keys.{keys, text_of, letters_of}
 use Rattle.wb_model.specs.Forms.{operand_of, operands_of, operands_if, either, name_word, number_word, literal_word, size_of, onto, line_or, form_in, begins_comment, skipped_or, form_of}
 use Rattle.wb_model.specs.Writing.{is_plain, IsWord, AreWords, IsMadeOfWords}
@@ -83,7 +83,7 @@ plain_of_digits word n h =
     let (_, are_digits) = both _ (list_all is_digit word) (chosen_back (nat_le 1 (length word) && nat_le (length word) 9 && list_all is_digit word) (fold with_digit 0 word) n h) in
     plain_all is_digit high_of_digit word are_digits
 
-word_of_number : (word : List ℕ) (z : ℤ) → number_of word ≡ Some z → IsWord word
+word_of_number : (word : List ℕ) (z : ℤ) → number_spelled word ≡ Some z → IsWord word
 word_of_number [] z h = cc
 word_of_number (byte ∷ bytes) z h = inl (not_empty byte bytes, signed (nat_eq byte 45) refl h)
   where
@@ -94,7 +94,7 @@ word_of_number (byte ∷ bytes) z h = inl (not_empty byte bytes, signed (nat_eq 
         both_hold _ (is_plain bytes) (high_byte byte (omega arith)) (plain_of_digits bytes n digits)
     signed false is h = let (n, digits) = mapped_back pos (digits_of (byte ∷ bytes)) z h in plain_of_digits (byte ∷ bytes) n digits
 
-word_of_literal : (word text : List ℕ) → literal_of word ≡ Some text → IsWord word
+word_of_literal : (word text : List ℕ) → literal_spelled word ≡ Some text → IsWord word
 word_of_literal word text h = let (printable, is) = quoted_of_literal word text h in inr (text, printable, is)
 
 -- a word of either of two kinds
@@ -106,15 +106,15 @@ word_of_name_word : (word : List ℕ) (operand : Operand (List ℕ)) → name_wo
 word_of_name_word word operand h = let (name, is) = mapped_back Name (used_name word) operand h in word_of_used word name is
 
 word_of_number_word : (word : List ℕ) (operand : Operand (List ℕ)) → number_word word ≡ Some operand → IsWord word
-word_of_number_word word operand h = let (z, is) = mapped_back Number (number_of word) operand h in word_of_number word z is
+word_of_number_word word operand h = let (z, is) = mapped_back Number (number_spelled word) operand h in word_of_number word z is
 
 word_of_literal_word : (word : List ℕ) (operand : Operand (List ℕ)) → literal_word word ≡ Some operand → IsWord word
-word_of_literal_word word operand h = let (text, is) = mapped_back Literal (literal_of word) operand h in word_of_literal word text is
+word_of_literal_word word operand h = let (text, is) = mapped_back Literal (literal_spelled word) operand h in word_of_literal word text is
 
-word_of_size : (word : List ℕ) (operand : Operand (List ℕ)) → size_of (number_of word) ≡ Some operand → IsWord word
-word_of_size word operand h = go (number_of word) refl h
+word_of_size : (word : List ℕ) (operand : Operand (List ℕ)) → size_of (number_spelled word) ≡ Some operand → IsWord word
+word_of_size word operand h = go (number_spelled word) refl h
   where
-    go : (o : Option ℤ) → number_of word ≡ o → size_of o ≡ Some operand → IsWord word
+    go : (o : Option ℤ) → number_spelled word ≡ o → size_of o ≡ Some operand → IsWord word
     go (Some z) is h = word_of_number word z is
     go None is h = cc
 

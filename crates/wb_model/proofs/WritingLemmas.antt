@@ -6,7 +6,7 @@ use Rattle.std.proofs.Math.Seq.{take-append_seam, get_or-append_seam}
 use borrow.Author.Tests.{leb-true, le-leb, eq-eqb, eqb-true}
 use Rattle.wb_model.specs.Lines.{is_blank, ends_line, ends_word, quoted_after, onto_first, pieces_from, lines_of, unless_empty, words_of}
 use Rattle.wb_model.specs.Sound.{is_quotable}
-use Rattle.wb_model.specs.Words.{inside, is_literal, literal_of}
+use Rattle.wb_model.specs.Words.{inside, is_literal, literal_spelled}
 use Rattle.wb_model.specs.Writing.{is_line, ended, ReadsLines, is_quoted_text, quoted, ReadsLiterals, is_plain, IsWord, spaced, ReadsWords}
 
 pub both : (a b : Bool) → a && b ≡ true → (a ≡ true) × (b ≡ true)
@@ -128,14 +128,14 @@ chosen_back : (b : Bool) (text other : List ℕ) → (if b then Some text else N
 chosen_back true text other h = (refl, cc)
 chosen_back false text other h = cc
 
-literal_of_quoted : (text : List ℕ) → is_quoted_text text ≡ true → literal_of (quoted text) ≡ Some text
+literal_of_quoted : (text : List ℕ) → is_quoted_text text ≡ true → literal_spelled (quoted text) ≡ Some text
 literal_of_quoted text h = chosen (is_literal (quoted text)) (inside (quoted text)) (quoted_is_literal text h) ∙ ap Some (inside_quoted text)
 
 -- a list that is not empty, as what stands before its last element, and that
 front_and_last : (xs : List ℕ) → 1 ≤ length xs → xs ≡ take (length xs - 1) xs ++ slice_index xs (length xs - 1) ∷ []
 front_and_last xs some = sym (take_all (length xs - 1 + 1) xs (omega arith)) ∙ take_more xs (length xs - 1) 0 (omega arith)
 
-pub quoted_of_literal : (word text : List ℕ) → literal_of word ≡ Some text → (is_quoted_text text ≡ true) × (word ≡ quoted text)
+pub quoted_of_literal : (word text : List ℕ) → literal_spelled word ≡ Some text → (is_quoted_text text ≡ true) × (word ≡ quoted text)
 quoted_of_literal [] text h = let clash : ⊥ = cc in absurd clash
 quoted_of_literal (first ∷ rest) text h =
     let word = first ∷ rest in
@@ -153,4 +153,4 @@ quoted_of_literal (first ∷ rest) text h =
     (sym (ap is_quoted_text is_text) ∙ printable, cc)
 
 pub reads_literals : (word text : List ℕ) → ReadsLiterals word text
-reads_literals word text = (λ whole is. ap literal_of is ∙ literal_of_quoted text whole, quoted_of_literal word text)
+reads_literals word text = (λ whole is. ap literal_spelled is ∙ literal_of_quoted text whole, quoted_of_literal word text)

@@ -1,5 +1,6 @@
 -- The attempts of a script, up to what the rule says: allocation, reallocation, and the growth of the cleanup stack.
 use Rattle.std.specs.Prelude.{ℕ, pos, negsuc, ◌+◌, ◌-◌, ◌*◌, ◌/◌, [], ◌∷◌, ◌++◌, Bool, true, false, nat_eq, nat_lt, Option, Some, None, length, take, replicate}
+use Rattle.wb_model.specs.declared.heap.TheConstants.{KERR_NO_MEMORY}
 use Rattle.wb_model.specs.declared.heap.Ptr.{Ptr}
 use Rattle.wb_model.specs.declared.heap.Item.{Item}
 use Rattle.wb_model.specs.declared.heap.Kind.{Kind}
@@ -40,7 +41,7 @@ reallocate c bytes cut st go = reallocate_longer (nat_lt c.head.length (cell_len
 -- the stack after a growth that was granted or refused
 unfoldable pub after_growth : Option Ptr → State → Process
 after_growth (Some p) st = ends goes_on (record st { cleanup = p; slots = st.slots + 4 })
-after_growth None st = ends (leaves (negsuc 3)) st
+after_growth None st = ends (leaves KERR_NO_MEMORY) st
 
 -- a stack that is full grows; where the ceiling cuts the run there, the state is the one before the push
 unfoldable pub grow_if : Bool → State → State → Process

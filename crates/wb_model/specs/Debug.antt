@@ -1,6 +1,7 @@
 -- The debug heap: cells of words with levels, the script's own setting, a rule, and the trace of the attempts; and what each
 -- of its calls makes of it and gives.
 use Rattle.std.specs.Prelude.{◌≡◌, ℕ, ◌+◌, ◌-◌, ◌%◌, ◌≤◌, List, [], ◌∷◌, ◌++◌, Option, Some, None, All, true, length, nat_lt, sum, map, if◌then◌else◌}
+use Rattle.wb_model.specs.declared.heap.TheConstants.Panic.{BAD_CELL}
 use Rattle.wb_model.specs.declared.heap.Ptr.{Ptr}
 use Rattle.wb_model.specs.declared.heap.Header.{Header}
 use Rattle.wb_model.specs.declared.heap.Kind.{Kind}
@@ -11,7 +12,6 @@ use Rattle.wb_model.specs.declared.heap.Attempt.{Attempt}
 use Rattle.wb_model.specs.declared.heap.Gave.{Gave}
 use Rattle.wb_model.specs.declared.heap.Gave.TheVariants.{Granted, Denied, Ceiling}
 use Rattle.wb_model.specs.declared.heap.Panic.{Panic}
-use Rattle.wb_model.specs.declared.heap.Panic.TheVariants.{User}
 use Rattle.wb_model.specs.declared.run.Leak.{Leak}
 use Rattle.wb_model.specs.declared.run.Note.{Note}
 use Rattle.wb_model.specs.declared.run.Note.TheVariants as N
@@ -51,8 +51,8 @@ first_debug rule shape = record {
 }
 
 -- attempts count from 1
-abbrev pub number_in : Debug → ℕ
-number_in d = length d.trace + 1
+abbrev pub number_of_next : Debug → ℕ
+number_of_next d = length d.trace + 1
 
 -- the heap after a call, and what the call gives
 pub record Made : Type 0 where
@@ -64,24 +64,24 @@ gave_of (Some p) = Granted p
 gave_of None = Denied
 
 -- one more line of the trace
-abbrev pub line_of : ℕ → Request → Answer → Attempt
-line_of number t answer = record { number = number; length = t.length; place = t.place; answer = answer }
+abbrev pub trace_line : ℕ → Request → Answer → Attempt
+trace_line number t answer = record { number = number; length = t.length; place = t.place; answer = answer }
 
 -- what an answer makes of it; without one the ceiling cuts the run, and nothing is counted
 abbrev pub made_by : Debug → Request → (ℕ → Answer → AfterAnswer (List ℕ)) → Option Answer → Made
 made_by d t after None = record { debug = d; gave = Ceiling }
 made_by d t after (Some answer) = record {
   debug = record d {
-    heap = (after (number_in d) answer).heap;
+    heap = (after (number_of_next d) answer).heap;
     committed = committed_after (space_under d) t answer d.committed;
-    trace = d.trace ++ line_of (number_in d) t answer ∷ [];
+    trace = d.trace ++ trace_line (number_of_next d) t answer ∷ [];
   };
-  gave = gave_of (after (number_in d) answer).given;
+  gave = gave_of (after (number_of_next d) answer).given;
 }
 
 -- what the setting, the rule and the ceiling answer to a request
 abbrev pub answer_in : Debug → Request → Option Answer
-answer_in d t = answer_to d.rule (number_in d) t
+answer_in d t = answer_to d.rule (number_of_next d) t
 
 -- Attempt: a cell for so many bytes, whose words are zeros
 abbrev pub alloc_made : Debug → ℕ → Kind → Made
@@ -106,7 +106,7 @@ abbrev pub realloc_made : Debug → Cell (List ℕ) → ℕ → Made
 realloc_made d c bytes = if nat_lt c.head.length (cell_length bytes) then longer_made d c bytes else shorter_made d c bytes
 
 abbrev pub refusal_unless_found : Option (Cell (List ℕ)) → Option Panic
-refusal_unless_found None = Some (User 42)
+refusal_unless_found None = Some BAD_CELL
 refusal_unless_found (Some c) = None
 
 -- what a release refuses: a pointer that isn't null and names no cell
@@ -138,8 +138,8 @@ abbrev pub check_all_refusal : Debug → ℕ → Option Panic
 check_all_refusal d n = checked (cells_of_all_levels (headers d.heap.row)) n
 
 -- the live cells but the cleanup stack's, by place
-abbrev pub leaks_in : Debug → List Leak
-leaks_in d = map leak_of (cells_of_all_levels (headers d.heap.row))
+abbrev pub leaks_of_heap : Debug → List Leak
+leaks_of_heap d = map leak_of (cells_of_all_levels (headers d.heap.row))
 
 -- the note on the live cells
 abbrev pub note_of_heap : Debug → Note

@@ -2,17 +2,17 @@
 use Rattle.std.specs.Prelude.{ℕ, ℤ, pos, List, [], ◌∷◌, Option, Some, None, Bool, true, false, ◌==◌, map}
 use Rattle.std.specs.Option.{option_map}
 use Rattle.std.specs.Str.{bytes_eq}
-use Rattle.wb_model.specs.declared.lines.Key.{Key}
-use Rattle.wb_model.specs.declared.lines.Letter.{Letter}
-use Rattle.wb_model.specs.declared.lines.Letter.TheVariants.{Declared, Pointer, Value, Variable, Target, Source, Size, Writable, Readable, ViewName, Printed}
-use Rattle.wb_model.specs.declared.lines.Operand.{Operand}
-use Rattle.wb_model.specs.declared.lines.Operand.TheVariants.{Name, Number, Literal}
-use Rattle.wb_model.specs.declared.lines.Form.{Form}
-use Rattle.wb_model.specs.declared.lines.Form.TheVariants.{Skip, Unknown, Line}
-use Rattle.wb_model.specs.declared.lines.Role.{Role}
-use Rattle.wb_model.specs.declared.lines.Role.TheVariants as role
+use Rattle.wb_model.specs.declared.script_lines.Key.{Key}
+use Rattle.wb_model.specs.declared.script_lines.Letter.{Letter}
+use Rattle.wb_model.specs.declared.script_lines.Letter.TheVariants.{Declared, Pointer, Value, Variable, Target, Source, Size, Writable, Readable, ViewName, Printed}
+use Rattle.wb_model.specs.declared.script_lines.Operand.{Operand}
+use Rattle.wb_model.specs.declared.script_lines.Operand.TheVariants.{Name, Number, Literal}
+use Rattle.wb_model.specs.declared.script_lines.Form.{Form}
+use Rattle.wb_model.specs.declared.script_lines.Form.TheVariants.{Skip, Unknown, Line}
+use Rattle.wb_model.specs.declared.script_lines.Role.{Role}
+use Rattle.wb_model.specs.declared.script_lines.Role.TheVariants as role
 use Rattle.wb_model.specs.Lines.{words_of}
-use Rattle.wb_model.specs.Words.{declared_name, used_name, number_of, literal_of}
+use Rattle.wb_model.specs.Words.{declared_name, used_name, number_spelled, literal_spelled}
 use Rattle.wb_model.specs.Keys.{keys, text_of, letters_of, role_of}
 
 -- the same with other names
@@ -40,7 +40,7 @@ abbrev pub name_word : List ℕ → Option (Operand (List ℕ))
 name_word word = option_map Name (used_name word)
 
 abbrev pub number_word : List ℕ → Option (Operand (List ℕ))
-number_word word = option_map Number (number_of word)
+number_word word = option_map Number (number_spelled word)
 
 -- a number that isn't negative
 abbrev pub size_of : Option ℤ → Option (Operand (List ℕ))
@@ -48,7 +48,7 @@ size_of (Some (pos n)) = Some (Number (pos n))
 size_of _ = None
 
 abbrev pub literal_word : List ℕ → Option (Operand (List ℕ))
-literal_word word = option_map Literal (literal_of word)
+literal_word word = option_map Literal (literal_spelled word)
 
 -- what a word is where a letter stands
 abbrev pub operand_of : Letter → List ℕ → Option (Operand (List ℕ))
@@ -58,7 +58,7 @@ operand_of Value word = either (number_word word) (name_word word)
 operand_of Variable word = name_word word
 operand_of Target word = name_word word
 operand_of Source word = either (number_word word) (name_word word)
-operand_of Size word = size_of (number_of word)
+operand_of Size word = size_of (number_spelled word)
 operand_of Writable word = name_word word
 operand_of Readable word = either (name_word word) (literal_word word)
 operand_of ViewName word = name_word word

@@ -1,8 +1,8 @@
 -- The grammar of lines, each by its role.
 use Rattle.std.specs.Prelude.{◌≡◌, ℕ, ◌+◌, ◌<◌, ◌≤◌, List, [], ◌∷◌, ◌++◌, length, take, replicate}
 use Rattle.std.specs.List.{flat_map}
-use Rattle.wb_model.specs.declared.lines.Role.{Role}
-use Rattle.wb_model.specs.declared.lines.Role.TheVariants.{Skip, Class, Field, Construct, Destroy, Procedure, Declaration, Plain, Loop, If, Else, End}
+use Rattle.wb_model.specs.declared.script_lines.Role.{Role}
+use Rattle.wb_model.specs.declared.script_lines.Role.TheVariants.{Skip, Class, Field, Construct, Destroy, Procedure, Declaration, Plain, Loop, If, Else, End}
 
 -- statements, one after another
 pub data AreStatements : List Role → Type 0 where

@@ -1,6 +1,7 @@
 -- What attempts, marks and checks make of a heap of cells, whatever the cells hold.
 use Rattle.std.specs.Prelude.{ℕ, ◌+◌, ◌-◌, List, [], ◌∷◌, Bool, true, false, not, ◌&&◌, ◌||◌, nat_eq, nat_le, if◌then◌else◌, Option, Some, None, filter, length}
 use Rattle.std.specs.List.{list_all}
+use Rattle.wb_model.specs.declared.heap.TheConstants.Panic.{NO_OPEN_MARK}
 use Rattle.wb_model.specs.declared.heap.Ptr.{Ptr}
 use Rattle.wb_model.specs.declared.heap.Header.{Header}
 use Rattle.wb_model.specs.declared.heap.Kind.{Kind}
@@ -8,7 +9,7 @@ use Rattle.wb_model.specs.declared.heap.Kind.TheVariants.{Cleanup}
 use Rattle.wb_model.specs.declared.heap.Answer.{Answer}
 use Rattle.wb_model.specs.declared.heap.Answer.TheVariants.{Granted}
 use Rattle.wb_model.specs.declared.heap.Panic.{Panic}
-use Rattle.wb_model.specs.declared.heap.Panic.TheVariants.{Alloc, Workbench}
+use Rattle.wb_model.specs.declared.heap.Panic.TheVariants.{Alloc}
 use Rattle.wb_model.specs.Row.{Cell, headers, end_of, is_at, pointer_to, without, inserted, place_of, cell_length}
 use Rattle.wb_model.specs.Rules.{Setting, is_due, after_attempt, Request}
 
@@ -120,4 +121,4 @@ after_mark_end heap = record heap { row = lowered heap.level heap.row; level = h
 
 -- what a `markend` refuses
 abbrev pub mark_end_refusal : {A : Type 0} → Heap A → ℕ → Option Panic
-mark_end_refusal heap n = if nat_eq heap.level 0 then Some (Workbench 6) else checked (cells_of_level heap.level (headers heap.row)) n
+mark_end_refusal heap n = if nat_eq heap.level 0 then Some NO_OPEN_MARK else checked (cells_of_level heap.level (headers heap.row)) n

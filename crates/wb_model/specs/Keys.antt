@@ -1,12 +1,12 @@
 -- The tables of the language: for each key the word that begins its lines, what stands behind it, and what its lines are to
 -- the grammar of blocks.
 use Rattle.std.specs.Prelude.{ℕ, List, [], ◌∷◌, codes}
-use Rattle.wb_model.specs.declared.lines.Key.{Key}
-use Rattle.wb_model.specs.declared.lines.Key.TheVariants.{Proc, Ptr, Int, Buf, View, Alloc, Realloc, Free, AllocLen, Store, Load, Set, Null, Add, Mark, MarkEnd, Check, CheckAll, FailNext, FailEvery, FailNone, HNew, HRealloc, Copy, Append, Insert, DelText, SetLength, Left, Right, Mid, GetLen, GetMax, Print, Heap, Available, Compress, End}
-use Rattle.wb_model.specs.declared.lines.Letter.{Letter}
-use Rattle.wb_model.specs.declared.lines.Letter.TheVariants.{Declared, Pointer, Value, Variable, Target, Source, Size, Writable, Readable, ViewName, Printed}
-use Rattle.wb_model.specs.declared.lines.Role.{Role}
-use Rattle.wb_model.specs.declared.lines.Role.TheVariants as role
+use Rattle.wb_model.specs.declared.script_lines.Key.{Key}
+use Rattle.wb_model.specs.declared.script_lines.Key.TheVariants.{Proc, Ptr, Int, Buf, View, Alloc, Realloc, Free, AllocLen, Store, Load, Set, Null, Add, Mark, MarkEnd, Check, CheckAll, FailNext, FailEvery, FailNone, HNew, HRealloc, Copy, Append, Insert, DelText, SetLength, Left, Right, Mid, GetLen, GetMax, Print, Heap, Available, Compress, End}
+use Rattle.wb_model.specs.declared.script_lines.Letter.{Letter}
+use Rattle.wb_model.specs.declared.script_lines.Letter.TheVariants.{Declared, Pointer, Value, Variable, Target, Source, Size, Writable, Readable, ViewName, Printed}
+use Rattle.wb_model.specs.declared.script_lines.Role.{Role}
+use Rattle.wb_model.specs.declared.script_lines.Role.TheVariants as role
 
 -- Opened only where a line is read, so that no other goal grows with the number of keys.
 unfoldable pub keys : List Key

@@ -1,67 +1,67 @@
 -- Which operands are of the kinds that their lines take.
 use Rattle.std.specs.Prelude.{List, [], ◌∷◌, Bool, true, false, not, ◌&&◌, ◌||◌}
-use Rattle.wb_model.specs.declared.lines.Key.{Key}
-use Rattle.wb_model.specs.declared.lines.Key.TheVariants as key
-use Rattle.wb_model.specs.declared.lines.Letter.{Letter}
-use Rattle.wb_model.specs.declared.lines.Letter.TheVariants as letter
-use Rattle.wb_model.specs.declared.lines.Meant.{Meant}
-use Rattle.wb_model.specs.declared.lines.Meant.TheVariants as meant
-use Rattle.wb_model.specs.declared.lines.Operand.{Operand}
-use Rattle.wb_model.specs.declared.lines.Operand.TheVariants.{Name, Number, Literal}
-use Rattle.wb_model.specs.declared.lines.Form.{Form}
-use Rattle.wb_model.specs.declared.lines.Form.TheVariants.{Line}
+use Rattle.wb_model.specs.declared.script_lines.Key.{Key}
+use Rattle.wb_model.specs.declared.script_lines.Key.TheVariants as key
+use Rattle.wb_model.specs.declared.script_lines.Letter.{Letter}
+use Rattle.wb_model.specs.declared.script_lines.Letter.TheVariants as letter
+use Rattle.wb_model.specs.declared.script_lines.Meant.{Meant}
+use Rattle.wb_model.specs.declared.script_lines.Meant.TheVariants as meant
+use Rattle.wb_model.specs.declared.script_lines.Operand.{Operand}
+use Rattle.wb_model.specs.declared.script_lines.Operand.TheVariants.{Name, Number, Literal}
+use Rattle.wb_model.specs.declared.script_lines.Form.{Form}
+use Rattle.wb_model.specs.declared.script_lines.Form.TheVariants.{Line}
 use Rattle.wb_model.specs.Keys.{letters_of}
 use Rattle.wb_model.specs.Names.{Text, Known}
 use Rattle.wb_model.specs.Resolved.{resolved_line}
 
 -- the name of a local that holds a pointer
-abbrev pub is_pointer : Operand Meant → Bool
-is_pointer (Name (meant.Pointer index)) = true
-is_pointer _ = false
+abbrev pub means_pointer : Operand Meant → Bool
+means_pointer (Name (meant.Pointer index)) = true
+means_pointer _ = false
 
 -- the name of a local that holds a number
-abbrev pub is_variable : Operand Meant → Bool
-is_variable (Name (meant.Number index)) = true
-is_variable _ = false
+abbrev pub means_variable : Operand Meant → Bool
+means_variable (Name (meant.Number index)) = true
+means_variable _ = false
 
-abbrev pub is_number : Operand Meant → Bool
-is_number (Number z) = true
-is_number operand = is_variable operand
+abbrev pub means_number : Operand Meant → Bool
+means_number (Number z) = true
+means_number operand = means_variable operand
 
 -- the name of a local that holds a text
-abbrev pub is_buffer : Operand Meant → Bool
-is_buffer (Name (meant.Buffer index)) = true
-is_buffer _ = false
+abbrev pub means_buffer : Operand Meant → Bool
+means_buffer (Name (meant.Buffer index)) = true
+means_buffer _ = false
 
 -- the name of a local that holds a view
-abbrev pub is_view : Operand Meant → Bool
-is_view (Name (meant.View index)) = true
-is_view _ = false
+abbrev pub means_view : Operand Meant → Bool
+means_view (Name (meant.View index)) = true
+means_view _ = false
 
-abbrev pub is_literal : Operand Meant → Bool
-is_literal (Literal text) = true
-is_literal _ = false
+abbrev pub means_literal : Operand Meant → Bool
+means_literal (Literal text) = true
+means_literal _ = false
 
 -- A pointer may be one to a text, and is asked for it only in a run.
-abbrev pub is_writable : Operand Meant → Bool
-is_writable operand = is_pointer operand || is_buffer operand
+abbrev pub means_writable : Operand Meant → Bool
+means_writable operand = means_pointer operand || means_buffer operand
 
-abbrev pub is_readable : Operand Meant → Bool
-is_readable operand = is_writable operand || (is_view operand || is_literal operand)
+abbrev pub means_readable : Operand Meant → Bool
+means_readable operand = means_writable operand || (means_view operand || means_literal operand)
 
 -- an operand is of a kind that its letter takes
 abbrev pub is_right : Letter → Operand Meant → Bool
 is_right letter.Declared operand = true
-is_right letter.Pointer operand = is_pointer operand
-is_right letter.Value operand = is_number operand
-is_right letter.Variable operand = is_variable operand
-is_right letter.Target operand = is_pointer operand || is_variable operand
-is_right letter.Source operand = is_pointer operand || is_number operand
+is_right letter.Pointer operand = means_pointer operand
+is_right letter.Value operand = means_number operand
+is_right letter.Variable operand = means_variable operand
+is_right letter.Target operand = means_pointer operand || means_variable operand
+is_right letter.Source operand = means_pointer operand || means_number operand
 is_right letter.Size operand = true
-is_right letter.Writable operand = is_writable operand
-is_right letter.Readable operand = is_readable operand
-is_right letter.ViewName operand = is_view operand
-is_right letter.Printed operand = is_number operand || is_readable operand
+is_right letter.Writable operand = means_writable operand
+is_right letter.Readable operand = means_readable operand
+is_right letter.ViewName operand = means_view operand
+is_right letter.Printed operand = means_number operand || means_readable operand
 
 abbrev pub are_right : List Letter → List (Operand Meant) → Bool
 are_right (letter ∷ letters) (operand ∷ operands) = is_right letter operand && are_right letters operands
@@ -73,7 +73,7 @@ same false b = not b
 
 -- A `set` has two pointers, or none.
 abbrev pub sides_agree : Key → List (Operand Meant) → Bool
-sides_agree key.Set (target ∷ source ∷ []) = same (is_pointer target) (is_pointer source)
+sides_agree key.Set (target ∷ source ∷ []) = same (means_pointer target) (means_pointer source)
 sides_agree _ _ = true
 
 abbrev pub is_right_line : Form Meant → Bool

@@ -1,21 +1,22 @@
 -- The lines of bytes, the words of a line, and which bytes no line holds.
 use Rattle.std.specs.Prelude.{ℕ, List, [], ◌∷◌, Bool, true, false, not, ◌&&◌, ◌||◌, ◌==◌, nat_le, nat_lt, if◌then◌else◌, Option, length}
 use Rattle.std.specs.List.{flat_map, list_any, position_from}
+use Rattle.wb_model.specs.declared.limits.TheConstants.{LONGEST_SCRIPT}
 
 -- a blank, a tab or a carriage return
 abbrev pub is_blank : ℕ → Bool
 is_blank byte = byte == 32 || byte == 9 || byte == 13
 
 -- What ends a piece of bytes: a test of whether quotes are open, and of a byte.
-abbrev pub Ends : Type 0
-Ends = Bool → ℕ → Bool
+abbrev pub Separator : Type 0
+Separator = Bool → ℕ → Bool
 
 -- a line feed ends a line, also between quotes
-abbrev pub ends_line : Ends
+abbrev pub ends_line : Separator
 ends_line quoted byte = byte == 10
 
 -- a blank ends a word, but not between quotes
-abbrev pub ends_word : Ends
+abbrev pub ends_word : Separator
 ends_word quoted byte = not quoted && is_blank byte
 
 -- whether quotes are open behind a byte
@@ -27,7 +28,7 @@ onto_first byte [] = (byte ∷ []) ∷ []
 onto_first byte (piece ∷ pieces) = (byte ∷ piece) ∷ pieces
 
 -- the pieces of bytes, the empty ones too; an end that is the last byte begins no further piece
-abbrev pub pieces_from : Ends → Bool → List ℕ → List (List ℕ)
+abbrev pub pieces_from : Separator → Bool → List ℕ → List (List ℕ)
 pieces_from ends quoted [] = []
 pieces_from ends quoted (byte ∷ bytes) =
     elim (ends quoted byte) [
@@ -35,7 +36,7 @@ pieces_from ends quoted (byte ∷ bytes) =
       | false ↦ onto_first byte (pieces_from ends (quoted_after quoted byte) bytes)
     ]
 
-abbrev pub pieces : Ends → List ℕ → List (List ℕ)
+abbrev pub pieces : Separator → List ℕ → List (List ℕ)
 pieces ends = pieces_from ends false
 
 -- the lines, without their line feeds
@@ -60,4 +61,4 @@ first_foreign_line bytes = position_from (list_any is_foreign) 1 (lines_of bytes
 
 -- more bytes than a script may have
 abbrev pub is_too_long : List ℕ → Bool
-is_too_long bytes = nat_lt 65536 (length bytes)
+is_too_long bytes = nat_lt LONGEST_SCRIPT (length bytes)

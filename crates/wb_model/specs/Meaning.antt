@@ -1,6 +1,6 @@
 -- The meaning of what is still to do, as one recursion on the steps left.
 use Rattle.std.specs.Prelude.{ℕ, zero, suc, ◌+◌, [], ◌∷◌, Bool, true, false, nat_lt, unwrap_or}
-use Rattle.wb_model.specs.declared.heap.Panic.TheVariants.{Workbench}
+use Rattle.wb_model.specs.declared.heap.TheConstants.Panic.{POP_BELOW_TRAP}
 use Rattle.wb_model.specs.declared.run.Why.TheVariants.{Budget}
 use Rattle.wb_model.specs.declared.script.Script.{Script}
 use Rattle.wb_model.specs.declared.script.Statement.TheViews.{out-Statement}
@@ -26,7 +26,7 @@ piece script budget rec at (turns (suc n) body) st =
 piece script budget rec at (destroy_items zero) st = done st
 piece script budget rec at (destroy_items (suc n)) st =
     -- so many items are there, so that this WORKBENCH 3 is never met
-    begun budget st (λ st. with_some (newest st.items) (Workbench 3) st (λ item.
+    begun budget st (λ st. with_some (newest st.items) POP_BELOW_TRAP st (λ item.
     then_do (destroyed_item script rec at item (drop_newest 1 st)) (rec at (destroy_items n))))
 piece script budget rec at (destroy_object p) st =
     begun budget st (λ st. with_class st p (λ class.

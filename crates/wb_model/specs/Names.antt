@@ -2,18 +2,19 @@
 use Rattle.std.specs.Prelude.{ℕ, pos, List, [], ◌∷◌, ◌++◌, Option, Some, None, Bool, false, ◌||◌, is_none, is_some, nat_le, nat_lt, length}
 use Rattle.std.specs.List.{list_any}
 use Rattle.std.specs.Str.{bytes_eq}
-use Rattle.wb_model.specs.declared.lines.Key.{Key}
-use Rattle.wb_model.specs.declared.lines.Key.TheVariants as key
-use Rattle.wb_model.specs.declared.lines.Kind.{Kind}
-use Rattle.wb_model.specs.declared.lines.Kind.TheVariants as kind
-use Rattle.wb_model.specs.declared.lines.Letter.{Letter}
-use Rattle.wb_model.specs.declared.lines.Letter.TheVariants as letter
-use Rattle.wb_model.specs.declared.lines.Operand.{Operand}
-use Rattle.wb_model.specs.declared.lines.Operand.TheVariants.{Name, Number, Literal}
-use Rattle.wb_model.specs.declared.lines.Form.{Form}
-use Rattle.wb_model.specs.declared.lines.Form.TheVariants.{Line}
-use Rattle.wb_model.specs.declared.lines.Role.{Role}
-use Rattle.wb_model.specs.declared.lines.Role.TheVariants.{Procedure, Declaration}
+use Rattle.wb_model.specs.declared.limits.TheConstants.{MOST_PROCEDURES, MOST_LOCALS, LARGEST_BUFFER, LONGEST_NAME}
+use Rattle.wb_model.specs.declared.script_lines.Key.{Key}
+use Rattle.wb_model.specs.declared.script_lines.Key.TheVariants as key
+use Rattle.wb_model.specs.declared.script_lines.Kind.{Kind}
+use Rattle.wb_model.specs.declared.script_lines.Kind.TheVariants as kind
+use Rattle.wb_model.specs.declared.script_lines.Letter.{Letter}
+use Rattle.wb_model.specs.declared.script_lines.Letter.TheVariants as letter
+use Rattle.wb_model.specs.declared.script_lines.Operand.{Operand}
+use Rattle.wb_model.specs.declared.script_lines.Operand.TheVariants.{Name, Number, Literal}
+use Rattle.wb_model.specs.declared.script_lines.Form.{Form}
+use Rattle.wb_model.specs.declared.script_lines.Form.TheVariants.{Line}
+use Rattle.wb_model.specs.declared.script_lines.Role.{Role}
+use Rattle.wb_model.specs.declared.script_lines.Role.TheVariants.{Procedure, Declaration}
 use Rattle.wb_model.specs.Forms.{role_of_form}
 use Rattle.wb_model.specs.Keys.{letters_of}
 use Rattle.wb_model.specs.Passes.{first_bad, first_where, state_after}
@@ -57,15 +58,15 @@ picked pick (Line key operands) = picked_of pick (letters_of key) operands
 picked pick _ = []
 
 -- what the local holds that a line of a key declares
-abbrev pub kind_of : Key → Option Kind
-kind_of key.Ptr = Some kind.Pointer
-kind_of key.Int = Some kind.Number
-kind_of key.Buf = Some kind.Buffer
-kind_of key.View = Some kind.View
-kind_of _ = None
+abbrev pub kind_declared : Key → Option Kind
+kind_declared key.Ptr = Some kind.Pointer
+kind_declared key.Int = Some kind.Number
+kind_declared key.Buf = Some kind.Buffer
+kind_declared key.View = Some kind.View
+kind_declared _ = None
 
 abbrev pub kind_in : Form Text → Option Kind
-kind_in (Line key operands) = kind_of key
+kind_in (Line key operands) = kind_declared key
 kind_in _ = None
 
 abbrev pub with_one : {X : Type 0} → List X → Option X → List X
@@ -93,36 +94,36 @@ abbrev pub known_after : Known → Form Text → Known
 known_after known form = known_with (role_of_form form) (picked name_declared form) (kind_in form) (picked literal_in form) known
 
 -- the index of the first declaration of a name
-abbrev pub place_of : List Text → Text → Option ℕ
-place_of names name = first_where (λ n. bytes_eq n name) names
+abbrev pub first_declaration_of : List Text → Text → Option ℕ
+first_declaration_of names name = first_where (λ n. bytes_eq n name) names
 
 -- the space in which a line declares its names
-abbrev pub space_of : Role → Known → List Text
-space_of Procedure known = known.procedures
-space_of _ known = known.locals
+abbrev pub names_in_space : Role → Known → List Text
+names_in_space Procedure known = known.procedures
+names_in_space _ known = known.locals
 
 -- a line that uses a name which its body doesn't declare
 abbrev pub uses_unknown : Known → Form Text → Bool
-uses_unknown known form = list_any (λ n. is_none (place_of known.locals n)) (picked name_used form)
+uses_unknown known form = list_any (λ n. is_none (first_declaration_of known.locals n)) (picked name_used form)
 
 -- a line that declares a name which stands declared in its space
 abbrev pub declares_again : Known → Form Text → Bool
-declares_again known form = list_any (λ n. is_some (place_of (space_of (role_of_form form) known) n)) (picked name_declared form)
+declares_again known form = list_any (λ n. is_some (first_declaration_of (names_in_space (role_of_form form) known) n)) (picked name_declared form)
 
--- a declaration where there are as many as there may be: 256 procedures, 32 locals of a body
+-- a declaration where there are as many as there may be
 abbrev pub is_one_more : Role → Known → Bool
-is_one_more Procedure known = nat_le 256 (length known.procedures)
-is_one_more Declaration known = nat_le 32 (length known.locals)
+is_one_more Procedure known = nat_le MOST_PROCEDURES (length known.procedures)
+is_one_more Declaration known = nat_le MOST_LOCALS (length known.locals)
 is_one_more _ known = false
 
--- a text that may have more than 256 units
+-- a buffer with a larger maximum than buffers may have
 abbrev pub is_large : Form Text → Bool
-is_large (Line key.Buf (name ∷ Number (pos max) ∷ [])) = nat_lt 256 max
+is_large (Line key.Buf (name ∷ Number (pos max) ∷ [])) = nat_lt LARGEST_BUFFER max
 is_large _ = false
 
--- a line that passes a limit: names have at most 32 bytes
+-- a line that passes a limit
 abbrev pub passes_limit : Known → Form Text → Bool
-passes_limit known form = list_any (λ n. nat_lt 32 (length n)) (picked name_in form) || (is_one_more (role_of_form form) known || is_large form)
+passes_limit known form = list_any (λ n. nat_lt LONGEST_NAME (length n)) (picked name_in form) || (is_one_more (role_of_form form) known || is_large form)
 
 -- the index of the first line that a test refuses, by what stands declared before it
 abbrev pub first_refused : (Known → Form Text → Bool) → List (Form Text) → Option ℕ

@@ -1,5 +1,6 @@
 -- Pointer and number operands: what they are, and what they refuse.
 use Rattle.std.specs.Prelude.{ℕ, ℤ, pos, negsuc, List, nat_eq, nat_le, if◌then◌else◌, Option, Some, None, slice_get, slice_set, unwrap_or}
+use Rattle.wb_model.specs.declared.heap.TheConstants.Panic.{NULL_OR_STALE, WRONG_KIND}
 use Rattle.wb_model.specs.declared.heap.Ptr.{Ptr}
 use Rattle.wb_model.specs.declared.heap.Kind.{Kind}
 use Rattle.wb_model.specs.declared.heap.Kind.TheVariants.{Raw, Object, Text}
@@ -39,9 +40,9 @@ abbrev pub fields_of : Kind → Content → ℕ → Option (List Ptr)
 fields_of (Object k) (fields ps) class = if nat_eq k class then Some ps else None
 fields_of _ _ class = None
 
-abbrev pub words_of : Kind → Content → Option (List ℤ)
-words_of Raw (words ws) = Some ws
-words_of _ _ = None
+abbrev pub raw_words_of : Kind → Content → Option (List ℤ)
+raw_words_of Raw (words ws) = Some ws
+raw_words_of _ _ = None
 
 abbrev pub units_of : Kind → Content → Option (List ℕ)
 units_of Text (units us) = Some us
@@ -49,10 +50,10 @@ units_of _ _ = None
 
 -- a valid pointer's cell, or WORKBENCH 1
 unfoldable pub with_cell : State → Ptr → (Cell Content → Process) → Process
-with_cell st p go = with_some (cell_at p st.heap.row) (Workbench 1) st go
+with_cell st p go = with_some (cell_at p st.heap.row) NULL_OR_STALE st go
 
 unfoldable pub with_fields : State → Ptr → ℕ → (List Ptr → Process) → Process
-with_fields st p class go = with_cell st p (λ c. with_some (fields_of c.head.kind c.content class) (Workbench 2) st go)
+with_fields st p class go = with_cell st p (λ c. with_some (fields_of c.head.kind c.content class) WRONG_KIND st go)
 
 -- a pointer operand, or a target before it is written
 unfoldable pub with_pointer : State → Pointer → (Ptr → Process) → Process

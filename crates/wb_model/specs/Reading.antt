@@ -1,8 +1,9 @@
 -- Text operands: which units they stand for, and where an edit is written.
 use Rattle.std.specs.Prelude.{ℕ, ◌+◌, ◌-◌, ◌/◌, List, [], Bool, false, ◌&&◌, ◌||◌, nat_eq, nat_lt, if◌then◌else◌, Result, Ok, Err, take, drop, map, slice_get, unwrap_or}
+use Rattle.wb_model.specs.declared.heap.TheConstants.Panic.{WRONG_KIND}
+use Rattle.wb_model.specs.declared.limits.TheConstants.{LONGEST_PRINTED}
 use Rattle.wb_model.specs.declared.heap.Ptr.{Ptr}
 use Rattle.wb_model.specs.declared.heap.Panic.{Panic}
-use Rattle.wb_model.specs.declared.heap.Panic.TheVariants.{Workbench}
 use Rattle.wb_model.specs.declared.text.Base.{Base}
 use Rattle.wb_model.specs.declared.text.Base.TheVariants as B
 use Rattle.wb_model.specs.declared.text.View.{View}
@@ -38,25 +39,25 @@ with_readable st (Of d) go = with_writable st d (λ b. go (whole b))
 with_readable st (ViewOf i) go = go (view_in (local_of st i))
 with_readable st (Quoted i) go = go (whole (B.Literal i))
 
-abbrev pub text_in : Value → List ℕ
-text_in (buffer max t) = t
-text_in _ = []
+abbrev pub buffer_text : Value → List ℕ
+buffer_text (buffer max t) = t
+buffer_text _ = []
 
 abbrev pub max_in : Value → ℕ
 max_in (buffer max t) = max
 max_in _ = 0
 
-abbrev pub literal_of : List (List ℕ) → ℕ → List ℕ
-literal_of literals i = unwrap_or (slice_get literals i) []
+abbrev pub literal_at : List (List ℕ) → ℕ → List ℕ
+literal_at literals i = unwrap_or (slice_get literals i) []
 
 unfoldable pub with_text_cell : State → Ptr → (Cell Content → List ℕ → Process) → Process
-with_text_cell st p go = with_cell st p (λ c. with_some (units_of c.head.kind c.content) (Workbench 2) st (go c))
+with_text_cell st p go = with_cell st p (λ c. with_some (units_of c.head.kind c.content) WRONG_KIND st (go c))
 
 -- the units of a base; a view's base that is gone is WORKBENCH 1
 unfoldable pub with_base : List (List ℕ) → State → Base → (List ℕ → Process) → Process
 with_base literals st B.Nothing go = go []
-with_base literals st (B.Literal i) go = go (literal_of literals i)
-with_base literals st (B.Local i) go = go (text_in (local_of st i))
+with_base literals st (B.Literal i) go = go (literal_at literals i)
+with_base literals st (B.Local i) go = go (buffer_text (local_of st i))
 with_base literals st (B.Cell p) go = with_text_cell st p (λ c us. go us)
 
 unfoldable pub with_units : List (List ℕ) → State → Source → (List ℕ → Process) → Process
@@ -69,9 +70,9 @@ max_units usable = (usable - 4) / 2
 
 -- the maximum and the text of a text that can be changed
 unfoldable pub with_room : State → Base → (ℕ → List ℕ → Process) → Process
-with_room st (B.Local i) go = go (max_in (local_of st i)) (text_in (local_of st i))
+with_room st (B.Local i) go = go (max_in (local_of st i)) (buffer_text (local_of st i))
 with_room st (B.Cell p) go = with_text_cell st p (λ c us. go (max_units (usable_of c.head)) us)
-with_room st _ go = stops (panics (Workbench 2)) st
+with_room st _ go = stops (panics WRONG_KIND) st
 
 abbrev pub set_units : List ℕ → Content → Content
 set_units us (units old) = units us
@@ -108,6 +109,6 @@ is_same_base _ _ = false
 abbrev pub printed_unit : ℕ → ℕ
 printed_unit u = if nat_lt u 32 || nat_lt 126 u then 46 else u
 
--- a printed line: the first 80 units
+-- a printed line: the first units, as many as a line has
 abbrev pub printed : List ℕ → List ℕ
-printed us = map printed_unit (take 80 us)
+printed us = map printed_unit (take LONGEST_PRINTED us)

@@ -1,18 +1,18 @@
 -- The lines of a script with what their names and literals stand for.
 use Rattle.std.specs.Prelude.{ℕ, List, [], ◌∷◌, Option, Some, None, length, slice_get}
-use Rattle.wb_model.specs.declared.lines.Kind.{Kind}
-use Rattle.wb_model.specs.declared.lines.Kind.TheVariants as kind
-use Rattle.wb_model.specs.declared.lines.Letter.{Letter}
-use Rattle.wb_model.specs.declared.lines.Letter.TheVariants as letter
-use Rattle.wb_model.specs.declared.lines.Meant.{Meant}
-use Rattle.wb_model.specs.declared.lines.Meant.TheVariants as meant
-use Rattle.wb_model.specs.declared.lines.Operand.{Operand}
-use Rattle.wb_model.specs.declared.lines.Operand.TheVariants.{Name, Number, Literal}
-use Rattle.wb_model.specs.declared.lines.Form.{Form}
-use Rattle.wb_model.specs.declared.lines.Form.TheVariants.{Skip, Unknown, Line}
-use Rattle.wb_model.specs.declared.lines.Role.{Role}
+use Rattle.wb_model.specs.declared.script_lines.Kind.{Kind}
+use Rattle.wb_model.specs.declared.script_lines.Kind.TheVariants as kind
+use Rattle.wb_model.specs.declared.script_lines.Letter.{Letter}
+use Rattle.wb_model.specs.declared.script_lines.Letter.TheVariants as letter
+use Rattle.wb_model.specs.declared.script_lines.Meant.{Meant}
+use Rattle.wb_model.specs.declared.script_lines.Meant.TheVariants as meant
+use Rattle.wb_model.specs.declared.script_lines.Operand.{Operand}
+use Rattle.wb_model.specs.declared.script_lines.Operand.TheVariants.{Name, Number, Literal}
+use Rattle.wb_model.specs.declared.script_lines.Form.{Form}
+use Rattle.wb_model.specs.declared.script_lines.Form.TheVariants.{Skip, Unknown, Line}
+use Rattle.wb_model.specs.declared.script_lines.Role.{Role}
 use Rattle.wb_model.specs.Keys.{letters_of, role_of}
-use Rattle.wb_model.specs.Names.{Text, Known, nothing_known, known_after, space_of, place_of}
+use Rattle.wb_model.specs.Names.{Text, Known, nothing_known, known_after, names_in_space, first_declaration_of}
 use Rattle.wb_model.specs.Passes.{each_with}
 
 -- the local with an index, by what it holds
@@ -29,8 +29,8 @@ meant_at kinds None = meant.Nothing
 
 -- A declared name is the next of its space, and a used one is its first declaration's.
 abbrev pub name_meant : Known → Role → Letter → Text → Meant
-name_meant known role letter.Declared name = meant.Declared (length (space_of role known))
-name_meant known role _ name = meant_at known.kinds (place_of known.locals name)
+name_meant known role letter.Declared name = meant.Declared (length (names_in_space role known))
+name_meant known role _ name = meant_at known.kinds (first_declaration_of known.locals name)
 
 -- Literals have their indexes over the whole script; no line has two.
 abbrev pub resolved_operand : Known → Role → Letter → Operand Text → Operand Meant

@@ -1,6 +1,6 @@
 -- What a rule and the script's own setting say of an attempt.
 use Rattle.std.specs.Prelude.{ℕ, zero, suc, ◌+◌, Bool, false, nat_eq, nat_lt, if◌then◌else◌, Option, Some, None}
-use Rattle.wb_model.specs.declared.heap.TheConstants.{CEILING}
+use Rattle.wb_model.specs.declared.limits.TheConstants.{CEILING}
 use Rattle.wb_model.specs.declared.heap.Rule.{Rule}
 use Rattle.wb_model.specs.declared.heap.Rule.TheVariants.{Unlimited, Limit, Number}
 use Rattle.wb_model.specs.declared.heap.Answer.{Answer}

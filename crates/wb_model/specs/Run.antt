@@ -1,5 +1,6 @@
 -- A whole run, which runs are bad, and what heap length a run needs.
 use Rattle.std.specs.Prelude.{ℤ, ℕ, ◌+◌, List, [], ◌∷◌, Bool, true, false, nat_eq, nat_lt, if◌then◌else◌, Option, Some, None, map, length, max}
+use Rattle.wb_model.specs.declared.heap.TheConstants.Panic.{ITEMS_LEFT}
 use Rattle.wb_model.specs.declared.heap.Ptr.{Ptr}
 use Rattle.wb_model.specs.declared.heap.Rule.{Rule}
 use Rattle.wb_model.specs.declared.heap.Rule.TheVariants.{Unlimited}
@@ -14,10 +15,10 @@ use Rattle.wb_model.specs.declared.run.Outcome.{Outcome}
 use Rattle.wb_model.specs.declared.run.Outcome.TheVariants.{Ended, Panicked, NoCleanup, Cut}
 use Rattle.wb_model.specs.declared.run.RunResult.{RunResult}
 use Rattle.wb_model.specs.declared.script.Script.{Script}
+use Rattle.wb_model.specs.declared.size.Rise.{Rise}
 use Rattle.wb_model.specs.Row.{headers}
 use Rattle.wb_model.specs.Rules.{never}
 use Rattle.wb_model.specs.Heap.{cells_of_all_levels}
-use Rattle.wb_model.specs.declared.heap.Panic.TheVariants.{Workbench}
 use Rattle.wb_model.specs.State.{State, none, require, Way, goes_on, returns, leaves, panics, is_cut, no_cleanup, Process, ends, stops, and_then, then_do, null, initial}
 use Rattle.wb_model.specs.Attempts.{allocate}
 use Rattle.wb_model.specs.Statements.{all, destroy_items, Where, Meaning, procedure_at, done}
@@ -40,7 +41,7 @@ start = record {
 -- `main`'s own TRAP: a leave destroys the items, and its code goes on
 unfoldable pub main_trapped : Meaning → Where → Way → State → Process
 main_trapped rec at (leaves code) st = then_do (rec at (destroy_items (length st.items)) st) (λ st. ends (leaves code) st)
-main_trapped rec at _ st = require (nat_eq (length st.items) 0) (Workbench 5) st done
+main_trapped rec at _ st = require (nat_eq (length st.items) 0) ITEMS_LEFT st done
 
 unfoldable pub in_main : Meaning → Script → State → Process
 in_main rec script st =
@@ -118,18 +119,19 @@ highest_end (t ∷ ts) = max (end_of_line t) (highest_end ts)
 abbrev pub required : Script → ℕ → Shape → ℕ
 required script budget shape = highest_end (run script Unlimited budget shape).trace
 
--- the grants that made the heap longer than all before them: their numbers and ends
-abbrev pub rises_above : ℕ → List Attempt → List (ℕ × ℕ)
+-- the grants that made the heap longer than a length and than all before them
+abbrev pub rises_above : ℕ → List Attempt → List Rise
 rises_above top [] = []
-rises_above top (t ∷ ts) = if nat_lt top (end_of_line t) then (t.number, end_of_line t) ∷ rises_above (end_of_line t) ts else rises_above top ts
+rises_above top (t ∷ ts) =
+    if nat_lt top (end_of_line t) then record { number = t.number; top = end_of_line t } ∷ rises_above (end_of_line t) ts else rises_above top ts
 
-abbrev pub rises : Script → ℕ → Shape → List (ℕ × ℕ)
+abbrev pub rises : Script → ℕ → Shape → List Rise
 rises script budget shape = rises_above 0 (run script Unlimited budget shape).trace
 
 -- the number of the first rise that passes a length
-abbrev pub first_rise_above : ℕ → List (ℕ × ℕ) → Option ℕ
+abbrev pub first_rise_above : ℕ → List Rise → Option ℕ
 first_rise_above length [] = None
-first_rise_above length (r ∷ rs) = if nat_lt length r.1 then Some r.0 else first_rise_above length rs
+first_rise_above length (r ∷ rs) = if nat_lt length r.top then Some r.number else first_rise_above length rs
 
 -- the attempt that a heap of a length refuses first
 abbrev pub refused_at : Script → ℕ → Shape → ℕ → Option ℕ

@@ -4,13 +4,13 @@ use Rattle.std.specs.Option.{option_map}
 use Rattle.std.specs.List.{flat_map}
 use Rattle.wb_model.specs.declared.fault.ScriptFault.{ScriptFault}
 use Rattle.wb_model.specs.declared.fault.ScriptFault.TheVariants.{TooLong, NotAscii, Grammar, UnknownName, DoubleName, WrongKind, MayLeave, NoMain, TooMany, NoMemory}
-use Rattle.wb_model.specs.declared.lines.Form.{Form}
+use Rattle.wb_model.specs.declared.script_lines.Form.{Form}
 use Rattle.wb_model.specs.declared.script.Script.{Script}
 use Rattle.wb_model.specs.Forms.{forms_of, role_of_form}
 use Rattle.wb_model.specs.Grammar.{IsGrammatical}
 use Rattle.wb_model.specs.Kinds.{has_wrong_kind}
 use Rattle.wb_model.specs.Lines.{lines_of, first_foreign_line, is_too_long}
-use Rattle.wb_model.specs.Names.{Text, first_refused, uses_unknown, declares_again, passes_limit, known_of, place_of}
+use Rattle.wb_model.specs.Names.{Text, first_refused, uses_unknown, declares_again, passes_limit, known_of, first_declaration_of}
 use Rattle.wb_model.specs.Resolved.{resolved}
 use Rattle.wb_model.specs.Trees.{counted, script_lines}
 
@@ -33,7 +33,7 @@ pub record IsGrammarLine (lines : List Text) (n : ℕ) : Type 0 where
 
 -- the index of `main` among the procedures
 abbrev pub main_of : List (Form Text) → Option ℕ
-main_of forms = place_of (known_of forms).procedures (codes "main")
+main_of forms = first_declaration_of (known_of forms).procedures (codes "main")
 
 -- not too long, and of lines alone
 pub record IsText (bytes : List ℕ) : Type 0 where

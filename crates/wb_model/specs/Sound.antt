@@ -2,6 +2,7 @@
 -- script asks for such a tree, and the reader gives no other.
 use Rattle.std.specs.Prelude.{ℕ, pos, negsuc, List, Bool, true, false, not, ◌&&◌, nat_eq, nat_le, nat_lt, Option, Some, None, length, slice_get}
 use Rattle.std.specs.List.{list_all}
+use Rattle.wb_model.specs.declared.limits.TheConstants.{LONGEST_LITERAL, LARGEST_BUFFER, NINE_DIGITS, MOST_LOCALS, MOST_PROCEDURES}
 use Rattle.wb_model.specs.declared.script.Script.{Script}
 use Rattle.wb_model.specs.declared.script.Body.{Body}
 use Rattle.wb_model.specs.declared.script.Procedure.{Procedure}
@@ -21,11 +22,11 @@ use Rattle.wb_model.specs.declared.script.Statement.{Statement}
 use Rattle.wb_model.specs.declared.script.Statement.TheOpen.{Statement-F}
 use Rattle.wb_model.specs.declared.script.Statement.TheViews.{out-Statement}
 
--- A script has no class, so a pointer local has none. A text of a local's own has at most 256 units.
+-- A script has no class, so a pointer local has none. A buffer's maximum is within its limit.
 abbrev pub is_local : Local → Bool
 is_local (OfPointer None) = true
 is_local OfNumber = true
-is_local (OfBuffer max) = nat_le max 256
+is_local (OfBuffer max) = nat_le max LARGEST_BUFFER
 is_local OfView = true
 is_local _ = false
 
@@ -55,8 +56,8 @@ is_variable locals i = is_number_local (slice_get locals i)
 
 -- one to nine digits, or a local that holds a number
 abbrev pub is_number : List Local → Number → Bool
-is_number locals (Constant (pos n)) = nat_le n 999999999
-is_number locals (Constant (negsuc n)) = nat_lt n 999999999
+is_number locals (Constant (pos n)) = nat_le n NINE_DIGITS
+is_number locals (Constant (negsuc n)) = nat_lt n NINE_DIGITS
 is_number locals (Variable i) = is_variable locals i
 
 -- a text of a local's own, or the cell of a pointer
@@ -115,7 +116,7 @@ abbrev pub are_statements : ℕ → List Local → List Statement → Bool
 are_statements literals locals statements = list_all (λ s. is_statement literals locals (out-Statement s)) statements
 
 abbrev pub is_body : ℕ → Body → Bool
-is_body literals body = list_all is_local body.locals && nat_le (length body.locals) 32 && are_statements literals body.locals body.statements
+is_body literals body = list_all is_local body.locals && nat_le (length body.locals) MOST_LOCALS && are_statements literals body.locals body.statements
 
 abbrev pub is_procedure : ℕ → Procedure → Bool
 is_procedure literals p = nat_eq (length p.parameters) 0 && is_body literals p.body
@@ -126,10 +127,10 @@ is_quotable byte = nat_le 32 byte && nat_le byte 126 && not (nat_eq byte 34)
 
 -- the text of a literal: no more bytes than a script has
 abbrev pub is_literal_text : List ℕ → Bool
-is_literal_text text = list_all is_quotable text && nat_le (length text) 65536
+is_literal_text text = list_all is_quotable text && nat_le (length text) LONGEST_LITERAL
 
 abbrev pub is_script : Script → Bool
 is_script script =
     nat_eq (length script.classes) 0 && nat_eq (length script.operations) 0
-    && (nat_le (length script.procedures) 256 && nat_lt script.main (length script.procedures))
+    && (nat_le (length script.procedures) MOST_PROCEDURES && nat_lt script.main (length script.procedures))
     && (list_all (is_procedure (length script.literals)) script.procedures && list_all is_literal_text script.literals)

@@ -1,6 +1,6 @@
 -- The committed length of a chunk: how a limit and a shape decide it, and the free runs below it.
 use Rattle.std.specs.Prelude.{ℕ, ◌+◌, ◌-◌, ◌*◌, ◌/◌, ◌%◌, ◌≡◌, ◌≤◌, List, [], ◌∷◌, Bool, ◌&&◌, nat_lt, nat_le, nat_eq, if◌then◌else◌, min, max, sum}
-use Rattle.wb_model.specs.declared.heap.TheConstants.{CEILING}
+use Rattle.wb_model.specs.declared.limits.TheConstants.{CEILING, LARGEST_MINIMUM, SMALLEST_STEP, LARGEST_STEP}
 use Rattle.wb_model.specs.declared.heap.Rule.{Rule}
 use Rattle.wb_model.specs.declared.heap.Rule.TheVariants.{Limit}
 use Rattle.wb_model.specs.declared.heap.Shape.{Shape}
@@ -10,7 +10,7 @@ use Rattle.wb_model.specs.Row.{end_of, IsFree, total_length}
 -- the shapes that a heap may have
 abbrev pub is_shape : Shape → Bool
 is_shape shape =
-    nat_eq (shape.min % 16) 0 && nat_le shape.min 1048576 && (nat_eq (shape.step % 16) 0 && (nat_le 16 shape.step && nat_le shape.step 1048576))
+    nat_eq (shape.min % 16) 0 && nat_le shape.min LARGEST_MINIMUM && (nat_eq (shape.step % 16) 0 && (nat_le SMALLEST_STEP shape.step && nat_le shape.step LARGEST_STEP))
 
 -- the least committed length, the greatest, and the step
 pub record Space : Type 0 where

@@ -1,7 +1,7 @@
 -- Texts as lists of units, with a maximum.
 use Rattle.std.specs.Prelude.{ℕ, ◌+◌, ◌-◌, ◌^◌, ◌<◌, ◌≤◌, List, ◌++◌, nat_lt, nat_le, ◌||◌, if◌then◌else◌, Result, Ok, Err, length, take, drop, replicate, All}
+use Rattle.wb_model.specs.declared.heap.TheConstants.Panic.{TOO_LONG, POSITION_OUT_OF_BOUNDS}
 use Rattle.wb_model.specs.declared.heap.Panic.{Panic}
-use Rattle.wb_model.specs.declared.heap.Panic.TheVariants.{User}
 use Rattle.wb_model.specs.declared.text.View.{View}
 
 -- a text and the number of units that it may have
@@ -35,20 +35,20 @@ answer_of (Err panic) = Err panic
 
 -- USER 11 where a text is longer than its maximum
 abbrev pub at_most : ℕ → List ℕ → Edited
-at_most max t = if nat_le (length t) max then Ok t else Err (User 11)
+at_most max t = if nat_le (length t) max then Ok t else Err TOO_LONG
 
 abbrev pub insert_text : ℕ → List ℕ → ℕ → List ℕ → Edited
-insert_text max t at s = if nat_lt (length t) at then Err (User 10) else at_most max (take at t ++ s ++ drop at t)
+insert_text max t at s = if nat_lt (length t) at then Err POSITION_OUT_OF_BOUNDS else at_most max (take at t ++ s ++ drop at t)
 
 abbrev pub delete_text : List ℕ → ℕ → ℕ → Edited
-delete_text t at count = if nat_lt (length t) at then Err (User 10) else Ok (take at t ++ drop (at + count) t)
+delete_text t at count = if nat_lt (length t) at then Err POSITION_OUT_OF_BOUNDS else Ok (take at t ++ drop (at + count) t)
 
 -- cut or filled up with zeros
 abbrev pub exactly : ℕ → List ℕ → List ℕ
 exactly n t = take n t ++ replicate (n - length t) 0
 
 abbrev pub set_length_text : ℕ → List ℕ → ℕ → Edited
-set_length_text max t n = if nat_le n max then Ok (exactly n t) else Err (User 11)
+set_length_text max t n = if nat_le n max then Ok (exactly n t) else Err TOO_LONG
 
 -- a part of a text of this length: where it begins and how long it is
 pub record Part : Type 0 where
@@ -56,13 +56,13 @@ pub record Part : Type 0 where
   pub count : ℕ
 
 abbrev pub left_part : ℕ → ℕ → Result Part Panic
-left_part len n = if nat_le n len then Ok (record { from = 0; count = n }) else Err (User 10)
+left_part len n = if nat_le n len then Ok (record { from = 0; count = n }) else Err POSITION_OUT_OF_BOUNDS
 
 abbrev pub right_part : ℕ → ℕ → Result Part Panic
-right_part len n = if nat_le n len then Ok (record { from = len - n; count = n }) else Err (User 10)
+right_part len n = if nat_le n len then Ok (record { from = len - n; count = n }) else Err POSITION_OUT_OF_BOUNDS
 
 abbrev pub mid_part : ℕ → ℕ → ℕ → Result Part Panic
-mid_part len at n = if nat_lt len at || nat_lt (len - at) n then Err (User 10) else Ok (record { from = at; count = n })
+mid_part len at n = if nat_lt len at || nat_lt (len - at) n then Err POSITION_OUT_OF_BOUNDS else Ok (record { from = at; count = n })
 
 -- a part of a view, as a view of the same base
 abbrev pub view_of_part : View → Result Part Panic → Result View Panic

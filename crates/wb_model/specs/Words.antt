@@ -43,9 +43,9 @@ digits_of word =
     if nat_le 1 (length word) && nat_le (length word) 9 && list_all is_digit word then Some (fold with_digit 0 word) else None
 
 -- digits, or `-` and digits
-abbrev pub number_of : List ℕ → Option ℤ
-number_of [] = None
-number_of (byte ∷ bytes) =
+abbrev pub number_spelled : List ℕ → Option ℤ
+number_spelled [] = None
+number_spelled (byte ∷ bytes) =
     if byte == 45 then option_map (λ n. neg_ℤ (pos n)) (digits_of bytes) else option_map pos (digits_of (byte ∷ bytes))
 
 -- what stands between the first byte and the last
@@ -57,5 +57,5 @@ is_literal word =
     nat_le 2 (length word) && slice_index word 0 == 34 && slice_index word (length word - 1) == 34 && list_all is_quotable (inside word)
 
 -- printable bytes without a quote, between two quotes; the text is without these
-abbrev pub literal_of : List ℕ → Option (List ℕ)
-literal_of word = if is_literal word then Some (inside word) else None
+abbrev pub literal_spelled : List ℕ → Option (List ℕ)
+literal_spelled word = if is_literal word then Some (inside word) else None

@@ -1,13 +1,13 @@
 -- Lines, words and literals as they are written; what is written so is read as it was meant.
 use Rattle.std.specs.Prelude.{◌≡◌, ◌≢◌, ◌⊎◌, ℕ, List, [], ◌∷◌, ◌++◌, Bool, true, not, ◌&&◌, ◌==◌, Some}
 use Rattle.std.specs.List.{list_all, flat_map}
-use Rattle.wb_model.specs.declared.lines.Key.{Key}
-use Rattle.wb_model.specs.declared.lines.Operand.{Operand}
-use Rattle.wb_model.specs.declared.lines.Form.TheVariants.{Line}
+use Rattle.wb_model.specs.declared.script_lines.Key.{Key}
+use Rattle.wb_model.specs.declared.script_lines.Operand.{Operand}
+use Rattle.wb_model.specs.declared.script_lines.Form.TheVariants.{Line}
 use Rattle.wb_model.specs.Forms.{line_form}
 use Rattle.wb_model.specs.Lines.{is_blank, lines_of, words_of}
 use Rattle.wb_model.specs.Sound.{is_quotable}
-use Rattle.wb_model.specs.Words.{literal_of}
+use Rattle.wb_model.specs.Words.{literal_spelled}
 
 -- no line feed stands in it
 abbrev pub is_line : List ℕ → Bool
@@ -32,8 +32,8 @@ quoted text = 34 ∷ (text ++ 34 ∷ [])
 -- The literals are the quoted texts.
 abbrev pub ReadsLiterals : List ℕ → List ℕ → Type 0
 ReadsLiterals word text =
-    (is_quoted_text text ≡ true → word ≡ quoted text → literal_of word ≡ Some text)
-    × (literal_of word ≡ Some text → (is_quoted_text text ≡ true) × (word ≡ quoted text))
+    (is_quoted_text text ≡ true → word ≡ quoted text → literal_spelled word ≡ Some text)
+    × (literal_spelled word ≡ Some text → (is_quoted_text text ≡ true) × (word ≡ quoted text))
 
 -- neither blanks nor quotes
 abbrev pub is_plain : List ℕ → Bool

@@ -1,10 +1,6 @@
 //! What a heap is made of, what is asked of it, and what it answers. All places and lengths are in bytes, a
 //! place from where the chunk begins; the first attempt has number 1.
 
-/// The greatest length that a simulated heap may reach, in bytes. A cell that would end past it cuts the
-/// run. Source: this project's profile.
-pub const CEILING: u32 = 16_777_216;
-
 /// A cell, by its place and its allocation number. Number 0 is null.
 #[derive(Clone, Copy, Debug, PartialEq, Eq)]
 pub struct Ptr {
@@ -50,8 +46,7 @@ pub enum Rule {
 
 /// The heap's minimum length and growth step, in bytes.
 ///
-/// Multiples of 16: the minimum from 0 to 1,048,576, the step from 16 to 1,048,576. Source: this project's
-/// profile.
+/// Multiples of 16: the minimum from 0 to `LARGEST_MINIMUM`, the step from `SMALLEST_STEP` to `LARGEST_STEP`.
 #[derive(Clone, Copy, Debug, PartialEq, Eq)]
 pub struct Shape {
     pub min: u32,
@@ -96,6 +91,37 @@ pub enum Panic {
     Alloc(u32),
     Workbench(u8),
 }
+
+impl Panic {
+    /// USER 10: a position or a length out of a text's bounds.
+    pub const POSITION_OUT_OF_BOUNDS: Panic = Self::User(10);
+    /// USER 11: a text would be longer than its maximum.
+    pub const TOO_LONG: Panic = Self::User(11);
+    /// USER 42: a pointer that names no live cell was freed, reallocated or asked for its length.
+    pub const BAD_CELL: Panic = Self::User(42);
+
+    /// WORKBENCH 1: a null or stale pointer was used.
+    pub const NULL_OR_STALE: Panic = Self::Workbench(1);
+    /// WORKBENCH 2: the cell is of another kind, or the object of another class.
+    pub const WRONG_KIND: Panic = Self::Workbench(2);
+    /// WORKBENCH 3: fewer items stand above the entry of the innermost TRAP than a pop takes.
+    pub const POP_BELOW_TRAP: Panic = Self::Workbench(3);
+    /// WORKBENCH 4: another item than the expected one is on top.
+    pub const ANOTHER_ITEM_ON_TOP: Panic = Self::Workbench(4);
+    /// WORKBENCH 5: items are left at the plain end of a TRAP.
+    pub const ITEMS_LEFT: Panic = Self::Workbench(5);
+    /// WORKBENCH 6: a mark was closed where none is open.
+    pub const NO_OPEN_MARK: Panic = Self::Workbench(6);
+    /// WORKBENCH 7: more frames than may stand at once.
+    pub const TOO_MANY_FRAMES: Panic = Self::Workbench(7);
+    /// WORKBENCH 8: an HBufC would be shorter than its text.
+    pub const SHORTER_THAN_TEXT: Panic = Self::Workbench(8);
+    /// WORKBENCH 9: a number out of its range.
+    pub const NUMBER_OUT_OF_RANGE: Panic = Self::Workbench(9);
+}
+
+/// `KErrNoMemory`, the code with which a refused allocation leaves.
+pub const KERR_NO_MEMORY: i32 = -4;
 
 /// An item of the cleanup stack.
 #[derive(Clone, Copy, Debug, PartialEq, Eq)]

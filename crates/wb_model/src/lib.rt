@@ -9,12 +9,14 @@ pub mod fault;
 pub mod heap;
 pub mod items;
 pub mod laws;
-pub mod line;
+pub mod limits;
 pub mod line_laws;
-pub mod lines;
 pub mod memory;
+pub mod printed_line;
 pub mod run;
 pub mod script;
+pub mod script_lines;
+pub mod size;
 #[cfg(test)]
 mod tests;
 pub mod text;

@@ -2,7 +2,7 @@
 
 use crate::heap::{Attempt, Panic};
 use crate::items::Items;
-use crate::line::Line;
+use crate::printed_line::Line;
 
 /// Why a run was cut.
 #[derive(Clone, Copy, Debug, PartialEq, Eq)]

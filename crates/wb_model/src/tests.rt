@@ -2,8 +2,8 @@
 
 use crate::heap::{Answer, Attempt, Panic};
 use crate::items::Items;
-use crate::line::Line;
 use crate::memory::NoMemory;
+use crate::printed_line::Line;
 use crate::run::Trace;
 use crate::text::{Base, View};
 use arrayvec::ArrayVec;
@@ -67,9 +67,9 @@ fn parts_of_a_view(rt: HostRuntime) -> Result<(), Fail> {
     assert_eq!(rt; view.right(2), part(14, 2));
     assert_eq!(rt; view.mid(1, 5), part(11, 5));
     assert_eq!(rt; view.mid(6, 0), part(16, 0));
-    assert_eq!(rt; view.left(7), Err(Panic::User(10)));
-    assert_eq!(rt; view.right(7), Err(Panic::User(10)));
-    assert_eq!(rt; view.mid(1, 6), Err(Panic::User(10)));
-    assert_eq!(rt; view.mid(7, 0), Err(Panic::User(10)));
+    assert_eq!(rt; view.left(7), Err(Panic::POSITION_OUT_OF_BOUNDS));
+    assert_eq!(rt; view.right(7), Err(Panic::POSITION_OUT_OF_BOUNDS));
+    assert_eq!(rt; view.mid(1, 6), Err(Panic::POSITION_OUT_OF_BOUNDS));
+    assert_eq!(rt; view.mid(7, 0), Err(Panic::POSITION_OUT_OF_BOUNDS));
     Ok(())
 }

@@ -13,7 +13,8 @@ use crate::{moves, room, runs, space};
 use std::alloc::Global;
 use std::marker::Model;
 use wb_cells::cells::Cells;
-use wb_model::heap::{CEILING, Header, Kind, Ptr, Shape};
+use wb_model::heap::{Header, Kind, Ptr, Shape};
+use wb_model::limits::CEILING;
 
 /// A simulated heap: live cells with their payloads, and a limit that none of them passes.
 ///

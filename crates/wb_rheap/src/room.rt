@@ -6,7 +6,8 @@ ghost use Rattle.wb_model.specs.Space.{is_shape, space_below, bound_below, commi
 use crate::fault::HeapFault;
 use crate::space;
 use wb_cells::cells::Cells;
-use wb_model::heap::{CEILING, Shape};
+use wb_model::heap::Shape;
+use wb_model::limits::CEILING;
 use wb_model::memory::NoMemory;
 
 /// Holds so many bytes at least, and takes no memory where they are held.

@@ -3,17 +3,18 @@
 ghost use Rattle.std.specs.Prelude.{◌≡◌, ◌≤◌, true, min};
 ghost use Rattle.wb_model.specs.Space.{is_shape, space_below, bound_below, round_up, committed_by, compressed_to};
 
-use wb_model::heap::{CEILING, Shape};
+use wb_model::heap::Shape;
+use wb_model::limits::{CEILING, LARGEST_MINIMUM, LARGEST_STEP, SMALLEST_STEP};
 
 /// Whether a heap may have this shape.
 pub fn may_have_shape(shape: Shape) -> bool
     ensures { result ≡ is_shape shape }
 {
     shape.min % 16 == 0
-        && shape.min <= 1_048_576
+        && shape.min <= LARGEST_MINIMUM
         && shape.step % 16 == 0
-        && shape.step >= 16
-        && shape.step <= 1_048_576
+        && shape.step >= SMALLEST_STEP
+        && shape.step <= LARGEST_STEP
 }
 
 /// The greatest committed length below a limit.

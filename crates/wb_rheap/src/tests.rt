@@ -8,7 +8,8 @@ use crate::fault::HeapFault;
 use crate::heap::Heap;
 use std::alloc::Global;
 use std::test::Fail;
-use wb_model::heap::{CEILING, Header, Kind, Ptr, Shape};
+use wb_model::heap::{Header, Kind, Ptr, Shape};
+use wb_model::limits::CEILING;
 
 const SHAPE: Shape = Shape { min: 0, step: 4096 };
 

@@ -1,7 +1,7 @@
 -- What bytes are cut into is no longer than they are.
 use Rattle.std.proofs.Common.{ℕ, zero, suc, ◌≤◌, List, [], ◌∷◌, Bool, true, false, length, arith}
 use Rattle.std.specs.List.{flat_map}
-use Rattle.wb_model.specs.Lines.{Ends, onto_first, quoted_after, ends_line, ends_word, pieces_from, lines_of, unless_empty, words_of}
+use Rattle.wb_model.specs.Lines.{Separator, onto_first, quoted_after, ends_line, ends_word, pieces_from, lines_of, unless_empty, words_of}
 use Rattle.wb_model.specs.Names.{Text}
 
 -- none of the texts has more bytes than so many
@@ -17,7 +17,7 @@ onto_within : (byte n : ℕ) (texts : List Text) → AreWithin n texts → AreWi
 onto_within byte n [] within = (omega arith, tt)
 onto_within byte n (text ∷ texts) (here, rest) = (omega (arith, here), one_longer n texts rest)
 
-pieces_within : (ends : Ends) (bytes : List ℕ) (quoted : Bool) (n : ℕ) → length bytes ≤ n → AreWithin n (pieces_from ends quoted bytes)
+pieces_within : (ends : Separator) (bytes : List ℕ) (quoted : Bool) (n : ℕ) → length bytes ≤ n → AreWithin n (pieces_from ends quoted bytes)
 pieces_within ends [] quoted n short = tt
 pieces_within ends (byte ∷ bytes) quoted zero short = let clash : ⊥ = omega (arith, short) in absurd clash
 pieces_within ends (byte ∷ bytes) quoted (suc n) short =

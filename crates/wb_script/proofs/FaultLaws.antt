@@ -4,7 +4,7 @@ use Rattle.std.specs.Option.{option_map}
 use Rattle.std.proofs.lemmas.List.{take-append-drop}
 use Rattle.wb_model.specs.declared.fault.ScriptFault.{ScriptFault}
 use Rattle.wb_model.specs.declared.fault.ScriptFault.TheVariants.{TooLong, NotAscii, Grammar, UnknownName, DoubleName, WrongKind, MayLeave, NoMain, TooMany, NoMemory}
-use Rattle.wb_model.specs.declared.lines.Form.{Form}
+use Rattle.wb_model.specs.declared.script_lines.Form.{Form}
 use Rattle.wb_model.specs.declared.script.Script.{Script}
 use Rattle.wb_model.specs.Forms.{forms_of}
 use Rattle.wb_model.specs.Kinds.{has_wrong_kind}

@@ -1,7 +1,7 @@
 -- The first piece of bytes.
 use Rattle.std.proofs.Common.{◌≡◌, ◌≢◌, ℕ, suc, ◌+◌, ◌-◌, ◌<◌, ◌≤◌, List, [], ◌∷◌, ◌++◌, length, get_or, take, drop, Bool, true, false, refl, sym, ap, ◌∙◌, arith, add-one, drop-cons, take_all, length-drop}
 use Rattle.std.proofs.lemmas.List.{take_more, drop_all}
-use Rattle.wb_model.specs.Lines.{Ends, onto_first, quoted_after, pieces_from, pieces}
+use Rattle.wb_model.specs.Lines.{Separator, onto_first, quoted_after, pieces_from, pieces}
 
 pub to_end : (n : ℕ) (bytes : List ℕ) → take (length bytes - n) (drop n bytes) ≡ drop n bytes
 to_end n bytes = take_all (length bytes - n) (drop n bytes) (simp length-drop (omega arith))
@@ -23,7 +23,7 @@ onto_all-whole : (byte : ℕ) (bytes : List ℕ) → onto_all (byte ∷ bytes) [
 onto_all-whole byte [] = refl
 onto_all-whole byte (next ∷ bytes) = ap (onto_first byte) (onto_all-whole next bytes)
 
-module _ (ends : Ends) (bytes : List ℕ) (quoted : Bool) where
+module _ (ends : Separator) (bytes : List ℕ) (quoted : Bool) where
   -- a byte that ends nothing
   pub one_more : (i : ℕ) → i < length bytes → ends quoted (get_or bytes i 0) ≡ false → onto_all (take i bytes) (pieces_from ends quoted (drop i bytes)) ≡ pieces ends bytes → onto_all (take (i + 1) bytes) (pieces_from ends (quoted_after quoted (get_or bytes i 0)) (drop (i + 1) bytes)) ≡ pieces ends bytes
   one_more i lt goes_on so_far =
@@ -37,7 +37,7 @@ module _ (ends : Ends) (bytes : List ℕ) (quoted : Bool) where
       sym so_far ∙ ap (onto_all (take i bytes)) here ∙ onto_all-piece (take i bytes) (pieces ends (drop (suc i) bytes))
 
 -- nothing ends the piece
-pub last_piece : (ends : Ends) (bytes : List ℕ) (quoted : Bool) (i : ℕ) → bytes ≢ [] → length bytes ≤ i → onto_all (take i bytes) (pieces_from ends quoted (drop i bytes)) ≡ pieces ends bytes → pieces ends bytes ≡ bytes ∷ []
+pub last_piece : (ends : Separator) (bytes : List ℕ) (quoted : Bool) (i : ℕ) → bytes ≢ [] → length bytes ≤ i → onto_all (take i bytes) (pieces_from ends quoted (drop i bytes)) ≡ pieces ends bytes → pieces ends bytes ≡ bytes ∷ []
 last_piece ends [] quoted i some le so_far = absurd (some refl)
 last_piece ends (byte ∷ bytes) quoted i some le so_far =
     let front = take_all i (byte ∷ bytes) le in

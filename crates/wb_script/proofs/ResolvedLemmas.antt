@@ -8,20 +8,20 @@ use Rattle.std.proofs.lemmas.Option.{slice_get-map}
 use Rattle.std.proofs.lemmas.List.{map-append}
 use Rattle.std.proofs.lemmas.Bool.Decides.{nat_tests}
 use Rattle.std.proofs.lemmas.List.Folds.{list_all-append}
-use Rattle.wb_model.specs.declared.lines.Key.{Key}
-use Rattle.wb_model.specs.declared.lines.Key.TheVariants as key
-use Rattle.wb_model.specs.declared.lines.Kind.{Kind}
-use Rattle.wb_model.specs.declared.lines.Kind.TheVariants as kind
-use Rattle.wb_model.specs.declared.lines.Letter.{Letter}
-use Rattle.wb_model.specs.declared.lines.Letter.TheVariants as letter
-use Rattle.wb_model.specs.declared.lines.Meant.{Meant}
-use Rattle.wb_model.specs.declared.lines.Meant.TheVariants as meant
-use Rattle.wb_model.specs.declared.lines.Operand.{Operand}
-use Rattle.wb_model.specs.declared.lines.Operand.TheVariants.{Name, Number, Literal}
-use Rattle.wb_model.specs.declared.lines.Role.{Role}
-use Rattle.wb_model.specs.declared.lines.Role.TheVariants.{Procedure, Declaration}
-use Rattle.wb_model.specs.declared.lines.Form.{Form}
-use Rattle.wb_model.specs.declared.lines.Form.TheVariants.{Skip, Unknown, Line}
+use Rattle.wb_model.specs.declared.script_lines.Key.{Key}
+use Rattle.wb_model.specs.declared.script_lines.Key.TheVariants as key
+use Rattle.wb_model.specs.declared.script_lines.Kind.{Kind}
+use Rattle.wb_model.specs.declared.script_lines.Kind.TheVariants as kind
+use Rattle.wb_model.specs.declared.script_lines.Letter.{Letter}
+use Rattle.wb_model.specs.declared.script_lines.Letter.TheVariants as letter
+use Rattle.wb_model.specs.declared.script_lines.Meant.{Meant}
+use Rattle.wb_model.specs.declared.script_lines.Meant.TheVariants as meant
+use Rattle.wb_model.specs.declared.script_lines.Operand.{Operand}
+use Rattle.wb_model.specs.declared.script_lines.Operand.TheVariants.{Name, Number, Literal}
+use Rattle.wb_model.specs.declared.script_lines.Role.{Role}
+use Rattle.wb_model.specs.declared.script_lines.Role.TheVariants.{Procedure, Declaration}
+use Rattle.wb_model.specs.declared.script_lines.Form.{Form}
+use Rattle.wb_model.specs.declared.script_lines.Form.TheVariants.{Skip, Unknown, Line}
 use Rattle.wb_model.specs.declared.script.Local.{Local}
 use Rattle.wb_model.specs.declared.script.Local.TheVariants.{OfPointer, OfNumber, OfBuffer, OfView}
 use Rattle.wb_model.specs.declared.script.Number.TheVariants.{Constant}
@@ -29,7 +29,7 @@ use Rattle.wb_model.specs.Forms.{role_of_form}
 use Rattle.wb_model.specs.Keys.{letters_of, role_of}
 use Rattle.wb_model.specs.Kinds.{is_right, are_right, is_right_line, has_wrong_kind}
 use Rattle.wb_model.specs.Passes.{first_bad, first_where, state_after, each_with}
-use Rattle.wb_model.specs.Names.{Text, Known, known_with, nothing_known, name_declared, literal_in, kind_of, picked_of, picked, known_after, known_of, place_of, passes_limit, first_refused}
+use Rattle.wb_model.specs.Names.{Text, Known, known_with, nothing_known, name_declared, literal_in, kind_declared, picked_of, picked, known_after, known_of, first_declaration_of, passes_limit, first_refused}
 use Rattle.wb_model.specs.Resolved.{local_meant, meant_at, resolved_operand, resolved_operands, resolved_line, resolved}
 use Rattle.wb_model.specs.Sound.{is_pointer_local, is_number_local, is_buffer_local, is_view_local, is_number, is_literal_text}
 use Rattle.wb_script.specs.Building.{Counts, nothing_counted, counts_after, counts_of, operand_fits, letters_fit, sides_fit, operands_fit, is_small, is_local_due, is_due, fits, unfit, AllFit}
@@ -65,7 +65,7 @@ where_within p (n ∷ ns) i is = go (p n) (first_where p ns) (where_within p ns)
     go false None more e = let clash : ⊥ = cc in absurd clash
     go false (Some j) more e = let same : suc j ≡ i = cc in let lt = more j refl in omega arith
 
-pub place_within : (names : List Text) (name : Text) (i : ℕ) → place_of names name ≡ Some i → i < length names
+pub place_within : (names : List Text) (name : Text) (i : ℕ) → first_declaration_of names name ≡ Some i → i < length names
 place_within names name i is = where_within (λ n. bytes_eq n name) names i is
 
 -- what a local of a body holds
@@ -164,9 +164,9 @@ literal_fits literals locals letter.Printed text i typed room = below_test i lit
 literal_fits literals locals _ text i typed room = let clash : ⊥ = cc in absurd clash
 
 module _ (literals : ℕ) (known : Known) (locals : List Local) (kinds_are : known.kinds ≡ map kind_held locals) (role : Role) where
-  used_name_fits : (at : Letter) (name : Text) → is_operand at (Name []) ≡ true → (at ≡ letter.Declared → ⊥) → is_right at (Name (meant_at known.kinds (place_of known.locals name))) ≡ true → operand_fits literals locals at (Name (meant_at known.kinds (place_of known.locals name))) ≡ true
+  used_name_fits : (at : Letter) (name : Text) → is_operand at (Name []) ≡ true → (at ≡ letter.Declared → ⊥) → is_right at (Name (meant_at known.kinds (first_declaration_of known.locals name))) ≡ true → operand_fits literals locals at (Name (meant_at known.kinds (first_declaration_of known.locals name))) ≡ true
   used_name_fits at name typed used right =
-      named_fits literals locals at (meant_at known.kinds (place_of known.locals name)) typed used (ap (λ k. is_there locals (meant_at k (place_of known.locals name))) kinds_are ∙ used_there locals (place_of known.locals name)) right
+      named_fits literals locals at (meant_at known.kinds (first_declaration_of known.locals name)) typed used (ap (λ k. is_there locals (meant_at k (first_declaration_of known.locals name))) kinds_are ∙ used_there locals (first_declaration_of known.locals name)) right
 
   -- an operand of the letter's kind fits
   operand_fits_resolved : (at : Letter) (operand : Operand Text) → is_operand at operand ≡ true → is_right at (resolved_operand known role at operand) ≡ true →
@@ -213,18 +213,18 @@ module _ (literals : ℕ) (known : Known) (locals : List Local) (kinds_are : kno
   sides_fit_resolved (Number z) source typed right = let clash : ⊥ = cc in absurd clash
   sides_fit_resolved (Literal t) source typed right = let clash : ⊥ = cc in absurd clash
   sides_fit_resolved (Name n) (Literal t) typed right = let clash : ⊥ = cc in absurd clash
-  sides_fit_resolved (Name n) (Number z) typed right = by_target (meant_at known.kinds (place_of known.locals n)) (meant_there n) right
+  sides_fit_resolved (Name n) (Number z) typed right = by_target (meant_at known.kinds (first_declaration_of known.locals n)) (meant_there n) right
     where
-      meant_there : (n : Text) → is_there locals (meant_at known.kinds (place_of known.locals n)) ≡ true
-      meant_there n = ap (λ k. is_there locals (meant_at k (place_of known.locals n))) kinds_are ∙ used_there locals (place_of known.locals n)
+      meant_there : (n : Text) → is_there locals (meant_at known.kinds (first_declaration_of known.locals n)) ≡ true
+      meant_there n = ap (λ k. is_there locals (meant_at k (first_declaration_of known.locals n))) kinds_are ∙ used_there locals (first_declaration_of known.locals n)
 
       by_target : (m : Meant) → is_there locals m ≡ true → is_right_line (Line key.Set (Name m ∷ Number z ∷ [])) ≡ true → sides_fit locals (Name m) (Number z) ≡ true
       by_target (meant.Number i) there right = rw there (short_number locals z (both (is_short z) true typed).0)
       by_target _ there right = let clash : ⊥ = cc in absurd clash
-  sides_fit_resolved (Name n) (Name s) typed right = by_both (meant_at known.kinds (place_of known.locals n)) (meant_at known.kinds (place_of known.locals s)) (meant_there n) (meant_there s) right
+  sides_fit_resolved (Name n) (Name s) typed right = by_both (meant_at known.kinds (first_declaration_of known.locals n)) (meant_at known.kinds (first_declaration_of known.locals s)) (meant_there n) (meant_there s) right
     where
-      meant_there : (n : Text) → is_there locals (meant_at known.kinds (place_of known.locals n)) ≡ true
-      meant_there n = ap (λ k. is_there locals (meant_at k (place_of known.locals n))) kinds_are ∙ used_there locals (place_of known.locals n)
+      meant_there : (n : Text) → is_there locals (meant_at known.kinds (first_declaration_of known.locals n)) ≡ true
+      meant_there n = ap (λ k. is_there locals (meant_at k (first_declaration_of known.locals n))) kinds_are ∙ used_there locals (first_declaration_of known.locals n)
 
       by_both : (m o : Meant) → is_there locals m ≡ true → is_there locals o ≡ true → is_right_line (Line key.Set (Name m ∷ Name o ∷ [])) ≡ true → sides_fit locals (Name m) (Name o) ≡ true
       by_both (meant.Pointer i) (meant.Pointer j) here there right = rw here there
@@ -341,7 +341,7 @@ line_counts known counts (Line _ operands) typed counted = record { procedures =
 literals_after : (known : Known) (form : Form Text) → (known_after known form).literals ≡ known.literals ++ picked literal_in form
 literals_after known Skip = refl
 literals_after known Unknown = refl
-literals_after known (Line k operands) = by_role (role_of k) (picked_of name_declared (letters_of k) operands) (kind_of k) (picked_of literal_in (letters_of k) operands)
+literals_after known (Line k operands) = by_role (role_of k) (picked_of name_declared (letters_of k) operands) (kind_declared k) (picked_of literal_in (letters_of k) operands)
   where
     by_role : (role : Role) (names : List Text) (held : Option Kind) (literals : List Text) → (known_with role names held literals known).literals ≡ known.literals ++ literals
     by_role Procedure names held literals = refl

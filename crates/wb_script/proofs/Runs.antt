@@ -2,8 +2,8 @@
 use Rattle.std.proofs.Common.{◌≡◌, List, [], ◌∷◌, ◌++◌, Option, Some, None, ◌⊎◌, inl, inr, refl, sym, ap, subst, ◌∙◌, append_assoc}
 use Rattle.std.proofs.lemmas.Option.{option_and_then_some}
 use Rattle.std.specs.Option.{option_and_then}
-use Rattle.wb_model.specs.declared.lines.Role.{Role}
-use Rattle.wb_model.specs.declared.lines.Role.TheVariants.{Class, Field, Construct, Destroy, Procedure, Declaration, Plain, Loop, If, Else, End}
+use Rattle.wb_model.specs.declared.script_lines.Role.{Role}
+use Rattle.wb_model.specs.declared.script_lines.Role.TheVariants.{Class, Field, Construct, Destroy, Procedure, Declaration, Plain, Loop, If, Else, End}
 use Rattle.wb_script.specs.declared.nesting.Open.{Open}
 use Rattle.wb_script.specs.declared.nesting.Open.TheVariants.{Fields, Made, Destroyed, Declarations, Statements, Branch, Block}
 use Rattle.wb_script.specs.declared.nesting.Move.{Move}

@@ -2,11 +2,11 @@
 use Rattle.std.proofs.Common.{◌≡◌, refl, ℕ, negsuc, List, [], ◌∷◌, ◌++◌, Some, None, map, replicate}
 use Rattle.std.specs.Prelude.{codes}
 use Rattle.std.specs.List.{flat_map}
-use Rattle.wb_model.specs.declared.lines.Key.TheVariants.{Proc, Ptr, Int, Alloc, Print, End}
-use Rattle.wb_model.specs.declared.lines.Meant.TheVariants as meant
-use Rattle.wb_model.specs.declared.lines.Operand.TheVariants.{Name, Number, Literal}
-use Rattle.wb_model.specs.declared.lines.Form.{Form}
-use Rattle.wb_model.specs.declared.lines.Form.TheVariants.{Line}
+use Rattle.wb_model.specs.declared.script_lines.Key.TheVariants.{Proc, Ptr, Int, Alloc, Print, End}
+use Rattle.wb_model.specs.declared.script_lines.Meant.TheVariants as meant
+use Rattle.wb_model.specs.declared.script_lines.Operand.TheVariants.{Name, Number, Literal}
+use Rattle.wb_model.specs.declared.script_lines.Form.{Form}
+use Rattle.wb_model.specs.declared.script_lines.Form.TheVariants.{Line}
 use Rattle.wb_model.specs.Forms.{forms_of}
 use Rattle.wb_model.specs.Grammar.{AreItems, IsBody, AreStatements}
 use Rattle.wb_model.specs.Keys.{keys}

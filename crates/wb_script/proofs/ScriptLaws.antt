@@ -3,15 +3,15 @@ use Rattle.std.proofs.Common.{◌≡◌, refl, sym, ap, subst, ◌∙◌, ℕ, s
 use Rattle.std.specs.List.{list_all, flat_map}
 use Rattle.std.specs.Option.{option_and_then}
 use Rattle.std.proofs.lemmas.List.Folds.{list_all-append}
-use Rattle.wb_model.specs.declared.lines.Key.{Key}
-use Rattle.wb_model.specs.declared.lines.Key.TheVariants as key
-use Rattle.wb_model.specs.declared.lines.Meant.{Meant}
-use Rattle.wb_model.specs.declared.lines.Meant.TheVariants as meant
-use Rattle.wb_model.specs.declared.lines.Operand.{Operand}
-use Rattle.wb_model.specs.declared.lines.Operand.TheVariants.{Name, Number, Literal}
-use Rattle.wb_model.specs.declared.lines.Form.TheVariants.{Skip, Unknown, Line}
-use Rattle.wb_model.specs.declared.lines.Role.{Role}
-use Rattle.wb_model.specs.declared.lines.Role.TheVariants as role
+use Rattle.wb_model.specs.declared.script_lines.Key.{Key}
+use Rattle.wb_model.specs.declared.script_lines.Key.TheVariants as key
+use Rattle.wb_model.specs.declared.script_lines.Meant.{Meant}
+use Rattle.wb_model.specs.declared.script_lines.Meant.TheVariants as meant
+use Rattle.wb_model.specs.declared.script_lines.Operand.{Operand}
+use Rattle.wb_model.specs.declared.script_lines.Operand.TheVariants.{Name, Number, Literal}
+use Rattle.wb_model.specs.declared.script_lines.Form.TheVariants.{Skip, Unknown, Line}
+use Rattle.wb_model.specs.declared.script_lines.Role.{Role}
+use Rattle.wb_model.specs.declared.script_lines.Role.TheVariants as role
 use Rattle.wb_model.specs.declared.script.Script.{Script}
 use Rattle.wb_model.specs.declared.script.Body.{Body}
 use Rattle.wb_model.specs.declared.script.Procedure.{Procedure}

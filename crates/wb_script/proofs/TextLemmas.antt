@@ -4,8 +4,8 @@ use Rattle.std.specs.Prelude.{codes, IfOk, IfErr}
 use Rattle.std.proofs.lemmas.List.{map-append, take-map, length-map}
 use Rattle.wb_model.specs.declared.fault.ScriptFault.{ScriptFault}
 use Rattle.wb_model.specs.declared.fault.ScriptFault.TheVariants.{TooLong, NotAscii, Grammar, UnknownName, DoubleName, WrongKind, MayLeave, NoMain, TooMany, NoMemory}
-use Rattle.wb_model.specs.declared.lines.Form.{Form}
-use Rattle.wb_model.specs.declared.lines.Role.TheVariants as role
+use Rattle.wb_model.specs.declared.script_lines.Form.{Form}
+use Rattle.wb_model.specs.declared.script_lines.Role.TheVariants as role
 use Rattle.wb_model.specs.declared.script.Script.{Script}
 use Rattle.wb_model.specs.Forms.{role_of_form, line_form, forms_of}
 use Rattle.wb_model.specs.Grammar.{IsGrammatical, IsFirstMisfit}

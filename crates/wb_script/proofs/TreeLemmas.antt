@@ -1,13 +1,13 @@
 -- Trees that keep what a script has to keep.
 use Rattle.std.proofs.Common.{◌≡◌, refl, sym, ap, ◌∙◌, ℕ, suc, ◌+◌, List, [], ◌∷◌, ◌++◌, length, None, add-zero, zero-add, append-nil, append_assoc, add-one, length-append, arith}
-use Rattle.wb_model.specs.declared.lines.Form.TheVariants.{Line}
-use Rattle.wb_model.specs.declared.lines.Key.{Key}
-use Rattle.wb_model.specs.declared.lines.Key.TheVariants as key
-use Rattle.wb_model.specs.declared.lines.Meant.{Meant}
-use Rattle.wb_model.specs.declared.lines.Meant.TheVariants as meant
-use Rattle.wb_model.specs.declared.lines.Operand.{Operand}
-use Rattle.wb_model.specs.declared.lines.Operand.TheVariants.{Name}
-use Rattle.wb_model.specs.declared.lines.Role.TheVariants as role
+use Rattle.wb_model.specs.declared.script_lines.Form.TheVariants.{Line}
+use Rattle.wb_model.specs.declared.script_lines.Key.{Key}
+use Rattle.wb_model.specs.declared.script_lines.Key.TheVariants as key
+use Rattle.wb_model.specs.declared.script_lines.Meant.{Meant}
+use Rattle.wb_model.specs.declared.script_lines.Meant.TheVariants as meant
+use Rattle.wb_model.specs.declared.script_lines.Operand.{Operand}
+use Rattle.wb_model.specs.declared.script_lines.Operand.TheVariants.{Name}
+use Rattle.wb_model.specs.declared.script_lines.Role.TheVariants as role
 use Rattle.wb_model.specs.declared.script.Body.{Body}
 use Rattle.wb_model.specs.declared.script.Procedure.{Procedure}
 use Rattle.wb_model.specs.declared.script.Local.{Local}

@@ -7,18 +7,18 @@ use Rattle.std.specs.Str.{bytes_eq}
 use Rattle.std.proofs.lemmas.Bool.{le-leb}
 use Rattle.std.proofs.lemmas.Bool.Decides.{nat_tests}
 use Rattle.std.proofs.lemmas.List.{length-take}
-use Rattle.wb_model.specs.declared.lines.Key.{Key}
-use Rattle.wb_model.specs.declared.lines.Letter.{Letter}
-use Rattle.wb_model.specs.declared.lines.Letter.TheVariants as letter
-use Rattle.wb_model.specs.declared.lines.Operand.{Operand}
-use Rattle.wb_model.specs.declared.lines.Operand.TheVariants.{Name, Number, Literal}
-use Rattle.wb_model.specs.declared.lines.Form.{Form}
+use Rattle.wb_model.specs.declared.script_lines.Key.{Key}
+use Rattle.wb_model.specs.declared.script_lines.Letter.{Letter}
+use Rattle.wb_model.specs.declared.script_lines.Letter.TheVariants as letter
+use Rattle.wb_model.specs.declared.script_lines.Operand.{Operand}
+use Rattle.wb_model.specs.declared.script_lines.Operand.TheVariants.{Name, Number, Literal}
+use Rattle.wb_model.specs.declared.script_lines.Form.{Form}
 use Rattle.wb_model.specs.Forms.{operand_of, operands_of, onto, operands_if, line_or, form_in, form_of, skipped_or, begins_comment, forms_of, either, name_word, number_word, literal_word, size_of}
 use Rattle.wb_model.specs.Keys.{keys, letters_of, text_of}
 use Rattle.wb_model.specs.Lines.{words_of}
 use Rattle.wb_model.specs.Names.{Text}
 use Rattle.wb_model.specs.Sound.{is_quotable, is_literal_text}
-use Rattle.wb_model.specs.Words.{is_digit, with_digit, digits_of, number_of, declared_name, used_name, literal_of, is_literal, inside}
+use Rattle.wb_model.specs.Words.{is_digit, with_digit, digits_of, number_spelled, declared_name, used_name, literal_spelled, is_literal, inside}
 use Rattle.wb_script.specs.Typed.{is_short, is_operand, are_operands, is_typed, AreTyped}
 use Rattle.wb_script.proofs.Cuts.{AreWithin, words_within}
 use Rattle.wb_script.proofs.Digits.{digit_at_most_nine, one_more_digit, nine_digits}
@@ -66,7 +66,7 @@ negative (Some n) z bound is =
     let same : neg_ℤ (pos n) ≡ z = cc in
     subst (λ v. is_short v ≡ true) same (negated n (bound n refl))
 
-number_bounded : (word : List ℕ) (z : ℤ) → number_of word ≡ Some z → is_short z ≡ true
+number_bounded : (word : List ℕ) (z : ℤ) → number_spelled word ≡ Some z → is_short z ≡ true
 number_bounded [] z is = let clash : ⊥ = cc in absurd clash
 number_bounded (byte ∷ bytes) z is = go (nat_eq byte 45) is
   where
@@ -83,7 +83,7 @@ mapped P f (Some x) y each is = let same : f x ≡ y = cc in subst P same (each 
 inside_within : (word : Text) → length (inside word) ≤ length word
 inside_within word = omega (arith, length-take (length word - 1 - 1) (drop 1 word), length-drop 1 word)
 
-literal_sound : (word text : Text) → length word ≤ 65536 → literal_of word ≡ Some text → is_literal_text text ≡ true
+literal_sound : (word text : Text) → length word ≤ 65536 → literal_spelled word ≡ Some text → is_literal_text text ≡ true
 literal_sound word text short is =
     let (tested, same) = given (is_literal word) (inside word) text is in
     let quotable : list_all is_quotable (inside word) ≡ true = (both _ (list_all is_quotable (inside word)) tested).1 in
@@ -99,10 +99,10 @@ module _ (at : Letter) (word : Text) (operand : Operand Text) where
   name_typed each is = mapped (λ o. is_operand at o ≡ true) Name (used_name word) operand (λ n e. each n) is
 
   number_typed : ((z : ℤ) → is_short z ≡ true → is_operand at (Number z) ≡ true) → number_word word ≡ Some operand → is_operand at operand ≡ true
-  number_typed each is = mapped (λ o. is_operand at o ≡ true) Number (number_of word) operand (λ z e. each z (number_bounded word z e)) is
+  number_typed each is = mapped (λ o. is_operand at o ≡ true) Number (number_spelled word) operand (λ z e. each z (number_bounded word z e)) is
 
   literal_typed : length word ≤ 65536 → ((t : Text) → is_literal_text t ≡ true → is_operand at (Literal t) ≡ true) → literal_word word ≡ Some operand → is_operand at operand ≡ true
-  literal_typed short each is = mapped (λ o. is_operand at o ≡ true) Literal (literal_of word) operand (λ t e. each t (literal_sound word t short e)) is
+  literal_typed short each is = mapped (λ o. is_operand at o ≡ true) Literal (literal_spelled word) operand (λ t e. each t (literal_sound word t short e)) is
 
 value_typed : (at : Letter) (word : Text) (operand : Operand Text) → ((n : Text) → is_operand at (Name n) ≡ true) → ((z : ℤ) → is_short z ≡ true → is_operand at (Number z) ≡ true) → either (number_word word) (name_word word) ≡ Some operand → is_operand at operand ≡ true
 value_typed at word operand names numbers is = either_typed at (number_word word) (name_word word) operand (λ o. number_typed at word o numbers) (λ o. name_typed at word o names) is
@@ -121,7 +121,7 @@ operand_typed letter.Variable word operand short is = name_typed letter.Variable
 operand_typed letter.Target word operand short is = name_typed letter.Target word operand (λ n. refl) is
 operand_typed letter.Value word operand short is = value_typed letter.Value word operand (λ n. refl) (λ z e. e) is
 operand_typed letter.Source word operand short is = value_typed letter.Source word operand (λ n. refl) (λ z e. e) is
-operand_typed letter.Size word operand short is = size_typed (number_of word) operand is
+operand_typed letter.Size word operand short is = size_typed (number_spelled word) operand is
 operand_typed letter.Writable word operand short is = name_typed letter.Writable word operand (λ n. refl) is
 operand_typed letter.Readable word operand short is = text_typed letter.Readable word operand short (λ n. refl) (λ t e. e) is
 operand_typed letter.ViewName word operand short is = name_typed letter.ViewName word operand (λ n. refl) is

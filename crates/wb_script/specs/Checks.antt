@@ -1,6 +1,6 @@
 -- What the code's names of picks and checks mean.
 use Rattle.std.specs.Prelude.{Bool, map}
-use Rattle.wb_model.specs.declared.lines.Form.{Form}
+use Rattle.wb_model.specs.declared.script_lines.Form.{Form}
 use Rattle.wb_model.specs.Names.{Text, Pick, name_declared, name_used, name_in, literal_in, uses_unknown, declares_again, passes_limit}
 use Rattle.wb_model.specs.Names as model
 use Rattle.wb_model.specs.Kinds.{has_wrong_kind}

@@ -1,12 +1,12 @@
 -- Forms whose operands are of the letters of their keys, as each line's is that is no longer than a script.
 use Rattle.std.specs.Prelude.{ℤ, pos, negsuc, nat_le, nat_lt, List, [], ◌∷◌, Bool, true, false, ◌&&◌, IsTrue}
 use Rattle.std.specs.List.{list_all}
-use Rattle.wb_model.specs.declared.lines.Letter.{Letter}
-use Rattle.wb_model.specs.declared.lines.Letter.TheVariants as letter
-use Rattle.wb_model.specs.declared.lines.Operand.{Operand}
-use Rattle.wb_model.specs.declared.lines.Operand.TheVariants.{Name, Number, Literal}
-use Rattle.wb_model.specs.declared.lines.Form.{Form}
-use Rattle.wb_model.specs.declared.lines.Form.TheVariants.{Line}
+use Rattle.wb_model.specs.declared.script_lines.Letter.{Letter}
+use Rattle.wb_model.specs.declared.script_lines.Letter.TheVariants as letter
+use Rattle.wb_model.specs.declared.script_lines.Operand.{Operand}
+use Rattle.wb_model.specs.declared.script_lines.Operand.TheVariants.{Name, Number, Literal}
+use Rattle.wb_model.specs.declared.script_lines.Form.{Form}
+use Rattle.wb_model.specs.declared.script_lines.Form.TheVariants.{Line}
 use Rattle.wb_model.specs.Keys.{letters_of}
 use Rattle.wb_model.specs.Names.{Text}
 use Rattle.wb_model.specs.Sound.{is_literal_text}

@@ -13,7 +13,7 @@ use crate::names::{
 };
 use crate::resolved::resolved_line;
 use std::alloc::{AllocError, Global};
-use wb_model::lines::{Form, Role};
+use wb_model::script_lines::{Form, Role};
 
 /// What a line is looked at for.
 #[derive(Clone, Copy)]

@@ -2,17 +2,17 @@
 
 ghost use Rattle.std.specs.Prelude.{◌≡◌, map, IfOk};
 ghost use Rattle.std.specs.Option.{option_map};
-ghost use Rattle.wb_model.specs.declared.lines.Letter.TheVariants.{Printed};
+ghost use Rattle.wb_model.specs.declared.script_lines.Letter.TheVariants.{Printed};
 ghost use Rattle.wb_model.specs.Forms.{either, name_word, number_word, size_of, literal_word, operand_of, operands_of, form_in, form_of, forms_of, line_form, begins_comment, renamed, renamed_operand, role_of_form};
 ghost use Rattle.wb_model.specs.Keys.{keys};
-ghost use Rattle.wb_model.specs.Words.{number_of};
+ghost use Rattle.wb_model.specs.Words.{number_spelled};
 
 use crate::keys::{ALL, letters_of, role_of, text_of};
 use crate::lines::words;
 use crate::words::{declared_name, literal_of, number_of, used_name};
 use std::alloc::{AllocError, Global};
 use wb_model::items::Items;
-use wb_model::lines::{Form, Key, Letter, Operand, Role};
+use wb_model::script_lines::{Form, Key, Letter, Operand, Role};
 
 fn name_word<'a>(word: &'a [u8]) -> Option<Operand<&'a [u8]>>
     ensures { option_map (renamed_operand (λ n. n.now)) result ≡ name_word word.now }
@@ -39,7 +39,7 @@ fn name_or_literal<'a>(word: &'a [u8]) -> Option<Operand<&'a [u8]>>
 }
 
 fn size_word<'a>(word: &'a [u8]) -> Option<Operand<&'a [u8]>>
-    ensures { option_map (renamed_operand (λ n. n.now)) result ≡ size_of (number_of word.now) }
+    ensures { option_map (renamed_operand (λ n. n.now)) result ≡ size_of (number_spelled word.now) }
 {
     let number = number_of(word)?;
     if number < 0 {

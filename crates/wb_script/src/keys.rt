@@ -3,7 +3,7 @@
 ghost use Rattle.std.specs.Prelude.{◌≡◌};
 ghost use Rattle.wb_model.specs.Keys.{text_of, letters_of, role_of};
 
-use wb_model::lines::{Key, Letter, Role};
+use wb_model::script_lines::{Key, Letter, Role};
 
 /// Every key; a line is of the first that fits.
 pub(crate) const ALL: [Key; 38] = [

@@ -1,25 +1,25 @@
 //! Which operands are of the kinds that their lines take.
 
 ghost use Rattle.std.specs.Prelude.{◌≡◌};
-ghost use Rattle.wb_model.specs.Kinds.{is_pointer, is_variable, is_number, is_writable, is_view, is_literal, is_readable, is_right, are_right, sides_agree, is_right_line};
+ghost use Rattle.wb_model.specs.Kinds.{means_pointer, means_variable, means_number, means_writable, means_view, means_literal, means_readable, is_right, are_right, sides_agree, is_right_line};
 
 use crate::keys::letters_of;
-use wb_model::lines::{Form, Key, Letter, Meant, Operand};
+use wb_model::script_lines::{Form, Key, Letter, Meant, Operand};
 
 fn is_pointer(operand: &Operand<Meant>) -> bool
-    ensures { result ≡ is_pointer operand.now }
+    ensures { result ≡ means_pointer operand.now }
 {
     matches!(operand, Operand::Name(Meant::Pointer(_)))
 }
 
 fn is_variable(operand: &Operand<Meant>) -> bool
-    ensures { result ≡ is_variable operand.now }
+    ensures { result ≡ means_variable operand.now }
 {
     matches!(operand, Operand::Name(Meant::Number(_)))
 }
 
 fn is_number(operand: &Operand<Meant>) -> bool
-    ensures { result ≡ is_number operand.now }
+    ensures { result ≡ means_number operand.now }
 {
     match operand {
         Operand::Number(_) => true,
@@ -28,25 +28,25 @@ fn is_number(operand: &Operand<Meant>) -> bool
 }
 
 fn is_writable(operand: &Operand<Meant>) -> bool
-    ensures { result ≡ is_writable operand.now }
+    ensures { result ≡ means_writable operand.now }
 {
     is_pointer(operand) || matches!(operand, Operand::Name(Meant::Buffer(_)))
 }
 
 fn is_view(operand: &Operand<Meant>) -> bool
-    ensures { result ≡ is_view operand.now }
+    ensures { result ≡ means_view operand.now }
 {
     matches!(operand, Operand::Name(Meant::View(_)))
 }
 
 fn is_literal(operand: &Operand<Meant>) -> bool
-    ensures { result ≡ is_literal operand.now }
+    ensures { result ≡ means_literal operand.now }
 {
     matches!(operand, Operand::Literal(_))
 }
 
 fn is_readable(operand: &Operand<Meant>) -> bool
-    ensures { result ≡ is_readable operand.now }
+    ensures { result ≡ means_readable operand.now }
 {
     is_writable(operand) || is_view(operand) || is_literal(operand)
 }

@@ -5,7 +5,7 @@ use crate::forms::{forms, line_form, role};
 use crate::lines::{lines, words};
 use std::alloc::{AllocError, Global};
 use std::test::Fail;
-use wb_model::lines::{Form, Key, Operand, Role};
+use wb_model::script_lines::{Form, Key, Operand, Role};
 
 /// Whether the line has this key and these operands.
 fn says(

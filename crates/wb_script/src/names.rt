@@ -4,13 +4,13 @@ ghost use Rattle.std.specs.Prelude.{◌≡◌, length, map, nat_lt, is_none, is_
 ghost use Rattle.std.specs.Option.{option_map};
 ghost use Rattle.std.specs.List.{list_any};
 ghost use Rattle.wb_model.specs.Forms.{renamed, renamed_operand};
-ghost use Rattle.wb_model.specs.Names.{kind_of, kind_in, is_large, picked_of, picked, known_after, place_of, is_one_more, nothing_known, known_of};
+ghost use Rattle.wb_model.specs.Names.{kind_declared, kind_in, is_large, picked_of, picked, known_after, first_declaration_of, is_one_more, nothing_known, known_of};
 ghost use Rattle.wb_script.specs.Checks.{pick_of, known_in};
 
 use crate::forms::role;
 use crate::keys::letters_of;
 use std::alloc::{AllocError, Global};
-use wb_model::lines::{Form, Key, Kind, Letter, Operand, Role};
+use wb_model::script_lines::{Form, Key, Kind, Letter, Operand, Role};
 
 /// Which texts of a line are meant.
 #[derive(Clone, Copy)]
@@ -87,7 +87,7 @@ pub(crate) fn picked<'a>(
 
 /// What the local holds that a line of a key declares.
 fn kind_of(key: Key) -> Option<Kind>
-    ensures { result ≡ kind_of key }
+    ensures { result ≡ kind_declared key }
 {
     match key {
         Key::Ptr => Some(Kind::Pointer),
@@ -148,7 +148,7 @@ pub(crate) fn add_line<'a>(
 
 /// The index of the first declaration of a name.
 pub(crate) fn place_of(names: &[&[u8]], name: &[u8]) -> Option<usize>
-    ensures { result ≡ place_of (map (λ n. n.now) names.now) name.now }
+    ensures { result ≡ first_declaration_of (map (λ n. n.now) names.now) name.now }
 {
     for (index, known) in names.iter().enumerate() {
         if *known == name {
@@ -159,7 +159,7 @@ pub(crate) fn place_of(names: &[&[u8]], name: &[u8]) -> Option<usize>
 }
 
 pub(crate) fn any_unknown(known: &[&[u8]], names: &[&[u8]]) -> bool
-    ensures { result ≡ list_any (λ n. is_none (place_of (map (λ k. k.now) known.now) n)) (map (λ n. n.now) names.now) }
+    ensures { result ≡ list_any (λ n. is_none (first_declaration_of (map (λ k. k.now) known.now) n)) (map (λ n. n.now) names.now) }
 {
     for name in names {
         if place_of(known, name).is_none() {
@@ -170,7 +170,7 @@ pub(crate) fn any_unknown(known: &[&[u8]], names: &[&[u8]]) -> bool
 }
 
 pub(crate) fn any_known(known: &[&[u8]], names: &[&[u8]]) -> bool
-    ensures { result ≡ list_any (λ n. is_some (place_of (map (λ k. k.now) known.now) n)) (map (λ n. n.now) names.now) }
+    ensures { result ≡ list_any (λ n. is_some (first_declaration_of (map (λ k. k.now) known.now) n)) (map (λ n. n.now) names.now) }
 {
     for name in names {
         if place_of(known, name).is_some() {

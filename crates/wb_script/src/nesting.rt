@@ -5,7 +5,7 @@ ghost use Rattle.wb_model.specs.Grammar.{IsGrammatical, IsFirstMisfit};
 ghost use Rattle.wb_script.specs.Machine.{move_of, step, after_line};
 
 use std::alloc::{AllocError, Global};
-use wb_model::lines::Role;
+use wb_model::script_lines::Role;
 
 /// A place in an open block: what may stand next in it.
 #[derive(Clone, Copy)]

@@ -21,8 +21,8 @@ use crate::tree::procedures_of;
 use std::alloc::{AllocError, Global};
 use wb_model::fault::ScriptFault;
 use wb_model::items::Items;
-use wb_model::lines::{Form, Role};
 use wb_model::script::{Chars, Script};
+use wb_model::script_lines::{Form, Role};
 
 fn roles<N>(alloc: Global, forms: &[Form<N>]) -> Result<Vec<Role>, AllocError>
     ensures { IfOk result (λ found. found.items ≡ map role_of_form forms.now) }

@@ -2,7 +2,7 @@
 
 ghost use Rattle.std.specs.Prelude.{◌≡◌, map, IfOk};
 ghost use Rattle.wb_model.specs.Forms.{renamed, renamed_operand};
-ghost use Rattle.wb_model.specs.Names.{place_of};
+ghost use Rattle.wb_model.specs.Names.{first_declaration_of};
 ghost use Rattle.wb_model.specs.Resolved.{local_meant, meant_at, name_meant, resolved_operand, resolved_operands, resolved_line, resolved};
 ghost use Rattle.wb_script.specs.Checks.{known_in};
 
@@ -10,7 +10,7 @@ use crate::keys::{letters_of, role_of};
 use crate::names::{Known, add_line, place_of};
 use std::alloc::{AllocError, Global};
 use wb_model::items::Items;
-use wb_model::lines::{Form, Kind, Letter, Meant, Operand, Role};
+use wb_model::script_lines::{Form, Kind, Letter, Meant, Operand, Role};
 
 fn local_meant(index: usize, kind: Option<Kind>) -> Meant
     ensures { result ≡ local_meant index kind }
@@ -26,7 +26,7 @@ fn local_meant(index: usize, kind: Option<Kind>) -> Meant
 
 /// What a name stands for that is used among these locals.
 fn used_meant(known: &Known, name: &[u8]) -> Meant
-    ensures { result ≡ meant_at (known_in known.now).kinds (place_of (known_in known.now).locals name.now) }
+    ensures { result ≡ meant_at (known_in known.now).kinds (first_declaration_of (known_in known.now).locals name.now) }
 {
     match place_of(&known.locals, name) {
         Some(index) => local_meant(index, known.kinds.get(index).copied()),

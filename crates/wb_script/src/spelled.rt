@@ -1,15 +1,15 @@
 //! What the operands of a line spell: pointers, numbers and texts.
 
 ghost use Rattle.std.specs.Prelude.{◌≡◌, List, ◌<◌, ◌≤◌, ◌^◌, length, nat_lt, is_some, slice_get, IsTrue, IfSome, Some};
-ghost use Rattle.wb_model.specs.declared.lines.Meant.TheVariants as meant;
-ghost use Rattle.wb_model.specs.declared.lines.Operand.TheVariants.{Name, Literal};
+ghost use Rattle.wb_model.specs.declared.script_lines.Meant.TheVariants as meant;
+ghost use Rattle.wb_model.specs.declared.script_lines.Operand.TheVariants.{Name, Literal};
 ghost use Rattle.wb_model.specs.declared.script.Local as model;
 ghost use Rattle.wb_model.specs.Sound.{is_pointer, is_variable, is_number, is_buffer_local, is_view, is_writable, is_readable};
 ghost use Rattle.wb_model.specs.Trees.{pointer_operand, variable_operand, number_operand, view_operand, writable_operand, text_operand};
 ghost use Rattle.wb_script.specs.Building.{is_held, is_counted, is_numeric, is_changeable, is_seen, is_legible};
 
-use wb_model::lines::{Meant, Operand};
 use wb_model::script::{Holder, Local, Number, Pointer, Readable, Writable};
+use wb_model::script_lines::{Meant, Operand};
 
 /// The pointer that an operand spells, among these locals.
 pub(crate) fn pointer_of(locals: &[Local], operand: &Operand<Meant>) -> Option<Pointer>

@@ -1,10 +1,10 @@
 //! The statement of a line, from its operands.
 
 ghost use Rattle.std.specs.Prelude.{◌≡◌, ℕ, List, ◌<◌, ◌≤◌, ◌^◌, [], ◌∷◌, length, is_some, IsTrue, IfSome, Some};
-ghost use Rattle.wb_model.specs.declared.lines.Form.TheVariants.{Line};
-ghost use Rattle.wb_model.specs.declared.lines.Key.TheVariants as key;
-ghost use Rattle.wb_model.specs.declared.lines.Letter.TheVariants as letter;
-ghost use Rattle.wb_model.specs.declared.lines.Role.TheVariants.{Plain};
+ghost use Rattle.wb_model.specs.declared.script_lines.Form.TheVariants.{Line};
+ghost use Rattle.wb_model.specs.declared.script_lines.Key.TheVariants as key;
+ghost use Rattle.wb_model.specs.declared.script_lines.Letter.TheVariants as letter;
+ghost use Rattle.wb_model.specs.declared.script_lines.Role.TheVariants.{Plain};
 ghost use Rattle.wb_model.specs.declared.script.Local as model;
 ghost use Rattle.wb_model.specs.declared.script.Statement.TheViews.{out-Statement};
 ghost use Rattle.wb_model.specs.Keys.{role_of};
@@ -17,8 +17,8 @@ use crate::text_statements::{
     append, copy, delete_text, get_length, get_maximum, insert, left, mid, new_text, print,
     realloc_text, right, set_length,
 };
-use wb_model::lines::{Key, Meant, Operand};
 use wb_model::script::{Local, Number, Pointer, Refusal, Statement};
+use wb_model::script_lines::{Key, Meant, Operand};
 
 /// The operands of a line that takes one pointer.
 fn one_pointer(locals: &[Local], operands: &[Operand<Meant>]) -> Option<Pointer>

@@ -1,16 +1,16 @@
 //! The statements of lines on texts.
 
 ghost use Rattle.std.specs.Prelude.{◌≡◌, ℕ, ◌<◌, ◌≤◌, ◌^◌, [], ◌∷◌, length, is_some, IsTrue, IfSome};
-ghost use Rattle.wb_model.specs.declared.lines.Form.TheVariants.{Line};
-ghost use Rattle.wb_model.specs.declared.lines.Key.TheVariants as key;
+ghost use Rattle.wb_model.specs.declared.script_lines.Form.TheVariants.{Line};
+ghost use Rattle.wb_model.specs.declared.script_lines.Key.TheVariants as key;
 ghost use Rattle.wb_model.specs.declared.script.Statement.TheViews.{out-Statement};
 ghost use Rattle.wb_model.specs.Sound.{is_statement};
 ghost use Rattle.wb_model.specs.Trees.{statement_line};
 ghost use Rattle.wb_script.specs.Building.{is_printable, operands_fit};
 
 use crate::spelled::{number_of, pointer_of, readable_of, variable_of, view_of, writable_of};
-use wb_model::lines::{Meant, Operand};
 use wb_model::script::{Local, Refusal, Statement};
+use wb_model::script_lines::{Meant, Operand};
 
 pub(crate) fn new_text(locals: &[Local], operands: &[Operand<Meant>]) -> Option<Statement>
     requires { length locals.now ≤ 32 }

@@ -3,12 +3,12 @@
 ghost use Rattle.std.specs.Prelude.{◌≡◌, ℕ, List, ◌+◌, ◌<◌, ◌≤◌, ◌^◌, [], ◌∷◌, ◌++◌, length, map, is_some, false, IsTrue, IfOk, IfSome, Some, None, ◌↔◌};
 ghost use Rattle.std.specs.Option.{option_map};
 ghost use Rattle.std.specs.List.{list_all, flat_map};
-ghost use Rattle.wb_model.specs.declared.lines.Role.TheVariants.{Declaration, Plain};
-ghost use Rattle.wb_model.specs.declared.lines.Form.TheVariants.{Line};
-ghost use Rattle.wb_model.specs.declared.lines.Key.TheVariants as key;
-ghost use Rattle.wb_model.specs.declared.lines.Letter.TheVariants as letter;
-ghost use Rattle.wb_model.specs.declared.lines.Meant.TheVariants as meant;
-ghost use Rattle.wb_model.specs.declared.lines.Operand.TheVariants.{Name};
+ghost use Rattle.wb_model.specs.declared.script_lines.Role.TheVariants.{Declaration, Plain};
+ghost use Rattle.wb_model.specs.declared.script_lines.Form.TheVariants.{Line};
+ghost use Rattle.wb_model.specs.declared.script_lines.Key.TheVariants as key;
+ghost use Rattle.wb_model.specs.declared.script_lines.Letter.TheVariants as letter;
+ghost use Rattle.wb_model.specs.declared.script_lines.Meant.TheVariants as meant;
+ghost use Rattle.wb_model.specs.declared.script_lines.Operand.TheVariants.{Name};
 ghost use Rattle.wb_model.specs.declared.script.Local as model;
 ghost use Rattle.wb_model.specs.Forms.{role_of_form};
 ghost use Rattle.wb_model.specs.Grammar.{IsGrammatical};
@@ -23,8 +23,8 @@ use crate::names::{LOCALS, PROCEDURES, UNITS};
 use crate::statements::statement_of;
 use std::alloc::{AllocError, Global};
 use wb_model::items::Items;
-use wb_model::lines::{Form, Key, Meant, Operand};
 use wb_model::script::{Body, Local, Procedure, Statement};
+use wb_model::script_lines::{Form, Key, Meant, Operand};
 
 /// The procedures that are done, and the body of the one that is open.
 #[derive(Drop)]

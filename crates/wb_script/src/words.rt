@@ -5,7 +5,7 @@ ghost use Rattle.std.specs.List.{list_all, list_any};
 ghost use Rattle.std.specs.Option.{option_copied};
 ghost use Rattle.std.specs.Str.{bytes_eq};
 ghost use Rattle.wb_model.specs.Sound.{is_quotable};
-ghost use Rattle.wb_model.specs.Words.{is_letter, is_digit, is_name_byte, is_name, is_reserved, declared_name, used_name, digits_of, number_of, literal_of};
+ghost use Rattle.wb_model.specs.Words.{is_letter, is_digit, is_name_byte, is_name, is_reserved, declared_name, used_name, digits_of, number_spelled, literal_spelled};
 
 /// The names that nothing may be declared with.
 const RESERVED: [&[u8]; 7] = [b"self", b"ptr", b"int", b"null", b"some", b"eq", b"less"];
@@ -103,7 +103,7 @@ fn digits_of(word: &[u8]) -> Option<u32>
 
 /// The number that the word is: one to nine digits, `-` before them or not.
 pub(crate) fn number_of(word: &[u8]) -> Option<i32>
-    ensures { result ≡ number_of word.now }
+    ensures { result ≡ number_spelled word.now }
 {
     match word {
         [b'-', digits @ ..] => Some(-(digits_of(digits)? as i32)),
@@ -119,7 +119,7 @@ fn are_quotable(bytes: &[u8]) -> bool
 
 /// The text of the literal that the word is, without its quotes.
 pub(crate) fn literal_of<'a>(word: &'a [u8]) -> Option<&'a [u8]>
-    ensures { option_copied result ≡ literal_of word.now }
+    ensures { option_copied result ≡ literal_spelled word.now }
 {
     match word {
         [b'"', inside @ .., b'"'] if are_quotable(inside) => Some(inside),

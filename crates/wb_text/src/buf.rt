@@ -65,14 +65,14 @@ impl Buf {
 
     /// Puts a text in place of what stands.
     ///
-    /// `User(11)` where it is longer than the maximum.
+    /// `Panic::TOO_LONG` where it is longer than the maximum.
     pub fn copy<U: Units>(&mut self, source: &U) -> Result<(), Panic>
         requires { U.can_read source.now }
         ensures text { self.new ≡ edited self.old (at_most self.old.max (U.units source.now)) }
         ensures answer { result ≡ answer_of (at_most self.old.max (U.units source.now)) }
     {
         if self.max < source.length() {
-            return Err(Panic::User(11));
+            return Err(Panic::TOO_LONG);
         }
         self.units.clear();
         extend(&mut self.units, source);
@@ -81,14 +81,14 @@ impl Buf {
 
     /// Appends a text.
     ///
-    /// `User(11)` where the whole is longer than the maximum.
+    /// `Panic::TOO_LONG` where the whole is longer than the maximum.
     pub fn append<U: Units>(&mut self, source: &U) -> Result<(), Panic>
         requires { U.can_read source.now }
         ensures text { self.new ≡ edited self.old (at_most self.old.max (self.old.units ++ U.units source.now)) }
         ensures answer { result ≡ answer_of (at_most self.old.max (self.old.units ++ U.units source.now)) }
     {
         if self.max - self.length() < source.length() {
-            return Err(Panic::User(11));
+            return Err(Panic::TOO_LONG);
         }
         extend(&mut self.units, source);
         Ok(())
@@ -96,7 +96,7 @@ impl Buf {
 
     /// Puts a text in front of the unit at a position, or at the end where the position is the length.
     ///
-    /// `User(10)` where the position is past the end, then `User(11)` where the whole is longer than the maximum.
+    /// `Panic::POSITION_OUT_OF_BOUNDS` where the position is past the end, then `Panic::TOO_LONG` where the whole is longer than the maximum.
     pub fn insert<U: Units>(&mut self, position: u32, source: &U) -> Result<(), Panic>
         requires { U.can_read source.now }
         ensures text { self.new ≡ edited self.old (insert_text self.old.max self.old.units position (U.units source.now)) }
@@ -104,10 +104,10 @@ impl Buf {
     {
         let len = self.length();
         if len < position {
-            return Err(Panic::User(10));
+            return Err(Panic::POSITION_OUT_OF_BOUNDS);
         }
         if self.max - len < source.length() {
-            return Err(Panic::User(11));
+            return Err(Panic::TOO_LONG);
         }
         put_in(&mut self.units, position as usize, source);
         Ok(())
@@ -115,13 +115,13 @@ impl Buf {
 
     /// Takes out so many units from a position on, or all from there where there are fewer.
     ///
-    /// `User(10)` where the position is past the end.
+    /// `Panic::POSITION_OUT_OF_BOUNDS` where the position is past the end.
     pub fn delete(&mut self, position: u32, count: u32) -> Result<(), Panic>
         ensures text { self.new ≡ edited self.old (delete_text self.old.units position count) }
         ensures answer { result ≡ answer_of (delete_text self.old.units position count) }
     {
         let Some(rest) = self.length().checked_sub(position) else {
-            return Err(Panic::User(10));
+            return Err(Panic::POSITION_OUT_OF_BOUNDS);
         };
         take_out(&mut self.units, position as usize, count.min(rest) as usize);
         Ok(())
@@ -129,13 +129,13 @@ impl Buf {
 
     /// Drops the units past a length, or appends zeros up to it.
     ///
-    /// `User(11)` where the length is above the maximum.
+    /// `Panic::TOO_LONG` where the length is above the maximum.
     pub fn set_length(&mut self, length: u32) -> Result<(), Panic>
         ensures text { self.new ≡ edited self.old (set_length_text self.old.max self.old.units length) }
         ensures answer { result ≡ answer_of (set_length_text self.old.max self.old.units length) }
     {
         if self.max < length {
-            return Err(Panic::User(11));
+            return Err(Panic::TOO_LONG);
         }
         self.units.truncate(length as usize);
         fill_up(&mut self.units, length as usize);

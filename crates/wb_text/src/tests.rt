@@ -72,13 +72,16 @@ fn a_refusal_changes_nothing(rt: HostRuntime) -> Result<(), Fail> {
     let mut buf = Buf::new(4);
     assert_eq!(rt; buf.copy(&literal(rt.alloc(), b"abc")?), Ok(()));
     let long = literal(rt.alloc(), b"vwxyz")?;
-    assert_eq!(rt; buf.copy(&long), Err(Panic::User(11)));
-    assert_eq!(rt; buf.append(&long), Err(Panic::User(11)));
-    assert_eq!(rt; buf.insert(3, &long), Err(Panic::User(11)));
-    assert_eq!(rt; buf.insert(4, &long), Err(Panic::User(10)));
-    assert_eq!(rt; buf.delete(4, 0), Err(Panic::User(10)));
-    assert_eq!(rt; buf.delete(u32::MAX, u32::MAX), Err(Panic::User(10)));
-    assert_eq!(rt; buf.set_length(5), Err(Panic::User(11)));
+    assert_eq!(rt; buf.copy(&long), Err(Panic::TOO_LONG));
+    assert_eq!(rt; buf.append(&long), Err(Panic::TOO_LONG));
+    assert_eq!(rt; buf.insert(3, &long), Err(Panic::TOO_LONG));
+    assert_eq!(rt; buf.insert(4, &long), Err(Panic::POSITION_OUT_OF_BOUNDS));
+    assert_eq!(rt; buf.delete(4, 0), Err(Panic::POSITION_OUT_OF_BOUNDS));
+    assert_eq!(rt;
+        buf.delete(u32::MAX, u32::MAX),
+        Err(Panic::POSITION_OUT_OF_BOUNDS)
+    );
+    assert_eq!(rt; buf.set_length(5), Err(Panic::TOO_LONG));
     assert!(rt; reads(&buf, b"abc"));
     Ok(())
 }

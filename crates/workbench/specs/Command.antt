@@ -1,7 +1,7 @@
 -- What every command that words spell keeps.
 use Rattle.std.specs.Prelude.{Bool, true, ◌&&◌, ◌%◌, nat_eq, nat_le, not}
 use Rattle.wb_model.specs.Space.{is_shape}
-use Rattle.wb_model.specs.declared.heap.TheConstants.{CEILING}
+use Rattle.wb_model.specs.declared.limits.TheConstants.{CEILING}
 use Rattle.wb_model.specs.declared.heap.Rule.TheVariants.{Limit, Number, Unlimited}
 use Rattle.wb_model.specs.declared.heap.Shape.{Shape}
 use Rattle.workbench.specs.declared.command.Command.{Command}

@@ -17,7 +17,8 @@ use crate::file_name::FileName;
 use clap::{Arg, ArgMatches, value_parser};
 use std::alloc::{AllocError, Global};
 use std::convert::AsStr;
-use wb_model::heap::{CEILING, Rule, Shape};
+use wb_model::heap::{Rule, Shape};
+use wb_model::limits::CEILING;
 
 /// The greatest number of steps of a run that names none. Source: this project's profile.
 const DEFAULT_BUDGET: u32 = 10_000;

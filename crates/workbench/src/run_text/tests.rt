@@ -5,7 +5,7 @@ use arrayvec::ArrayVec;
 use std::alloc::{AllocError, Global};
 use std::test::Fail;
 use wb_model::items::Items;
-use wb_model::line::Line;
+use wb_model::printed_line::Line;
 
 const TEXT: &[u8] = b"print hi
 print 

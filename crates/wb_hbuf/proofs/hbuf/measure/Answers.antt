@@ -1,5 +1,5 @@
 use Rattle.std.proofs.Common.{◌≡◌, ℕ, ◌-◌, ◌/◌, ◌≤◌, List, Option, Some, option_map, ap, sym, ◌∙◌, arith}
-use Rattle.wb_model.specs.declared.heap.TheConstants.{CEILING}
+use Rattle.wb_model.specs.declared.limits.TheConstants.{CEILING}
 use Rattle.wb_model.specs.declared.heap.Header.{Header}
 use Rattle.wb_model.specs.declared.heap.Ptr.{Ptr}
 use Rattle.wb_model.specs.declared.heap.Rule.{Rule}

@@ -6,14 +6,14 @@ use Rattle.wb_model.specs.declared.heap.Answer.TheVariants.{Granted, Simulated, 
 use Rattle.wb_model.specs.Row.{cell_at, cell_length, headers}
 use Rattle.wb_model.specs.Heap.{alloc_request, after_alloc, new_cell}
 use Rattle.wb_model.specs.LimitedHeap.{zero_words}
-use Rattle.wb_model.specs.Debug.{Debug, IsLiveIn, IsSoundDebug, alloc_made, answer_in, made_by, number_in}
+use Rattle.wb_model.specs.Debug.{Debug, IsLiveIn, IsSoundDebug, alloc_made, answer_in, made_by, number_of_next}
 use Rattle.wb_model.specs.TextCells.{IsTextAt}
 use Rattle.wb_model.proofs.Reallocations.{at-number, found-all, found-from, found-head}
 use Rattle.wb_model.proofs.TextCellsHeap.{text-beside}
 use Rattle.wb_hbuf.proofs.tests.granted_beside.Goals as goal
 
 -- a text's pointer has the number of an attempt that was made
-old-number : (q : Ptr) (d : Debug) → IsSoundDebug d → IsTextAt q d → q.number ≢ number_in d
+old-number : (q : Ptr) (d : Debug) → IsSoundDebug d → IsTextAt q d → q.number ≢ number_of_next d
 old-number q d sound is same =
     let found = found-head q d.heap.row is.cell is.found in
     let live = found-all (IsLiveIn d) q (headers d.heap.row) is.cell.head sound.live found in
@@ -30,7 +30,7 @@ stays q d new bytes sound is made = by (answer_in d (alloc_request d.heap bytes)
     by : (o : Option Answer) → new ≡ (made_by d (alloc_request d.heap bytes) (after_alloc d.heap (alloc_request d.heap bytes) Text (zero_words (cell_length bytes))) o).debug → IsTextAt q new
     by None n = kept (ap (λ (x : Debug). x.heap.row) n)
     by (Some Granted) n =
-        text-beside q d new (new_cell d.heap (number_in d) (alloc_request d.heap bytes) Text (zero_words (cell_length bytes))) (old-number q d sound is)
+        text-beside q d new (new_cell d.heap (number_of_next d) (alloc_request d.heap bytes) Text (zero_words (cell_length bytes))) (old-number q d sound is)
         (ap (λ (x : Debug). x.heap.row) n) is
     by (Some Simulated) n = kept (ap (λ (x : Debug). x.heap.row) n)
     by (Some Refused) n = kept (ap (λ (x : Debug). x.heap.row) n)

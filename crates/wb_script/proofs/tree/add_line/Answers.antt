@@ -1,5 +1,5 @@
 use Rattle.std.proofs.Common.{◌∙◌, ap, suc, length}
-use Rattle.wb_model.specs.declared.lines.Form.TheVariants.{Line}
+use Rattle.wb_model.specs.declared.script_lines.Form.TheVariants.{Line}
 use Rattle.wb_script.proofs.TreeLemmas.{procedure_added, procedure_counted}
 use Rattle.wb_script.proofs.tree.add_line.Goals as goal
 

@@ -1,0 +1,62 @@
+//! How large things may be: the limits of scripts, of runs and of the simulated heap. Definitions, code and the command
+//! line cite them. What a limit refuses, and how, is said where it is asked.
+
+/// The greatest length that a simulated heap may reach, in bytes. A cell that would end past it cuts the run.
+pub const CEILING: u32 = 16_777_216;
+
+/// The greatest number of bytes that a statement may ask a cell for.
+pub const LARGEST_REQUEST: u32 = 1_048_576;
+
+/// The greatest number of units that a statement may ask an HBufC for.
+pub const MOST_UNITS: u32 = 524_286;
+
+/// The greatest number of turns of a `repeat`.
+pub const MOST_TURNS: u32 = 1_048_576;
+
+/// The greatest number of frames that stand at once.
+pub const MOST_FRAMES: u32 = 128;
+
+/// The greatest budget of a run, in steps.
+pub const LARGEST_BUDGET: u32 = 1_000_000;
+
+/// The budget of a run for which none is named, in steps.
+pub const DEFAULT_BUDGET: u32 = 10_000;
+
+/// The greatest minimum length of a heap, in bytes.
+pub const LARGEST_MINIMUM: u32 = 1_048_576;
+
+/// The minimum length of a heap for which none is named, in bytes.
+pub const DEFAULT_MINIMUM: u32 = 4096;
+
+/// The smallest step by which a heap grows, in bytes.
+pub const SMALLEST_STEP: u32 = 16;
+
+/// The greatest step by which a heap grows, in bytes.
+pub const LARGEST_STEP: u32 = 1_048_576;
+
+/// The step of a heap for which none is named, in bytes.
+pub const DEFAULT_STEP: u32 = 4096;
+
+/// The length of the longest script, in bytes.
+pub const LONGEST_SCRIPT: u32 = 65_536;
+
+/// The length of the longest text between quotes, in bytes.
+pub const LONGEST_LITERAL: u32 = 65_536;
+
+/// The length of the longest name, in bytes.
+pub const LONGEST_NAME: u32 = 32;
+
+/// The greatest number that a script may write, of nine digits; its negative is the smallest.
+pub const NINE_DIGITS: u32 = 999_999_999;
+
+/// The greatest number of procedures and operations together.
+pub const MOST_PROCEDURES: u32 = 256;
+
+/// The greatest number of locals of a body, its parameters among them.
+pub const MOST_LOCALS: u32 = 32;
+
+/// The greatest maximum of a local buffer, in units.
+pub const LARGEST_BUFFER: u32 = 256;
+
+/// The length of the longest printed line, in bytes.
+pub const LONGEST_PRINTED: u32 = 80;

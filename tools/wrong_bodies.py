@@ -1,0 +1,201 @@
+#!/usr/bin/env python3
+"""Tries the crates' wrong bodies in batches: the prover must refuse each, and for its own sake.
+
+    tools/wrong_bodies.py [--jobs N] [--must-fail] [--logs FOLDER] [CRATE..]
+
+A wrong body is a file `crates/NAME/wrong-bodies/*.edit`: a first line `function: PATH`, the function that must be
+refused, as a check names it; a line `file: src/..`; and pairs of lines `old: TEXT`, `new: TEXT`, where the old text
+stands once in that file. A function's proof reads the contracts of what it calls, and not the bodies; so one check
+of a copy of the crate (a round) judges wrong bodies of many functions, and tells of each function whether its own
+proof stands or only waits for another's. What a round leaves open is tried again in smaller rounds.
+
+It prints a line for each edit, and at last `N passed, M failed`; the exit status is 1 where one failed. The
+repository's own files stay as they are, what checks kept in `out/` too. `--must-fail` tries the edits of
+`crates/NAME/must-fail/` as well, and `--logs` keeps what the checks printed.
+"""
+
+import argparse
+import os
+import shutil
+import sys
+import tempfile
+from collections.abc import Callable
+from concurrent.futures import FIRST_COMPLETED, Future, ThreadPoolExecutor, wait
+from dataclasses import dataclass
+from pathlib import Path
+from threading import Lock
+
+from wrong_body_checks import Repository, Verdict, check, copy_room
+from wrong_body_edits import MUST_FAIL, WRONG_BODIES, Edit, apply, read_edits, rounds_of
+
+ROOT = Path(__file__).resolve().parent.parent
+# what a check of the largest crate takes, in bytes, with some to spare
+MEMORY = 4 << 30
+
+
+@dataclass
+class Step:
+    """A piece of the work: what must be built before, how soon it should begin, and what it does with so many processors,
+    which gives what it built and the steps that follow."""
+
+    waits: list[str]
+    rank: int
+    work: Callable[[int], tuple[str, list["Step"]]]
+
+
+class Trial:
+    """Tries the wrong bodies of some crates, in rooms below a folder."""
+
+    def __init__(self, root: Path, folder: Path, kinds: list[str]) -> None:
+        self.repository = Repository(root)
+        self.folder = folder
+        self.kinds = kinds
+        self.built: dict[str, Path] = {}
+        self.passed = self.failed = 0
+        self.rooms = 0
+        self.lock = Lock()
+
+    def tell(self, label: str, says: str, is_well: bool = False) -> None:
+        """Prints and counts what came of an edit."""
+        with self.lock:
+            print(f"{label}: {says}", flush=True)
+            self.passed += is_well
+            self.failed += not is_well
+
+    def room(self) -> Path:
+        """Names a folder that isn't there yet."""
+        with self.lock:
+            self.rooms += 1
+            return self.folder / str(self.rooms)
+
+    def first_steps(self, crates: list[str]) -> list[Step]:
+        """The steps that check these crates, and build those below, as they are."""
+        lower = {it for crate in crates for it in self.repository.below(crate)}
+        steps = []
+        for crate in {*crates, *lower}:
+            above = [it for it in {*crates, *lower} if crate in self.repository.below(it)]
+            rank = sum(self.repository.size(it) for it in [crate, *above])
+            run = lambda jobs, it=crate: self.begin(it, it in lower, it in crates, jobs)
+            steps.append(Step(self.repository.below(crate), rank, run))
+        return steps
+
+    def begin(self, crate: str, is_lower: bool, is_tried: bool, jobs: int) -> tuple[str, list[Step]]:
+        """Builds a crate as it is, where others stand on it, and gives the rounds of its edits."""
+        room = self.room()
+        self.repository.make_room(crate, room, self.built)
+        verdict = check(room, crate, "lib", jobs) if is_lower else Verdict({})
+        if is_tried and not verdict.functions:
+            verdict = check(room, crate, "check", jobs)
+        self.built[crate] = room
+        if not is_tried:
+            return crate, []
+        edits, bad = read_edits(self.repository.root / "crates" / crate, self.kinds)
+        for label, why in bad.items():
+            self.tell(label, f"BAD EDIT: {why}")
+        unproved = verdict.unread or next((name for name, said in verdict.functions.items() if not said.is_proved), "")
+        good = []
+        for edit in edits:
+            if unproved:
+                self.tell(edit.label, f"NOT TRIED: the crate as it is isn't proved: {unproved}")
+            elif edit.function not in verdict.functions:
+                self.tell(edit.label, f"BAD EDIT: a check of the crate names no function {edit.function}")
+            else:
+                good.append(edit)
+        return crate, [self.round(crate, it) for it in rounds_of(good)]
+
+    def round(self, crate: str, edits: list[Edit]) -> Step:
+        """A step that judges some edits by one check."""
+        rank = self.repository.size(crate) * (10 + len(edits))
+        return Step([crate], rank, lambda jobs: ("", self.judge(crate, edits, jobs)))
+
+    def judge(self, crate: str, edits: list[Edit], jobs: int) -> list[Step]:
+        """Checks a crate with these edits, tells what came of each, and gives the rounds for those that are left open."""
+        room = self.room()
+        copy_room(self.built[crate], room, crate)
+        apply(edits, room / "crates" / crate)
+        verdict = check(room, crate, "check", jobs)
+        shutil.rmtree(room)
+        edited = {it.function for it in edits}
+        strays = [name for name, said in verdict.functions.items() if said.is_refused() and name not in edited]
+        half = len(edits) // 2
+        # one edit that can't be read silences all, and one that breaks another function may be what breaks an edited one
+        if half and (verdict.unread or strays):
+            return [self.round(crate, it) for it in (edits[:half], edits[half:])]
+        left = [it for it in edits if not self.is_settled(it, verdict, len(edits) == 1)]
+        if left and len(left) == len(edits):
+            return [self.round(crate, it) for it in (left[:half], left[half:])]
+        return [self.round(crate, left)] if left else []
+
+    def is_settled(self, edit: Edit, verdict: Verdict, is_alone: bool) -> bool:
+        """Tells what a check says of an edit, if that settles it."""
+        said = verdict.functions.get(edit.function)
+        if verdict.unread:
+            self.tell(edit.label, f"BAD EDIT: the edited text can't be checked: {verdict.unread}")
+        elif said is None:
+            self.tell(edit.label, f"BAD EDIT: the check of the edited text doesn't name {edit.function}")
+        elif said.is_proved:
+            self.tell(edit.label, "PROVED")
+        elif said.goal:
+            self.tell(edit.label, "refused", is_well=True)
+        elif said.proof_file:
+            self.tell(edit.label, f"refused, by {said.proof_file}", is_well=True)
+        elif is_alone:
+            self.tell(edit.label, f"refused only through {said.calls or 'something else'}")
+        else:
+            return False
+        return True
+
+
+def run_steps(steps: list[Step], lanes: int) -> None:
+    """Runs steps side by side, one a processor, each once what it waits for is built, and those of the highest rank first."""
+    built: set[str] = set()
+    running: dict[Future[tuple[str, list[Step]]], int] = {}
+    with ThreadPoolExecutor(lanes) as pool:
+        while steps or running:
+            steps.sort(key=lambda it: -it.rank)
+            ready = [it for it in steps if built.issuperset(it.waits)]
+            idle = lanes - sum(running.values())
+            for at, step in enumerate(ready[:idle]):
+                # processors that no other step could use speed this one up
+                jobs = min(4, max(1, idle // (len(ready) - at)))
+                running[pool.submit(step.work, jobs)] = jobs
+                steps.remove(step)
+                idle -= jobs
+            for it in wait(running, return_when=FIRST_COMPLETED).done:
+                del running[it]
+                name, more = it.result()
+                built.add(name)
+                steps += more
+
+
+def lanes_here() -> int:
+    """How many checks the processors and the free memory can hold."""
+    free = 1024 * int(next(it for it in Path("/proc/meminfo").read_text().splitlines() if it.startswith("MemAvailable:")).split()[1])
+    return max(1, min(len(os.sched_getaffinity(0)), free // MEMORY))
+
+
+def main() -> int:
+    """Tries the wrong bodies of the crates named, or of all that have some."""
+    parser = argparse.ArgumentParser(description="Tries the crates' wrong bodies in batches.")
+    parser.add_argument("--jobs", type=int, default=lanes_here(), metavar="N", help="how many processors to use")
+    parser.add_argument("--must-fail", action="store_true", help="whether to try the edits of must-fail/ as well")
+    parser.add_argument("--logs", type=Path, metavar="FOLDER", help="where to copy what the checks print")
+    parser.add_argument("crates", nargs="*", metavar="CRATE")
+    given = parser.parse_args()
+    known = Repository(ROOT).lines
+    for it in given.crates:
+        if it not in known:
+            parser.error(f"crates.txt lists no crate {it}")
+    kinds = [WRONG_BODIES, MUST_FAIL] if given.must_fail else [WRONG_BODIES]
+    crates = [it for it in given.crates or known if any((ROOT / "crates" / it / kind).is_dir() for kind in kinds)]
+    with tempfile.TemporaryDirectory(prefix="wrong-bodies-") as folder:
+        trial = Trial(ROOT, Path(folder), kinds)
+        run_steps(trial.first_steps(crates), max(1, given.jobs))
+        for log in Path(folder).glob("*.log") if given.logs else []:
+            shutil.copy2(log, given.logs)
+    print(f"{trial.passed} passed, {trial.failed} failed")
+    return 1 if trial.failed else 0
+
+
+if __name__ == "__main__":
+    sys.exit(main())
