@@ -1,4 +1,4 @@
-//! A machine that runs a script one step at a time, over frames of its own.
+//! A machine that runs a script one step at a time.
 #![tactic(auto)]
 
 mod carry;
