@@ -74,7 +74,7 @@ pub answered_alike : (r : Rule) (d : Debug) (t : Request) (after : ℕ → Answe
 answered_alike r d t after None e f = ap (λ q. answer_to q (number_of_next d) t) (fits-ended r d.rule _ f) ∙ e
 answered_alike r d t after (Some w) e f = fits-answer r d.rule _ _ (number_of_next d) t f (omega arith) (omega arith) ∙ e
 
--- an allocation of so many bytes
+-- an allocation of a number of bytes
 alloc_made_kept : (r : Rule) (script : Script) (locals : List Local) (h : RunState) (p : Pointer) (bytes : ℕ) → is_pointer locals p ≡ true →
     FitsStep r h (alloc_within h p (Some bytes)).ending (alloc_within h p (Some bytes)).state →
     ComesTo r script h (alloc_raw p GivesNull bytes (state_of script h)) (alloc_within h p (Some bytes))

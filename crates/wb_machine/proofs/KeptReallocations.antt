@@ -53,7 +53,7 @@ resized_kept r script locals h p c bytes false ok reads f k =
     let made : Made = shorter_made h.debug c bytes in
     sym (made_shorter r script h c bytes (given_to p GivesNull) k reads ∙ sym (given_kept r script locals (with_debug h made.debug) p made.gave ok k))
 
--- a reallocation of a cell to so many bytes, or to a number that may be out of its range
+-- a reallocation of a cell to a number of bytes, which may be out of its range
 within_kept : (r : Rule) (script : Script) (locals : List Local) (h : RunState) (p : Pointer) (c : Cell (List ℕ)) (o : Option ℕ) → is_pointer locals p ≡ true → c.head.kind ≡ Raw →
     FitsAfter r h (realloc_within h p c o) →
     ComesTo r script h (with_some o NUMBER_OUT_OF_RANGE (state_of script h) (λ bytes. reallocate (read_cell script c) bytes (state_of script h) (state_of script h) (given_to p GivesNull)))

@@ -83,7 +83,7 @@ text_resized_reads script Raw n ws text is fits = cc
 text_resized_reads script (Object class) n ws text is fits = cc
 text_resized_reads script Cleanup n ws text is fits = cc
 
--- to so many units, or to a number that is out of its range
+-- to a number of units, which may be out of its range
 remade_kept : (r : Rule) (script : Script) (locals : List Local) (h : RunState) (p : Pointer) (c : Cell (List ℕ)) (o : Option ℕ) → is_pointer locals p ≡ true → c.head.kind ≡ Text →
     IsText c.content (text_in c.content) → FitsAfter r h (realloc_text_within h p c o) →
     ComesTo r script h (with_some o NUMBER_OUT_OF_RANGE (state_of script h) (λ n. realloc_text p (read_cell script c) (text_in c.content) n (state_of script h))) (realloc_text_within h p c o)

@@ -75,7 +75,7 @@ given_carried h p Ceiling = record { ending = Cut why.Ceiling; state = h }
 abbrev pub made_carried : RunState → Pointer → Made → Carried
 made_carried h p made = given_carried (with_debug h made.debug) p made.gave
 
--- an allocation of so many bytes, or of a number that is out of its range
+-- an allocation of a number of bytes, which may be out of its range
 abbrev pub alloc_within : RunState → Pointer → Option ℕ → Carried
 alloc_within h p None = panicked h NUMBER_OUT_OF_RANGE
 alloc_within h p (Some bytes) = made_carried h p (alloc_made h.debug bytes Raw)
@@ -83,7 +83,7 @@ alloc_within h p (Some bytes) = made_carried h p (alloc_made h.debug bytes Raw)
 abbrev pub alloc_carried : RunState → Pointer → ℤ → Carried
 alloc_carried h p z = alloc_within h p (within LARGEST_REQUEST z)
 
--- a reallocation of a cell to so many bytes, or to a number that is out of its range
+-- a reallocation of a cell to a number of bytes, which may be out of its range
 abbrev pub realloc_within : RunState → Pointer → Cell (List ℕ) → Option ℕ → Carried
 realloc_within h p c None = panicked h NUMBER_OUT_OF_RANGE
 realloc_within h p c (Some bytes) = made_carried h p (realloc_made h.debug c bytes)
@@ -145,12 +145,12 @@ add_carried h x z = sum_stored h x (number_in (value_in h.locals x) +ℤ z)
 abbrev pub marked : RunState → RunState
 marked h = with_debug h (record h.debug { heap = after_mark h.debug.heap })
 
--- the end of a mark that expects so many cells
+-- the end of a mark that expects a number of cells
 abbrev pub mark_end_within : RunState → Option ℕ → Carried
 mark_end_within h None = panicked h NUMBER_OUT_OF_RANGE
 mark_end_within h (Some n) = unless_refused h (mark_end_refusal h.debug.heap n) (with_debug h (record h.debug { heap = after_mark_end h.debug.heap }))
 
--- a check that expects so many cells, with what refuses them
+-- a check that expects a number of cells, with what refuses them
 abbrev pub check_within : RunState → (ℕ → Option Panic) → Option ℕ → Carried
 check_within h refusal None = panicked h NUMBER_OUT_OF_RANGE
 check_within h refusal (Some n) = unless_refused h (refusal n) h

@@ -27,7 +27,7 @@ use Rattle.wb_machine.specs.RunState.{RunState, with_debug}
 use Rattle.wb_machine.specs.Carried.{Carried, gone_on, panicked, stored, number_read, line_printed, made_carried}
 use Rattle.wb_machine.specs.TextOperands.{text_refusal, base_refusal, base_text, base_max, window_read, window_found, window_units}
 
--- a new text of so many units, or of a number that is out of its range
+-- a new text of a number of units, which may be out of its range
 abbrev pub new_text_within : RunState → Pointer → Option ℕ → Carried
 new_text_within h p None = panicked h NUMBER_OUT_OF_RANGE
 new_text_within h p (Some n) = made_carried h p (alloc_made h.debug (4 + 2 * n) Text)
@@ -40,7 +40,7 @@ abbrev pub unless_panics : RunState → Option Panic → Carried → Carried
 unless_panics h (Some panic) c = panicked h panic
 unless_panics h None c = c
 
--- a cell's text gets room for so many units, or for a number that is out of its range
+-- a cell's text gets room for a number of units, which may be out of its range
 abbrev pub realloc_text_within : RunState → Pointer → Cell (List ℕ) → Option ℕ → Carried
 realloc_text_within h p c None = panicked h NUMBER_OUT_OF_RANGE
 realloc_text_within h p c (Some n) =
@@ -105,7 +105,7 @@ IsInsertedBy literals h to v z ending g =
     (WithNumber h (not_negative z) ending g (λ n. UnlessRefused h (same_refusal to v.base) ending g
     (IsWritten h to (edit_text (Insert n) (base_max h to) (base_text literals h to) (window_units literals h v)) ending g))))
 
--- so many units were taken out
+-- a number of units were taken out
 abbrev pub IsDeletedBy : RunState → Base → ℤ → ℤ → Ending → RunState → Type 0
 IsDeletedBy h to z y ending g =
     UnlessRefused h (base_refusal h to) ending g

@@ -24,7 +24,7 @@ values_in l = map value_of l.slots.items
 abbrev pub buffer_in : Value → Buffer
 buffer_in v = record { max = max_in v; units = buffer_text v }
 
--- so many units of a base from its first on
+-- the first units of a base, a number of them
 abbrev pub whole_window : Base → ℕ → View
 whole_window base n = record { base = base; position = 0; length = n }
 

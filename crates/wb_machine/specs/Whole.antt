@@ -34,7 +34,7 @@ seen m = record {
 abbrev pub rest_in : Rule → Inside → RunResult
 rest_in r m = rest_at m.script.now m.budget r m.begun m.control.ending m.control.pieces.items m.state
 
--- a machine that met no want of memory
+-- a machine whose memory hasn't run out
 pub record IsSound (m : Inside) : Type 0 where
   pub script : is_script m.script.now ≡ true
   pub small : m.budget ≤ LARGEST_BUDGET
@@ -53,7 +53,7 @@ pub record IsSound (m : Inside) : Type 0 where
 abbrev pub Keeps : Inside → Type 0
 Keeps m = (r : Rule) → Fits r m.state.debug.rule (has_ended m) m.state.debug.attempts → rest_in r m ≡ run m.script.now r m.budget m.state.debug.shape
 
--- what each machine keeps, unless it met want of memory
+-- what each machine keeps, unless its memory ran out
 pub record IsMachine (m : Inside) : Type 0 where
   pub sound : m.failed ≡ false → IsSound m
   pub keeps : m.failed ≡ false → Keeps m

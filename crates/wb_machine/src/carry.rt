@@ -14,7 +14,7 @@ use wb_model::memory::NoMemory;
 use wb_model::script::{Script, Statement};
 
 impl State {
-    /// Carries out a statement that runs no other: how it ends.
+    /// Carries out a statement that runs no other, and tells how it ends.
     pub fn carry_out(&mut self, script: &Script, first: &Statement) -> Result<Ending, NoMemory>
         requires script { IsTrue (is_script script.now) }
         requires statement { IsTrue (is_statement (length script.now.literals) (main_of script.now).locals (out-Statement first.now)) }

@@ -20,10 +20,10 @@ use wb_model::run::Why;
 use wb_model::script::{Number, Pointer};
 
 impl State {
-    /// An attempt to get a cell for so many bytes.
+    /// An attempt to get a cell for `bytes` bytes.
     ///
     /// The heap chooses the place first, then the setting is asked, the rule, and the ceiling. Past the
-    /// ceiling nothing is counted; nor is it where memory is wanting.
+    /// ceiling nothing is counted; nor is it where memory runs out.
     pub fn attempt(&mut self, bytes: u32, kind: Kind) -> Result<Gave, NoMemory>
         requires bytes { bytes ≤ CEILING }
         requires text { kind ≡ Text → 1 ≤ bytes }
@@ -36,10 +36,10 @@ impl State {
         self.heap.attempt_alloc(bytes, kind)
     }
 
-    /// An attempt to reallocate a cell to so many bytes. A cell that is to be no longer is shortened, which
+    /// An attempt to reallocate a cell to `bytes` bytes. A cell that is to be no longer is shortened, which
     /// is no attempt.
     ///
-    /// Where memory is wanting, nothing is counted and nothing changes.
+    /// Where memory runs out, nothing is counted and nothing changes.
     fn attempt_again(&mut self, ptr: Ptr, bytes: u32) -> Result<Gave, NoMemory>
         requires live { IsSome (cell_at ptr self.old.debug.heap.row) }
         requires raw { IfSome (cell_at ptr self.old.debug.heap.row) (λ c. c.head.kind ≡ Raw) }
@@ -64,7 +64,7 @@ impl State {
         Ending::GoesOn
     }
 
-    /// A target gets a cell for so many bytes, or null where it is refused.
+    /// A target gets a cell for `bytes` bytes, or null where it is refused.
     pub fn alloc(&mut self, target: Pointer, bytes: Number) -> Result<Ending, NoMemory>
         requires number { MayAttempt self.old }
         ensures carried { IfOk result (λ ending. CarriesOut self.old (alloc_carried self.old target (number_read self.old bytes)) ending self.new) }
@@ -77,7 +77,7 @@ impl State {
         Ok(self.give(target, gave))
     }
 
-    /// A target gets the cell of a source, reallocated to so many bytes, or null where that is refused; of
+    /// A target gets the cell of a source, reallocated to `bytes` bytes, or null where that is refused; of
     /// null it is an allocation.
     pub fn realloc(
         &mut self,

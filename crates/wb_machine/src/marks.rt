@@ -26,7 +26,7 @@ impl State {
         Ending::GoesOn
     }
 
-    /// Ends the last mark, where so many cells of its level are live.
+    /// Ends the last mark, where `count` cells of its level are live.
     pub fn mark_end(&mut self, count: Number) -> Ending
         ensures { CarriesOut self.old (mark_end_within self.old (not_negative (number_read self.old count))) result self.new }
     {
@@ -39,7 +39,7 @@ impl State {
         }
     }
 
-    /// Stops the run unless so many cells of the current level are live.
+    /// Stops the run unless `count` cells of the current level are live.
     pub fn check(&mut self, count: Number) -> Ending
         ensures { CarriesOut self.old (check_within self.old (check_refusal self.old.debug) (not_negative (number_read self.old count))) result self.new }
     {
@@ -52,7 +52,7 @@ impl State {
         }
     }
 
-    /// Stops the run unless so many cells of all levels are live.
+    /// Stops the run unless `count` cells of all levels are live.
     pub fn check_all(&mut self, count: Number) -> Ending
         ensures { CarriesOut self.old (check_within self.old (check_all_refusal self.old.debug) (not_negative (number_read self.old count))) result self.new }
     {
@@ -65,7 +65,7 @@ impl State {
         }
     }
 
-    /// The attempt so many from here is to fail, and no later one.
+    /// The `rate`-th attempt from here on is to fail, and no later one.
     pub fn fail_next(&mut self, rate: Number) -> Ending
         ensures { CarriesOut self.old (set_within self.old (λ n. next n) (at_least_one (number_read self.old rate))) result self.new }
     {
@@ -76,7 +76,7 @@ impl State {
         Ending::GoesOn
     }
 
-    /// Each of so many attempts is to fail.
+    /// Every `rate`-th attempt from here on is to fail.
     pub fn fail_every(&mut self, rate: Number) -> Ending
         ensures { CarriesOut self.old (set_within self.old (λ n. each n n) (at_least_one (number_read self.old rate))) result self.new }
     {

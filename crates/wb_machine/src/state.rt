@@ -144,7 +144,7 @@ impl State {
         self.heap.leaks()
     }
 
-    /// What a run tells that ended so, with these leaks.
+    /// What a run tells, by how it ended and by its leaks.
     pub fn finish(self, ending: Ending, leaks: Leaks) -> RunResult
         ensures { result ≡ told_by ending leaks self }
     {

@@ -21,7 +21,7 @@ use wb_model::script::{Number, Pointer};
 use wb_text::Base;
 
 impl State {
-    /// An attempt to give the text in a cell room for so many units.
+    /// An attempt to give the text in a cell room for `units` units.
     fn remake(&mut self, ptr: Ptr, units: u32) -> Result<Gave, NoMemory>
         requires text { text_refusal (cell_at ptr self.old.debug.heap.row) ≡ None }
         requires fits { length (text_at ptr self.old.debug) ≤ units }
@@ -34,7 +34,7 @@ impl State {
         wb_hbuf::remake(&mut self.heap, ptr, units)
     }
 
-    /// A target gets a cell for an empty text of so many units, or null where it is refused.
+    /// A target gets a cell for an empty text of `units` units, or null where it is refused.
     pub fn new_text(&mut self, target: Pointer, units: Number) -> Result<Ending, NoMemory>
         requires number { MayAttempt self.old }
         ensures carried { IfOk result (λ ending. CarriesOut self.old (new_text_carried self.old target (number_read self.old units)) ending self.new) }
@@ -47,7 +47,7 @@ impl State {
         Ok(self.give(target, gave))
     }
 
-    /// A target gets the text of a source, reallocated for so many units, or null where that is refused.
+    /// A target gets the text of a source, reallocated for `units` units, or null where that is refused.
     pub fn realloc_text(
         &mut self,
         target: Pointer,

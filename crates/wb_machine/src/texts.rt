@@ -22,7 +22,7 @@ use wb_model::heap::{Panic, Ptr};
 use wb_model::script::{Number, Readable, Script, Writable};
 use wb_text::{Base, Buf};
 
-/// How a statement ends whose edit was answered so.
+/// How a statement ends, by the answer to its edit.
 fn ending_of(answer: Result<(), Panic>) -> Ending
     ensures { result ≡ ending_by answer }
 {
@@ -149,7 +149,7 @@ impl State {
 
 /// Deletions, and lengths that are set.
 impl State {
-    /// Takes so many units from a position on out of a text.
+    /// Takes `count` units from a position on out of a text.
     fn take_out(&mut self, to: Base, position: u32, count: u32) -> Ending
         requires writable { IsTrue (is_writable_base to) }
         requires target { base_refusal self.old to ≡ None }
@@ -185,7 +185,7 @@ impl State {
         }
     }
 
-    /// So many units of a text from a position on are taken out.
+    /// `count` units of a text from a position on are taken out.
     pub fn delete_text(&mut self, target: Writable, position: Number, count: Number) -> Ending
         ensures deleted { IsDeletedBy self.old (base_named self.old target) (number_read self.old position) (number_read self.old count) result self.new }
         ensures keeps { KeepsCount self.old self.new }

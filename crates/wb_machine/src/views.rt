@@ -77,7 +77,7 @@ impl State {
         window.mid(position, self.count(count)?)
     }
 
-    /// A view local gets the first so many units of a text.
+    /// A view local gets the first `count` units of a text.
     pub fn left(&mut self, script: &Script, local: u8, text: Readable, count: Number) -> Ending
         requires { IsTrue (is_script script.now) }
         ensures { CarriesOut self.old (part_stored self.old local (left_read script.now.literals self.old text count)) result self.new }
@@ -86,7 +86,7 @@ impl State {
         self.set_part(local, part)
     }
 
-    /// A view local gets the last so many units of a text.
+    /// A view local gets the last `count` units of a text.
     pub fn right(&mut self, script: &Script, local: u8, text: Readable, count: Number) -> Ending
         requires { IsTrue (is_script script.now) }
         ensures { CarriesOut self.old (part_stored self.old local (right_read script.now.literals self.old text count)) result self.new }
@@ -95,7 +95,7 @@ impl State {
         self.set_part(local, part)
     }
 
-    /// A view local gets so many units of a text from a position on.
+    /// A view local gets `count` units of a text from a position on.
     pub fn mid(
         &mut self,
         script: &Script,

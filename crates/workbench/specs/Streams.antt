@@ -13,7 +13,7 @@ pub data Tries {S : Type 0} (does : S → Bool → S → Type 0) (old : S) : Boo
   none : Tries does old false old
   more : (s new : S) (failed : Bool) → Tries does old false s → does s failed new → Tries does old failed new
 
--- a reader gave so many bytes at most
+-- a reader gave at most a number of bytes
 abbrev pub TakesAtMost : ℕ → Option (List ℕ) → Option (List ℕ) → Type 0
 TakesAtMost most old new = (given : List ℕ) × (length given ≤ most) × Consumes old new given
 

@@ -11,7 +11,7 @@ use std::process::Abort;
 use std::test::Fail;
 use wb_model::heap::{Rule, Shape};
 
-/// Gives its bytes, so many at once, and then fails or is at its end.
+/// Gives its bytes, `at_once` at a time, and then fails or is at its end.
 #[derive(Drop)]
 struct Giver<'a> {
     bytes: &'a [u8],
@@ -37,7 +37,7 @@ impl Read for Giver<'_> {
     }
 }
 
-/// Takes so many bytes, so many at once, and then fails or takes none.
+/// Takes `room` bytes, `at_once` at a time, and then fails or takes none.
 #[derive(Drop)]
 struct Taker {
     taken: Vec<u8>,
