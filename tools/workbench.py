@@ -57,7 +57,7 @@ def build(log: BinaryIO) -> bool:
     """Proves and builds the program, and says whether it is there."""
     began = time.time()
     PROGRAM.unlink(missing_ok=True)
-    subprocess.run([sys.executable, ROOT / "tools" / "build.py"], stdin=subprocess.DEVNULL, stdout=log, stderr=log)
+    subprocess.run([sys.executable, "-I", ROOT / "tools" / "build.py"], stdin=subprocess.DEVNULL, stdout=log, stderr=log)
     if PROGRAM.exists():
         # a file that was changed in the meantime is newer
         os.utime(PROGRAM, (began, began))

@@ -6,7 +6,7 @@ ghost use Rattle.wb_model.specs.Row.{headers};
 use std::alloc::{AllocError, Global};
 use wb_model::heap::{Kind, Ptr, Shape};
 use wb_model::limits::CEILING;
-use wb_rheap::heap::Heap;
+use wb_rheap::Heap;
 
 /// The cell length, in bytes: a header and four words.
 const LENGTH: u32 = 32;
@@ -26,7 +26,7 @@ pub struct Filled {
 }
 
 impl Filled {
-    /// So many live cells, listed in order of place.
+    /// Live cells, listed in order of place.
     pub fn new(alloc: Global, count: u32, cells: &mut Vec<Ptr>) -> Result<Filled, AllocError> {
         let Ok(heap) = Heap::new(alloc, CEILING, SHAPE) else {
             return Err(AllocError);

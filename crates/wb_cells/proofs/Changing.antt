@@ -174,13 +174,19 @@ module _ (words : List ℕ) (starts : List Bool) (top first : ℕ) (laid : IsLai
       ∷ headers (row_from (0 + total cell.front + (16 + 4 * n)) cell.back)) same
       ∙ sym (ap headers (row_from-append cell.front _ 0) ∙ map-append (λ c. c.head) (row_from 0 cell.front) _)
 
-  pub length-held : length words' ≡ length words
-  length-held =
+  pub length-changed : length words' ≡ length words
+  length-changed =
       ap length holds ∙ length-append _ _ ∙ ap (λ n. length (before p words laid.segments laid.spare cell) + suc (suc (suc (suc n)))) (length-append body' _ ∙ ap (λ n. n + length (after p words laid.segments laid.spare cell)) same ∙ sym (length-append cell.body _))
       ∙ sym (ap length cell.spelled ∙ length-append _ _)
 
-  pub laid_held : IsLaid words' starts top first
-  laid_held = record {
+  whole' : AreWhole segments'
+  whole' =
+      let w : AreWhole segments = subst (λ ys. AreWhole ys) cell.is laid.whole in
+      let v = whole_back cell.front (live cell.kind cell.level p.number cell.body ∷ cell.back) w in
+      whole_both cell.front (live cell.kind cell.level p.number body' ∷ cell.back) (whole_front cell.front _ w) (rw same v.0, v.1, v.2, v.3)
+
+  pub laid_changed : IsLaid words' starts top first
+  laid_changed = record {
     segments = segments';
     spare = laid.spare;
     unset = laid.unset;
@@ -188,36 +194,33 @@ module _ (words : List ℕ) (starts : List Bool) (top first : ℕ) (laid : IsLai
     marked = laid.marked ∙ ap (λ bs. bs ++ replicate laid.unset false) (ap starts_of cell.is ∙ sym starts');
     ends = laid.ends ∙ ap total cell.is ∙ sym total';
     linked = laid.linked ∙ ap (λ ys. first_free 0 ys NO_PLACE) cell.is ∙ sym first_free';
-    whole =
-        let w : AreWhole segments = subst (λ ys. AreWhole ys) cell.is laid.whole in
-        let v = whole_back cell.front (live cell.kind cell.level p.number cell.body ∷ cell.back) w in
-        whole_both cell.front (live cell.kind cell.level p.number body' ∷ cell.back) (whole_front cell.front _ w) (rw same v.0, v.1, v.2, v.3);
+    whole = whole';
     merged = merged_swap cell.front cell.kind cell.kind cell.level cell.level p.number p.number cell.body body' cell.back (subst (λ ys. AreMerged ys) cell.is laid.merged);
     numbered = subst (λ hs. AllPairs (λ g h. g.number ≢ h.number) hs) (sym headers') (subst (λ ys. AllPairs (λ g h. g.number ≢ h.number) (headers (row_from 0 ys))) cell.is laid.numbered);
-    covered = rw length-held laid.covered;
-    rounded = rw length-held laid.rounded;
-    bounded = rw length-held laid.bounded;
+    covered = rw length-changed laid.covered;
+    rounded = rw length-changed laid.rounded;
+    bounded = rw length-changed laid.bounded;
   }
 
-  pub spelled-held : spelled words' top ≡ with_payload p body' (spelled words top)
-  spelled-held =
-      spelled_is words' laid.spare segments' top spelled' (laid.ends ∙ ap total cell.is ∙ sym total')
+  pub spelled-changed : spelled words' top ≡ with_payload p body' (spelled words top)
+  spelled-changed =
+      spelled_is words' laid.spare segments' top spelled' (laid.ends ∙ ap total cell.is ∙ sym total') whole'
       ∙ sym (changed-split p cell.front cell.kind cell.level cell.body body' cell.back 0 (cell.here ∙ sym (zero-add _)) same)
       ∙ ap (λ ys. with_payload p body' (row_from 0 ys)) (sym cell.is)
       ∙ ap (with_payload p body') (sym (spelled-laid words starts top first laid))
 
 -- what contracts see once a payload was changed
-pub view_held : (words : List ℕ) (starts : List Bool) (top first : ℕ) (laid : IsLaid words starts top first) (p : Ptr) (cell : IsCell p words laid.segments laid.spare)
+pub view_changed : (words : List ℕ) (starts : List Bool) (top first : ℕ) (laid : IsLaid words starts top first) (p : Ptr) (cell : IsCell p words laid.segments laid.spare)
     (words' : List ℕ) (f : List ℕ → List ℕ) → length (f cell.body) ≡ length cell.body → Holds p words laid.segments laid.spare cell words' (f cell.body) →
     (now : CellRow) → cells_in words top ≡ now → payload_of p now.row ≡ cell.body →
     cells_in words' top ≡ record now { row = with_payload p (f (payload_of p now.row)) now.row }
-view_held words starts top first laid p cell words' f same holds now is payload =
+view_changed words starts top first laid p cell words' f same holds now is payload =
     let row : spelled words' top ≡ with_payload p (f (payload_of p now.row)) now.row =
-    spelled-held words starts top first laid p cell words' (f cell.body) same holds
+    spelled-changed words starts top first laid p cell words' (f cell.body) same holds
     ∙ ap (λ v. with_payload p (f cell.body) v.row) is
     ∙ ap (λ b. with_payload p (f b) now.row) (sym payload) in
     let held : 4 * length words' ≡ now.held =
-    ap (λ n. 4 * n) (length-held words starts top first laid p cell words' (f cell.body) same holds) ∙ ap (λ v. v.held) is in
+    ap (λ n. 4 * n) (length-changed words starts top first laid p cell words' (f cell.body) same holds) ∙ ap (λ v. v.held) is in
     λ i. record { row = row i; held = held i }
 
 pub record IsValid (p : Ptr) (row : List (Cell (List ℕ))) (words : List ℕ) (segments : List Segment) (spare : List ℕ) : Type 0 where

@@ -5,6 +5,7 @@ use Rattle.std.specs.List.{replace_range}
 use Rattle.std.proofs.lemmas.List.{append-nil, length-drop, replicate-append-replicate}
 use Rattle.std.proofs.lemmas.List.Kept.{AllPairs-filter}
 use Rattle.std.proofs.lemmas.Bool.{eq-eqb, ne_eqb, cases_eq}
+use Rattle.wb_chunk.specs.declared.TheConstants.{MOST_WORDS}
 use Rattle.wb_model.specs.declared.heap.Ptr.{Ptr}
 use Rattle.wb_model.specs.Row.{Cell, headers, is_at, without}
 use Rattle.wb_model.specs.Spelling.{spelled}
@@ -13,7 +14,7 @@ use Rattle.wb_cells.specs.FreeList.{NO_PLACE, linked_words, linked_first}
 use Rattle.wb_cells.specs.declared.free_list.Hole.{Hole}
 use Rattle.wb_cells.specs.Holes.{closed_words, closed_ends}
 use Rattle.wb_cells.specs.Inside.{IsLaid}
-use Rattle.wb_cells.specs.Segments.{Segment, live, free, total, first_free, words_of, row_from, starts_of, BeginsLive}
+use Rattle.wb_cells.specs.Segments.{Segment, live, free, total, first_free, words_of, row_from, starts_of, AreWhole, BeginsLive}
 use Rattle.wb_cells.proofs.Words.{replace_range-inside}
 use Rattle.wb_cells.proofs.Laying.{total-append, first_free-append, words_of-append, row_from-append, starts_of-append, length-words_of, total-whole, whole_both, spelled_is}
 use Rattle.wb_cells.proofs.Hollow.{linked_words-front, linked_first-front}
@@ -32,7 +33,7 @@ begins_total (free body ∷ xs) b = absurd b
 
 -- what a closed hole leaves
 pub record IsClosed (words : List ℕ) (bits : List Bool) (top first : ℕ) (cells : List (Cell (List ℕ))) (count : ℕ) : Type 0 where
-  pub laid : length words ≡ count → AllPairs (λ g h. g.number ≢ h.number) (headers cells) → count ≤ 4 * length bits → count % 4 ≡ 0 → count ≤ 4194304 →
+  pub laid : length words ≡ count → AllPairs (λ g h. g.number ≢ h.number) (headers cells) → count ≤ 4 * length bits → count % 4 ≡ 0 → count ≤ MOST_WORDS →
       IsLaid words bits top first
   pub row : spelled words top ≡ cells
 
@@ -73,7 +74,7 @@ module _ (words : List ℕ) (bits : List Bool) (top first : ℕ) (cells : List (
           rounded = rw same four;
           bounded = rw same bounded;
         };
-        row = spelled_is (linked_words words before NO_PLACE) (hole.junk ++ hole.spare) hole.low start words_now hole.here ∙ row;
+        row = spelled_is (linked_words words before NO_PLACE) (hole.junk ++ hole.spare) hole.low start words_now hole.here hole.whole_low ∙ row;
       }
 
   -- nothing is left of it
@@ -107,7 +108,7 @@ module _ (words : List ℕ) (bits : List Bool) (top first : ℕ) (cells : List (
           rounded = rw count_now four;
           bounded = rw count_now bounded;
         };
-        row = spelled_is (linked_words words before next) hole.spare all top words_now ends ∙ row;
+        row = spelled_is (linked_words words before next) hole.spare all top words_now ends (whole_both hole.low hole.high hole.whole_low hole.whole_high) ∙ row;
       }
 
   module _ (some : start ≢ end) where
@@ -147,6 +148,7 @@ module _ (words : List ℕ) (bits : List Bool) (top first : ℕ) (cells : List (
     closed_free : BeginsLive hole.high → IsClosed written bits top (linked_first first before start) cells count
     closed_free begins =
         let ends : top ≡ total after = hole.ends ∙ sym (total-append hole.low (free left ∷ hole.high) ∙ omega (arith, end_left)) in
+        let whole : AreWhole after = whole_both hole.low (free left ∷ hole.high) hole.whole_low (omega (arith, left_long, hole.rounded), hole.whole_high) in
         let row : row_from 0 after ≡ cells =
         row_from-append hole.low (free left ∷ hole.high) 0 ∙ ap (λ n. row_from 0 hole.low ++ row_from n hole.high) (omega (arith, end_left)) ∙ sym hole.row in
         record {
@@ -162,14 +164,14 @@ module _ (words : List ℕ) (bits : List Bool) (top first : ℕ) (cells : List (
                 ∙ ap (λ bs. bs ++ replicate hole.unset false) (sym (starts_of-append hole.low (free left ∷ hole.high)));
             ends = ends;
             linked = relinked_first start ∙ ap (first_free 0 hole.low) (hole.here ∙ sym (zero-add _)) ∙ sym (first_free-append hole.low (free left ∷ hole.high) 0 NO_PLACE);
-            whole = whole_both hole.low (free left ∷ hole.high) hole.whole_low (omega (arith, left_long, hole.rounded), hole.whole_high);
+            whole = whole;
             merged = hole.closed left hole.high begins hole.merged_high;
             numbered = subst (λ r. AllPairs (λ g h. g.number ≢ h.number) (headers r)) (sym row) apart;
             covered = rw same covered;
             rounded = rw same four;
             bounded = rw same bounded;
           };
-          row = spelled_is written hole.spare after top words_after ends ∙ row;
+          row = spelled_is written hole.spare after top words_after ends whole ∙ row;
         }
 
 -- the words and ends as the code leaves them

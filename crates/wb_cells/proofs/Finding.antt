@@ -1,13 +1,13 @@
 -- Where a live cell stands among the segments: by its pointer, and by the bit of its place.
 use Rattle.std.proofs.Common.{◌≡◌, ◌≢◌, ℕ, zero, suc, ◌+◌, ◌-◌, ◌*◌, ◌/◌, ◌%◌, ◌<◌, ◌≤◌, ◌⊎◌, inl, inr, List, [], ◌∷◌, ◌++◌, length, slice_index, get_or, Bool, true, false, cond, drop, replicate, Some, None, refl, sym, ◌∙◌, ap, subst, arith, add_assoc, add-zero, zero-add, append_assoc, length-append}
-use Rattle.std.specs.Prelude.{nat_eq}
+use Rattle.std.specs.Prelude.{nat_eq, option_map}
 use Rattle.std.proofs.lemmas.List.{get_or_at, get_or-drop, length-drop}
 use Rattle.std.proofs.lemmas.Bool.{eqb-true, eq-eqb, ne_eqb, and_parts, false≢true}
 use Rattle.wb_model.specs.declared.heap.Ptr.{Ptr}
 use Rattle.wb_model.specs.declared.heap.Kind.{Kind}
 use Rattle.wb_model.specs.declared.heap.Kind.TheVariants.{Raw, Object, Text, Cleanup}
 use Rattle.wb_model.specs.Row.{is_at, cell_at}
-use Rattle.wb_model.specs.Spelling.{header_at}
+use Rattle.wb_model.specs.Spelling.{header_at, header_of}
 use Rattle.wb_cells.specs.States.{IsState}
 use Rattle.wb_cells.specs.FreeList.{NO_PLACE}
 use Rattle.wb_cells.specs.Inside.{IsLaid}
@@ -240,8 +240,10 @@ module _ (words : List ℕ) (place : ℕ) (xs : List Segment) (at : IsLiveAt wor
       let same : slice_index words (place / 16 * 4 + 1) ≡ state_of at.kind = sym (get_or-drop (place / 16 * 4) words 1 0) ∙ ap (λ ws. get_or ws 1 0) at.there in
       rw same at.state
 
-  pub header-live_at : header_at place (drop (place / 16 * 4) words) ≡ (cell_from place at.kind at.level at.number at.body).head
-  header-live_at = ap (header_at place) at.there ∙ ap (λ k. record { place = place; length = 16 + 4 * length at.body; kind = k; level = at.level; number = at.number }) (kind_of-state_of at.kind)
+  pub header-live_at : header_at place (drop (place / 16 * 4) words) ≡ Some (cell_from place at.kind at.level at.number at.body).head
+  header-live_at =
+      ap (header_at place) at.there
+      ∙ ap (option_map (header_of place ((16 + 4 * length at.body) ∷ state_of at.kind ∷ at.level ∷ at.number ∷ (at.body ++ at.past)))) (kind_of-state_of at.kind at.state.high)
 
   pub cell_at-live_at : (p : Ptr) → p.place ≡ place → cell_at p (row_from 0 xs) ≡ cond (nat_eq p.number at.number) (Some (cell_from place at.kind at.level at.number at.body)) None
   cell_at-live_at p here =

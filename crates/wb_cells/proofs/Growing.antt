@@ -1,6 +1,7 @@
 -- What holds of no words, and of words and bits that were appended.
 use Rattle.std.proofs.Common.{◌≡◌, ℕ, ◌+◌, ◌*◌, ◌%◌, ◌≤◌, List, [], ◌++◌, length, Bool, false, replicate, refl, sym, ◌∙◌, ap, subst, arith, append_assoc, length-append}
 use Rattle.std.proofs.lemmas.List.{append-nil, length-replicate, replicate-append-replicate}
+use Rattle.wb_chunk.specs.declared.TheConstants.{MOST_WORDS}
 use Rattle.wb_model.specs.Spelling.{spelled}
 use Rattle.wb_cells.specs.FreeList.{NO_PLACE}
 use Rattle.wb_cells.specs.Segments.{words_of}
@@ -25,7 +26,7 @@ laid_empty = record {
 }
 
 module _ (words : List ℕ) (starts : List Bool) (top first : ℕ) (laid : IsLaid words starts top first) (more : List ℕ) (bits : ℕ) where
-  pub laid_grown : length words + length more ≤ 4 * (length starts + bits) → (length words + length more) % 4 ≡ 0 → length words + length more ≤ 4194304 →
+  pub laid_grown : length words + length more ≤ 4 * (length starts + bits) → (length words + length more) % 4 ≡ 0 → length words + length more ≤ MOST_WORDS →
       IsLaid (words ++ more) (starts ++ replicate bits false) top first
   laid_grown covered rounded bounded = record {
     segments = laid.segments;
@@ -47,7 +48,7 @@ module _ (words : List ℕ) (starts : List Bool) (top first : ℕ) (laid : IsLai
   pub spelled-grown : spelled (words ++ more) top ≡ spelled words top
   spelled-grown =
       spelled_is (words ++ more) (laid.spare ++ more) laid.segments top
-      (ap (λ ws. ws ++ more) laid.spelled ∙ append_assoc (words_of 0 laid.segments NO_PLACE) laid.spare more) laid.ends
+      (ap (λ ws. ws ++ more) laid.spelled ∙ append_assoc (words_of 0 laid.segments NO_PLACE) laid.spare more) laid.ends laid.whole
       ∙ sym (spelled-laid words starts top first laid)
 
 pub laid_marked : (words : List ℕ) (starts : List Bool) (top first bits : ℕ) → IsLaid words starts top first → IsLaid words (starts ++ replicate bits false) top first

@@ -1,8 +1,8 @@
 -- Segments end to end: their words, rows and bits, and what a split of the list says of them.
-use Rattle.std.proofs.Common.{◌≡◌, ℕ, zero, suc, ◌+◌, ◌-◌, ◌*◌, ◌/◌, ◌%◌, ◌≤◌, List, [], ◌∷◌, ◌++◌, length, slice_index, Bool, true, false, take, drop, refl, ◌∙◌, ap, arith, add_assoc, add-zero, zero-add, append_assoc, length-append}
-use Rattle.std.specs.Prelude.{nat_lt, nat_eq}
+use Rattle.std.proofs.Common.{◌≡◌, ℕ, zero, suc, ◌+◌, ◌-◌, ◌*◌, ◌/◌, ◌%◌, ◌^◌, ◌<◌, ◌≤◌, List, [], ◌∷◌, ◌++◌, length, slice_index, Bool, true, false, Some, take, drop, refl, ◌∙◌, ap, arith, add_assoc, add-zero, zero-add, append_assoc, length-append}
+use Rattle.std.specs.Prelude.{nat_lt, nat_le, nat_eq}
 use Rattle.std.proofs.lemmas.List.{length-replicate, take_at, drop_at}
-use Rattle.std.proofs.lemmas.Bool.{lt-ltb, le-ltb, ne_eqb}
+use Rattle.std.proofs.lemmas.Bool.{lt-ltb, le-leb, le-ltb, ne_eqb}
 use Rattle.wb_model.specs.declared.heap.Kind.{Kind}
 use Rattle.wb_model.specs.declared.heap.Kind.TheVariants.{Raw, Object, Text, Cleanup}
 use Rattle.wb_model.specs.Row.{headers, top_from}
@@ -57,28 +57,25 @@ length-starts_of (live kind level number body ∷ xs) w =
 length-starts_of (free body ∷ xs) w =
     rw (length-append, length-replicate) (omega (arith, length-starts_of xs w.1, w.0))
 
-pub kind_of-state_of : (kind : Kind) → kind_of (state_of kind) ≡ kind
-kind_of-state_of Raw = refl
-kind_of-state_of Text = refl
-kind_of-state_of Cleanup = refl
-kind_of-state_of (Object class) =
+-- the state word of a kind is read as that kind
+pub kind_of-state_of : (kind : Kind) → state_of kind < 65552 → kind_of (state_of kind) ≡ Some kind
+kind_of-state_of Raw lt = refl
+kind_of-state_of Text lt = refl
+kind_of-state_of Cleanup lt = refl
+kind_of-state_of (Object class) lt =
     let raw : nat_eq (16 + class) 1 ≡ false = ne_eqb _ _ (λ e. omega (arith, e)) in
     let text : nat_eq (16 + class) 2 ≡ false = ne_eqb _ _ (λ e. omega (arith, e)) in
     let cleanup : nat_eq (16 + class) 3 ≡ false = ne_eqb _ _ (λ e. omega (arith, e)) in
+    let least : nat_le 16 (16 + class) ≡ true = le-leb 16 (16 + class) (omega arith) in
+    let most : nat_lt (16 + class) (16 + 2 ^ 16) ≡ true = lt-ltb (16 + class) (16 + 2 ^ 16) (omega (arith, lt)) in
     let same : 16 + class - 16 ≡ class = omega arith in
-    rw (raw, text, cleanup, same)
-
-pub state_of-live : (kind : Kind) → nat_eq (state_of kind) 0 ≡ false
-state_of-live Raw = refl
-state_of-live Text = refl
-state_of-live Cleanup = refl
-state_of-live (Object class) = ne_eqb _ _ (λ e. omega (arith, e))
+    rw (raw, text, cleanup, least, most, same)
 
 spelled_from-stops : (n at top : ℕ) (ws : List ℕ) → nat_lt at top ≡ false → spelled_from (suc n) top at ws ≡ []
 spelled_from-stops n at top ws done = rw (done, spelled_from)
 
 spelled_from-goes : (n at top : ℕ) (ws : List ℕ) → nat_lt at top ≡ true →
-    spelled_from (suc n) top at ws ≡ with_cell_if (nat_eq (slice_index ws 1) 0) (cell_of at ws) (spelled_from n top (at + slice_index ws 0) (drop (slice_index ws 0 / 4) ws))
+    spelled_from (suc n) top at ws ≡ with_cell_if (cell_of at ws) (spelled_from n top (at + slice_index ws 0) (drop (slice_index ws 0 / 4) ws))
 spelled_from-goes n at top ws on = rw (on, spelled_from)
 
 -- what follows a segment's words
@@ -93,36 +90,37 @@ content_of body rest spare =
     rw (four, append_assoc) (take_at body (rest ++ spare) (length body) refl)
 
 -- the words spell the live cells
-pub spelled_from-words_of : (xs : List Segment) (n at last top : ℕ) (spare : List ℕ) → length xs ≤ n → top ≡ at + total xs →
+pub spelled_from-words_of : (xs : List Segment) (n at last top : ℕ) (spare : List ℕ) → length xs ≤ n → top ≡ at + total xs → AreWhole xs →
     spelled_from n top at (words_of at xs last ++ spare) ≡ row_from at xs
-spelled_from-words_of [] zero at last top spare le ends = refl
-spelled_from-words_of [] (suc n) at last top spare le ends = spelled_from-stops n at top spare (le-ltb at top (omega arith))
-spelled_from-words_of (s ∷ xs) zero at last top spare le ends = absurd (omega arith)
-spelled_from-words_of (live kind level number body ∷ xs) (suc n) at last top spare le ends =
+spelled_from-words_of [] zero at last top spare le ends whole = refl
+spelled_from-words_of [] (suc n) at last top spare le ends whole = spelled_from-stops n at top spare (le-ltb at top (omega arith))
+spelled_from-words_of (s ∷ xs) zero at last top spare le ends whole = absurd (omega arith)
+spelled_from-words_of (live kind level number body ∷ xs) (suc n) at last top spare le ends whole =
     let next : ℕ = at + (16 + 4 * length body) in
     let rest = words_of next xs last in
     spelled_from-goes n at top ((16 + 4 * length body) ∷ state_of kind ∷ level ∷ number ∷ ((body ++ rest) ++ spare)) (lt-ltb at top (omega arith))
-    ∙ rw (state_of-live kind, kind_of-state_of kind, content_of body rest spare, rest_of (16 + 4 * length body) (state_of kind) level number body rest spare)
-    (ap (λ r. cell_from at kind level number body ∷ r) (spelled_from-words_of xs n next last top spare (omega arith) (omega arith)))
-spelled_from-words_of (free body ∷ xs) (suc n) at last top spare le ends =
+    ∙ rw (kind_of-state_of kind whole.2, content_of body rest spare, rest_of (16 + 4 * length body) (state_of kind) level number body rest spare)
+    (ap (λ r. cell_from at kind level number body ∷ r) (spelled_from-words_of xs n next last top spare (omega arith) (omega arith) whole.3))
+spelled_from-words_of (free body ∷ xs) (suc n) at last top spare le ends whole =
     let next : ℕ = at + (16 + 4 * length body) in
     let rest = words_of next xs last in
     spelled_from-goes n at top ((16 + 4 * length body) ∷ 0 ∷ first_free next xs last ∷ 0 ∷ ((body ++ rest) ++ spare)) (lt-ltb at top (omega arith))
     ∙ rw (rest_of (16 + 4 * length body) 0 (first_free next xs last) 0 body rest spare)
-    (spelled_from-words_of xs n next last top spare (omega arith) (omega arith))
+    (spelled_from-words_of xs n next last top spare (omega arith) (omega arith) whole.1)
 
 length-segments : (xs : List Segment) → length xs ≤ total xs / 16
 length-segments [] = omega arith
 length-segments (s ∷ xs) = omega (arith, length-segments xs)
 
-pub spelled_is : (words spare : List ℕ) (xs : List Segment) (top : ℕ) → words ≡ words_of 0 xs NO_PLACE ++ spare → top ≡ total xs → spelled words top ≡ row_from 0 xs
-spelled_is words spare xs top is ends =
+pub spelled_is : (words spare : List ℕ) (xs : List Segment) (top : ℕ) → words ≡ words_of 0 xs NO_PLACE ++ spare → top ≡ total xs → AreWhole xs →
+    spelled words top ≡ row_from 0 xs
+spelled_is words spare xs top is ends whole =
     let enough : length xs ≤ length words =
     omega (arith, length-segments xs, ap length is, length-append (words_of 0 xs NO_PLACE) spare, length-words_of xs 0 NO_PLACE) in
-    ap (λ ws. spelled_from (length words) top 0 ws) is ∙ spelled_from-words_of xs (length words) 0 NO_PLACE top spare enough (ends ∙ omega arith)
+    ap (λ ws. spelled_from (length words) top 0 ws) is ∙ spelled_from-words_of xs (length words) 0 NO_PLACE top spare enough (ends ∙ omega arith) whole
 
 pub spelled-laid : (words : List ℕ) (starts : List Bool) (top first : ℕ) (laid : IsLaid words starts top first) → spelled words top ≡ row_from 0 laid.segments
-spelled-laid words starts top first laid = spelled_is words laid.spare laid.segments top laid.spelled laid.ends
+spelled-laid words starts top first laid = spelled_is words laid.spare laid.segments top laid.spelled laid.ends laid.whole
 
 -- the last live cell ends where the segments do
 pub top_from-row : (xs : List Segment) (at : ℕ) → AreMerged xs → top_from at (headers (row_from at xs)) ≡ at + total xs

@@ -93,6 +93,12 @@ module _ (words : List ℕ) (starts : List Bool) (top first : ℕ) (laid : IsLai
       sym (ap (λ ys. with_level p level (row_from 0 ys)) cell.is
       ∙ with_level-split p cell.front cell.kind cell.level level cell.body cell.back 0 (cell.here ∙ sym (zero-add _)))
 
+  whole' : AreWhole segments'
+  whole' =
+      let w : AreWhole segments = subst (λ ys. AreWhole ys) cell.is laid.whole in
+      let v = whole_back cell.front (live cell.kind cell.level p.number cell.body ∷ cell.back) w in
+      whole_both cell.front (live cell.kind level p.number cell.body ∷ cell.back) (whole_front cell.front _ w) v
+
   pub laid_level : length words' ≡ length words → IsLaid words' starts top first
   laid_level count = record {
     segments = segments';
@@ -102,10 +108,7 @@ module _ (words : List ℕ) (starts : List Bool) (top first : ℕ) (laid : IsLai
     marked = laid.marked ∙ ap (λ bs. bs ++ replicate laid.unset false) (ap starts_of cell.is ∙ sym starts');
     ends = laid.ends ∙ ap total cell.is ∙ sym total';
     linked = laid.linked ∙ ap (λ ys. first_free 0 ys NO_PLACE) cell.is ∙ sym first_free';
-    whole =
-        let w : AreWhole segments = subst (λ ys. AreWhole ys) cell.is laid.whole in
-        let v = whole_back cell.front (live cell.kind cell.level p.number cell.body ∷ cell.back) w in
-        whole_both cell.front (live cell.kind level p.number cell.body ∷ cell.back) (whole_front cell.front _ w) v;
+    whole = whole';
     merged = merged_swap cell.front cell.kind cell.kind cell.level level p.number p.number cell.body cell.body cell.back (subst (λ ys. AreMerged ys) cell.is laid.merged);
     numbered = subst (λ r. AllPairs (λ g h. g.number ≢ h.number) (headers r)) (sym row') (apart-same _ _ (numbers-level p level (row_from 0 laid.segments)) laid.numbered);
     covered = rw count laid.covered;
@@ -116,7 +119,7 @@ module _ (words : List ℕ) (starts : List Bool) (top first : ℕ) (laid : IsLai
   pub view_level : length words' ≡ length words → (now : CellRow) → cells_in words top ≡ now → cells_in words' top ≡ record now { row = with_level p level now.row }
   view_level count now is =
       let row : spelled words' top ≡ with_level p level now.row =
-      spelled_is words' laid.spare segments' top spelled' (laid.ends ∙ ap total cell.is ∙ sym total') ∙ row'
+      spelled_is words' laid.spare segments' top spelled' (laid.ends ∙ ap total cell.is ∙ sym total') whole' ∙ row'
       ∙ ap (with_level p level) (sym (spelled-laid words starts top first laid) ∙ ap (λ v. v.row) is) in
       let held : 4 * length words' ≡ now.held = ap (λ n. 4 * n) count ∙ ap (λ v. v.held) is in
       λ i. record { row = row i; held = held i }

@@ -3,6 +3,7 @@ use Rattle.std.proofs.Common.{◌≡◌, ℕ, suc, ◌+◌, ◌*◌, ◌/◌, �
 use Rattle.std.specs.Prelude.{nat_eq}
 use Rattle.std.proofs.lemmas.List.{append-nil, get_or_at, get_or-append-add}
 use Rattle.std.proofs.lemmas.Bool.{eq-eqb, ne_eqb}
+use Rattle.wb_chunk.specs.declared.TheConstants.{MOST_WORDS}
 use Rattle.wb_model.specs.declared.heap.Kind.{Kind}
 use Rattle.wb_cells.specs.FreeList.{NO_PLACE, IsWithin, prior_place_or}
 use Rattle.wb_cells.specs.Holes.{end_at, touches}
@@ -44,7 +45,7 @@ module _ (words spare : List ℕ) (front : List Segment) (body : List ℕ) (back
       ap (λ ws. get_or ws (place / 16 * 4 + 2) 0) parts ∙ ap (λ n. get_or (below ++ own) (n + 2) 0) (sym length-low)
       ∙ get_or-append-add below own 2 0
 
-  pub within_free : length words ≤ 4194304 → IsWithin words place
+  pub within_free : length words ≤ MOST_WORDS → IsWithin words place
   within_free bounded =
       let count : length words ≡ length below + (4 + (length body + length (words_of next back NO_PLACE ++ spare))) =
       ap length parts ∙ length-append below own ∙ omega (arith, length-append body (words_of next back NO_PLACE ++ spare)) in

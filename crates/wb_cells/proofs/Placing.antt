@@ -2,6 +2,7 @@
 use Rattle.std.proofs.Common.{◌≡◌, ◌≢◌, ℕ, suc, ◌+◌, ◌-◌, ◌*◌, ◌/◌, ◌%◌, ◌<◌, ◌≤◌, List, [], ◌∷◌, ◌++◌, length, slice_set, Bool, true, false, take, drop, replicate, refl, sym, ◌∙◌, ap, subst, arith, zero-add, append_assoc, length-append, All, AllPairs}
 use Rattle.std.specs.List.{replace_range}
 use Rattle.std.proofs.lemmas.List.{append-nil, length-drop, length-take-le, length-replicate, replicate-append-replicate, take-append-drop, length-set, set_at, drop_all}
+use Rattle.wb_chunk.specs.declared.TheConstants.{MOST_WORDS}
 use Rattle.wb_model.specs.declared.heap.Kind.{Kind}
 use Rattle.wb_model.specs.Row.{Cell, headers, inserted}
 use Rattle.wb_model.specs.Spelling.{spelled}
@@ -124,9 +125,13 @@ module _ (words : List ℕ) (starts : List Bool) (top first place bytes : ℕ) (
         length-append zeros above,
       )
 
+  whole-after : 1 ≤ number → state_of kind < 65552 → AreWhole after
+  whole-after numbered bound =
+      whole_both hole.front (live kind level number zeros ∷ hole.back) hole.whole_below (omega (arith, size, rounded), numbered, bound, hole.whole_above)
+
   pub laid_taken : 1 ≤ number → state_of kind < 65552 → All (λ h. h.number ≢ number) (headers (row_from 0 segments)) →
       AllPairs (λ g h. g.number ≢ h.number) (headers (row_from 0 segments)) →
-      length words ≤ 4 * length starts → length words % 4 ≡ 0 → length words ≤ 4194304 → IsLaid written (slice_set starts (place / 16) true) top first
+      length words ≤ 4 * length starts → length words % 4 ≡ 0 → length words ≤ MOST_WORDS → IsLaid written (slice_set starts (place / 16) true) top first
   laid_taken numbered bound unused apart covered four bounded = record {
     segments = after;
     spare = hole.spare;
@@ -135,7 +140,7 @@ module _ (words : List ℕ) (starts : List Bool) (top first place bytes : ℕ) (
     marked = starts-after;
     ends = sym total-after;
     linked = first-after;
-    whole = whole_both hole.front (live kind level number zeros ∷ hole.back) hole.whole_below (omega (arith, size, rounded), numbered, bound, hole.whole_above);
+    whole = whole-after numbered bound;
     merged = hole.merged kind level number zeros;
     numbered = subst (λ r. AllPairs (λ g h. g.number ≢ h.number) (headers r)) (sym row-after) (numbered-inserted cell (row_from 0 segments) unused apart);
     covered = rw (length-written, length-set) covered;
@@ -143,8 +148,8 @@ module _ (words : List ℕ) (starts : List Bool) (top first place bytes : ℕ) (
     bounded = rw length-written bounded;
   }
 
-  pub spelled-taken : spelled written top ≡ inserted cell (row_from 0 segments)
-  spelled-taken = spelled_is written hole.spare after top written_spells (sym total-after) ∙ row-after
+  pub spelled-taken : 1 ≤ number → state_of kind < 65552 → spelled written top ≡ inserted cell (row_from 0 segments)
+  spelled-taken numbered bound = spelled_is written hole.spare after top written_spells (sym total-after) (whole-after numbered bound) ∙ row-after
 
 -- room above the top
 pub placed_above : (words : List ℕ) (starts : List Bool) (top first : ℕ) (laid : IsLaid words starts top first) (bytes : ℕ) → bytes % 16 ≡ 0 →

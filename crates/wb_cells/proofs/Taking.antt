@@ -1,5 +1,5 @@
 -- What `take` needs and leaves.
-use Rattle.std.proofs.Common.{◌≡◌, ◌≢◌, ℕ, ◌+◌, ◌-◌, ◌*◌, ◌/◌, ◌%◌, ◌≤◌, ◌⊎◌, inl, inr, List, ◌∷◌, ◌++◌, length, Bool, replicate, sym, ◌∙◌, ap, subst, arith}
+use Rattle.std.proofs.Common.{◌≡◌, ◌≢◌, ℕ, ◌+◌, ◌-◌, ◌*◌, ◌/◌, ◌%◌, ◌<◌, ◌≤◌, ◌⊎◌, inl, inr, List, ◌∷◌, ◌++◌, length, Bool, replicate, sym, ◌∙◌, ap, subst, arith}
 use Rattle.std.proofs.lemmas.Bool.{cases_eq}
 use Rattle.std.proofs.lemmas.List.{length-replicate}
 use Rattle.wb_model.specs.declared.heap.Header.{Header}
@@ -11,7 +11,7 @@ use Rattle.wb_cells.specs.declared.free_list.Ends.{Ends}
 use Rattle.wb_cells.specs.FreeList.{Gap, Links, AreBelow, AreFrom, last_place}
 use Rattle.wb_cells.specs.Holes.{IsOpenable, IsOpened, IsRaised}
 use Rattle.wb_cells.specs.Inside.{IsLaid, cells_in}
-use Rattle.wb_cells.specs.Segments.{Segment, free, total, cell_from, row_from}
+use Rattle.wb_cells.specs.Segments.{Segment, free, state_of, total, cell_from, row_from}
 use Rattle.wb_cells.proofs.Laying.{spelled-laid}
 use Rattle.wb_cells.proofs.Linking.{gaps_from, links_laid}
 use Rattle.wb_cells.proofs.Rounds.{low_high, below_front, above_front, last_of_low}
@@ -56,10 +56,10 @@ module _ (words : List ℕ) (starts : List Bool) (top first : ℕ) (laid : IsLai
 -- what contracts see once a cell was taken
 pub view_taken : (words words' : List ℕ) (starts : List Bool) (top top' first place bytes : ℕ) (segments : List Segment)
     (hole : IsPlaced words' starts top' first place bytes segments) (rounded : bytes % 16 ≡ 0) (least : 16 ≤ bytes) (header : Header) (now : CellRow) →
-    header.place ≡ place → header.length ≡ bytes → length words' ≡ length words → spelled words top ≡ row_from 0 segments → cells_in words top ≡ now →
+    header.place ≡ place → header.length ≡ bytes → 1 ≤ header.number → state_of header.kind < 65552 → length words' ≡ length words → spelled words top ≡ row_from 0 segments → cells_in words top ≡ now →
     cells_in (written words' starts top' first place bytes segments hole rounded least header.kind header.level header.number) top' ≡
     record now { row = inserted (record { head = header; content = zero_words bytes }) now.row }
-view_taken words words' starts top top' first place bytes segments hole rounded least header now here long same_length old is =
+view_taken words words' starts top top' first place bytes segments hole rounded least header now here long numbered bound same_length old is =
     let n : bytes / 16 * 4 - 4 ≡ bytes / 4 - 4 = omega (arith, rounded) in
     let size : 16 + 4 * length (replicate (bytes / 16 * 4 - 4) 0) ≡ header.length =
     rw length-replicate (omega (arith, long, rounded, least)) in
@@ -70,7 +70,7 @@ view_taken words words' starts top top' first place bytes segments hole rounded 
     } in
     let row : spelled (written words' starts top' first place bytes segments hole rounded least header.kind header.level header.number) top' ≡
     inserted (record { head = header; content = zero_words bytes }) now.row =
-    spelled-taken words' starts top' first place bytes segments hole rounded least header.kind header.level header.number
+    spelled-taken words' starts top' first place bytes segments hole rounded least header.kind header.level header.number numbered bound
     ∙ ap (λ c. inserted c (row_from 0 segments)) cell
     ∙ ap (inserted (record { head = header; content = zero_words bytes })) (sym old ∙ ap (λ v. v.row) is) in
     let held : 4 * length (written words' starts top' first place bytes segments hole rounded least header.kind header.level header.number) ≡ now.held =

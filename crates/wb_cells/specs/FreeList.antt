@@ -1,6 +1,7 @@
 -- The free cells that words link, in order of place.
 use Rattle.std.specs.Prelude.{ℕ, ◌+◌, ◌-◌, ◌*◌, ◌/◌, ◌≡◌, ◌≤◌, ◌<◌, List, [], ◌∷◌, length, slice_index, slice_set, nat_eq, nat_le, if◌then◌else◌}
 use Rattle.std.specs.List.{replace_range}
+use Rattle.wb_chunk.specs.declared.TheConstants.{MOST_WORDS}
 
 -- the link of the last free cell
 abbrev pub NO_PLACE : ℕ
@@ -66,7 +67,7 @@ linked_words words before next = if nat_eq before NO_PLACE then words else slice
 abbrev pub linked_first : ℕ → ℕ → ℕ → ℕ
 linked_first first before next = if nat_eq before NO_PLACE then next else first
 
--- the free cell that follows so many bytes of a free cell
+-- the free cell that follows a number of bytes of a free cell
 abbrev pub next_past : List ℕ → ℕ → ℕ → ℕ
 next_past words place bytes =
     if nat_eq (slice_index words (place / 16 * 4) - bytes) 0 then slice_index words (place / 16 * 4 + 2) else place + bytes
@@ -82,4 +83,4 @@ parted_words words place bytes =
 pub record IsWithin (words : List ℕ) (place : ℕ) : Type 0 where
   pub least : 16 ≤ slice_index words (place / 16 * 4)
   pub end : place + slice_index words (place / 16 * 4) ≤ 4 * length words
-  pub bounded : length words ≤ 4194304
+  pub bounded : length words ≤ MOST_WORDS

@@ -1,5 +1,6 @@
 -- What every value of `Cells` keeps: its words are segments, and its bits are where live cells begin.
 use Rattle.std.specs.Prelude.{ℕ, ◌*◌, ◌%◌, ◌≡◌, ◌≢◌, ◌≤◌, List, ◌++◌, Bool, false, length, replicate, AllPairs}
+use Rattle.wb_chunk.specs.declared.TheConstants.{MOST_WORDS}
 use Rattle.wb_model.specs.CellRow.{CellRow}
 use Rattle.wb_model.specs.Row.{headers}
 use Rattle.wb_model.specs.Spelling.{spelled}
@@ -25,4 +26,4 @@ pub record IsLaid (words : List ℕ) (starts : List Bool) (top first : ℕ) : Ty
   pub numbered : AllPairs (λ g h. g.number ≢ h.number) (headers (row_from 0 segments))
   pub covered : length words ≤ 4 * length starts
   pub rounded : length words % 4 ≡ 0
-  pub bounded : length words ≤ 4194304
+  pub bounded : length words ≤ MOST_WORDS

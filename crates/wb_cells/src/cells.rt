@@ -1,7 +1,7 @@
 //! The cells of a chunk, and their calls. Which bytes a grown heap may use, and in what order memory is asked for, is
 //! not decided here.
 
-ghost use Rattle.std.specs.Prelude.{◌≡◌, ◌≢◌, ◌+◌, ◌*◌, ◌%◌, ◌<◌, ◌≤◌, [], ◌++◌, max, length, take, drop, slice_index, slice_set, All, OnOk, OnErr, option_map, IsSome};
+ghost use Rattle.std.specs.Prelude.{◌≡◌, ◌≢◌, ◌+◌, ◌*◌, ◌%◌, ◌<◌, ◌≤◌, [], ◌++◌, max, length, take, drop, slice_index, slice_set, All, OnOk, OnErr, option_map, IsOk, IsSome};
 ghost use Rattle.wb_chunk.specs.Halves.{half_of, with_half};
 ghost use Rattle.wb_model.specs.CellRow.{CellRow, FitsInPlace, IsGap, IsSoundCells, payload_of, room_behind, with_length, with_level, with_payload};
 ghost use Rattle.wb_model.specs.LimitedHeap.{next_live_of, zero_words};
@@ -22,7 +22,7 @@ use wb_model::memory::NoMemory;
 ///
 /// A free cell lies between two live ones, or before the first; the words link the free cells in order of place. No two
 /// free cells touch. One bit for each place of 16 bytes says whether a live cell begins there, so that no payload can
-/// pass for a header. Source: this project's profile.
+/// pass for a header.
 #[derive(Drop)]
 pub struct Cells {
     words: Chunk,
@@ -56,16 +56,18 @@ impl Cells {
         }
     }
 
-    /// Holds so many bytes at least; the cells stay as they are. Where memory is refused, nothing changes.
+    /// Holds at least `bytes` bytes; the cells stay as they are. Where memory is refused, nothing changes; it takes
+    /// none where so many are held.
     pub fn reserve(&mut self, bytes: u32) -> Result<(), NoMemory>
         requires rounded { bytes % 16 ≡ 0 }
         requires within { bytes ≤ CEILING }
         ensures ok { OnOk result (self.new ≡ record self.old { held = max self.old.held bytes }) }
+        ensures there { bytes ≤ self.old.held → IsOk result }
         ensures err { OnErr result (self.new ≡ self.old) }
         ensures sound { IsSoundCells self.new }
     {
         self.starts.grow_to(bytes / 16)?;
-        layout::grow_to(&mut self.words, bytes / 4)?;
+        layout::grow_to(&mut self.words, layout::words_in(bytes))?;
         Ok(())
     }
 
@@ -123,7 +125,8 @@ impl Cells {
             header.level,
             header.number,
         );
-        self.words.zero(place / 16 * 4 + 4, length / 16 * 4 - 4);
+        self.words
+            .zero(layout::payload_at(place), layout::words_in(length) - 4);
         self.starts.set(place / 16, true);
     }
 
@@ -157,10 +160,10 @@ impl Cells {
         let around = free_list::around(&self.words, self.ends.first, ptr.place);
         let mut hole = free_list::hole_behind(&self.words, ptr.place, around);
         hole.start = ptr.place + length;
-        self.words.set_word(ptr.place / 16 * 4, length);
+        self.words.set_word(layout::words_in(ptr.place), length);
         self.words.zero(
-            (ptr.place + old) / 16 * 4,
-            length.saturating_sub(old) / 16 * 4,
+            layout::words_in(ptr.place + old),
+            layout::words_in(length.saturating_sub(old)),
         );
         let ends = free_list::close(&mut self.words, self.ends, hole);
         self.ends = ends;
@@ -216,7 +219,7 @@ impl Cells {
         ensures changed { self.new ≡ record self.old { row = with_level ptr level self.old.row } }
         ensures sound { IsSoundCells self.new }
     {
-        self.words.set_word(ptr.place / 16 * 4 + 2, level);
+        self.words.set_word(layout::words_in(ptr.place) + 2, level);
     }
 
     /// The word at an index of a payload. An index within a payload says that the pointer names a cell.
@@ -225,7 +228,7 @@ impl Cells {
         ensures word { result ≡ slice_index (payload_of ptr self.now.row) i }
         ensures sound { IsSoundCells self.now }
     {
-        self.words.word(ptr.place / 16 * 4 + 4 + i)
+        self.words.word(layout::payload_at(ptr.place) + i)
     }
 
     /// Puts another word at an index of a payload.
@@ -234,7 +237,7 @@ impl Cells {
         ensures changed { self.new ≡ record self.old { row = with_payload ptr (slice_set (payload_of ptr self.old.row) i v) self.old.row } }
         ensures sound { IsSoundCells self.new }
     {
-        self.words.set_word(ptr.place / 16 * 4 + 4 + i, v);
+        self.words.set_word(layout::payload_at(ptr.place) + i, v);
     }
 
     /// The half at an index of halves of a payload: half 2k is the low half of word k.
@@ -243,7 +246,7 @@ impl Cells {
         ensures half { result ≡ half_of (payload_of ptr self.now.row) i }
         ensures sound { IsSoundCells self.now }
     {
-        self.words.half(2 * (ptr.place / 16 * 4 + 4) + i)
+        self.words.half(2 * layout::payload_at(ptr.place) + i)
     }
 
     /// Puts another half at an index of halves of a payload, and leaves the word's other half.
@@ -252,7 +255,8 @@ impl Cells {
         ensures changed { self.new ≡ record self.old { row = with_payload ptr (with_half (payload_of ptr self.old.row) i v) self.old.row } }
         ensures sound { IsSoundCells self.new }
     {
-        self.words.set_half(2 * (ptr.place / 16 * 4 + 4) + i, v);
+        self.words
+            .set_half(2 * layout::payload_at(ptr.place) + i, v);
     }
 
     /// Puts the first `n` words of one payload over those of another, which may be the same cell.
@@ -266,7 +270,10 @@ impl Cells {
         } }
         ensures sound { IsSoundCells self.new }
     {
-        self.words
-            .copy(from.place / 16 * 4 + 4, to.place / 16 * 4 + 4, n);
+        self.words.copy(
+            layout::payload_at(from.place),
+            layout::payload_at(to.place),
+            n,
+        );
     }
 }

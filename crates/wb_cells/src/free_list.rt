@@ -25,7 +25,7 @@ pub fn length_at(words: &Chunk, place: u32) -> u32
     requires { place / 16 * 4 + 4 ≤ length words.now }
     ensures { result ≡ slice_index words.now (place / 16 * 4) }
 {
-    words.word(place / 16 * 4)
+    words.word(layout::words_in(place))
 }
 
 /// The link of the free cell at a place.
@@ -33,7 +33,7 @@ pub fn link_at(words: &Chunk, place: u32) -> u32
     requires { place / 16 * 4 + 4 ≤ length words.now }
     ensures { result ≡ slice_index words.now (place / 16 * 4 + 2) }
 {
-    words.word(place / 16 * 4 + 2)
+    words.word(layout::words_in(place) + 2)
 }
 
 /// The free cells round a place. It walks those below it.
@@ -84,12 +84,12 @@ pub fn link(words: &mut Chunk, first: u32, before: u32, next: u32) -> u32
     if before == NONE {
         return next;
     }
-    words.set_word(before / 16 * 4 + 2, next);
+    words.set_word(layout::words_in(before) + 2, next);
     first
 }
 
-/// Parts a free cell after so many bytes: what is left is a free cell of its own, or nothing. Answers the free cell
-/// that follows these bytes.
+/// Parts a free cell after its first `bytes` bytes: what is left is a free cell of its own, or nothing. Answers the
+/// free cell that follows these bytes.
 pub fn split(words: &mut Chunk, place: u32, bytes: u32) -> u32
     requires rounded { bytes % 16 ≡ 0 }
     requires within { IsWithin words.old place }

@@ -1,18 +1,32 @@
 //! How a header is laid out in four words: the cell length, the state, the level, the allocation number. Of a free
 //! cell the state and the number are 0, and the place of the next free cell stands for the level.
 
-ghost use Rattle.std.specs.Prelude.{◌≡◌, ◌+◌, ◌*◌, ◌/◌, ◌<◌, ◌≤◌, ◌-◌, [], ◌∷◌, ◌++◌, length, drop, replicate, slice_index, OnOk, OnErr};
+ghost use Rattle.std.specs.Prelude.{◌≡◌, ◌+◌, ◌*◌, ◌/◌, ◌<◌, ◌≤◌, ◌-◌, [], ◌∷◌, ◌++◌, length, drop, replicate, slice_index, Some, IsOk, OnOk, OnErr};
 ghost use Rattle.std.specs.List.{replace_range};
 ghost use Rattle.wb_model.specs.Spelling.{header_at, kind_of};
 ghost use Rattle.wb_cells.specs.Segments.{state_of};
 ghost use Rattle.wb_cells.specs.States.{IsState};
 
 use std::alloc::AllocError;
-use wb_chunk::Chunk;
+use wb_chunk::{Chunk, MOST_WORDS};
 use wb_model::heap::{Header, Kind};
 
 /// The link of the last free cell.
 pub const NONE: u32 = 0xffff_ffff;
+
+/// How many words so many bytes are, in whole places of 16 bytes; so a place's first word has this index.
+pub fn words_in(bytes: u32) -> u32
+    ensures { result ≡ bytes / 16 * 4 }
+{
+    bytes / 16 * 4
+}
+
+/// The index of the first payload word of the cell at a place.
+pub fn payload_at(place: u32) -> u32
+    ensures { result ≡ place / 16 * 4 + 4 }
+{
+    words_in(place) + 4
+}
 
 /// The state word of a live cell.
 pub fn state_of(kind: Kind) -> u32
@@ -30,7 +44,7 @@ pub fn state_of(kind: Kind) -> u32
 /// The kind that a state word spells.
 pub fn kind_of(state: u32) -> Kind
     requires { IsState state }
-    ensures { result ≡ kind_of state }
+    ensures { kind_of state ≡ Some result }
 {
     match state {
         1 => Kind::Raw,
@@ -44,9 +58,9 @@ pub fn kind_of(state: u32) -> Kind
 pub fn header_at(words: &Chunk, place: u32) -> Header
     requires within { place / 16 * 4 + 4 ≤ length words.now }
     requires live { IsState (slice_index words.now (place / 16 * 4 + 1)) }
-    ensures { result ≡ header_at place (drop (place / 16 * 4) words.now) }
+    ensures { header_at place (drop (place / 16 * 4) words.now) ≡ Some result }
 {
-    let at = place / 16 * 4;
+    let at = words_in(place);
     Header {
         place,
         length: words.word(at),
@@ -62,17 +76,19 @@ pub fn write_header(words: &mut Chunk, place: u32, bytes: u32, state: u32, link:
     ensures count { length words.new ≡ length words.old }
     ensures words { words.new ≡ replace_range words.old (place / 16 * 4) (place / 16 * 4 + 4) (bytes ∷ state ∷ link ∷ number ∷ []) }
 {
-    let at = place / 16 * 4;
+    let at = words_in(place);
     words.set_word(at, bytes);
     words.set_word(at + 1, state);
     words.set_word(at + 2, link);
     words.set_word(at + 3, number);
 }
 
-/// Appends words that are 0, up to so many words. Where memory is refused, the words are as they were.
+/// Appends words that are 0 until there are `count`. Where memory is refused, the words are as they were; it takes
+/// none where there are so many.
 pub fn grow_to(words: &mut Chunk, count: u32) -> Result<(), AllocError>
-    requires { count ≤ 4194304 }
+    requires { count ≤ MOST_WORDS }
     ensures grown { OnOk result (words.new ≡ words.old ++ replicate (count - length words.old) 0) }
+    ensures enough { count ≤ length words.old → IsOk result }
     ensures refused { OnErr result (words.new ≡ words.old) }
 {
     if count <= words.words() {

@@ -1,6 +1,10 @@
 //! Cells end to end in a chunk of words: headers, payloads, and the free cells linked in order of place.
 #![tactic(auto)]
 
+pub use cells::Cells;
+pub use wb_model::heap::{Header, Ptr};
+pub use wb_model::memory::NoMemory;
+
 pub mod cells;
 mod free_list;
 mod layout;

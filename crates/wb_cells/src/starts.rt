@@ -1,6 +1,6 @@
 //! One bit for each place of 16 bytes, which says whether a live cell begins there.
 
-ghost use Rattle.std.specs.Prelude.{◌≡◌, ◌+◌, ◌-◌, ◌*◌, ◌/◌, ◌<◌, ◌≤◌, [], ◌++◌, length, replicate, slice_set, slice_index_or, false, OnOk, OnErr};
+ghost use Rattle.std.specs.Prelude.{◌≡◌, ◌+◌, ◌-◌, ◌*◌, ◌/◌, ◌<◌, ◌≤◌, [], ◌++◌, length, replicate, slice_set, slice_index_or, false, IsOk, OnOk, OnErr};
 ghost use Rattle.wb_cells.specs.Starts.{IsNext};
 ghost use Rattle.wb_cells.specs.Bits.{IsWithBit};
 
@@ -8,6 +8,10 @@ use crate::layout;
 use std::alloc::{AllocError, Global};
 use std::marker::Model;
 use wb_chunk::Chunk;
+use wb_model::limits::CEILING;
+
+/// How many places a chunk may have.
+const MOST_PLACES: u32 = CEILING / 16;
 
 /// A list of bits, 32 to a word, which grows at its end.
 #[derive(Drop)]
@@ -16,14 +20,16 @@ pub struct Starts {
 }
 
 impl Model for Starts {
-    ghost use Rattle.std.specs.Prelude.{List, Bool, length, ◌≤◌};
+    ghost use Rattle.std.specs.Prelude.{List, Bool, length, ◌*◌, ◌≤◌};
     ghost use Rattle.wb_cells.specs.Bits.{bits_of};
 
     ghost Value = { List Bool };
 
     ghost view = { λ s. bits_of s.words };
 
-    ghost invariant = { λ s. length s.words ≤ 32768 };
+    ghost use Rattle.wb_cells.specs.declared.starts.TheConstants.{MOST_PLACES};
+
+    ghost invariant = { λ s. 32 * length s.words ≤ MOST_PLACES };
 }
 
 impl Starts {
@@ -39,15 +45,17 @@ impl Starts {
     /// How many bits there are.
     pub fn count(&self) -> u32
         ensures count { result ≡ length self.now }
-        ensures most { length self.now ≤ 1048576 }
+        ensures most { length self.now ≤ MOST_PLACES }
     {
         32 * self.words.words()
     }
 
-    /// Appends bits that are off, up to so many bits, in steps of 32. Where memory is refused, the bits are as they were.
+    /// Appends bits that are off, in steps of 32, until there are at least `count`. Where memory is refused, the bits
+    /// are as they were; it takes none where there are so many.
     pub fn grow_to(&mut self, count: u32) -> Result<(), AllocError>
-        requires { count ≤ 1048576 }
+        requires { count ≤ MOST_PLACES }
         ensures grown { OnOk result (self.new ≡ self.old ++ replicate (32 * ((count + 31) / 32) - length self.old) false) }
+        ensures enough { count ≤ length self.old → IsOk result }
         ensures refused { OnErr result (self.new ≡ self.old) }
     {
         layout::grow_to(&mut self.words, count.div_ceil(32))?;

@@ -1,3 +1,3 @@
+pub mod Fields
 pub mod Halves
-pub mod Holding
 pub mod Lending

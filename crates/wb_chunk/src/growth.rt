@@ -1,6 +1,6 @@
 //! How a region is filled, and by how much it grows: plain code over a region's own calls.
 
-ghost use Rattle.std.specs.Prelude.{◌≡◌, ◌+◌, ◌*◌, ◌≤◌, ◌++◌, length, min, replicate};
+ghost use Rattle.std.specs.Prelude.{◌≡◌, ◌+◌, ◌*◌, ◌≤◌, ◌++◌, length, max, min, replicate};
 
 use crate::MOST_WORDS;
 use crate::region::Region;
@@ -32,11 +32,12 @@ pub(crate) fn append_zeros(region: &mut Region<Global>, count: u32, n: u32)
     }
 }
 
-/// For how many words the next region has room: for those wanted, and for twice as many as before as far as the bound
-/// allows.
+/// For how many words the next region has room: for twice as many as before as far as the bound allows, or for those
+/// wanted where they are more.
 pub(crate) fn larger(capacity: u32, wanted: u32) -> u32
     requires { (capacity ≤ MOST_WORDS) × (wanted ≤ MOST_WORDS) }
-    ensures { (wanted ≤ result) × (min (2 * capacity) MOST_WORDS ≤ result) × (result ≤ MOST_WORDS) }
+    ensures room { (wanted ≤ result) × (min (2 * capacity) MOST_WORDS ≤ result) }
+    ensures most { (result ≤ max (2 * capacity) wanted) × (result ≤ MOST_WORDS) }
 {
     (2 * capacity).max(wanted).min(MOST_WORDS)
 }

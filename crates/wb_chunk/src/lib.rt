@@ -4,7 +4,7 @@
 //! pointer. What words mean stands in the crates above.
 #![tactic(auto)]
 
-ghost use Rattle.std.specs.Prelude.{◌≡◌, ◌+◌, ◌*◌, ◌^◌, ◌<◌, ◌≤◌, [], ◌++◌, length, replicate, slice_index, slice_set, slice_range, OnOk, OnErr};
+ghost use Rattle.std.specs.Prelude.{◌≡◌, ◌+◌, ◌*◌, ◌^◌, ◌<◌, ◌≤◌, [], ◌++◌, length, replicate, slice_index, slice_set, slice_range, IsOk, OnOk, OnErr};
 ghost use Rattle.std.specs.List.{All, replace_range};
 ghost use Rattle.wb_chunk.specs.Halves.{half_of, with_half};
 
@@ -18,7 +18,7 @@ mod region;
 #[cfg(test)]
 mod tests;
 
-/// The most words that a chunk can have: 16,777,216 bytes, the ceiling of a simulated heap in this project's profile.
+/// The most words that a chunk can have: 16,777,216 bytes, the ceiling of a simulated heap.
 pub const MOST_WORDS: u32 = 4_194_304;
 
 /// A list of words, which grows at its end and never shrinks. Contracts see it as that list; each word is below 2^32,
@@ -32,13 +32,13 @@ pub struct Chunk {
 
 impl Model for Chunk {
     ghost use Rattle.std.specs.Prelude.{ℕ, List};
-    ghost use Rattle.wb_chunk.specs.Holding.{words_of, IsHeld};
+    ghost use Rattle.wb_chunk.specs.Fields.{words_of, IsKept};
 
     ghost Value = { List ℕ };
 
     ghost view = { λ c. words_of c.region };
 
-    ghost invariant = { λ c. IsHeld c.region c.count c.capacity c.alloc };
+    ghost invariant = { λ c. IsKept c.region c.count c.capacity c.alloc };
 }
 
 impl Drop for Chunk {
@@ -79,11 +79,13 @@ impl Chunk {
         words.len() as u32
     }
 
-    /// Appends `n` words that are 0. On `Err` memory was refused, and the chunk is as it was. The region at least
-    /// doubles where it has to grow, so that many small growths cost no more than the words that they append.
+    /// Appends `n` words that are 0. On `Err` memory was refused, and the chunk is as it was; no words are always
+    /// appended. Where the region has to grow it doubles, or gets as long as is wanted where that is more, so that many
+    /// small growths cost no more than the words that they append.
     pub fn grow(&mut self, n: u32) -> Result<(), AllocError>
         requires { length self.old + n ≤ MOST_WORDS }
         ensures grown { OnOk result (self.new ≡ self.old ++ replicate n 0) }
+        ensures nothing { n ≡ 0 → IsOk result }
         ensures refused { OnErr result (self.new ≡ self.old) }
     {
         let count = self.count + n;

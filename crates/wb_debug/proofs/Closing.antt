@@ -34,7 +34,7 @@ pub lowered-kept : (inside : Inside) (heap : LimitedHeap) (from level : ℕ) →
 lowered-kept inside heap from level is sound kept = record {
   sound = sound;
   limit = ap (λ (h : LimitedHeap). h.limit) is ∙ kept.limit;
-  numbered = subst (λ (h : LimitedHeap). All (λ g. g.number ≤ length inside.trace) (headers h.row)) (sym is)
-      (All-lowered (length inside.trace) from inside.heap.row kept.numbered);
+  numbered = subst (λ (h : LimitedHeap). All (λ g. g.number ≤ inside.attempts) (headers h.row)) (sym is)
+      (All-lowered (inside.attempts) from inside.heap.row kept.numbered);
   counted = kept.counted;
 }

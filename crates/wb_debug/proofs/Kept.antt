@@ -38,6 +38,7 @@ kept-sound inside kept = record {
     counted = kept.numbered k h lt;
     within = omega (arith, kept.sound.within k h lt, kept.sound.bound, kept.limit);
   };
+  attempts = kept.counted;
   shape = kept.sound.shape;
 }
 
@@ -57,7 +58,7 @@ cell-live inside d p is kept =
     (find-All (IsLiveIn (debug_of inside)) (is_at p) (headers inside.heap.row) (kept-sound inside kept).live))
 
 -- another heap under the same limit, whose cells are of attempts that were made
-pub heap-kept : (inside : Inside) (heap : LimitedHeap) → heap.limit ≡ inside.heap.limit → All (λ h. h.number ≤ length inside.trace) (headers heap.row) →
+pub heap-kept : (inside : Inside) (heap : LimitedHeap) → heap.limit ≡ inside.heap.limit → All (λ h. h.number ≤ inside.attempts) (headers heap.row) →
     IsSoundHeap heap → IsKept inside → IsKept (record inside { heap = heap })
 heap-kept inside heap limit numbered sound kept = record { sound = sound; limit = limit ∙ kept.limit; numbered = numbered; counted = kept.counted }
 
@@ -66,16 +67,16 @@ pub changed-kept : (inside : Inside) (heap : LimitedHeap) (p : Ptr) (words : Lis
     IsKept (record inside { heap = heap })
 changed-kept inside heap p words is sound kept =
     heap-kept inside heap (ap (λ (h : LimitedHeap). h.limit) is)
-    (subst (λ (h : LimitedHeap). All (λ g. g.number ≤ length inside.trace) (headers h.row)) (sym is)
-    (subst (All (λ g. g.number ≤ length inside.trace)) (sym (headers-changed p (λ _. words) inside.heap.row)) kept.numbered)) sound kept
+    (subst (λ (h : LimitedHeap). All (λ g. g.number ≤ inside.attempts) (headers h.row)) (sym is)
+    (subst (All (λ g. g.number ≤ inside.attempts)) (sym (headers-changed p (λ _. words) inside.heap.row)) kept.numbered)) sound kept
 
 -- a release
 pub released-kept : (inside : Inside) (heap : LimitedHeap) (p : Ptr) → heap ≡ heap_without inside.heap p → IsSoundHeap heap → IsKept inside →
     IsKept (record inside { heap = heap })
 released-kept inside heap p is sound kept =
     heap-kept inside heap (ap (λ (h : LimitedHeap). h.limit) is)
-    (subst (λ (h : LimitedHeap). All (λ g. g.number ≤ length inside.trace) (headers h.row)) (sym is)
-    (All-heap_without (λ g. g.number ≤ length inside.trace) inside.heap p kept.numbered)) sound kept
+    (subst (λ (h : LimitedHeap). All (λ g. g.number ≤ inside.attempts) (headers h.row)) (sym is)
+    (All-heap_without (λ g. g.number ≤ inside.attempts) inside.heap p kept.numbered)) sound kept
 
 -- the heap as it was
 pub same-kept : (inside : Inside) (heap : LimitedHeap) → heap ≡ inside.heap → IsKept inside → IsKept (record inside { heap = heap })
@@ -91,32 +92,30 @@ set-kept inside heap level setting trace is same kept =
 
 -- an attempt that was counted
 pub counted-kept : (inside : Inside) (heap : LimitedHeap) (setting : Setting) (trace : List Attempt) (line : Attempt) → heap.limit ≡ inside.heap.limit →
-    All (λ h. h.number ≤ length inside.trace + 1) (headers heap.row) → IsSoundHeap heap → trace ≡ inside.trace ++ line ∷ [] → length inside.trace + 1 < 2 ^ 32 →
-    IsKept inside → IsKept (record inside { heap = heap; setting = setting; trace = trace })
-counted-kept inside heap setting trace line limit numbered sound more fits kept =
-    let n : length trace ≡ length inside.trace + 1 = ap length more ∙ length-append inside.trace (line ∷ []) in
-    record {
-      sound = sound;
-      limit = limit ∙ kept.limit;
-      numbered = λ k h lt. omega (arith, numbered k h lt, n);
-      counted = omega (arith, n, fits);
-    }
+    All (λ h. h.number ≤ inside.attempts + 1) (headers heap.row) → IsSoundHeap heap → trace ≡ inside.trace ++ line ∷ [] → line.number ≡ inside.attempts + 1 →
+    IsKept inside → IsKept (record inside { heap = heap; setting = setting; attempts = line.number; trace = trace })
+counted-kept inside heap setting trace line limit numbered sound more next kept = record {
+  sound = sound;
+  limit = limit ∙ kept.limit;
+  numbered = λ k h lt. omega (arith, numbered k h lt, next);
+  counted = next ∙ ap (λ n. n + 1) kept.counted ∙ sym (ap length more ∙ length-append inside.trace (line ∷ []));
+}
 
 -- one that was granted
-pub granted-kept : (inside : Inside) (heap : LimitedHeap) (setting : Setting) (trace : List Attempt) (line : Attempt) (bytes : ℕ) (kind : Kind) (number level : ℕ) →
-    heap ≡ heap_with inside.heap bytes kind number level → number ≡ length inside.trace + 1 → IsSoundHeap heap → trace ≡ inside.trace ++ line ∷ [] →
-    length inside.trace + 1 < 2 ^ 32 → IsKept inside → IsKept (record inside { heap = heap; setting = setting; trace = trace })
-granted-kept inside heap setting trace line bytes kind number level is next sound more fits kept =
+pub granted-kept : (inside : Inside) (heap : LimitedHeap) (setting : Setting) (trace : List Attempt) (line : Attempt) (bytes : ℕ) (kind : Kind) (level : ℕ) →
+    heap ≡ heap_with inside.heap bytes kind line.number level → line.number ≡ inside.attempts + 1 → IsSoundHeap heap → trace ≡ inside.trace ++ line ∷ [] →
+    IsKept inside → IsKept (record inside { heap = heap; setting = setting; attempts = line.number; trace = trace })
+granted-kept inside heap setting trace line bytes kind level is next sound more kept =
     counted-kept inside heap setting trace line (ap (λ (h : LimitedHeap). h.limit) is)
-    (subst (λ (h : LimitedHeap). All (λ g. g.number ≤ length inside.trace + 1) (headers h.row)) (sym is)
-    (All-heap_with (λ g. g.number ≤ length inside.trace + 1) inside.heap bytes kind number level (omega (arith, next)) (λ k h lt. omega (arith, kept.numbered k h lt))))
-    sound more fits kept
+    (subst (λ (h : LimitedHeap). All (λ g. g.number ≤ inside.attempts + 1) (headers h.row)) (sym is)
+    (All-heap_with (λ g. g.number ≤ inside.attempts + 1) inside.heap bytes kind line.number level (omega (arith, next)) (λ k h lt. omega (arith, kept.numbered k h lt))))
+    sound more next kept
 
 -- one that was refused
 pub refused-kept : (inside : Inside) (setting : Setting) (trace : List Attempt) (line : Attempt) → trace ≡ inside.trace ++ line ∷ [] →
-    length inside.trace + 1 < 2 ^ 32 → IsKept inside → IsKept (record inside { setting = setting; trace = trace })
-refused-kept inside setting trace line more fits kept =
-    counted-kept inside inside.heap setting trace line refl (λ k h lt. omega (arith, kept.numbered k h lt)) kept.sound more fits kept
+    line.number ≡ inside.attempts + 1 → IsKept inside → IsKept (record inside { setting = setting; attempts = line.number; trace = trace })
+refused-kept inside setting trace line more next kept =
+    counted-kept inside inside.heap setting trace line refl (λ k h lt. omega (arith, kept.numbered k h lt)) kept.sound more next kept
 
 -- what a result says beside its value
 pub on-ok : {T E : Type 0} (r : Result T E) (P : T → Type 0) (Q : Type 0) → IsOkAnd r P → OnOk r Q → Q
@@ -136,4 +135,4 @@ on-err (Err e) Q given q = q
 pub compressed-kept : (inside : Inside) (heap : LimitedHeap) → heap ≡ heap_compressed inside.heap → IsSoundHeap heap → IsKept inside → IsKept (record inside { heap = heap })
 compressed-kept inside heap is sound kept =
     heap-kept inside heap (ap (λ (h : LimitedHeap). h.limit) is)
-    (subst (λ (h : LimitedHeap). All (λ g. g.number ≤ length inside.trace) (headers h.row)) (sym is) kept.numbered) sound kept
+    (subst (λ (h : LimitedHeap). All (λ g. g.number ≤ inside.attempts) (headers h.row)) (sym is) kept.numbered) sound kept

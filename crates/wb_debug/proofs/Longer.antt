@@ -85,13 +85,14 @@ made-longer inside p bytes len line is =
     ∙ ap (λ n. made_of inside is.cell (growth inside is.cell.head n) (answer_in d (growth inside is.cell.head n))) (sym is.long)
     ∙ ap (made_of inside is.cell (growth inside is.cell.head len)) is.answer
 
--- what callers see of a heap, a setting and a trace
-abbrev told : Inside → LimitedHeap → rules.Setting → List Attempt → Debug
-told inside heap setting trace = record {
+-- what callers see of a heap, a setting, a number of attempts and their trace
+abbrev told : Inside → LimitedHeap → rules.Setting → ℕ → List Attempt → Debug
+told inside heap setting attempts trace = record {
   heap = record { row = heap.row; level = inside.level; setting = setting };
   rule = inside.rule;
   shape = heap.shape;
   committed = heap.committed;
+  attempts = attempts;
   trace = trace;
 }
 
@@ -106,7 +107,7 @@ lines-added inside p bytes len line trace answer is e more =
 pub granted-debug : (inside : Inside) (p : Ptr) (bytes len : ℕ) (line : Attempt) (heap : LimitedHeap) (setting : Setting) (trace : List Attempt) →
     IsAsked inside p bytes len line → line.answer ≡ Granted → IsSomeAnd (cell_at p inside.heap.row) (λ c. heap ≡ heap_reallocated inside.heap c len line.number) →
     trace ≡ inside.trace ++ line ∷ [] → setting_of setting ≡ after_attempt (setting_of inside.setting) → IsKept inside →
-    IfSome (cell_at p inside.heap.row) (λ c. debug_of (record inside { heap = heap; setting = setting; trace = trace }) ≡ (realloc_made (debug_of inside) c bytes).debug)
+    IfSome (cell_at p inside.heap.row) (λ c. debug_of (record inside { heap = heap; setting = setting; attempts = line.number; trace = trace }) ≡ (realloc_made (debug_of inside) c bytes).debug)
 granted-debug inside p bytes len line heap setting trace is e done more counted kept =
     let c = is.cell in
     let number : ℕ = number_of_next (debug_of inside) in
@@ -116,11 +117,12 @@ granted-debug inside p bytes len line heap setting trace is e done more counted 
     subst (λ o. IsSomeAnd o (λ d. heap ≡ heap_reallocated inside.heap d len line.number)) is.found done
     ∙ ap (λ b. cond b (heap_grown inside.heap c len line.number) (heap_shortened inside.heap c len)) is.longer
     ∙ ap (λ (a : Attempt). heap_grown inside.heap c len a.number) is.added in
-    subst (λ o. IfSome o (λ d. debug_of (record inside { heap = heap; setting = setting; trace = trace }) ≡ (realloc_made (debug_of inside) d bytes).debug)) (sym is.found)
-    (ap (λ (h : LimitedHeap). debug_of (record inside { heap = h; setting = setting; trace = trace })) grown
-    ∙ ap (λ s. told inside (heap_grown inside.heap c len number) s trace) counted
-    ∙ ap (told inside (heap_grown inside.heap c len number) after) (lines-added inside p bytes len line trace Granted is e more)
-    ∙ ap (λ b. record (told inside (heap_grown inside.heap c len number) after (inside.trace ++ trace_line number t Granted ∷ []))
+    subst (λ o. IfSome o (λ d. debug_of (record inside { heap = heap; setting = setting; attempts = line.number; trace = trace }) ≡ (realloc_made (debug_of inside) d bytes).debug)) (sym is.found)
+    (ap (λ (h : LimitedHeap). debug_of (record inside { heap = h; setting = setting; attempts = line.number; trace = trace })) grown
+    ∙ ap (λ s. told inside (heap_grown inside.heap c len number) s line.number trace) counted
+    ∙ ap (λ (a : Attempt). told inside (heap_grown inside.heap c len number) after a.number trace) is.added
+    ∙ ap (told inside (heap_grown inside.heap c len number) after number) (lines-added inside p bytes len line trace Granted is e more)
+    ∙ ap (λ b. record (told inside (heap_grown inside.heap c len number) after number (inside.trace ++ trace_line number t Granted ∷ []))
     { committed = committed_by (space_below (bound_below b) inside.heap.shape) inside.heap.committed (t.place + t.length) }) kept.limit
     ∙ sym (ap (λ (m : Made). m.debug) (made-longer inside p bytes len line is ∙ ap (λ a. made_of inside c t (Some a)) e)))
 
@@ -141,16 +143,17 @@ granted-gave inside p bytes len line gave q is e given pointer =
 pub denied-debug : (inside : Inside) (p : Ptr) (bytes len : ℕ) (line : Attempt) (setting : Setting) (trace : List Attempt) →
     IsAsked inside p bytes len line → (line.answer ≡ Simulated) ⊎ (line.answer ≡ Refused) → trace ≡ inside.trace ++ line ∷ [] →
     setting_of setting ≡ after_attempt (setting_of inside.setting) →
-    IfSome (cell_at p inside.heap.row) (λ c. debug_of (record inside { setting = setting; trace = trace }) ≡ (realloc_made (debug_of inside) c bytes).debug)
+    IfSome (cell_at p inside.heap.row) (λ c. debug_of (record inside { setting = setting; attempts = line.number; trace = trace }) ≡ (realloc_made (debug_of inside) c bytes).debug)
 denied-debug inside p bytes len line setting trace is denied more counted =
     let after : rules.Setting = after_attempt (setting_of inside.setting) in
-    subst (λ o. IfSome o (λ d. debug_of (record inside { setting = setting; trace = trace }) ≡ (realloc_made (debug_of inside) d bytes).debug)) (sym is.found)
-    (ap (λ s. told inside inside.heap s trace) counted
-    ∙ ap (told inside inside.heap after) (lines-added inside p bytes len line trace line.answer is refl more)
+    subst (λ o. IfSome o (λ d. debug_of (record inside { setting = setting; attempts = line.number; trace = trace }) ≡ (realloc_made (debug_of inside) d bytes).debug)) (sym is.found)
+    (ap (λ s. told inside inside.heap s line.number trace) counted
+    ∙ ap (λ (a : Attempt). told inside inside.heap after a.number trace) is.added
+    ∙ ap (told inside inside.heap after (number_of_next (debug_of inside))) (lines-added inside p bytes len line trace line.answer is refl more)
     ∙ by line.answer denied ∙ sym (ap (λ (m : Made). m.debug) (made-longer inside p bytes len line is)))
   where
     by : (a : Answer) → (a ≡ Simulated) ⊎ (a ≡ Refused) →
-        told inside inside.heap (after_attempt (setting_of inside.setting))
+        told inside inside.heap (after_attempt (setting_of inside.setting)) (number_of_next (debug_of inside))
         (inside.trace ++ trace_line (number_of_next (debug_of inside)) (growth inside is.cell.head len) a ∷ [])
         ≡ (made_of inside is.cell (growth inside is.cell.head len) (Some a)).debug
     by Granted (inl e) = cc
@@ -173,19 +176,19 @@ denied-gave inside p bytes len line is denied =
 -- what it keeps: the cell had an attempt's number, and keeps it or gets this one's
 pub grown-kept : (inside : Inside) (p : Ptr) (bytes len : ℕ) (line : Attempt) (heap : LimitedHeap) (setting : Setting) (trace : List Attempt) →
     IsAsked inside p bytes len line → IsSomeAnd (cell_at p inside.heap.row) (λ c. heap ≡ heap_reallocated inside.heap c len line.number) → IsSoundHeap heap →
-    trace ≡ inside.trace ++ line ∷ [] → length inside.trace + 1 < 2 ^ 32 → IsKept inside → IsKept (record inside { heap = heap; setting = setting; trace = trace })
-grown-kept inside p bytes len line heap setting trace is done sound more fits kept =
+    trace ≡ inside.trace ++ line ∷ [] → IsKept inside → IsKept (record inside { heap = heap; setting = setting; attempts = line.number; trace = trace })
+grown-kept inside p bytes len line heap setting trace is done sound more kept =
     let c = is.cell in
     let grown : heap ≡ heap_reallocated inside.heap c len line.number =
     subst (λ o. IsSomeAnd o (λ d. heap ≡ heap_reallocated inside.heap d len line.number)) is.found done in
-    let own : c.head.number ≤ length inside.trace = found-all (λ h. h.number ≤ length inside.trace) p (headers inside.heap.row) c.head kept.numbered (found-head p inside.heap.row c is.found) in
-    let new : (grown_pointer inside.heap c.head len line.number).number ≤ length inside.trace + 1 = by c own (nat_eq (place_to_grow inside.heap c.head len) c.head.place) in
+    let own : c.head.number ≤ inside.attempts = found-all (λ h. h.number ≤ inside.attempts) p (headers inside.heap.row) c.head kept.numbered (found-head p inside.heap.row c is.found) in
+    let new : (grown_pointer inside.heap c.head len line.number).number ≤ inside.attempts + 1 = by c own (nat_eq (place_to_grow inside.heap c.head len) c.head.place) in
     counted-kept inside heap setting trace line (ap (λ (h : LimitedHeap). h.limit) grown ∙ limit c (nat_lt c.head.length len))
-    (subst (λ (h : LimitedHeap). All (λ g. g.number ≤ length inside.trace + 1) (headers h.row)) (sym grown)
-    (All-heap_reallocated (λ g. g.number ≤ length inside.trace + 1) inside.heap c len line.number new (omega (arith, own)) (λ k h lt. omega (arith, kept.numbered k h lt))))
-    sound more fits kept
+    (subst (λ (h : LimitedHeap). All (λ g. g.number ≤ inside.attempts + 1) (headers h.row)) (sym grown)
+    (All-heap_reallocated (λ g. g.number ≤ inside.attempts + 1) inside.heap c len line.number new (omega (arith, own)) (λ k h lt. omega (arith, kept.numbered k h lt))))
+    sound more (ap (λ (a : Attempt). a.number) is.added) kept
   where
-    by : (c : Cell (List ℕ)) → c.head.number ≤ length inside.trace → (b : Bool) → cond b c.head.number line.number ≤ length inside.trace + 1
+    by : (c : Cell (List ℕ)) → c.head.number ≤ inside.attempts → (b : Bool) → cond b c.head.number line.number ≤ inside.attempts + 1
     by c own true = omega (arith, own)
     by c own false = omega (arith, ap (λ (a : Attempt). a.number) is.added)
 
@@ -204,9 +207,9 @@ shortened-kept inside p h len number heap e shorter done sound kept =
     let short : heap ≡ heap_shortened inside.heap c len =
     subst (λ o. IsSomeAnd o (λ d. heap ≡ heap_reallocated inside.heap d len number)) is.found done
     ∙ ap (λ b. cond b (heap_grown inside.heap c len number) (heap_shortened inside.heap c len)) test in
-    let own : c.head.number ≤ length inside.trace = found-all (λ g. g.number ≤ length inside.trace) p (headers inside.heap.row) c.head kept.numbered (found-head p inside.heap.row c is.found) in
+    let own : c.head.number ≤ inside.attempts = found-all (λ g. g.number ≤ inside.attempts) p (headers inside.heap.row) c.head kept.numbered (found-head p inside.heap.row c is.found) in
     heap-kept inside heap (ap (λ (g : LimitedHeap). g.limit) short)
-    (subst (λ (g : LimitedHeap). All (λ x. x.number ≤ length inside.trace) (headers g.row)) (sym short)
-    (All-inserted (λ x. x.number ≤ length inside.trace) (record { head = record c.head { length = len }; content = resized_words len c.content })
-    (without (pointer_to c.head) inside.heap.row) own (All-heap_without (λ x. x.number ≤ length inside.trace) inside.heap (pointer_to c.head) kept.numbered)))
+    (subst (λ (g : LimitedHeap). All (λ x. x.number ≤ inside.attempts) (headers g.row)) (sym short)
+    (All-inserted (λ x. x.number ≤ inside.attempts) (record { head = record c.head { length = len }; content = resized_words len c.content })
+    (without (pointer_to c.head) inside.heap.row) own (All-heap_without (λ x. x.number ≤ inside.attempts) inside.heap (pointer_to c.head) kept.numbered)))
     sound kept

@@ -1,5 +1,5 @@
 -- What contracts see of the debug heap, from what it holds, and what it keeps.
-use Rattle.std.specs.Prelude.{◌≡◌, ◌≤◌, ◌<◌, ◌^◌, All, length}
+use Rattle.std.specs.Prelude.{◌≡◌, ◌≤◌, All, length}
 use Rattle.wb_model.specs.Debug.{Debug}
 use Rattle.wb_model.specs.LimitedHeap.{IsSoundHeap}
 use Rattle.wb_model.specs.Row.{headers}
@@ -13,12 +13,13 @@ debug_of inside = record {
   rule = inside.rule;
   shape = inside.heap.shape;
   committed = inside.heap.committed;
+  attempts = inside.attempts;
   trace = inside.trace;
 }
 
--- the heap's limit is the rule's, and each live cell has the number of an attempt that was made
+-- the heap's limit is the rule's, each live cell has the number of an attempt that was made, and each attempt has its line
 pub record IsKept (inside : Inside) : Type 0 where
   pub sound : IsSoundHeap inside.heap
   pub limit : inside.heap.limit ≡ limit_under inside.rule
-  pub numbered : All (λ h. h.number ≤ length inside.trace) (headers inside.heap.row)
-  pub counted : length inside.trace < 2 ^ 32
+  pub numbered : All (λ h. h.number ≤ inside.attempts) (headers inside.heap.row)
+  pub counted : inside.attempts ≡ length inside.trace

@@ -1,12 +1,11 @@
-//! The debug heap and its calls. The cells stand in the crate below.
+//! The debug heap: attempts, releases, marks, the script's own setting and notes. Headers and the words of payloads stand in
+//! `payloads`, the cells in the crate below.
 
-ghost use Rattle.std.specs.Prelude.{◌≡◌, ◌+◌, ◌*◌, ◌^◌, ◌<◌, ◌≤◌, ◌++◌, ◌↔◌, false, None, Some, length, take, drop, slice_index, slice_set, option_map, IfOk, IfErr, IfSome, IsOk, IsErr, IsOkAnd, IsSome, OnOk, OnErr};
-ghost use Rattle.wb_chunk.specs.Halves.{half_of, with_half};
+ghost use Rattle.std.specs.Prelude.{◌≡◌, ◌≢◌, ◌+◌, ◌^◌, ◌<◌, ◌≤◌, ◌↔◌, false, None, Some, length, option_map, IfOk, IfErr, IfSome, IsOk, IsErr, IsOkAnd, IsSome, OnOk, OnErr};
 ghost use Rattle.wb_debug.specs.Lines.{DropsLast};
-ghost use Rattle.wb_model.specs.CellRow.{payload_of};
-ghost use Rattle.wb_model.specs.Debug.{IsLiveIn, IsSoundDebug, alloc_made, answer_in, check_all_refusal, check_refusal, debug_changed, debug_compressed, debug_without, first_debug, leaks_of_heap, trace_line, note_of_available, note_of_compress, note_of_heap, number_of_next, realloc_made, release_refusal, with_setting};
-ghost use Rattle.wb_model.specs.Heap.{after_mark, after_mark_end, mark_end_refusal, request_at};
-ghost use Rattle.wb_model.specs.Row.{cell_at, cell_length, usable_of};
+ghost use Rattle.wb_model.specs.Debug.{IsSoundDebug, alloc_made, answer_in, check_all_refusal, check_refusal, debug_compressed, debug_without, first_debug, leaks_of_heap, trace_line, note_of_available, note_of_compress, note_of_heap, number_of_next, realloc_made, release_refusal, with_setting};
+ghost use Rattle.wb_model.specs.Heap.{after_mark, after_mark_end, alloc_request, mark_end_refusal, realloc_request, request_at};
+ghost use Rattle.wb_model.specs.Row.{cell_at, cell_length};
 ghost use Rattle.wb_model.specs.Rules.{each, never, next};
 ghost use Rattle.wb_model.specs.Space.{is_shape};
 
@@ -22,24 +21,25 @@ use wb_model::items::Items;
 use wb_model::limits::CEILING;
 use wb_model::memory::NoMemory;
 use wb_model::run::{Leaks, Note, Trace};
-use wb_rheap::fault::HeapFault;
-use wb_rheap::heap::Heap;
+use wb_rheap::{Heap, HeapFault};
 
 /// A simulated heap that counts attempts, refuses those that are to fail, and checks nested marks.
 ///
 /// An attempt to get a cell has a number, from 1 on, also where it is refused; a granted cell bears it. Its place is
 /// chosen first. Then the script's own setting is asked, which counts the attempt; then the rule; then the ceiling.
-/// Each attempt that the ceiling doesn't cut adds its line to the trace. Source: this project's profile.
+/// Each attempt that the ceiling doesn't cut adds its line to the trace.
 #[derive(Drop)]
 pub struct DebugHeap {
-    alloc: Global,
+    pub(crate) alloc: Global,
     /// Its limit is the rule's.
-    heap: Heap,
-    rule: Rule,
+    pub(crate) heap: Heap,
+    pub(crate) rule: Rule,
     /// How many marks are open.
-    level: u32,
-    setting: Setting,
-    trace: Trace,
+    pub(crate) level: u32,
+    pub(crate) setting: Setting,
+    /// How many attempts were made.
+    pub(crate) attempts: u32,
+    pub(crate) trace: Trace,
 }
 
 impl Model for DebugHeap {
@@ -57,11 +57,12 @@ impl Model for DebugHeap {
 impl DebugHeap {
     /// A heap with no cell, before the first attempt.
     ///
-    /// The rule's limit is in bytes. `BadShape` exactly where no heap may have the shape, and else `NoMemory` at worst.
-    /// Source: this project's profile.
+    /// The rule's limit is in bytes. `BadShape` exactly where no heap may have the shape, and else `NoMemory` at worst, and
+    /// not even that where the committed length is 0.
     pub fn new(alloc: Global, rule: Rule, shape: Shape) -> Result<DebugHeap, DebugFault>
         ensures ok { IfOk result (λ heap. heap ≡ first_debug rule shape) }
         ensures shape { (result ≡ Err DebugFault.BadShape) ↔ (is_shape shape ≡ false) }
+        ensures no_growth { (first_debug rule shape).committed ≡ 0 → result ≢ Err DebugFault.NoMemory }
         ensures sound { IfOk result IsSoundDebug }
     {
         let heap = match Heap::new(alloc, limit_under(rule), shape) {
@@ -75,27 +76,28 @@ impl DebugHeap {
             rule,
             level: 0,
             setting: Setting::Never,
+            attempts: 0,
             trace: Items::new(alloc),
         })
     }
 
     /// The live cells but the cleanup stack's, by place: what has leaked, once a run is over.
     ///
-    /// `NoMemory` where there is no room for the list. Source: this project's profile.
+    /// `NoMemory` where there is no room for the list.
     pub fn leaks(&self) -> Result<Leaks, NoMemory>
         ensures { IfOk result (λ leaks. leaks ≡ leaks_of_heap self.now) }
     {
         marks::leaks(self.alloc, &self.heap)
     }
 
-    /// How many attempts were made. Source: this project's profile.
+    /// How many attempts were made.
     pub fn attempts(&self) -> u32
-        ensures { result ≡ length self.now.trace }
+        ensures { result ≡ self.now.attempts }
     {
-        self.trace.len() as u32
+        self.attempts
     }
 
-    /// The attempts that were made, in order. Source: this project's profile.
+    /// The attempts that were made, in order.
     pub fn trace(&self) -> &Trace
         ensures { result.now ≡ self.now.trace }
     {
@@ -112,6 +114,7 @@ impl DebugHeap {
             rule: _,
             level: _,
             setting: _,
+            attempts: _,
             trace,
         } = self;
         trace
@@ -120,16 +123,18 @@ impl DebugHeap {
 
 /// Attempts to get a cell, and releases.
 impl DebugHeap {
-    /// An attempt to get a cell for so many bytes, with zeros for its payload.
+    /// An attempt to get a cell for `bytes` bytes, with zeros for its payload.
     ///
     /// `Denied` where the setting or the rule refuses it, which counts it. `Ceiling` where neither does and the cell
-    /// would end past the ceiling: nothing is counted, and the heap is as it was; so it is on `NoMemory`. Source:
-    /// Symbian OS v9 SDK reference, RHeap, for the grant and the refusal, and this project's profile for their order.
+    /// would end past the ceiling: nothing is counted, and the heap is as it was; so it is on `NoMemory`, which never comes
+    /// in place of `Ceiling`. Source: Symbian OS v9 SDK reference, RHeap, for the grant and the refusal, and this project's
+    /// profile for their order.
     pub fn attempt_alloc(&mut self, bytes: u32, kind: Kind) -> Result<Gave, NoMemory>
         requires bytes { bytes ≤ CEILING }
-        requires number { length self.old.trace + 1 < 2 ^ 32 }
+        requires number { self.old.attempts + 1 < 2 ^ 32 }
         ensures gave { IfOk result (λ gave. gave ≡ (alloc_made self.old bytes kind).gave) }
         ensures made { OnOk result (self.new ≡ (alloc_made self.old bytes kind).debug) }
+        ensures cut { answer_in self.old (alloc_request self.old.heap bytes) ≡ None → IsOk result }
         ensures err { OnErr result (self.new ≡ self.old) }
         ensures sound { IsSoundDebug self.new }
     {
@@ -147,10 +152,11 @@ impl DebugHeap {
             Answer::Simulated | Answer::Refused => Gave::Denied,
         };
         self.setting = self.setting.counted();
+        self.attempts = line.number;
         Ok(gave)
     }
 
-    /// Gives the cell that the pointer names another length, for so many bytes.
+    /// Gives the cell that the pointer names another length, for `bytes` bytes.
     ///
     /// A cell length that isn't longer is no attempt: it answers `Granted` with the pointer, the tail is free, and what
     /// stood there is dropped. A longer one is an attempt, and is answered as `attempt_alloc` does. Its place is the
@@ -161,17 +167,18 @@ impl DebugHeap {
     pub fn attempt_realloc(&mut self, ptr: Ptr, bytes: u32) -> Result<Gave, NoMemory>
         requires live { IsSome (cell_at ptr self.old.heap.row) }
         requires bytes { bytes ≤ CEILING }
-        requires number { length self.old.trace + 1 < 2 ^ 32 }
+        requires number { self.old.attempts + 1 < 2 ^ 32 }
         ensures gave { IfOk result (λ gave. IfSome (cell_at ptr self.old.heap.row) (λ c. gave ≡ (realloc_made self.old c bytes).gave)) }
         ensures made { OnOk result (IfSome (cell_at ptr self.old.heap.row) (λ c. self.new ≡ (realloc_made self.old c bytes).debug)) }
         ensures shorter { IfSome (cell_at ptr self.old.heap.row) (λ c. cell_length bytes ≤ c.head.length → IsOk result) }
+        ensures cut { IfSome (cell_at ptr self.old.heap.row) (λ c. answer_in self.old (realloc_request self.old.heap c.head bytes) ≡ None → IsOk result) }
         ensures err { OnErr result (self.new ≡ self.old) }
         ensures sound { IsSoundDebug self.new }
     {
         let length = cell_length(bytes);
         let cell = self.heap.header(ptr).unwrap();
         if length <= cell.length {
-            let number = self.attempts() + 1;
+            let number = self.attempts + 1;
             return match self.heap.realloc(ptr, length, number) {
                 Ok(ptr) => Ok(Gave::Granted(ptr)),
                 Err(_) => unreachable!(),
@@ -190,18 +197,19 @@ impl DebugHeap {
             Answer::Simulated | Answer::Refused => Gave::Denied,
         };
         self.setting = self.setting.counted();
+        self.attempts = line.number;
         Ok(gave)
     }
 
     /// The line that the next attempt adds to the trace, for a cell of this length at this place, both in bytes; none where
     /// the ceiling cuts the run. The setting is asked first, then the rule, then the ceiling.
     fn next_line(&self, len: u32, place: u32) -> Option<Attempt>
-        requires number { length self.now.trace + 1 < 2 ^ 32 }
+        requires number { self.now.attempts + 1 < 2 ^ 32 }
         requires end { place + len < 2 ^ 32 }
         ensures answer { option_map (λ line. line.answer) result ≡ answer_in self.now (request_at self.now.heap place len) }
         ensures line { IfSome result (λ line. line ≡ trace_line (number_of_next self.now) (request_at self.now.heap place len) line.answer) }
     {
-        let number = self.attempts() + 1;
+        let number = self.attempts + 1;
         let answer = answer(self.setting.due(), self.rule, number, place + len)?;
         Some(Attempt {
             number,
@@ -233,7 +241,7 @@ impl DebugHeap {
     }
 }
 
-/// What an attempt gives that the heap was asked to grant. Where the workbench's own memory was wanting, it is no attempt:
+/// What an attempt gives that the heap was asked to grant. Where the workbench's own memory ran out, it is no attempt:
 /// its line, the trace's last, is taken back.
 fn granted_or_undone(granted: Result<Ptr, HeapFault>, trace: &mut Trace) -> Result<Gave, NoMemory>
     ensures granted { IfOk result (λ gave. IsOkAnd granted (λ ptr. gave ≡ Gave.Granted ptr)) }
@@ -261,10 +269,11 @@ impl DebugHeap {
         self.level += 1;
     }
 
-    /// Closes the innermost mark, where so many live cells are of its level: they take the level below.
+    /// Closes the innermost mark, where `n` live cells are of its level: they take the level below.
     ///
-    /// `Panic::NO_OPEN_MARK` where no mark is open, and else what `check` refuses; the heap is then as it was. Source: Symbian OS
-    /// v9 SDK reference, `__UHEAP_MARKEND` and `__UHEAP_MARKENDC`, and this project's profile for the levels.
+    /// `Panic::NO_OPEN_MARK` where no mark is open, and else what `check` refuses; the heap is then as it was. Source:
+    /// Symbian OS v9 SDK reference, `__UHEAP_MARKEND` and `__UHEAP_MARKENDC`, and this project's profile for the
+    /// levels.
     pub fn mark_end(&mut self, n: u32) -> Result<(), Panic>
         ensures refused { IfErr result (λ panic. mark_end_refusal self.old.heap n ≡ Some panic) }
         ensures fine { OnOk result (mark_end_refusal self.old.heap n ≡ None) }
@@ -282,7 +291,7 @@ impl DebugHeap {
         Ok(())
     }
 
-    /// Expects so many live cells of the current level.
+    /// Expects `n` live cells of the current level.
     ///
     /// Where they are fewer or more, `Alloc` names the place of the lowest, or 0 where there is none. Source: Symbian OS
     /// v9 SDK reference, `__UHEAP_CHECK`, and this project's profile for the cell that is named.
@@ -293,7 +302,7 @@ impl DebugHeap {
         marks::expect(&self.heap, Levels::One(self.level), n)
     }
 
-    /// Expects so many live cells of all levels. It refuses as `check` does. Source: Symbian OS v9 SDK reference,
+    /// Expects `n` live cells of all levels. It refuses as `check` does. Source: Symbian OS v9 SDK reference,
     /// `__UHEAP_CHECKALL`, and this project's profile for the cell that is named.
     pub fn check_all(&self, n: u32) -> Result<(), Panic>
         ensures refused { IfErr result (λ panic. check_all_refusal self.now n ≡ Some panic) }
@@ -362,66 +371,5 @@ impl DebugHeap {
         ensures sound { IsSoundDebug self.new }
     {
         Note::Compress(self.heap.compress())
-    }
-}
-
-/// Headers, and the words of payloads. Words and their halves are counted from 0; the half 2k is the low half of word k.
-impl DebugHeap {
-    /// The header of the cell that the pointer names, or `None` exactly where it names no live cell. Its payload has a
-    /// word for each four bytes of its usable length. Source: this project's profile.
-    pub fn header(&self, ptr: Ptr) -> Option<Header>
-        ensures header { result ≡ option_map (λ c. c.head) (cell_at ptr self.now.heap.row) }
-        ensures live { IfSome result (IsLiveIn self.now) }
-        ensures payload { IfSome result (λ h. 4 * length (payload_of ptr self.now.heap.row) ≡ usable_of h) }
-        ensures sound { IsSoundDebug self.now }
-    {
-        self.heap.header(ptr)
-    }
-
-    /// A word of a payload. Source: this project's profile.
-    pub fn payload(&self, ptr: Ptr, i: u32) -> u32
-        requires { i < length (payload_of ptr self.now.heap.row) }
-        ensures { result ≡ slice_index (payload_of ptr self.now.heap.row) i }
-    {
-        self.heap.payload(ptr, i)
-    }
-
-    /// Changes a word of a payload, and nothing else. Source: this project's profile.
-    pub fn set_payload(&mut self, ptr: Ptr, i: u32, v: u32)
-        requires { i < length (payload_of ptr self.old.heap.row) }
-        ensures changed { self.new ≡ debug_changed self.old ptr (slice_set (payload_of ptr self.old.heap.row) i v) }
-        ensures sound { IsSoundDebug self.new }
-    {
-        self.heap.set_payload(ptr, i, v);
-    }
-
-    /// A half of a payload's words. Source: this project's profile.
-    pub fn payload_half(&self, ptr: Ptr, i: u32) -> u16
-        requires { i < 2 * length (payload_of ptr self.now.heap.row) }
-        ensures { result ≡ half_of (payload_of ptr self.now.heap.row) i }
-    {
-        self.heap.payload_half(ptr, i)
-    }
-
-    /// Changes a half of a payload's words, and nothing else. Source: this project's profile.
-    pub fn set_payload_half(&mut self, ptr: Ptr, i: u32, v: u16)
-        requires { i < 2 * length (payload_of ptr self.old.heap.row) }
-        ensures changed { self.new ≡ debug_changed self.old ptr (with_half (payload_of ptr self.old.heap.row) i v) }
-        ensures sound { IsSoundDebug self.new }
-    {
-        self.heap.set_payload_half(ptr, i, v);
-    }
-
-    /// Copies the first `n` words of one cell's payload to the front of another's, or of its own. Source: this
-    /// project's profile.
-    pub fn copy_payload(&mut self, from: Ptr, to: Ptr, n: u32)
-        requires from_live { IsSome (cell_at from self.old.heap.row) }
-        requires to_live { IsSome (cell_at to self.old.heap.row) }
-        requires source { n ≤ length (payload_of from self.old.heap.row) }
-        requires target { n ≤ length (payload_of to self.old.heap.row) }
-        ensures changed { self.new ≡ debug_changed self.old to (take n (payload_of from self.old.heap.row) ++ drop n (payload_of to self.old.heap.row)) }
-        ensures sound { IsSoundDebug self.new }
-    {
-        self.heap.copy_payload(from, to, n);
     }
 }

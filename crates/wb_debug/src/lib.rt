@@ -4,9 +4,18 @@
 //! What an attempt asks stands in `setting` (the script's own) and `rules` (the run's), what a check counts in `marks`.
 #![tactic(auto)]
 
+pub use debug_heap::DebugHeap;
+pub use fault::DebugFault;
+pub use wb_model::heap::{Answer, Attempt, Gave, Header, Kind, Panic, Ptr, Rule, Shape};
+pub use wb_model::memory::NoMemory;
+pub use wb_model::run::{Leaks, Note, Trace};
+
 pub mod debug_heap;
 pub mod fault;
+#[cfg(test)]
+mod mark_tests;
 mod marks;
+mod payloads;
 mod rules;
 mod setting;
 #[cfg(test)]

@@ -8,11 +8,11 @@ ghost use Rattle.wb_model.specs.Row.{headers};
 ghost use Rattle.wb_model.specs.Run.{leak_of};
 
 use std::alloc::Global;
-use wb_model::heap::{Header, Kind, Panic, Ptr};
+use wb_model::heap::{Header, Kind, Panic};
 use wb_model::items::Items;
 use wb_model::memory::NoMemory;
 use wb_model::run::{Leak, Leaks};
-use wb_rheap::heap::Heap;
+use wb_rheap::Heap;
 
 /// The levels whose cells are counted.
 #[derive(Clone, Copy, Debug, PartialEq, Eq)]
@@ -56,12 +56,12 @@ fn count(heap: &Heap, levels: Levels) -> (u32, u32)
             }
             found += 1;
         }
-        from = cell.place + cell.length;
+        from = cell.end();
     }
     (found, place)
 }
 
-/// Expects so many cells to be counted.
+/// Expects `n` cells to be counted.
 pub fn expect(heap: &Heap, levels: Levels, n: u32) -> Result<(), Panic>
     ensures refused { IfErr result (λ panic. checked (filter (is_counted levels) (headers heap.now.row)) n ≡ Some panic) }
     ensures fine { OnOk result (checked (filter (is_counted levels) (headers heap.now.row)) n ≡ None) }
@@ -82,13 +82,9 @@ pub fn lower(heap: &mut Heap, level: u32)
     let mut from = 0;
     while let Some(cell) = heap.next_live(from) {
         if is_counted(Levels::One(level), cell) {
-            let ptr = Ptr {
-                place: cell.place,
-                number: cell.number,
-            };
-            heap.set_level(ptr, level - 1);
+            heap.set_level(cell.pointer(), level - 1);
         }
-        from = cell.place + cell.length;
+        from = cell.end();
     }
 }
 
@@ -106,7 +102,7 @@ pub fn leaks(alloc: Global, heap: &Heap) -> Result<Leaks, NoMemory>
                 place: cell.place,
             })?;
         }
-        from = cell.place + cell.length;
+        from = cell.end();
     }
     Ok(leaks)
 }

@@ -1,28 +1,28 @@
-//! Worked debug heaps: what scripts ask of the heap, and the answers, places and refusals that their reports must have.
+//! Worked debug heaps: what scripts ask of the heap, and the answers, places and refusals that their reports must have. Those
+//! of marks stand in `mark_tests`.
 
 ghost use Rattle.std.specs.Prelude.{◌≡◌, ◌≤◌};
 
-use crate::debug_heap::DebugHeap;
-use crate::fault::DebugFault;
+use crate::{DebugFault, DebugHeap};
 use std::alloc::Global;
 use std::test::Fail;
 use wb_model::heap::{Answer, Attempt, Gave, Header, Kind, Panic, Ptr, Rule, Shape};
 use wb_model::limits::CEILING;
 use wb_model::run::{Leak, Note};
 
-const SHAPE: Shape = Shape { min: 0, step: 4096 };
+pub(crate) const SHAPE: Shape = Shape { min: 0, step: 4096 };
 
 /// A debug heap, and how many marks are open.
 #[derive(Drop)]
-struct Worked {
-    heap: DebugHeap,
+pub(crate) struct Worked {
+    pub(crate) heap: DebugHeap,
     marks: u32,
     ghost open: { heap.heap.level ≡ marks },
 }
 
 impl Worked {
     /// A heap after attempt 1, for the cleanup stack's 128 bytes.
-    fn start(alloc: Global, rule: Rule, shape: Shape) -> Result<Worked, DebugFault> {
+    pub(crate) fn start(alloc: Global, rule: Rule, shape: Shape) -> Result<Worked, DebugFault> {
         let mut worked = Worked {
             heap: DebugHeap::new(alloc, rule, shape)?,
             marks: 0,
@@ -32,7 +32,7 @@ impl Worked {
     }
 
     /// An attempt to get a cell.
-    fn attempt(&mut self, bytes: u32, kind: Kind) -> Result<Gave, DebugFault>
+    pub(crate) fn attempt(&mut self, bytes: u32, kind: Kind) -> Result<Gave, DebugFault>
         requires { bytes ≤ CEILING }
     {
         if self.heap.attempts() == u32::MAX {
@@ -43,14 +43,14 @@ impl Worked {
     }
 
     /// An attempt to get a raw cell.
-    fn alloc(&mut self, bytes: u32) -> Result<Gave, DebugFault>
+    pub(crate) fn alloc(&mut self, bytes: u32) -> Result<Gave, DebugFault>
         requires { bytes ≤ CEILING }
     {
         self.attempt(bytes, Kind::Raw)
     }
 
     /// A reallocation of a cell, where the pointer names one.
-    fn realloc(&mut self, ptr: Ptr, bytes: u32) -> Result<Gave, DebugFault>
+    pub(crate) fn realloc(&mut self, ptr: Ptr, bytes: u32) -> Result<Gave, DebugFault>
         requires { bytes ≤ CEILING }
     {
         if self.heap.attempts() == u32::MAX || self.heap.header(ptr).is_none() {
@@ -60,12 +60,12 @@ impl Worked {
         Ok(gave)
     }
 
-    fn release(&mut self, ptr: Ptr) -> Result<(), Panic> {
+    pub(crate) fn release(&mut self, ptr: Ptr) -> Result<(), Panic> {
         self.heap.release(ptr)
     }
 
     /// Opens a mark.
-    fn mark(&mut self) -> Result<(), DebugFault> {
+    pub(crate) fn mark(&mut self) -> Result<(), DebugFault> {
         let Some(marks) = self.marks.checked_add(1) else {
             return Err(DebugFault::NoMemory);
         };
@@ -75,7 +75,7 @@ impl Worked {
     }
 
     /// Closes a mark.
-    fn mark_end(&mut self, n: u32) -> Result<(), Panic> {
+    pub(crate) fn mark_end(&mut self, n: u32) -> Result<(), Panic> {
         let closed = self.heap.mark_end(n);
         if closed.is_ok() && self.marks > 0 {
             self.marks -= 1;
@@ -84,9 +84,9 @@ impl Worked {
     }
 
     /// Stores a word, where there is one.
-    fn store(&mut self, ptr: Ptr, i: u32, v: u32) -> bool {
+    pub(crate) fn store(&mut self, ptr: Ptr, i: u32, v: u32) -> bool {
         match self.heap.header(ptr) {
-            Some(header) if i < (header.length - 16) / 4 => {
+            Some(header) if i < header.words() => {
                 self.heap.set_payload(ptr, i, v);
                 true
             }
@@ -95,9 +95,9 @@ impl Worked {
     }
 
     /// Stores a half of a word, where there is one.
-    fn store_half(&mut self, ptr: Ptr, i: u32, v: u16) -> bool {
+    pub(crate) fn store_half(&mut self, ptr: Ptr, i: u32, v: u16) -> bool {
         match self.heap.header(ptr) {
-            Some(header) if i < (header.length - 16) / 2 => {
+            Some(header) if i < 2 * header.words() => {
                 self.heap.set_payload_half(ptr, i, v);
                 true
             }
@@ -105,11 +105,10 @@ impl Worked {
         }
     }
 
-    /// Copies so many words, where both payloads have them.
-    fn copy(&mut self, from: Ptr, to: Ptr, n: u32) -> bool {
+    /// Copies `n` words, where both payloads have them.
+    pub(crate) fn copy(&mut self, from: Ptr, to: Ptr, n: u32) -> bool {
         match (self.heap.header(from), self.heap.header(to)) {
-            (Some(source), Some(target))
-                if n <= (source.length - 16) / 4 && n <= (target.length - 16) / 4 => {
+            (Some(source), Some(target)) if n <= source.words() && n <= target.words() => {
                 self.heap.copy_payload(from, to, n);
                 true
             }
@@ -119,7 +118,7 @@ impl Worked {
 }
 
 /// A cell by its place and number.
-fn cell(place: u32, number: u32) -> Ptr {
+pub(crate) fn cell(place: u32, number: u32) -> Ptr {
     Ptr { place, number }
 }
 
@@ -136,7 +135,7 @@ fn line(number: u32, length: u32, place: u32, answer: Answer) -> Attempt {
     }
 }
 
-fn leak(number: u32, length: u32, place: u32) -> Leak {
+pub(crate) fn leak(number: u32, length: u32, place: u32) -> Leak {
     Leak {
         number,
         length,
@@ -147,7 +146,7 @@ fn leak(number: u32, length: u32, place: u32) -> Leak {
 /// A word of a payload, where there is one.
 fn word(heap: &DebugHeap, ptr: Ptr, i: u32) -> Option<u32> {
     match heap.header(ptr) {
-        Some(header) if i < (header.length - 16) / 4 => Some(heap.payload(ptr, i)),
+        Some(header) if i < header.words() => Some(heap.payload(ptr, i)),
         _ => None,
     }
 }
@@ -155,7 +154,7 @@ fn word(heap: &DebugHeap, ptr: Ptr, i: u32) -> Option<u32> {
 /// A half of a payload's words, where there is one.
 fn half(heap: &DebugHeap, ptr: Ptr, i: u32) -> Option<u16> {
     match heap.header(ptr) {
-        Some(header) if i < (header.length - 16) / 2 => Some(heap.payload_half(ptr, i)),
+        Some(header) if i < 2 * header.words() => Some(heap.payload_half(ptr, i)),
         _ => None,
     }
 }
@@ -252,56 +251,6 @@ fn a_stale_pointer_is_not_released(rt: HostRuntime) -> Result<(), Fail> {
     };
     assert_eq!(rt; worked.heap.header(cell(144, 3)), Some(header));
     assert_eq!(rt; worked.heap.header(old), None);
-    Ok(())
-}
-
-#[test]
-fn a_check_counts_the_current_level(rt: HostRuntime) -> Result<(), Fail> {
-    let mut worked = Worked::start(rt.alloc(), Rule::Unlimited, SHAPE)?;
-    worked.alloc(16)?;
-    worked.mark()?;
-    assert!(rt; worked.heap.check(0).is_ok());
-    assert_eq!(rt; worked.heap.check(1), Err(Panic::Alloc(0)));
-    worked.alloc(16)?;
-    worked.alloc(16)?;
-    assert!(rt; worked.heap.check(2).is_ok());
-    assert_eq!(rt; worked.heap.check(0), Err(Panic::Alloc(0xb0)));
-    assert!(rt; worked.heap.check_all(3).is_ok());
-    assert_eq!(rt; worked.heap.check_all(4), Err(Panic::Alloc(0x90)));
-    let leaks = worked.heap.leaks()?;
-    let told = [leak(2, 32, 144), leak(3, 32, 176), leak(4, 32, 208)];
-    assert!(rt; leaks.as_slice() == told.as_slice());
-    Ok(())
-}
-
-#[test]
-fn a_mark_that_finds_cells_stays_open(rt: HostRuntime) -> Result<(), Fail> {
-    let mut worked = Worked::start(rt.alloc(), Rule::Unlimited, SHAPE)?;
-    assert_eq!(rt; worked.mark_end(0), Err(Panic::NO_OPEN_MARK));
-    worked.mark()?;
-    worked.alloc(16)?;
-    worked.alloc(16)?;
-    assert_eq!(rt; worked.mark_end(0), Err(Panic::Alloc(0x90)));
-    assert!(rt; worked.heap.check(2).is_ok());
-    assert!(rt; worked.mark_end(2).is_ok());
-    assert!(rt; worked.heap.check(2).is_ok());
-    assert_eq!(rt; worked.mark_end(2), Err(Panic::NO_OPEN_MARK));
-    Ok(())
-}
-
-#[test]
-fn nested_marks_hand_cells_outward(rt: HostRuntime) -> Result<(), Fail> {
-    let mut worked = Worked::start(rt.alloc(), Rule::Unlimited, SHAPE)?;
-    worked.mark()?;
-    worked.mark()?;
-    worked.alloc(1)?;
-    assert!(rt; worked.mark_end(1).is_ok());
-    assert!(rt; worked.heap.check(1).is_ok());
-    worked.alloc(1)?;
-    assert!(rt; worked.mark_end(2).is_ok());
-    assert!(rt; worked.heap.check(2).is_ok());
-    let leaks = worked.heap.leaks()?;
-    assert!(rt; leaks.as_slice() == [leak(2, 32, 144), leak(3, 32, 176)].as_slice());
     Ok(())
 }
 

@@ -14,7 +14,7 @@ use Rattle.wb_model.proofs.TextCellsHeap.{IsTextNow, found-other}
 use Rattle.wb_hbuf.specs.declared.sources.Source.{Source}
 use Rattle.wb_hbuf.specs.declared.sources.Source.TheVariants.{Literal, Buffer, Cell, Own}
 use Rattle.wb_hbuf.specs.Sources.{IsApart, IsForeign, source_units}
-use Rattle.wb_hbuf.specs.Drafts.{IsDraft, IsEdited, put}
+use Rattle.wb_hbuf.specs.Drafts.{IsAhead, IsDraft, IsEdited, put}
 use Rattle.wb_hbuf.proofs.Units.{settled, get_or-put_behind, get_or-exactly, get_or-filled}
 use Rattle.wb_hbuf.proofs.Drafts.{text-words, text-has, draft-none, draft-length, draft-behind, draft-then, draft-text}
 
@@ -50,6 +50,19 @@ source-same p words d e own own' (Cell q from count) made apart foreign =
     ap (λ (x : Debug). units_of_part (text_at q x) from count) made
     ∙ ap (λ o. units_of_part (text_in (content_or_nil o)) from count) (found-other p q words d.heap.row apart)
 source-same p words d e own own' (Own from count) made apart foreign = absurd foreign
+
+-- what is read at the beginning wasn't written yet, and what is read behind the text isn't the text's
+pub ahead-first : (len : ℕ) (s : Source) → IsAhead 0 len s
+ahead-first len (Literal chars from count) = tt
+ahead-first len (Buffer buf from count) = tt
+ahead-first len (Cell q from count) = tt
+ahead-first len (Own from count) = inl (omega arith)
+
+pub ahead-last : (len : ℕ) (s : Source) → IsAhead len len s
+ahead-last len (Literal chars from count) = tt
+ahead-last len (Buffer buf from count) = tt
+ahead-last len (Cell q from count) = tt
+ahead-last len (Own from count) = inr (omega arith)
 
 module _ (p : Ptr) (d : Debug) (is : IsTextAt p d) where
   abbrev pub len : ℕ
@@ -94,22 +107,17 @@ module _ (p : Ptr) (d : Debug) (is : IsTextAt p d) where
       ∙ ap (λ m. exactly m t) draft.room in
       draft-text p d f n (put n (replicate (len - n) 0) us) t is (draft-then p d e len us has draft f n (put n (replicate (len - n) 0) us) then') (sym long) filled (omega (arith, long, fits))
 
-  -- a copy
-  pub copied : (e f : Debug) (n : ℕ) (us : List ℕ) → IsDraft p d e len (put 0 us all) →
+  -- units in place of the text from a position on
+  pub overwritten : (e f : Debug) (at n : ℕ) (us : List ℕ) → IsDraft p d e len (put at us all) →
       IsDraft p e f n (put n (replicate (slice_index (payload_of p e.heap.row) 0 - n) 0) (units_behind (payload_of p e.heap.row))) →
-      length us ≡ n → n ≤ room → IsTextNow p d f us
-  copied e f n us draft last long fits =
-      edited-by e f n (put 0 us all) us draft last long fits (take_at us (drop (0 + length us) all) n long)
-      (λ k past. get_or-put_behind 0 us all k (omega arith) (omega (arith, long, past)) ∙ zeros-behind k (omega (arith, past)))
-
-  -- an append
-  pub appended : (e f : Debug) (n : ℕ) (us : List ℕ) → IsDraft p d e len (put len us all) →
-      IsDraft p e f n (put n (replicate (slice_index (payload_of p e.heap.row) 0 - n) 0) (units_behind (payload_of p e.heap.row))) →
-      len + length us ≡ n → n ≤ room → IsTextNow p d f (text ++ us)
-  appended e f n us draft last long fits =
-      let whole : length (text ++ us) ≡ n = omega (arith, length-append text us, text-len, long) in
-      edited-by e f n (put len us all) (text ++ us) draft last whole fits (take_at (text ++ us) (drop (len + length us) all) n whole)
-      (λ k past. get_or-put_behind len us all k (omega (arith, all-long, text-len, text-fits)) (omega (arith, long, past)) ∙ zeros-behind k (omega (arith, long, past)))
+      at + length us ≡ n → n ≤ room → at ≤ len → IsTextNow p d f (take at text ++ us)
+  overwritten e f at n us draft last long fits within =
+      let front-is : take at all ≡ take at text = sym (take-take at len all within) in
+      let whole : length (take at text ++ us) ≡ n =
+      omega (arith, length-append (take at text) us, length-take-le at text (omega (arith, text-len, within)), long) in
+      edited-by e f n (put at us all) (take at text ++ us) draft last whole fits
+      (ap (λ vs. take n (vs ++ us ++ drop (at + length us) all)) front-is ∙ take_at (take at text ++ us) (drop (at + length us) all) n whole)
+      (λ k past. get_or-put_behind at us all k (omega (arith, all-long, text-len, text-fits, within)) (omega (arith, long, past)) ∙ zeros-behind k (omega (arith, past)))
 
   -- the units of another text are put into a gap
   pub gap-filled : (e f : Debug) (at : ℕ) (us : List ℕ) (s : Source) → IsDraft p d e len us →

@@ -1,34 +1,37 @@
 //! The calls on texts in cells, and the edit of a buffer that may read one.
 
-ghost use Rattle.std.specs.Prelude.{◌≡◌, ◌+◌, ◌*◌, ◌^◌, ◌<◌, ◌≤◌, [], length, IfOk, IfSome, IsOk, OnErr, OnOk};
-ghost use Rattle.wb_hbuf.specs.Drafts.{IsEdited, IsMeasured};
+ghost use Rattle.std.specs.Prelude.{◌≡◌, ◌+◌, ◌*◌, ◌^◌, ◌<◌, ◌≤◌, ◌++◌, [], length, take, None, IfOk, IfSome, IsOk, OnErr, OnOk};
+ghost use Rattle.wb_hbuf.specs.Drafts.{IsAhead, IsEdited, IsMeasured};
 ghost use Rattle.wb_hbuf.specs.Sources.{IsApart, IsForeign, IsReadableAlone, IsSource, SuitsEdit, cell_edited, edit_text, source_units};
-ghost use Rattle.wb_model.specs.Debug.{IsSoundDebug, alloc_made, realloc_made};
+ghost use Rattle.wb_model.specs.Debug.{IsSoundDebug, alloc_made, answer_in, realloc_made};
+ghost use Rattle.wb_model.specs.Heap.{alloc_request, realloc_request};
 ghost use Rattle.wb_model.specs.Reading.{printed, printed_unit};
 ghost use Rattle.wb_model.specs.Row.{cell_at, cell_length};
 ghost use Rattle.wb_model.specs.TextCells.{IsGrantedText, IsRemadeText, IsTextAt, debug_edited, max_at, text_at};
-ghost use Rattle.wb_model.specs.Texts.{answer_of, delete_text, edited, set_length_text};
+ghost use Rattle.wb_model.specs.Texts.{answer_of, at_most, delete_text, edited, set_length_text};
 
 use crate::reading::{Part, count, foreign_unit};
 use crate::sources::{Edit, Source};
 use crate::writing::{open_gap, settle, write_units};
 use arrayvec::ArrayVec;
-use wb_debug::debug_heap::DebugHeap;
+use wb_debug::DebugHeap;
 use wb_model::heap::{Gave, Kind, Panic, Ptr};
 use wb_model::limits::MOST_UNITS;
 use wb_model::memory::NoMemory;
 use wb_model::printed_line::Line;
-use wb_text::buf::Buf;
+use wb_text::Buf;
 
-/// An attempt to get a cell for an empty text that may have so many units.
+/// An attempt to get a cell for an empty text that may have `n` units.
 ///
-/// `Denied` and `Ceiling` are the heap's answers. `NoMemory` leaves the heap as it was. Source: Symbian OS v9 SDK
+/// `Denied` and `Ceiling` are the heap's answers. `NoMemory` leaves the heap as it was, and never comes in place of
+/// `Ceiling`. Source: Symbian OS v9 SDK
 /// reference, HBufC::New, and this project's profile for the length of the cell.
 pub fn make(heap: &mut DebugHeap, n: u32) -> Result<Gave, NoMemory>
     requires units { n ≤ MOST_UNITS }
-    requires number { length heap.old.trace + 1 < 2 ^ 32 }
+    requires number { heap.old.attempts + 1 < 2 ^ 32 }
     ensures gave { IfOk result (λ gave. gave ≡ (alloc_made heap.old (4 + 2 * n) Kind.Text).gave) }
     ensures made { OnOk result (heap.new ≡ (alloc_made heap.old (4 + 2 * n) Kind.Text).debug) }
+    ensures cut { answer_in heap.old (alloc_request heap.old.heap (4 + 2 * n)) ≡ None → IsOk result }
     ensures empty { IfOk result (IsGrantedText heap.new []) }
     ensures err { OnErr result (heap.new ≡ heap.old) }
     ensures sound { IsSoundDebug heap.new }
@@ -36,20 +39,21 @@ pub fn make(heap: &mut DebugHeap, n: u32) -> Result<Gave, NoMemory>
     heap.attempt_alloc(4 + 2 * n, Kind::Text)
 }
 
-/// Gives a text another maximum: a reallocation of its cell for so many units, which keeps the text.
+/// Gives a text another maximum: a reallocation of its cell for `n` units, which keeps the text.
 ///
 /// Its length may not pass them. `Denied` and `Ceiling` are the heap's answers, and leave the cell as it was.
-/// `NoMemory` leaves the heap as it was, and doesn't come where the cell gets no longer. Source: Symbian OS v9 SDK
-/// reference, HBufC::ReAlloc, and this project's profile for the length of the cell.
+/// `NoMemory` leaves the heap as it was, and doesn't come where the cell gets no longer or in place of `Ceiling`.
+/// Source: Symbian OS v9 SDK reference, HBufC::ReAlloc, and this project's profile for the length of the cell.
 pub fn remake(heap: &mut DebugHeap, ptr: Ptr, n: u32) -> Result<Gave, NoMemory>
     requires text { IsTextAt ptr heap.old }
     requires fits { length (text_at ptr heap.old) ≤ n }
     requires units { n ≤ MOST_UNITS }
-    requires number { length heap.old.trace + 1 < 2 ^ 32 }
+    requires number { heap.old.attempts + 1 < 2 ^ 32 }
     ensures gave { IfOk result (λ gave. IfSome (cell_at ptr heap.old.heap.row) (λ c. gave ≡ (realloc_made heap.old c (4 + 2 * n)).gave)) }
     ensures made { OnOk result (IfSome (cell_at ptr heap.old.heap.row) (λ c. heap.new ≡ (realloc_made heap.old c (4 + 2 * n)).debug)) }
     ensures kept { IfOk result (IsRemadeText heap.new ptr (text_at ptr heap.old)) }
     ensures shorter { IfSome (cell_at ptr heap.old.heap.row) (λ c. cell_length (4 + 2 * n) ≤ c.head.length → IsOk result) }
+    ensures cut { IfSome (cell_at ptr heap.old.heap.row) (λ c. answer_in heap.old (realloc_request heap.old.heap c.head (4 + 2 * n)) ≡ None → IsOk result) }
     ensures err { OnErr result (heap.new ≡ heap.old) }
     ensures sound { IsSoundDebug heap.new }
 {
@@ -87,7 +91,7 @@ fn measure(heap: &DebugHeap, ptr: Ptr) -> Measured
     match heap.header(ptr) {
         Some(header) => Measured {
             length: length(heap, ptr),
-            max: (header.length - 20) / 2,
+            max: (header.usable() - 4) / 2,
         },
         None => unreachable!(),
     }
@@ -95,9 +99,9 @@ fn measure(heap: &DebugHeap, ptr: Ptr) -> Measured
 
 /// Changes the text in a cell by the units of a source, which count as they stood before.
 ///
-/// `Panic::POSITION_OUT_OF_BOUNDS` where an insertion's position is past the end, then `Panic::TOO_LONG` where the text would be longer than its
-/// maximum. A refusal leaves the heap as it was. Other cells stay. Source: Symbian OS v9 SDK reference, 16-bit
-/// descriptors.
+/// `Panic::POSITION_OUT_OF_BOUNDS` where an insertion's position is past the end, then `Panic::TOO_LONG` where the text
+/// would be longer than its maximum. A refusal leaves the heap as it was. Other cells stay. Source: Symbian OS v9 SDK
+/// reference, 16-bit descriptors.
 pub fn edit(heap: &mut DebugHeap, ptr: Ptr, change: Edit, source: Source) -> Result<(), Panic>
     requires text { IsTextAt ptr heap.old }
     requires source { IsSource heap.old source }
@@ -110,25 +114,28 @@ pub fn edit(heap: &mut DebugHeap, ptr: Ptr, change: Edit, source: Source) -> Res
     ensures sound { IsSoundDebug heap.new }
 {
     match change {
-        Edit::Copy => copy(heap, ptr, source),
+        Edit::Copy => overwrite(heap, ptr, 0, source),
         Edit::Append => append(heap, ptr, source),
         Edit::Insert(at) => insert(heap, ptr, at, source),
     }
 }
 
-fn copy(heap: &mut DebugHeap, ptr: Ptr, source: Source) -> Result<(), Panic>
+/// Puts the units of a source in place of the text from a position on.
+fn overwrite(heap: &mut DebugHeap, ptr: Ptr, at: u32, source: Source) -> Result<(), Panic>
     requires text { IsTextAt ptr heap.old }
     requires source { IsSource heap.old source }
     requires apart { IsApart ptr source }
-    ensures { IsEdited ptr heap.old heap.new result (cell_edited heap.old ptr Edit.Copy source.entry) }
+    requires within { at ≤ length (text_at ptr heap.old) }
+    requires ahead { IsAhead at (length (text_at ptr heap.old)) source }
+    ensures { IsEdited ptr heap.old heap.new result (at_most (max_at ptr heap.old) (take at (text_at ptr heap.old) ++ source_units heap.old (text_at ptr heap.old) source.entry)) }
 {
     let text = measure(heap, ptr);
     let n = count(source);
-    if text.max < n {
+    if text.max - at < n {
         return Err(Panic::TOO_LONG);
     }
-    write_units(heap, ptr, 0, source);
-    settle(heap, ptr, n);
+    write_units(heap, ptr, at, source);
+    settle(heap, ptr, at + n);
     Ok(())
 }
 
@@ -138,14 +145,8 @@ fn append(heap: &mut DebugHeap, ptr: Ptr, source: Source) -> Result<(), Panic>
     requires apart { IsApart ptr source }
     ensures { IsEdited ptr heap.old heap.new result (cell_edited heap.old ptr Edit.Append source.entry) }
 {
-    let text = measure(heap, ptr);
-    let n = count(source);
-    if text.max - text.length < n {
-        return Err(Panic::TOO_LONG);
-    }
-    write_units(heap, ptr, text.length, source);
-    settle(heap, ptr, text.length + n);
-    Ok(())
+    let end = length(heap, ptr);
+    overwrite(heap, ptr, end, source)
 }
 
 fn insert(heap: &mut DebugHeap, ptr: Ptr, at: u32, source: Source) -> Result<(), Panic>
@@ -169,10 +170,10 @@ fn insert(heap: &mut DebugHeap, ptr: Ptr, at: u32, source: Source) -> Result<(),
     Ok(())
 }
 
-/// Takes so many units from a position on out of the text in a cell, or all from there where there are fewer.
+/// Takes `count` units from a position on out of the text in a cell, or all from there where there are fewer.
 ///
-/// `Panic::POSITION_OUT_OF_BOUNDS` where the position is past the end, and then the heap is as it was. Units past the new end are zero. Other
-/// cells stay. Source: Symbian OS v9 SDK reference, 16-bit descriptors.
+/// `Panic::POSITION_OUT_OF_BOUNDS` where the position is past the end, and then the heap is as it was. Units past the new
+/// end are zero. Other cells stay. Source: Symbian OS v9 SDK reference, 16-bit descriptors.
 pub fn delete(heap: &mut DebugHeap, ptr: Ptr, position: u32, count: u32) -> Result<(), Panic>
     requires { IsTextAt ptr heap.old }
     ensures answer { result ≡ answer_of (delete_text (text_at ptr heap.old) position count) }
@@ -199,8 +200,8 @@ pub fn delete(heap: &mut DebugHeap, ptr: Ptr, position: u32, count: u32) -> Resu
 
 /// Gives the text in a cell another length: units past it become zero, and a longer text gains zeros.
 ///
-/// `Panic::TOO_LONG` where the length is above the maximum, and then the heap is as it was. Other cells stay. Source: Symbian OS
-/// v9 SDK reference, 16-bit descriptors.
+/// `Panic::TOO_LONG` where the length is above the maximum, and then the heap is as it was. Other cells stay. Source:
+/// Symbian OS v9 SDK reference, 16-bit descriptors.
 pub fn set_length(heap: &mut DebugHeap, ptr: Ptr, n: u32) -> Result<(), Panic>
     requires { IsTextAt ptr heap.old }
     ensures answer { result ≡ answer_of (set_length_text (max_at ptr heap.old) (text_at ptr heap.old) n) }
@@ -219,8 +220,9 @@ pub fn set_length(heap: &mut DebugHeap, ptr: Ptr, n: u32) -> Result<(), Panic>
 /// Changes a buffer by the units of a source, which count as they stood before. The heap is where the source's cell
 /// stands.
 ///
-/// `Panic::POSITION_OUT_OF_BOUNDS` where an insertion's position is past the end, then `Panic::TOO_LONG` where the text would be longer than its
-/// maximum. A refusal leaves the buffer as it was. Source: Symbian OS v9 SDK reference, 16-bit descriptors.
+/// `Panic::POSITION_OUT_OF_BOUNDS` where an insertion's position is past the end, then `Panic::TOO_LONG` where the text
+/// would be longer than its maximum. A refusal leaves the buffer as it was. Source: Symbian OS v9 SDK reference, 16-bit
+/// descriptors.
 pub fn edit_buf(heap: &DebugHeap, buf: &mut Buf, change: Edit, source: Source) -> Result<(), Panic>
     requires source { IsSource heap.now source }
     requires suits { SuitsEdit change source }
@@ -270,8 +272,7 @@ fn printed_unit(unit: u16) -> u8
     }
 }
 
-/// The line that a source prints: its first 80 units, each that isn't a printable ASCII character as a dot. Source: this
-/// project's profile.
+/// The line that a source prints: its first 80 units, each that isn't a printable ASCII character as a dot.
 pub fn print_units(heap: &DebugHeap, source: Source) -> Line
     requires source { IsSource heap.now source }
     requires foreign { IsForeign source }

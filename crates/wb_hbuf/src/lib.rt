@@ -13,3 +13,8 @@ mod writing;
 
 pub use hbuf::{delete, edit, edit_buf, length, make, max_len, print_units, remake, set_length};
 pub use sources::{Edit, Source};
+pub use wb_debug::DebugHeap;
+pub use wb_model::heap::{Gave, Panic, Ptr};
+pub use wb_model::memory::NoMemory;
+pub use wb_model::printed_line::Line;
+pub use wb_text::Buf;

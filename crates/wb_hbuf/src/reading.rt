@@ -6,9 +6,9 @@ ghost use Rattle.wb_hbuf.specs.Sources.{IsForeign, IsSource, count_of, source_un
 ghost use Rattle.wb_model.specs.TextCells.{text_at};
 
 use crate::sources::Source;
-use wb_debug::debug_heap::DebugHeap;
+use wb_debug::DebugHeap;
 use wb_model::heap::Ptr;
-use wb_text::units::Units;
+use wb_text::Units;
 
 /// How many units a source has.
 pub fn count(source: Source) -> u32

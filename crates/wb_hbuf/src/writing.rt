@@ -10,7 +10,7 @@ ghost use Rattle.wb_model.specs.TextCells.{room_in, text_at, units_behind};
 
 use crate::reading::{count, unit_for};
 use crate::sources::Source;
-use wb_debug::debug_heap::DebugHeap;
+use wb_debug::DebugHeap;
 use wb_model::heap::Ptr;
 
 /// Writes the units of a source from a position on, the first one first.
@@ -29,7 +29,7 @@ pub fn write_units(heap: &mut DebugHeap, ptr: Ptr, at: u32, source: Source)
     }
 }
 
-/// Moves the units of the text from a position on up by so many places, the last one first.
+/// Moves the units of the text from a position on up by `gap` places, the last one first.
 pub fn open_gap(heap: &mut DebugHeap, ptr: Ptr, at: u32, gap: u32)
     requires units { HasUnits ptr heap.old }
     requires most { 2 * length (payload_of ptr heap.old.heap.row) < 2 ^ 32 }

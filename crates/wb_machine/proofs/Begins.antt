@@ -1,5 +1,5 @@
 -- The turn that makes attempt 1 and begins `main`.
-use Rattle.std.proofs.Common.{◌≡◌, ℕ, false, List, [], ◌∷◌, ◌++◌, length, map, refl, ap, ◌∙◌, sym, subst, inl, Option}
+use Rattle.std.proofs.Common.{◌≡◌, ℕ, false, List, [], ◌∷◌, ◌++◌, map, refl, ap, ◌∙◌, sym, subst, inl, Option, Some, None}
 use Rattle.std.proofs.Math.Path.{fun_ext}
 use Rattle.std.specs.Prelude.{min}
 use Rattle.wb_model.specs.declared.heap.Ptr.{Ptr}
@@ -15,7 +15,10 @@ use Rattle.wb_model.specs.Space.{space_of, bound_below, limit_under}
 use Rattle.wb_model.specs.State.{none, null, initial, State, goes_on, Process, ends, stops, asks, notes, and_then, on_plain_end}
 use Rattle.wb_model.specs.Heap.{alloc_request, after_alloc}
 use Rattle.wb_model.specs.LimitedHeap.{zero_words}
-use Rattle.wb_model.specs.Debug.{answer_in}
+use Rattle.wb_model.specs.declared.heap.Answer.{Answer}
+use Rattle.wb_model.specs.Row.{cell_length}
+use Rattle.wb_model.specs.Rules.{Request, refusal_of, unless_refused}
+use Rattle.wb_model.specs.Debug.{Debug, made_by, answer_in}
 use Rattle.wb_model.specs.declared.run.Why.TheVariants.{Ceiling}
 use Rattle.wb_model.specs.Statements.{all}
 use Rattle.wb_model.specs.Meaning.{meaning_of}
@@ -27,7 +30,7 @@ use Rattle.wb_machine.specs.declared.control.Ending.{Ending}
 use Rattle.wb_machine.specs.declared.control.Ending.TheVariants.{GoesOn, Cut, NoCleanup}
 use Rattle.wb_machine.specs.declared.control.Piece.{Piece}
 use Rattle.wb_machine.specs.declared.control.Piece.TheVariants.{MainTrap}
-use Rattle.wb_machine.specs.Held.{Held, start_held, main_of, state_of, account_of, with_debug}
+use Rattle.wb_machine.specs.RunState.{RunState, first_state, main_of, state_of, account_of, with_debug}
 use Rattle.wb_machine.specs.Flow.{in_main_frame, pending_of, pending_in, is_stop, flow, rest_from, rest_at}
 use Rattle.wb_machine.specs.Carried.{entered, first_bytes, first_made, begun_by, begun_carried}
 use Rattle.wb_machine.proofs.Flows.{followed, allocated}
@@ -55,22 +58,22 @@ main_begins script budget st statements is =
     ∙ ap (and_then _) (fun_ext (λ way. fun_ext (λ st. and_then-ends (main_trapped (meaning_of script budget) in_main_frame way st))))
 
 -- what the first attempt gives
-abbrev first_gave : Held → Gave
+abbrev first_gave : RunState → Gave
 first_gave h = (first_made h).gave
 
--- and what is held then
-abbrev first_held : Held → Held
-first_held h = with_debug h (first_made h).debug
+-- and the state then
+abbrev after_first : RunState → RunState
+after_first h = with_debug h (first_made h).debug
 
-begun_rest : (r : Rule) (script : Script) (budget : ℕ) (h : Held) (statements : List Statement) (pieces : List Piece) (gave : Gave) →
+begun_rest : (r : Rule) (script : Script) (budget : ℕ) (h : RunState) (statements : List Statement) (pieces : List Piece) (gave : Gave) →
     statements ≡ (main_of script).statements →
     ((begun_by h (main_of script).locals gave).ending ≡ GoesOn → pending_in pieces ≡ doing in_main_frame (all statements) ∷ main_catching in_main_frame ∷ []) →
-    rest_from script budget r (begun_by h (main_of script).locals gave).ending pieces (begun_by h (main_of script).locals gave).held
+    rest_from script budget r (begun_by h (main_of script).locals gave).ending pieces (begun_by h (main_of script).locals gave).state
     ≡ result_of (flow r (followed gave (started (meaning_of script budget) script) (state_of script h)) h)
 unfolding flow started and_then
 begun_rest r script budget h statements pieces G.Ceiling body is = rest_flow script budget r (Cut Ceiling) pieces h
 begun_rest r script budget h statements pieces (G.Granted cell) body is =
-    let g : Held = entered h cell (main_of script).locals in
+    let g : RunState = entered h cell (main_of script).locals in
     let st : State = record (state_of script h) { cleanup = cell } in
     rest_flow script budget r GoesOn pieces g
     ∙ ap (λ (ps : List Pending). result_of (flow r (resume script budget ps goes_on (state_of script g)) g)) (is refl)
@@ -78,53 +81,71 @@ begun_rest r script budget h statements pieces (G.Granted cell) body is =
 begun_rest r script budget h statements pieces G.Denied body is = rest_flow script budget r NoCleanup pieces h
 
 -- under a rule that fits, attempt 1 is answered as under the machine's own
-first_alike : (r : Rule) (h : Held) (locals : List Local) → Fits r h.debug.rule (is_stop (begun_carried h locals).ending) (length (begun_carried h locals).held.debug.trace) →
-    Fits r h.debug.rule (is_ceiling (first_gave h)) (length (first_made h).debug.trace)
+first_alike : (r : Rule) (h : RunState) (locals : List Local) → Fits r h.debug.rule (is_stop (begun_carried h locals).ending) (begun_carried h locals).state.debug.attempts →
+    Fits r h.debug.rule (is_ceiling (first_gave h)) (first_made h).debug.attempts
 first_alike r h locals f = by (first_gave h) f
   where
-    by : (gave : Gave) → Fits r h.debug.rule (is_stop (begun_by (first_held h) locals gave).ending) (length (begun_by (first_held h) locals gave).held.debug.trace) →
-        Fits r h.debug.rule (is_ceiling gave) (length (first_made h).debug.trace)
+    by : (gave : Gave) → Fits r h.debug.rule (is_stop (begun_by (after_first h) locals gave).ending) (begun_by (after_first h) locals gave).state.debug.attempts →
+        Fits r h.debug.rule (is_ceiling gave) (first_made h).debug.attempts
     by (G.Granted cell) f = f
     by G.Denied f = inl (fits-ended r h.debug.rule _ f)
     by G.Ceiling f = f
 
+-- attempt 1 is counted under each rule: its cell ends below the ceiling
+first_counted : (own : Rule) (shape : Shape) → (first_made (first_state own shape)).debug.attempts ≡ 1
+first_counted own shape = by (refusal_of own 1 (cell_length first_bytes))
+  where
+    d : Debug
+    d = (first_state own shape).debug
+
+    t : Request
+    t = alloc_request d.heap first_bytes
+
+    by : (o : Option Answer) → (made_by d t (after_alloc d.heap t Cleanup (zero_words t.length)) (unless_refused o (cell_length first_bytes))).debug.attempts ≡ 1
+    by None = refl
+    by (Some a) = refl
+
+pub one_attempt : (h g : RunState) → h ≡ first_state h.debug.rule h.debug.shape → g.debug ≡ (first_made h).debug → g.debug.attempts ≡ 1
+one_attempt h g start is =
+    ap (λ (d : Debug). d.attempts) is ∙ ap (λ (x : RunState). (first_made x).debug.attempts) start ∙ first_counted h.debug.rule h.debug.shape
+
 -- after the turn that begins a run its rest is the run
 rest_begun : (r own : Rule) (script : Script) (budget : ℕ) (shape : Shape) (statements : List Statement) (pieces : List Piece) →
-    let h = start_held own shape in
+    let h = first_state own shape in
     let c = begun_carried h (main_of script).locals in
-    Fits r own (is_stop c.ending) (length c.held.debug.trace) → statements ≡ (main_of script).statements →
+    Fits r own (is_stop c.ending) c.state.debug.attempts → statements ≡ (main_of script).statements →
     (c.ending ≡ GoesOn → pending_in pieces ≡ doing in_main_frame (all statements) ∷ main_catching in_main_frame ∷ []) →
-    rest_from script budget r c.ending pieces c.held ≡ run script r budget shape
+    rest_from script budget r c.ending pieces c.state ≡ run script r budget shape
 unfolding flow process
 rest_begun r own script budget shape statements pieces f body is =
-    let h : Held = start_held own shape in
+    let h : RunState = first_state own shape in
     let go : Option Ptr → State → Process = started (meaning_of script budget) script in
     let t = alloc_request h.debug.heap first_bytes in
     let fits = first_alike r h (main_of script).locals f in
     let limit = fits-limit r own _ _ f in
-    begun_rest r script budget (first_held h) statements pieces (first_gave h) body is
+    begun_rest r script budget (after_first h) statements pieces (first_gave h) body is
     ∙ ap result_of (
-    ap (λ p. flow r p (first_held h)) (sym (and_then-ends (followed (first_gave h) go (state_of script (first_held h)))))
-    ∙ sym (allocated r script h first_bytes Cleanup none go ends (answer_in h.debug t) refl
+    ap (λ p. flow r p (after_first h)) (sym (and_then-ends (followed (first_gave h) go (state_of script (after_first h)))))
+    ∙ sym (allocated r script h first_bytes Cleanup none go ends (answer_in h.debug t) refl refl
     (answered_alike r h.debug t (after_alloc h.debug.heap t Cleanup (zero_words t.length)) (answer_in h.debug t) refl fits) limit)
     ∙ ap (λ p. flow r p h) (and_then-ends (allocate first_bytes Cleanup none (state_of script h) go)))
     ∙ ap (λ b. result_of (settled r (space_of r shape) (process script budget) (record { trace = []; notes = []; committed = min shape.min (bound_below b) }))) (sym limit)
 
 -- the same of what a machine then holds
-pub run_begun : (r : Rule) (script : Script) (budget : ℕ) (h g : Held) (ending : Ending) (statements : List Statement) (pieces : List Piece) →
-    h ≡ start_held h.debug.rule h.debug.shape →
-    ending ≡ (begun_carried h (main_of script).locals).ending → g ≡ (begun_carried h (main_of script).locals).held →
-    Fits r h.debug.rule (is_stop ending) (length g.debug.trace) → statements ≡ (main_of script).statements →
+pub run_begun : (r : Rule) (script : Script) (budget : ℕ) (h g : RunState) (ending : Ending) (statements : List Statement) (pieces : List Piece) →
+    h ≡ first_state h.debug.rule h.debug.shape →
+    ending ≡ (begun_carried h (main_of script).locals).ending → g ≡ (begun_carried h (main_of script).locals).state →
+    Fits r h.debug.rule (is_stop ending) g.debug.attempts → statements ≡ (main_of script).statements →
     (ending ≡ GoesOn → pending_in pieces ≡ doing in_main_frame (all statements) ∷ main_catching in_main_frame ∷ []) →
     rest_from script budget r ending pieces g ≡ run script r budget h.debug.shape
 run_begun r script budget h g ending statements pieces start ends_so holds f body is =
     let locals = (main_of script).locals in
     let own = h.debug.rule in
-    let first : Held = start_held own h.debug.shape in
+    let first : RunState = first_state own h.debug.shape in
     let e : ending ≡ (begun_carried first locals).ending = ends_so ∙ ap (λ x. (begun_carried x locals).ending) start in
-    let k : g ≡ (begun_carried first locals).held = holds ∙ ap (λ x. (begun_carried x locals).held) start in
-    let f' : Fits r own (is_stop (begun_carried first locals).ending) (length (begun_carried first locals).held.debug.trace) =
-    subst (λ (x : Held). Fits r own (is_stop (begun_carried first locals).ending) (length x.debug.trace)) k (subst (λ x. Fits r own (is_stop x) (length g.debug.trace)) e f) in
+    let k : g ≡ (begun_carried first locals).state = holds ∙ ap (λ x. (begun_carried x locals).state) start in
+    let f' : Fits r own (is_stop (begun_carried first locals).ending) (begun_carried first locals).state.debug.attempts =
+    subst (λ (x : RunState). Fits r own (is_stop (begun_carried first locals).ending) x.debug.attempts) k (subst (λ x. Fits r own (is_stop x) g.debug.attempts) e f) in
     ap (λ x. rest_from script budget r x pieces g) e ∙ ap (λ x. rest_from script budget r (begun_carried first locals).ending pieces x) k
     ∙ rest_begun r own script budget h.debug.shape statements pieces f' body (λ x. is (e ∙ x))
 
@@ -135,8 +156,8 @@ begun_pieces script before_it one two code e f g =
     ap pending_in (g ∙ ap (λ ps. ps ++ code ∷ []) (f ∙ ap (λ ps. ps ++ MainTrap ∷ []) e))
 
 -- before the first turn the rest is the run
-pub rest_first : (r : Rule) (script : Script) (budget : ℕ) (ending : Ending) (pieces : List Piece) (h : Held) →
-    h ≡ start_held h.debug.rule h.debug.shape → limit_under r ≡ limit_under h.debug.rule → rest_at script budget r false ending pieces h ≡ run script r budget h.debug.shape
+pub rest_first : (r : Rule) (script : Script) (budget : ℕ) (ending : Ending) (pieces : List Piece) (h : RunState) →
+    h ≡ first_state h.debug.rule h.debug.shape → limit_under r ≡ limit_under h.debug.rule → rest_at script budget r false ending pieces h ≡ run script r budget h.debug.shape
 unfolding rest left_to_do
 rest_first r script budget ending pieces h start same =
     ap (λ a. result_of (settled r (space_of r h.debug.shape) (process script budget) a))

@@ -2,20 +2,28 @@
 use Rattle.std.proofs.Common.{◌≡◌, ℕ, true, List, [], ◌∷◌, map, refl, ap, sym}
 use Rattle.wb_model.specs.declared.heap.Rule.{Rule}
 use Rattle.wb_model.specs.declared.script.Script.{Script}
+use Rattle.wb_model.specs.declared.run.Leak.{Leak}
 use Rattle.wb_model.specs.Heap.{cells_of_all_levels}
 use Rattle.wb_model.specs.Run.{leak_of}
 use Rattle.wb_model.specs.Rest.{resume, left_to_do, rest}
 use Rattle.wb_machine.specs.declared.control.Ending.{Ending}
 use Rattle.wb_machine.specs.declared.control.Ending.TheVariants.{GoesOn, Panics, Cut, NoCleanup}
 use Rattle.wb_machine.specs.declared.control.Piece.{Piece}
-use Rattle.wb_machine.specs.Held.{Held}
+use Rattle.wb_machine.specs.RunState.{RunState}
 use Rattle.wb_machine.specs.Flow.{is_over, rest_from}
-use Rattle.wb_machine.specs.Told.{leaks_held, told_by}
+use Rattle.wb_machine.specs.Told.{leaks_at_end, told_by}
 use Rattle.wb_machine.proofs.Rows.{headers_read}
 
+-- only a run that ended by itself tells leaks
+pub told_alike : (ending : Ending) (leaks : List Leak) (h : RunState) → (ending ≡ GoesOn → leaks ≡ leaks_at_end h) → told_by ending leaks h ≡ told_by ending (leaks_at_end h) h
+told_alike GoesOn leaks h is = ap (λ told. told_by GoesOn told h) (is refl)
+told_alike (Panics p) leaks h is = refl
+told_alike (Cut why) leaks h is = refl
+told_alike NoCleanup leaks h is = refl
+
 -- what a run tells that is over is what is left of it
-pub rest_over : (script : Script) (budget : ℕ) (r : Rule) (ending : Ending) (pieces : List Piece) (h : Held) → is_over ending pieces ≡ true →
-    told_by ending (leaks_held h) h ≡ rest_from script budget r ending pieces h
+pub rest_over : (script : Script) (budget : ℕ) (r : Rule) (ending : Ending) (pieces : List Piece) (h : RunState) → is_over ending pieces ≡ true →
+    told_by ending (leaks_at_end h) h ≡ rest_from script budget r ending pieces h
 unfolding rest left_to_do resume
 rest_over script budget r GoesOn [] h e =
     ap (λ hs. told_by GoesOn (map leak_of (cells_of_all_levels hs)) h) (sym (headers_read script h.debug.heap.row))

@@ -1,5 +1,5 @@
--- What attempts come to, over what is held.
-use Rattle.std.proofs.Common.{◌≡◌, ℕ, ◌-◌, true, false, List, refl, ap, ◌∙◌, sym, Option, Some, None}
+-- What attempts come to, from the state of a run on.
+use Rattle.std.proofs.Common.{◌≡◌, ℕ, ◌+◌, ◌-◌, true, false, List, refl, ap, ◌∙◌, sym, Option, Some, None}
 use Rattle.wb_model.specs.declared.heap.Ptr.{Ptr}
 use Rattle.wb_model.specs.declared.heap.Kind.{Kind}
 use Rattle.wb_model.specs.declared.heap.Kind.TheVariants.{Raw, Object, Text, Cleanup}
@@ -23,7 +23,7 @@ use Rattle.wb_model.specs.CellRow.{resized_words}
 use Rattle.wb_model.specs.LimitedHeap.{zero_words}
 use Rattle.wb_model.specs.Debug.{number_of_next, made_by, gave_of, shorter_made}
 use Rattle.wb_model.specs.Spelling.{read_as}
-use Rattle.wb_machine.specs.Held.{Held, field_count, read_cell, read_row, read_heap, state_of, account_of, with_debug}
+use Rattle.wb_machine.specs.RunState.{RunState, HasLines, field_count, read_cell, read_row, read_heap, state_of, account_of, with_debug}
 use Rattle.wb_machine.specs.Flow.{flow}
 use Rattle.wb_machine.proofs.Rows.{headers_read, read_inserted, read_without, read_resized}
 
@@ -39,13 +39,14 @@ pub record ReadsAs (script : Script) (after : ℕ → Answer → AfterAnswer (Li
   pub given : (n : ℕ) (a : Answer) → (after n a).given ≡ (read n a).given
 
 -- an attempt comes to what follows its answer
-pub attempted : (r : Rule) (script : Script) (h : Held) (t : Request) (after : ℕ → Answer → AfterAnswer (List ℕ)) (read : ℕ → Answer → AfterAnswer Content)
+pub attempted : (r : Rule) (script : Script) (h : RunState) (t : Request) (after : ℕ → Answer → AfterAnswer (List ℕ)) (read : ℕ → Answer → AfterAnswer Content)
     (go : Option Ptr → State → Process) (k : Way → State → Process) (o : Option Answer) →
-    ReadsAs script after read → answer_to r (number_of_next h.debug) t ≡ o → limit_under r ≡ limit_under h.debug.rule →
+    HasLines h → ReadsAs script after read → answer_to r (number_of_next h.debug) t ≡ o → limit_under r ≡ limit_under h.debug.rule →
     flow r (and_then (attempt t read (state_of script h) (state_of script h) go) k) h
     ≡ flow r (and_then (followed (made_by h.debug t after o).gave go (state_of script (with_debug h (made_by h.debug t after o).debug))) k) (with_debug h (made_by h.debug t after o).debug)
 unfolding flow attempt and_then
-attempted r script h t after read go k o reads answer limit = ap F answer ∙ by o
+attempted r script h t after read go k o lines reads answer limit =
+    ap (λ m. G (m + 1) (answer_to r (m + 1) t)) (sym lines) ∙ ap F answer ∙ by o
   where
     st : State
     st = state_of script h
@@ -53,16 +54,19 @@ attempted r script h t after read go k o reads answer limit = ap F answer ∙ by
     n : ℕ
     n = number_of_next h.debug
 
-    F : Option Answer → Settled
-    F o = on_answer o (record { end = stopped (is_cut Ceiling); state = st; account = account_of h })
-        (λ w. settled r (space_of r h.debug.shape) (and_then (go (read n w).given (set_heap st (read n w).heap)) k) (recorded (space_of r h.debug.shape) n t w (account_of h)))
+    G : ℕ → Option Answer → Settled
+    G m o = on_answer o (record { end = stopped (is_cut Ceiling); state = st; account = account_of h })
+        (λ w. settled r (space_of r h.debug.shape) (and_then (go (read m w).given (set_heap st (read m w).heap)) k) (recorded (space_of r h.debug.shape) m t w (account_of h)))
 
-    held : Answer → Held
-    held w = with_debug h (made_by h.debug t after (Some w)).debug
+    F : Option Answer → Settled
+    F o = G n o
+
+    counted : Answer → RunState
+    counted w = with_debug h (made_by h.debug t after (Some w)).debug
 
     follows : (w : Answer) (g : Option Ptr) →
-        settled r (space_of r h.debug.shape) (and_then (go g (state_of script (held w))) k) (account_of (held w))
-        ≡ settled r (space_of r h.debug.shape) (and_then (followed (gave_of g) go (state_of script (held w))) k) (account_of (held w))
+        settled r (space_of r h.debug.shape) (and_then (go g (state_of script (counted w))) k) (account_of (counted w))
+        ≡ settled r (space_of r h.debug.shape) (and_then (followed (gave_of g) go (state_of script (counted w))) k) (account_of (counted w))
     follows w None = refl
     follows w (Some p) = refl
 
@@ -72,7 +76,7 @@ attempted r script h t after read go k o reads answer limit = ap F answer ∙ by
     by (Some w) =
         ap (λ g. settled r (space_of r h.debug.shape) (and_then (go g (set_heap st (read n w).heap)) k) (recorded (space_of r h.debug.shape) n t w (account_of h))) (sym (reads.given n w))
         ∙ ap (λ x. settled r (space_of r h.debug.shape) (and_then (go (after n w).given (set_heap st x)) k) (recorded (space_of r h.debug.shape) n t w (account_of h))) (sym (reads.heap n w))
-        ∙ ap (λ b. settled r (space_of r h.debug.shape) (and_then (go (after n w).given (state_of script (held w))) k) (recorded (space_below (bound_below b) h.debug.shape) n t w (account_of h))) limit
+        ∙ ap (λ b. settled r (space_of r h.debug.shape) (and_then (go (after n w).given (state_of script (counted w))) k) (recorded (space_below (bound_below b) h.debug.shape) n t w (account_of h))) limit
         ∙ follows w (after n w).given
 
 -- the cell that a grant inserts
@@ -94,20 +98,20 @@ reads_alloc script heap t kind fresh is = record { heap = λ n a. row n a; given
     same n Refused = refl
 
 -- an allocation comes to what follows its answer
-pub allocated : (r : Rule) (script : Script) (h : Held) (bytes : ℕ) (kind : Kind) (fresh : Content) (go : Option Ptr → State → Process) (k : Way → State → Process) (o : Option Answer) →
-    read_as (field_count script) kind (zero_words (cell_length bytes)) ≡ fresh → answer_to r (number_of_next h.debug) (alloc_request h.debug.heap bytes) ≡ o →
+pub allocated : (r : Rule) (script : Script) (h : RunState) (bytes : ℕ) (kind : Kind) (fresh : Content) (go : Option Ptr → State → Process) (k : Way → State → Process) (o : Option Answer) →
+    HasLines h → read_as (field_count script) kind (zero_words (cell_length bytes)) ≡ fresh → answer_to r (number_of_next h.debug) (alloc_request h.debug.heap bytes) ≡ o →
     limit_under r ≡ limit_under h.debug.rule →
     let t = alloc_request h.debug.heap bytes in
     let made = made_by h.debug t (after_alloc h.debug.heap t kind (zero_words t.length)) o in
     flow r (and_then (allocate bytes kind fresh (state_of script h) go) k) h
     ≡ flow r (and_then (followed made.gave go (state_of script (with_debug h made.debug))) k) (with_debug h made.debug)
 unfolding allocate
-allocated r script h bytes kind fresh go k o is answer limit =
+allocated r script h bytes kind fresh go k o lines is answer limit =
     let t = alloc_request h.debug.heap bytes in
     let st = state_of script h in
     let same : alloc_request st.heap bytes ≡ t = ap (λ hs. record t { place = place_of hs (cell_length bytes) }) (headers_read script h.debug.heap.row) in
     ap (λ (t : Request). flow r (and_then (attempt t (after_alloc st.heap t kind fresh) st st go) k) h) same
-    ∙ attempted r script h t (after_alloc h.debug.heap t kind (zero_words t.length)) (after_alloc st.heap t kind fresh) go k o (reads_alloc script h.debug.heap t kind fresh is) answer limit
+    ∙ attempted r script h t (after_alloc h.debug.heap t kind (zero_words t.length)) (after_alloc st.heap t kind fresh) go k o lines (reads_alloc script h.debug.heap t kind fresh is) answer limit
 
 -- the words of a cell of another length read as what the content becomes
 abbrev pub ReadsResized : Script → Kind → ℕ → List ℕ → Type 0
@@ -151,24 +155,24 @@ reads_longer script heap c bytes t reads = record { heap = λ n a. row n a; give
     same n Refused = refl
 
 -- a reallocation to a longer cell comes to what follows its answer
-pub made_longer : (r : Rule) (script : Script) (h : Held) (c : Cell (List ℕ)) (bytes : ℕ) (go : Option Ptr → State → Process) (k : Way → State → Process) (o : Option Answer) →
-    ReadsResized script c.head.kind bytes c.content → answer_to r (number_of_next h.debug) (realloc_request h.debug.heap c.head bytes) ≡ o → limit_under r ≡ limit_under h.debug.rule →
+pub made_longer : (r : Rule) (script : Script) (h : RunState) (c : Cell (List ℕ)) (bytes : ℕ) (go : Option Ptr → State → Process) (k : Way → State → Process) (o : Option Answer) →
+    HasLines h → ReadsResized script c.head.kind bytes c.content → answer_to r (number_of_next h.debug) (realloc_request h.debug.heap c.head bytes) ≡ o → limit_under r ≡ limit_under h.debug.rule →
     let t = realloc_request h.debug.heap c.head bytes in
     let made = made_by h.debug t (after_realloc h.debug.heap t c.head (resized_words t.length c.content)) o in
     flow r (and_then (reallocate_longer true (read_cell script c) bytes (state_of script h) (state_of script h) go) k) h
     ≡ flow r (and_then (followed made.gave go (state_of script (with_debug h made.debug))) k) (with_debug h made.debug)
 unfolding reallocate_longer
-made_longer r script h c bytes go k o reads answer limit =
+made_longer r script h c bytes go k o lines reads answer limit =
     let t = realloc_request h.debug.heap c.head bytes in
     let st = state_of script h in
     let content = resized (cell_length bytes - 16) (read_cell script c).content in
     let same : realloc_request st.heap c.head bytes ≡ t = ap (λ hs. record t { place = realloc_place hs c.head (cell_length bytes) }) (headers_read script h.debug.heap.row) in
     ap (λ (t : Request). flow r (and_then (attempt t (after_realloc st.heap t c.head content) st st go) k) h) same
-    ∙ attempted r script h t (after_realloc h.debug.heap t c.head (resized_words t.length c.content)) (after_realloc st.heap t c.head content) go k o
+    ∙ attempted r script h t (after_realloc h.debug.heap t c.head (resized_words t.length c.content)) (after_realloc st.heap t c.head content) go k o lines
     (reads_longer script h.debug.heap c bytes t reads) answer limit
 
 -- and one to a cell that isn't longer
-pub made_shorter : (r : Rule) (script : Script) (h : Held) (c : Cell (List ℕ)) (bytes : ℕ) (go : Option Ptr → State → Process) (k : Way → State → Process) →
+pub made_shorter : (r : Rule) (script : Script) (h : RunState) (c : Cell (List ℕ)) (bytes : ℕ) (go : Option Ptr → State → Process) (k : Way → State → Process) →
     ReadsResized script c.head.kind bytes c.content →
     let made = shorter_made h.debug c bytes in
     flow r (and_then (reallocate_longer false (read_cell script c) bytes (state_of script h) (state_of script h) go) k) h

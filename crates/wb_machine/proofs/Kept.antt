@@ -1,5 +1,5 @@
 -- What was carried out comes to what a statement means: the frame of each proof, and operands.
-use Rattle.std.proofs.Common.{◌≡◌, ℕ, true, List, length, refl, ap, ◌∙◌, sym, subst}
+use Rattle.std.proofs.Common.{◌≡◌, ℕ, true, List, refl, ap, ◌∙◌, sym, subst}
 use Rattle.wb_model.specs.declared.heap.Ptr.{Ptr}
 use Rattle.wb_model.specs.declared.heap.Rule.{Rule}
 use Rattle.wb_model.specs.declared.script.Script.{Script}
@@ -13,40 +13,39 @@ use Rattle.wb_model.specs.Sound.{is_statement, is_pointer}
 use Rattle.wb_model.specs.State.{State, Process, and_then}
 use Rattle.wb_model.specs.Operands.{number_of, set_pointer, with_pointer}
 use Rattle.wb_model.specs.Statements.{Layer, statement}
-use Rattle.wb_model.specs.Rest.{Fits}
 use Rattle.wb_machine.specs.declared.control.Ending.{Ending}
-use Rattle.wb_machine.specs.Held.{Held, state_of}
-use Rattle.wb_machine.specs.Flow.{in_main_frame, flow, ended_by, is_stop, IsSameFlow, IsCarriedOut}
+use Rattle.wb_machine.specs.RunState.{RunState, state_of}
+use Rattle.wb_machine.specs.Flow.{in_main_frame, flow, ended_by, IsSameFlow, FitsStep, IsCarriedOut}
 pub use Rattle.wb_machine.proofs.Scripts.{and_left, and_right}
 use Rattle.wb_machine.specs.Carried.{Carried, pointer_read, number_read, pointer_stored}
+use Rattle.wb_machine.specs.Owed.{CarriesOut}
 
 -- a statement means what was carried out
-abbrev pub Means : Script → Held → Layer → Carried → Type 0
-Means script h layer c = IsCarriedOut script layer h c.ending c.held
+abbrev pub Means : Script → RunState → Layer → Carried → Type 0
+Means script h layer c = IsCarriedOut script layer h c.ending c.state
 
 -- a process comes to what was carried out
-abbrev pub ComesTo : Rule → Script → Held → Process → Carried → Type 0
-ComesTo r script h p c = IsSameFlow r (ended_by c.ending (state_of script c.held)) c.held p h
+abbrev pub ComesTo : Rule → Script → RunState → Process → Carried → Type 0
+ComesTo r script h p c = IsSameFlow r (ended_by c.ending (state_of script c.state)) c.state p h
 
 -- what was carried out is what the statement makes
-pub carried_out : (script : Script) (literals : ℕ) (locals : List Local) (h g : Held) (c : Carried) (ending : Ending) (layer was : Layer) →
-    is_statement literals locals layer ≡ true → layer ≡ was → ending ≡ c.ending → g ≡ c.held →
+pub carried_out : {h : RunState} {c : Carried} {ending : Ending} {g : RunState} (script : Script) (literals : ℕ) (locals : List Local) {layer : Layer} (was : Layer) →
+    is_statement literals locals layer ≡ true → layer ≡ was → CarriesOut h c ending g →
     (is_statement literals locals was ≡ true → Means script h was c) → IsCarriedOut script layer h ending g
-carried_out script literals locals h g c ending layer was ok is ends_so held means r f rec k =
-    let fits : Fits r h.debug.rule (is_stop c.ending) (length c.held.debug.trace) =
-    subst (λ (x : Held). Fits r h.debug.rule (is_stop c.ending) (length x.debug.trace)) held (subst (λ e. Fits r h.debug.rule (is_stop e) (length g.debug.trace)) ends_so f) in
-    ap (λ e. flow r (and_then (ended_by e (state_of script g)) k) g) ends_so
-    ∙ ap (λ x. flow r (and_then (ended_by c.ending (state_of script x)) k) x) held
+carried_out {h} {c} {ending} {g} script literals locals {layer} was ok is made means r f rec k =
+    let fits : FitsStep r h c.ending c.state = subst (λ (x : RunState). FitsStep r h c.ending x) made.becomes (subst (λ e. FitsStep r h e g) made.ends_so f) in
+    ap (λ e. flow r (and_then (ended_by e (state_of script g)) k) g) made.ends_so
+    ∙ ap (λ x. flow r (and_then (ended_by c.ending (state_of script x)) k) x) made.becomes
     ∙ means (sym (ap (is_statement literals locals) is) ∙ ok) r fits rec k
     ∙ ap (λ (l : Layer). flow r (and_then (statement script rec in_main_frame l (state_of script h)) k) h) (sym is)
 
--- the number of an operand is what is held
-pub number_is : (script : Script) (h : Held) (v : Number) → number_of (state_of script h) v ≡ number_read h v
+-- the number of an operand is that of the definitions
+pub number_is : (script : Script) (h : RunState) (v : Number) → number_of (state_of script h) v ≡ number_read h v
 number_is script h (N.Constant z) = refl
 number_is script h (N.Variable i) = refl
 
 -- and so is the pointer of one
-pub pointer_is : (script : Script) (locals : List Local) (h : Held) (p : Pointer) (go : Ptr → Process) → is_pointer locals p ≡ true →
+pub pointer_is : (script : Script) (locals : List Local) (h : RunState) (p : Pointer) (go : Ptr → Process) → is_pointer locals p ≡ true →
     with_pointer (state_of script h) p go ≡ go (pointer_read h p)
 unfolding with_pointer
 pointer_is script locals h (P.Held (H.Local i)) go ok = refl
@@ -54,7 +53,7 @@ pointer_is script locals h (P.Held H.This) go ok = cc
 pointer_is script locals h (P.Field holder class i) go ok = cc
 
 -- a pointer operand that is written
-pub stored_is : (script : Script) (locals : List Local) (h : Held) (p : Pointer) (q : Ptr) (r : Rule) (k : State → Process) → is_pointer locals p ≡ true →
+pub stored_is : (script : Script) (locals : List Local) (h : RunState) (p : Pointer) (q : Ptr) (r : Rule) (k : State → Process) → is_pointer locals p ≡ true →
     flow r (k (set_pointer (state_of script h) p q)) h ≡ flow r (k (state_of script (pointer_stored h p q))) (pointer_stored h p q)
 unfolding flow
 stored_is script locals h (P.Held (H.Local i)) q r k ok = refl

@@ -1,10 +1,9 @@
 -- Statements that allocate and release cells come to what they mean.
-use Rattle.std.proofs.Common.{◌≡◌, ℕ, Bool, true, false, List, length, length-append, refl, ap, ◌∙◌, sym, arith, cond, Option, Some, None}
+use Rattle.std.proofs.Common.{◌≡◌, ℕ, Bool, true, false, List, refl, ap, ◌∙◌, sym, arith, cond, Option, Some, None}
 use Rattle.std.specs.Prelude.{option_map}
 use Rattle.wb_model.specs.declared.limits.TheConstants.{LARGEST_REQUEST}
 use Rattle.wb_model.specs.declared.heap.TheConstants.Panic.{NUMBER_OUT_OF_RANGE}
 use Rattle.wb_model.specs.declared.heap.Ptr.{Ptr}
-use Rattle.wb_model.specs.declared.heap.Attempt.{Attempt}
 use Rattle.wb_model.specs.declared.heap.Rule.{Rule}
 use Rattle.wb_model.specs.declared.heap.Kind.TheVariants.{Raw}
 use Rattle.wb_model.specs.declared.heap.Answer.{Answer}
@@ -29,8 +28,8 @@ use Rattle.wb_model.specs.Operands.{number_of, set_row, within}
 use Rattle.wb_model.specs.Statements.{statement, given_to, alloc_raw, released, release, is_null, done, fresh_words}
 use Rattle.wb_model.specs.Debug.{Debug, Made, number_of_next, made_by, answer_in, alloc_made, refusal_unless_found, with_row}
 use Rattle.wb_model.specs.Rest.{Fits}
-use Rattle.wb_machine.specs.Held.{Held, field_count, read_cell, state_of, with_debug}
-use Rattle.wb_machine.specs.Flow.{flow, ended_by, is_stop}
+use Rattle.wb_machine.specs.RunState.{RunState, field_count, read_cell, state_of, with_debug}
+use Rattle.wb_machine.specs.Flow.{flow, ended_by, is_stop, FitsStep}
 use Rattle.wb_machine.specs.Carried.{unless_refused, pointer_read, number_read, given_carried, made_carried, alloc_within, alloc_carried, free_carried}
 use Rattle.wb_machine.proofs.Rows.{read_without, read_cell_at, read_fresh}
 use Rattle.wb_machine.proofs.Flows.{followed, allocated}
@@ -44,7 +43,7 @@ is_ceiling Denied = false
 is_ceiling Ceiling = true
 
 -- a target gets what an attempt gave
-pub given_kept : (r : Rule) (script : Script) (locals : List Local) (h : Held) (p : Pointer) (gave : Gave) → is_pointer locals p ≡ true →
+pub given_kept : (r : Rule) (script : Script) (locals : List Local) (h : RunState) (p : Pointer) (gave : Gave) → is_pointer locals p ≡ true →
     ComesTo r script h (followed gave (given_to p GivesNull) (state_of script h)) (given_carried h p gave)
 unfolding flow given_to and_then
 given_kept r script locals h p (Granted q) ok k = sym (stored_is script locals h p q r (k goes_on) ok)
@@ -52,13 +51,13 @@ given_kept r script locals h p Denied ok k = sym (stored_is script locals h p _ 
 given_kept r script locals h p Ceiling ok k = refl
 
 -- a rule that fits what a target was given fits the attempt
-pub fits_made : (r own : Rule) (h : Held) (p : Pointer) (made : Made) →
-    Fits r own (is_stop (made_carried h p made).ending) (length (made_carried h p made).held.debug.trace) → Fits r own (is_ceiling made.gave) (length made.debug.trace)
+pub fits_made : (r own : Rule) (h : RunState) (p : Pointer) (made : Made) →
+    Fits r own (is_stop (made_carried h p made).ending) (made_carried h p made).state.debug.attempts → Fits r own (is_ceiling made.gave) made.debug.attempts
 fits_made r own h p made f = by p made.gave f
   where
     by : (p : Pointer) (gave : Gave) →
-        Fits r own (is_stop (given_carried (with_debug h made.debug) p gave).ending) (length (given_carried (with_debug h made.debug) p gave).held.debug.trace) →
-        Fits r own (is_ceiling gave) (length made.debug.trace)
+        Fits r own (is_stop (given_carried (with_debug h made.debug) p gave).ending) (given_carried (with_debug h made.debug) p gave).state.debug.attempts →
+        Fits r own (is_ceiling gave) made.debug.attempts
     by (P.Held (H.Local i)) (Granted q) f = f
     by (P.Held (H.Local i)) Denied f = f
     by (P.Held (H.Local i)) Ceiling f = f
@@ -71,33 +70,33 @@ fits_made r own h p made f = by p made.gave f
 
 -- under a rule that fits, an attempt is answered as under the machine's own
 pub answered_alike : (r : Rule) (d : Debug) (t : Request) (after : ℕ → Answer → AfterAnswer (List ℕ)) (o : Option Answer) → answer_in d t ≡ o →
-    Fits r d.rule (is_ceiling (made_by d t after o).gave) (length (made_by d t after o).debug.trace) → answer_to r (number_of_next d) t ≡ o
+    Fits r d.rule (is_ceiling (made_by d t after o).gave) (made_by d t after o).debug.attempts → answer_to r (number_of_next d) t ≡ o
 answered_alike r d t after None e f = ap (λ q. answer_to q (number_of_next d) t) (fits-ended r d.rule _ f) ∙ e
-answered_alike r d t after (Some w) e f = fits-answer r d.rule _ _ (number_of_next d) t f (omega arith) (omega (arith, length-append {A = Attempt})) ∙ e
+answered_alike r d t after (Some w) e f = fits-answer r d.rule _ _ (number_of_next d) t f (omega arith) (omega arith) ∙ e
 
--- an allocation of so many bytes
-alloc_made_kept : (r : Rule) (script : Script) (locals : List Local) (h : Held) (p : Pointer) (bytes : ℕ) → is_pointer locals p ≡ true →
-    Fits r h.debug.rule (is_stop (alloc_within h p (Some bytes)).ending) (length (alloc_within h p (Some bytes)).held.debug.trace) →
+-- an allocation of a number of bytes
+alloc_made_kept : (r : Rule) (script : Script) (locals : List Local) (h : RunState) (p : Pointer) (bytes : ℕ) → is_pointer locals p ≡ true →
+    FitsStep r h (alloc_within h p (Some bytes)).ending (alloc_within h p (Some bytes)).state →
     ComesTo r script h (alloc_raw p GivesNull bytes (state_of script h)) (alloc_within h p (Some bytes))
 unfolding alloc_raw
 alloc_made_kept r script locals h p bytes ok f k =
     let t = alloc_request h.debug.heap bytes in
     let made : Made = alloc_made h.debug bytes Raw in
-    let fits : Fits r h.debug.rule (is_ceiling made.gave) (length made.debug.trace) = fits_made r h.debug.rule h p made f in
-    sym (allocated r script h bytes Raw (fresh_words bytes) (given_to p GivesNull) k (answer_in h.debug t) (read_fresh (field_count script) bytes)
+    let fits : Fits r h.debug.rule (is_ceiling made.gave) made.debug.attempts = fits_made r h.debug.rule h p made f.1 in
+    sym (allocated r script h bytes Raw (fresh_words bytes) (given_to p GivesNull) k (answer_in h.debug t) f.0 (read_fresh (field_count script) bytes)
     (answered_alike r h.debug t (after_alloc h.debug.heap t Raw (zero_words t.length)) (answer_in h.debug t) refl fits)
     (fits-limit r h.debug.rule _ _ fits)
     ∙ sym (given_kept r script locals (with_debug h made.debug) p made.gave ok k))
 
 -- or of a number that may be out of its range
-pub alloc_within_kept : (r : Rule) (script : Script) (locals : List Local) (h : Held) (p : Pointer) (o : Option ℕ) → is_pointer locals p ≡ true →
-    Fits r h.debug.rule (is_stop (alloc_within h p o).ending) (length (alloc_within h p o).held.debug.trace) →
+pub alloc_within_kept : (r : Rule) (script : Script) (locals : List Local) (h : RunState) (p : Pointer) (o : Option ℕ) → is_pointer locals p ≡ true →
+    FitsStep r h (alloc_within h p o).ending (alloc_within h p o).state →
     ComesTo r script h (with_some o NUMBER_OUT_OF_RANGE (state_of script h) (λ bytes. alloc_raw p GivesNull bytes (state_of script h))) (alloc_within h p o)
 unfolding with_some
 alloc_within_kept r script locals h p None ok f k = refl
 alloc_within_kept r script locals h p (Some bytes) ok f k = alloc_made_kept r script locals h p bytes ok f k
 
-pub alloc_kept : (script : Script) (literals : ℕ) (locals : List Local) (h : Held) (p : Pointer) (v : Number) (x : Refusal) →
+pub alloc_kept : (script : Script) (literals : ℕ) (locals : List Local) (h : RunState) (p : Pointer) (v : Number) (x : Refusal) →
     is_statement literals locals (Statement-F.Alloc p v x) ≡ true → Means script h (Statement-F.Alloc p v x) (alloc_carried h p (number_read h v))
 unfolding statement
 alloc_kept script literals locals h p v Leaves ok r f rec k = cc
@@ -109,14 +108,14 @@ alloc_kept script literals locals h p v GivesNull ok r f rec k =
     ∙ ap (λ z. flow r (and_then (with_some (within LARGEST_REQUEST z) NUMBER_OUT_OF_RANGE st (λ bytes. alloc_raw p GivesNull bytes st)) k) h) (number_is script h v))
 
 -- the release of a pointer
-pub release_kept : (r : Rule) (script : Script) (h : Held) (p : Ptr) → ComesTo r script h (release p (state_of script h)) (free_carried h p)
+pub release_kept : (r : Rule) (script : Script) (h : RunState) (p : Ptr) → ComesTo r script h (release p (state_of script h)) (free_carried h p)
 unfolding release released flow
 release_kept r script h p k = by (is_null p)
   where
     st : State
     st = state_of script h
 
-    after : Held
+    after : RunState
     after = with_debug h (with_row h.debug (without p h.debug.heap.row))
 
     found : (o : Option (Cell (List ℕ))) →
@@ -126,13 +125,13 @@ release_kept r script h p k = by (is_null p)
 
     by : (b : Bool) →
         flow r (and_then (ended_by (unless_refused h (cond b None (refusal_unless_found (cell_at p h.debug.heap.row))) (with_debug h (cond b h.debug (with_row h.debug (without p h.debug.heap.row))))).ending
-        (state_of script (unless_refused h (cond b None (refusal_unless_found (cell_at p h.debug.heap.row))) (with_debug h (cond b h.debug (with_row h.debug (without p h.debug.heap.row))))).held)) k)
-        (unless_refused h (cond b None (refusal_unless_found (cell_at p h.debug.heap.row))) (with_debug h (cond b h.debug (with_row h.debug (without p h.debug.heap.row))))).held
+        (state_of script (unless_refused h (cond b None (refusal_unless_found (cell_at p h.debug.heap.row))) (with_debug h (cond b h.debug (with_row h.debug (without p h.debug.heap.row))))).state)) k)
+        (unless_refused h (cond b None (refusal_unless_found (cell_at p h.debug.heap.row))) (with_debug h (cond b h.debug (with_row h.debug (without p h.debug.heap.row))))).state
         ≡ flow r (and_then (elim b [ true ↦ done st | false ↦ released (cell_at p st.heap.row) p st ]) k) h
     by true = refl
     by false = found (cell_at p h.debug.heap.row) k ∙ ap (λ o. flow r (and_then (released o p st) k) h) (sym (read_cell_at script p h.debug.heap.row))
 
-pub free_kept : (script : Script) (literals : ℕ) (locals : List Local) (h : Held) (p : Pointer) →
+pub free_kept : (script : Script) (literals : ℕ) (locals : List Local) (h : RunState) (p : Pointer) →
     is_statement literals locals (Statement-F.Free p) ≡ true → Means script h (Statement-F.Free p) (free_carried h (pointer_read h p))
 unfolding statement
 free_kept script literals locals h p ok r f rec k =

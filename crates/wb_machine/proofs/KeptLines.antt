@@ -1,5 +1,5 @@
 -- What is printed and noted comes to what it means.
-use Rattle.std.proofs.Common.{◌≡◌, ℕ, ◌-◌, List, [], ◌∷◌, ◌++◌, true, length, refl, ap, ◌∙◌, sym}
+use Rattle.std.proofs.Common.{◌≡◌, ℕ, ◌-◌, List, [], ◌∷◌, ◌++◌, true, length, ap, ◌∙◌, sym}
 use Rattle.std.specs.Fmt.{signed_decimal}
 use Rattle.wb_model.specs.declared.run.Note.TheVariants.{Compress}
 use Rattle.wb_model.specs.declared.script.Script.{Script}
@@ -12,20 +12,20 @@ use Rattle.wb_model.specs.Space.{space_of, space_below, bound_below, compressed_
 use Rattle.wb_model.specs.State.{heap_note, available_note, compress_note, goes_on, and_then}
 use Rattle.wb_model.specs.Statements.{statement, print_line}
 use Rattle.wb_model.specs.Account.{settled, noted}
-use Rattle.wb_machine.specs.Held.{Held, state_of, account_of}
+use Rattle.wb_machine.specs.RunState.{RunState, state_of, account_of}
 use Rattle.wb_machine.specs.Flow.{flow}
 use Rattle.wb_machine.specs.Carried.{gone_on, number_read, line_printed, heap_noted, available_noted, compress_noted}
 use Rattle.wb_machine.proofs.Rows.{headers_read, length_read}
 use Rattle.wb_machine.proofs.Fitting.{fits-limit}
 use Rattle.wb_machine.proofs.Kept.{Means, number_is}
 
-pub number_kept : (script : Script) (literals : ℕ) (locals : List Local) (h : Held) (v : Number) → is_statement literals locals (Statement-F.PrintNumber v) ≡ true →
+pub number_kept : (script : Script) (literals : ℕ) (locals : List Local) (h : RunState) (v : Number) → is_statement literals locals (Statement-F.PrintNumber v) ≡ true →
     Means script h (Statement-F.PrintNumber v) (gone_on (line_printed h (signed_decimal (number_read h v))))
 unfolding statement flow
 number_kept script literals locals h v ok r f rec k =
     sym (ap (λ z. flow r (and_then (print_line (signed_decimal z) (state_of script h)) k) h) (number_is script h v))
 
-pub heap_kept : (script : Script) (literals : ℕ) (locals : List Local) (h : Held) → is_statement literals locals Statement-F.NoteHeap ≡ true →
+pub heap_kept : (script : Script) (literals : ℕ) (locals : List Local) (h : RunState) → is_statement literals locals Statement-F.NoteHeap ≡ true →
     Means script h Statement-F.NoteHeap (gone_on (heap_noted h))
 unfolding statement flow and_then
 heap_kept script literals locals h ok r f rec k =
@@ -34,7 +34,7 @@ heap_kept script literals locals h ok r f rec k =
     (sym (ap (λ n. heap_note n (total_length (headers (state_of script h).heap.row))) (length_read script row)
     ∙ ap (λ hs. heap_note (length row) (total_length hs)) (headers_read script row)))
 
-pub available_kept : (script : Script) (literals : ℕ) (locals : List Local) (h : Held) → is_statement literals locals Statement-F.NoteAvailable ≡ true →
+pub available_kept : (script : Script) (literals : ℕ) (locals : List Local) (h : RunState) → is_statement literals locals Statement-F.NoteAvailable ≡ true →
     Means script h Statement-F.NoteAvailable (gone_on (available_noted h))
 unfolding statement flow and_then
 available_kept script literals locals h ok r f rec k =
@@ -42,13 +42,13 @@ available_kept script literals locals h ok r f rec k =
     (sym (headers_read script h.debug.heap.row))
 
 -- under a rule that fits, whose limit is that of the machine's own
-pub compress_kept : (script : Script) (literals : ℕ) (locals : List Local) (h : Held) → is_statement literals locals Statement-F.NoteCompress ≡ true →
+pub compress_kept : (script : Script) (literals : ℕ) (locals : List Local) (h : RunState) → is_statement literals locals Statement-F.NoteCompress ≡ true →
     Means script h Statement-F.NoteCompress (gone_on (compress_noted h))
 unfolding statement flow and_then
 compress_kept script literals locals h ok r f rec k =
     let d = h.debug in
     ap (λ (length : ℕ). settled r (space_of r d.shape) (k goes_on (state_of script h))
     (record { trace = d.trace; notes = h.notes ++ Compress (d.committed - length) ∷ []; committed = length }))
-    (ap (λ b. compressed_to (space_below (bound_below b) d.shape) d.committed (top_of (headers d.heap.row))) (sym (fits-limit r d.rule _ _ f)))
+    (ap (λ b. compressed_to (space_below (bound_below b) d.shape) d.committed (top_of (headers d.heap.row))) (sym (fits-limit r d.rule _ _ f.1)))
     ∙ ap (λ hs. settled r (space_of r d.shape) (k goes_on (state_of script h)) (noted (space_of r d.shape) (compress_note (top_of hs)) (account_of h)))
     (sym (headers_read script d.heap.row))

@@ -17,19 +17,19 @@ use Rattle.wb_model.specs.State.{Content, goes_on, ends, and_then, with_some, un
 use Rattle.wb_model.specs.Operands.{not_negative}
 use Rattle.wb_model.specs.Statements.{statement, done, set_setting, at_least_one}
 use Rattle.wb_model.specs.Debug.{check_refusal, check_all_refusal, with_setting}
-use Rattle.wb_machine.specs.Held.{Held, read_row, state_of, with_debug}
+use Rattle.wb_machine.specs.RunState.{RunState, read_row, state_of, with_debug}
 use Rattle.wb_machine.specs.Flow.{flow}
 use Rattle.wb_machine.specs.Carried.{gone_on, unless_refused, number_read, marked, mark_end_within, check_within, set_within}
 use Rattle.wb_machine.proofs.Rows.{headers_read, read_lowered}
 use Rattle.wb_machine.proofs.Kept.{Means, ComesTo, number_is}
 
-pub mark_kept : (script : Script) (literals : ℕ) (locals : List Local) (h : Held) → is_statement literals locals Statement-F.Mark ≡ true →
+pub mark_kept : (script : Script) (literals : ℕ) (locals : List Local) (h : RunState) → is_statement literals locals Statement-F.Mark ≡ true →
     Means script h Statement-F.Mark (gone_on (marked h))
 unfolding statement flow
 mark_kept script literals locals h ok r f rec k = refl
 
 -- what refuses the end of a mark, and what follows where nothing does
-mark_end_by : (r : Rule) (script : Script) (h : Held) (o : Option Panic) →
+mark_end_by : (r : Rule) (script : Script) (h : RunState) (o : Option Panic) →
     ComesTo r script h (unless o (state_of script h) (λ st. done (set_heap st (after_mark_end st.heap))))
     (unless_refused h o (with_debug h (record h.debug { heap = after_mark_end h.debug.heap })))
 unfolding flow unless
@@ -38,7 +38,7 @@ mark_end_by r script h None k =
     ap (λ (row : List (Cell Content)). flow r (and_then (ends goes_on (set_heap (state_of script h) (record (after_mark_end (state_of script h).heap) { row = row }))) k) h)
     (read_lowered script h.debug.heap.level h.debug.heap.row)
 
-mark_end_in : (r : Rule) (script : Script) (h : Held) (o : Option ℕ) →
+mark_end_in : (r : Rule) (script : Script) (h : RunState) (o : Option ℕ) →
     ComesTo r script h (with_some o NUMBER_OUT_OF_RANGE (state_of script h) (λ n. unless (mark_end_refusal (state_of script h).heap n) (state_of script h) (λ st. done (set_heap st (after_mark_end st.heap)))))
     (mark_end_within h o)
 unfolding flow with_some
@@ -49,7 +49,7 @@ mark_end_in r script h (Some n) k =
     ∙ ap (λ (hs : List Header). flow r (and_then (unless (if nat_eq h.debug.heap.level 0 then Some NO_OPEN_MARK else checked (cells_of_level h.debug.heap.level hs) n) st (λ st. done (set_heap st (after_mark_end st.heap)))) k) h)
     (sym (headers_read script h.debug.heap.row))
 
-pub mark_end_kept : (script : Script) (literals : ℕ) (locals : List Local) (h : Held) (v : Number) → is_statement literals locals (Statement-F.MarkEnd v) ≡ true →
+pub mark_end_kept : (script : Script) (literals : ℕ) (locals : List Local) (h : RunState) (v : Number) → is_statement literals locals (Statement-F.MarkEnd v) ≡ true →
     Means script h (Statement-F.MarkEnd v) (mark_end_within h (not_negative (number_read h v)))
 unfolding statement
 mark_end_kept script literals locals h v ok r f rec k =
@@ -59,12 +59,12 @@ mark_end_kept script literals locals h v ok r f rec k =
     (number_is script h v))
 
 -- a check of some cells
-check_by : (r : Rule) (script : Script) (h : Held) (o : Option Panic) → ComesTo r script h (unless o (state_of script h) done) (unless_refused h o h)
+check_by : (r : Rule) (script : Script) (h : RunState) (o : Option Panic) → ComesTo r script h (unless o (state_of script h) done) (unless_refused h o h)
 unfolding flow unless
 check_by r script h (Some panic) k = refl
 check_by r script h None k = refl
 
-check_in : (r : Rule) (script : Script) (h : Held) (cells : List Header → List Header) (o : Option ℕ) →
+check_in : (r : Rule) (script : Script) (h : RunState) (cells : List Header → List Header) (o : Option ℕ) →
     ComesTo r script h (with_some o NUMBER_OUT_OF_RANGE (state_of script h) (λ n. unless (checked (cells (headers (read_row script h.debug.heap.row))) n) (state_of script h) done))
     (check_within h (λ n. checked (cells (headers h.debug.heap.row)) n) o)
 unfolding flow with_some
@@ -73,7 +73,7 @@ check_in r script h cells (Some n) k =
     check_by r script h (checked (cells (headers h.debug.heap.row)) n) k
     ∙ ap (λ hs. flow r (and_then (unless (checked (cells hs) n) (state_of script h) done) k) h) (sym (headers_read script h.debug.heap.row))
 
-pub check_kept : (script : Script) (literals : ℕ) (locals : List Local) (h : Held) (v : Number) → is_statement literals locals (Statement-F.Check v) ≡ true →
+pub check_kept : (script : Script) (literals : ℕ) (locals : List Local) (h : RunState) (v : Number) → is_statement literals locals (Statement-F.Check v) ≡ true →
     Means script h (Statement-F.Check v) (check_within h (check_refusal h.debug) (not_negative (number_read h v)))
 unfolding statement
 check_kept script literals locals h v ok r f rec k =
@@ -81,7 +81,7 @@ check_kept script literals locals h v ok r f rec k =
     check_in r script h (cells_of_level h.debug.heap.level) (not_negative (number_read h v)) k
     ∙ sym (ap (λ z. flow r (and_then (with_some (not_negative z) NUMBER_OUT_OF_RANGE st (λ n. unless (checked (cells_of_level st.heap.level (headers st.heap.row)) n) st done)) k) h) (number_is script h v))
 
-pub check_all_kept : (script : Script) (literals : ℕ) (locals : List Local) (h : Held) (v : Number) → is_statement literals locals (Statement-F.CheckAll v) ≡ true →
+pub check_all_kept : (script : Script) (literals : ℕ) (locals : List Local) (h : RunState) (v : Number) → is_statement literals locals (Statement-F.CheckAll v) ≡ true →
     Means script h (Statement-F.CheckAll v) (check_within h (check_all_refusal h.debug) (not_negative (number_read h v)))
 unfolding statement
 check_all_kept script literals locals h v ok r f rec k =
@@ -90,13 +90,13 @@ check_all_kept script literals locals h v ok r f rec k =
     ∙ sym (ap (λ z. flow r (and_then (with_some (not_negative z) NUMBER_OUT_OF_RANGE st (λ n. unless (checked (cells_of_all_levels (headers st.heap.row)) n) st done)) k) h) (number_is script h v))
 
 -- a setting of a rate
-set_in : (r : Rule) (script : Script) (h : Held) (setting : ℕ → Setting) (o : Option ℕ) →
+set_in : (r : Rule) (script : Script) (h : RunState) (setting : ℕ → Setting) (o : Option ℕ) →
     ComesTo r script h (with_some o NUMBER_OUT_OF_RANGE (state_of script h) (λ n. done (set_setting (state_of script h) (setting n)))) (set_within h setting o)
 unfolding flow with_some
 set_in r script h setting None k = refl
 set_in r script h setting (Some n) k = refl
 
-pub fail_next_kept : (script : Script) (literals : ℕ) (locals : List Local) (h : Held) (v : Number) → is_statement literals locals (Statement-F.FailNext v) ≡ true →
+pub fail_next_kept : (script : Script) (literals : ℕ) (locals : List Local) (h : RunState) (v : Number) → is_statement literals locals (Statement-F.FailNext v) ≡ true →
     Means script h (Statement-F.FailNext v) (set_within h (λ n. next n) (at_least_one (number_read h v)))
 unfolding statement
 fail_next_kept script literals locals h v ok r f rec k =
@@ -104,7 +104,7 @@ fail_next_kept script literals locals h v ok r f rec k =
     set_in r script h (λ n. next n) (at_least_one (number_read h v)) k
     ∙ sym (ap (λ z. flow r (and_then (with_some (at_least_one z) NUMBER_OUT_OF_RANGE st (λ n. done (set_setting st (next n)))) k) h) (number_is script h v))
 
-pub fail_every_kept : (script : Script) (literals : ℕ) (locals : List Local) (h : Held) (v : Number) → is_statement literals locals (Statement-F.FailEvery v) ≡ true →
+pub fail_every_kept : (script : Script) (literals : ℕ) (locals : List Local) (h : RunState) (v : Number) → is_statement literals locals (Statement-F.FailEvery v) ≡ true →
     Means script h (Statement-F.FailEvery v) (set_within h (λ n. each n n) (at_least_one (number_read h v)))
 unfolding statement
 fail_every_kept script literals locals h v ok r f rec k =
@@ -112,7 +112,7 @@ fail_every_kept script literals locals h v ok r f rec k =
     set_in r script h (λ n. each n n) (at_least_one (number_read h v)) k
     ∙ sym (ap (λ z. flow r (and_then (with_some (at_least_one z) NUMBER_OUT_OF_RANGE st (λ n. done (set_setting st (each n n)))) k) h) (number_is script h v))
 
-pub fail_none_kept : (script : Script) (literals : ℕ) (locals : List Local) (h : Held) → is_statement literals locals Statement-F.FailNone ≡ true →
+pub fail_none_kept : (script : Script) (literals : ℕ) (locals : List Local) (h : RunState) → is_statement literals locals Statement-F.FailNone ≡ true →
     Means script h Statement-F.FailNone (gone_on (with_debug h (with_setting h.debug never)))
 unfolding statement flow
 fail_none_kept script literals locals h ok r f rec k = refl

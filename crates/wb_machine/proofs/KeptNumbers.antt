@@ -11,12 +11,12 @@ use Rattle.wb_model.specs.Sound.{is_statement, is_pointer}
 use Rattle.wb_model.specs.State.{number, State, goes_on, and_then, require, set_local, number_in, null}
 use Rattle.wb_model.specs.Operands.{set_pointer, with_pointer}
 use Rattle.wb_model.specs.Statements.{statement, done, in_range}
-use Rattle.wb_machine.specs.Held.{Held, state_of, value_in}
+use Rattle.wb_machine.specs.RunState.{RunState, state_of, value_in}
 use Rattle.wb_machine.specs.Flow.{flow}
 use Rattle.wb_machine.specs.Carried.{gone_on, panicked, pointer_read, number_read, pointer_stored, stored, sum_stored, add_carried}
 use Rattle.wb_machine.proofs.Kept.{Means, ComesTo, and_left, and_right, number_is, pointer_is, stored_is}
 
-pub set_kept : (script : Script) (literals : ℕ) (locals : List Local) (h : Held) (p q : Pointer) → is_statement literals locals (Statement-F.Set p q) ≡ true →
+pub set_kept : (script : Script) (literals : ℕ) (locals : List Local) (h : RunState) (p q : Pointer) → is_statement literals locals (Statement-F.Set p q) ≡ true →
     Means script h (Statement-F.Set p q) (gone_on (pointer_stored h p (pointer_read h q)))
 unfolding statement and_then
 set_kept script literals locals h p q ok r f rec k =
@@ -27,7 +27,7 @@ set_kept script literals locals h p q ok r f rec k =
     ∙ pointer_is script locals h q (λ to. done (set_pointer st p to)) source)
     ∙ stored_is script locals h p (pointer_read h q) r (k goes_on) target)
 
-pub null_kept : (script : Script) (literals : ℕ) (locals : List Local) (h : Held) (p : Pointer) → is_statement literals locals (Statement-F.SetNull p) ≡ true →
+pub null_kept : (script : Script) (literals : ℕ) (locals : List Local) (h : RunState) (p : Pointer) → is_statement literals locals (Statement-F.SetNull p) ≡ true →
     Means script h (Statement-F.SetNull p) (gone_on (pointer_stored h p null))
 unfolding statement and_then
 null_kept script literals locals h p ok r f rec k =
@@ -35,7 +35,7 @@ null_kept script literals locals h p ok r f rec k =
     sym (ap (λ x. flow r (and_then x k) h) (pointer_is script locals h p (λ _. done (set_pointer st p null)) ok)
     ∙ stored_is script locals h p null r (k goes_on) ok)
 
-pub set_number_kept : (script : Script) (literals : ℕ) (locals : List Local) (h : Held) (x : ℕ) (v : Number) → is_statement literals locals (Statement-F.SetNumber x v) ≡ true →
+pub set_number_kept : (script : Script) (literals : ℕ) (locals : List Local) (h : RunState) (x : ℕ) (v : Number) → is_statement literals locals (Statement-F.SetNumber x v) ≡ true →
     Means script h (Statement-F.SetNumber x v) (gone_on (stored h x (number (number_read h v))))
 unfolding statement flow and_then
 set_number_kept script literals locals h x v ok r f rec k =
@@ -43,7 +43,7 @@ set_number_kept script literals locals h x v ok r f rec k =
     sym (ap (λ z. flow r (and_then (done (set_local st x (number z))) k) h) (number_is script h v))
 
 -- a sum within the range of an int, and one past it
-sum_kept : (r : Rule) (script : Script) (h : Held) (x : ℕ) (z : ℤ) →
+sum_kept : (r : Rule) (script : Script) (h : RunState) (x : ℕ) (z : ℤ) →
     ComesTo r script h (require (in_range z) NUMBER_OUT_OF_RANGE (state_of script h) (λ st. done (set_local st x (number z)))) (sum_stored h x z)
 unfolding flow require
 sum_kept r script h x z k = by (in_range z) k
@@ -56,7 +56,7 @@ sum_kept r script h x z k = by (in_range z) k
     by true = λ k. refl
     by false = λ k. refl
 
-pub add_kept : (script : Script) (literals : ℕ) (locals : List Local) (h : Held) (x : ℕ) (v : Number) → is_statement literals locals (Statement-F.Add x v) ≡ true →
+pub add_kept : (script : Script) (literals : ℕ) (locals : List Local) (h : RunState) (x : ℕ) (v : Number) → is_statement literals locals (Statement-F.Add x v) ≡ true →
     Means script h (Statement-F.Add x v) (add_carried h x (number_read h v))
 unfolding statement
 add_kept script literals locals h x v ok r f rec k =

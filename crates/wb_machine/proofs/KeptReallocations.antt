@@ -1,5 +1,5 @@
 -- Reallocations come to what they mean.
-use Rattle.std.proofs.Common.{◌≡◌, ℕ, ℤ, Bool, true, false, List, length, refl, ap, ◌∙◌, sym, cond, Option, Some, None}
+use Rattle.std.proofs.Common.{◌≡◌, ℕ, ℤ, Bool, true, false, List, refl, ap, ◌∙◌, sym, cond, Option, Some, None}
 use Rattle.std.specs.Prelude.{◌&&◌, nat_lt, option_map}
 use Rattle.wb_model.specs.declared.limits.TheConstants.{LARGEST_REQUEST}
 use Rattle.wb_model.specs.declared.heap.TheConstants.Panic.{NUMBER_OUT_OF_RANGE, BAD_CELL, WRONG_KIND}
@@ -24,37 +24,37 @@ use Rattle.wb_model.specs.Attempts.{reallocate_longer, reallocate}
 use Rattle.wb_model.specs.Statements.{statement, given_to, is_null, is_raw, realloc_raw, realloc_of}
 use Rattle.wb_model.specs.Debug.{Made, answer_in, longer_made, shorter_made}
 use Rattle.wb_model.specs.Rest.{Fits}
-use Rattle.wb_machine.specs.Held.{Held, read_cell, state_of, with_debug}
-use Rattle.wb_machine.specs.Flow.{flow, is_stop}
+use Rattle.wb_machine.specs.RunState.{RunState, read_cell, state_of, with_debug}
+use Rattle.wb_machine.specs.Flow.{FitsStep, flow}
 use Rattle.wb_machine.specs.Carried.{Carried, panicked, pointer_read, number_read, made_carried, alloc_carried, realloc_within, realloc_found, realloc_carried}
 use Rattle.wb_machine.proofs.Rows.{read_cell_at}
-use Rattle.wb_machine.proofs.Flows.{ReadsResized, resized_content, followed, made_longer, made_shorter}
+use Rattle.wb_machine.proofs.Flows.{ReadsResized, resized_content, made_longer, made_shorter}
 use Rattle.wb_machine.proofs.Fitting.{fits-limit}
 use Rattle.wb_machine.proofs.Kept.{Means, ComesTo, and_left, and_right, number_is, pointer_is}
 use Rattle.wb_machine.proofs.KeptCells.{is_ceiling, given_kept, fits_made, answered_alike, alloc_within_kept}
 
 -- a rule that fits once this was carried out
-abbrev pub FitsAfter : Rule → Held → Carried → Type 0
-FitsAfter r h c = Fits r h.debug.rule (is_stop c.ending) (length c.held.debug.trace)
+abbrev pub FitsAfter : Rule → RunState → Carried → Type 0
+FitsAfter r h c = FitsStep r h c.ending c.state
 
 -- to a cell that is longer, and to one that isn't
-pub resized_kept : (r : Rule) (script : Script) (locals : List Local) (h : Held) (p : Pointer) (c : Cell (List ℕ)) (bytes : ℕ) (b : Bool) → is_pointer locals p ≡ true → ReadsResized script c.head.kind bytes c.content →
+pub resized_kept : (r : Rule) (script : Script) (locals : List Local) (h : RunState) (p : Pointer) (c : Cell (List ℕ)) (bytes : ℕ) (b : Bool) → is_pointer locals p ≡ true → ReadsResized script c.head.kind bytes c.content →
     FitsAfter r h (made_carried h p (cond b (longer_made h.debug c bytes) (shorter_made h.debug c bytes))) →
     ComesTo r script h (reallocate_longer b (read_cell script c) bytes (state_of script h) (state_of script h) (given_to p GivesNull))
     (made_carried h p (cond b (longer_made h.debug c bytes) (shorter_made h.debug c bytes)))
 resized_kept r script locals h p c bytes true ok reads f k =
     let t = realloc_request h.debug.heap c.head bytes in
     let made : Made = longer_made h.debug c bytes in
-    let fits : Fits r h.debug.rule (is_ceiling made.gave) (length made.debug.trace) = fits_made r h.debug.rule h p made f in
-    sym (made_longer r script h c bytes (given_to p GivesNull) k (answer_in h.debug t) reads
+    let fits : Fits r h.debug.rule (is_ceiling made.gave) made.debug.attempts = fits_made r h.debug.rule h p made f.1 in
+    sym (made_longer r script h c bytes (given_to p GivesNull) k (answer_in h.debug t) f.0 reads
     (answered_alike r h.debug t (after_realloc h.debug.heap t c.head (resized_words t.length c.content)) (answer_in h.debug t) refl fits) (fits-limit r h.debug.rule _ _ fits)
     ∙ sym (given_kept r script locals (with_debug h made.debug) p made.gave ok k))
 resized_kept r script locals h p c bytes false ok reads f k =
     let made : Made = shorter_made h.debug c bytes in
     sym (made_shorter r script h c bytes (given_to p GivesNull) k reads ∙ sym (given_kept r script locals (with_debug h made.debug) p made.gave ok k))
 
--- a reallocation of a cell to so many bytes, or to a number that may be out of its range
-within_kept : (r : Rule) (script : Script) (locals : List Local) (h : Held) (p : Pointer) (c : Cell (List ℕ)) (o : Option ℕ) → is_pointer locals p ≡ true → c.head.kind ≡ Raw →
+-- a reallocation of a cell to a number of bytes, which may be out of its range
+within_kept : (r : Rule) (script : Script) (locals : List Local) (h : RunState) (p : Pointer) (c : Cell (List ℕ)) (o : Option ℕ) → is_pointer locals p ≡ true → c.head.kind ≡ Raw →
     FitsAfter r h (realloc_within h p c o) →
     ComesTo r script h (with_some o NUMBER_OUT_OF_RANGE (state_of script h) (λ bytes. reallocate (read_cell script c) bytes (state_of script h) (state_of script h) (given_to p GivesNull)))
     (realloc_within h p c o)
@@ -64,7 +64,7 @@ within_kept r script locals h p c (Some bytes) ok raw f k =
     resized_kept r script locals h p c bytes (nat_lt c.head.length (cell_length bytes)) ok (resized_content script c.head.kind bytes c.content raw) f k
 
 -- of a cell of any kind, and of a pointer that names none
-found_kept : (r : Rule) (script : Script) (locals : List Local) (h : Held) (p : Pointer) (z : ℤ) (o : Option (Cell (List ℕ))) → is_pointer locals p ≡ true →
+found_kept : (r : Rule) (script : Script) (locals : List Local) (h : RunState) (p : Pointer) (z : ℤ) (o : Option (Cell (List ℕ))) → is_pointer locals p ≡ true →
     FitsAfter r h (realloc_found h p z o) →
     ComesTo r script h (with_some (option_map (read_cell script) o) BAD_CELL (state_of script h) (λ c.
     require (is_raw c.head.kind) WRONG_KIND (state_of script h) (λ st.
@@ -85,7 +85,7 @@ found_kept r script locals h p z (Some c) ok f k = by c.head.kind refl f k
     by Cleanup raw f = λ k. refl
 
 -- of a pointer that may be null
-of_kept : (r : Rule) (script : Script) (locals : List Local) (h : Held) (p : Pointer) (q : Ptr) (z : ℤ) → is_pointer locals p ≡ true →
+of_kept : (r : Rule) (script : Script) (locals : List Local) (h : RunState) (p : Pointer) (q : Ptr) (z : ℤ) → is_pointer locals p ≡ true →
     FitsAfter r h (realloc_carried h p q z) → ComesTo r script h (realloc_of (is_null q) p GivesNull q z (state_of script h)) (realloc_carried h p q z)
 unfolding realloc_of realloc_raw
 of_kept r script locals h p q z ok f k = by (is_null q) f k
@@ -98,7 +98,7 @@ of_kept r script locals h p q z ok f k = by (is_null q) f k
         ∙ ap (λ o. flow r (and_then (with_some o BAD_CELL (state_of script h) (λ c. require (is_raw c.head.kind) WRONG_KIND (state_of script h) (λ st.
         with_some (within LARGEST_REQUEST z) NUMBER_OUT_OF_RANGE st (λ bytes. reallocate c bytes st st (given_to p GivesNull))))) k) h) (sym (read_cell_at script q h.debug.heap.row))
 
-pub realloc_kept : (script : Script) (literals : ℕ) (locals : List Local) (h : Held) (p q : Pointer) (v : Number) (x : Refusal) →
+pub realloc_kept : (script : Script) (literals : ℕ) (locals : List Local) (h : RunState) (p q : Pointer) (v : Number) (x : Refusal) →
     is_statement literals locals (Statement-F.Realloc p q v x) ≡ true → Means script h (Statement-F.Realloc p q v x) (realloc_carried h p (pointer_read h q) (number_read h v))
 unfolding statement
 realloc_kept script literals locals h p q v Leaves ok r f rec k = cc

@@ -1,10 +1,9 @@
 -- Statements that allocate and reallocate texts come to what they mean.
-use Rattle.std.proofs.Common.{◌≡◌, ℕ, zero, suc, ℤ, ◌+◌, ◌-◌, ◌*◌, ◌/◌, ◌≤◌, Bool, true, false, List, [], length, refl, ap, ◌∙◌, sym, arith, cond, Option, Some, None, take, replicate}
+use Rattle.std.proofs.Common.{◌≡◌, ℕ, ℤ, ◌+◌, ◌-◌, ◌*◌, ◌/◌, ◌≤◌, Bool, true, false, List, [], length, refl, ap, ◌∙◌, sym, arith, cond, Option, Some, None}
 use Rattle.std.specs.Prelude.{◌&&◌, nat_le, nat_lt, option_map}
 use Rattle.std.proofs.lemmas.Bool.{leb-true}
 use Rattle.wb_model.specs.declared.limits.TheConstants.{MOST_UNITS}
 use Rattle.wb_model.specs.declared.heap.TheConstants.Panic.{NUMBER_OUT_OF_RANGE, SHORTER_THAN_TEXT, NULL_OR_STALE, WRONG_KIND}
-use Rattle.wb_model.specs.declared.heap.Ptr.{Ptr}
 use Rattle.wb_model.specs.declared.heap.Rule.{Rule}
 use Rattle.wb_model.specs.declared.heap.Kind.{Kind}
 use Rattle.wb_model.specs.declared.heap.Kind.TheVariants.{Raw, Object, Text, Cleanup}
@@ -18,31 +17,30 @@ use Rattle.wb_model.specs.declared.script.Statement.TheOpen.{Statement-F}
 use Rattle.wb_model.specs.Sound.{is_statement, is_pointer, is_number}
 use Rattle.wb_model.specs.Row.{Cell, cell_at, cell_length}
 use Rattle.wb_model.specs.CellRow.{resized_words}
-use Rattle.wb_model.specs.Rules.{Request}
 use Rattle.wb_model.specs.Heap.{alloc_request, after_alloc}
 use Rattle.wb_model.specs.LimitedHeap.{zero_words}
 use Rattle.wb_model.specs.Spelling.{read_as}
 use Rattle.wb_model.specs.State.{Content, units, State, Process, and_then, require, with_some}
 use Rattle.wb_model.specs.Operands.{number_of, within, units_of, with_cell, with_pointer}
-use Rattle.wb_model.specs.Attempts.{allocate, reallocate, resized}
+use Rattle.wb_model.specs.Attempts.{allocate, reallocate}
 use Rattle.wb_model.specs.Statements.{statement, given_to, realloc_text}
 use Rattle.wb_model.specs.Debug.{Made, answer_in, alloc_made, realloc_made}
 use Rattle.wb_model.specs.TextCells.{IsText, text_in}
 use Rattle.wb_model.proofs.TextCells.{text-read, zeros-text, resized-text}
 use Rattle.wb_model.specs.Rest.{Fits}
-use Rattle.wb_machine.specs.Held.{Held, field_count, read_cell, state_of, with_debug}
-use Rattle.wb_machine.specs.Flow.{flow, is_stop}
+use Rattle.wb_machine.specs.RunState.{RunState, field_count, read_cell, state_of, with_debug}
+use Rattle.wb_machine.specs.Flow.{flow}
 use Rattle.wb_machine.specs.Carried.{Carried, panicked, pointer_read, number_read, made_carried}
 use Rattle.wb_machine.specs.CarriedTexts.{unless_panics, new_text_within, new_text_carried, realloc_text_within, realloc_text_found, realloc_text_carried}
 use Rattle.wb_machine.specs.TextOperands.{is_text}
-use Rattle.wb_machine.specs.TextRows.{IsTextCell, AreTexts}
+use Rattle.wb_machine.specs.TextInvariant.{IsTextCell, AreTexts}
 use Rattle.wb_machine.proofs.Rows.{read_cell_at}
 use Rattle.wb_machine.proofs.Flows.{ReadsResized, allocated}
 use Rattle.wb_machine.proofs.Fitting.{fits-limit}
 use Rattle.wb_machine.proofs.Kept.{Means, ComesTo, and_left, and_right, number_is, pointer_is}
 use Rattle.wb_machine.proofs.KeptCells.{is_ceiling, given_kept, fits_made, answered_alike}
 use Rattle.wb_machine.proofs.KeptReallocations.{FitsAfter, resized_kept}
-use Rattle.wb_machine.proofs.TextRows.{text_cell_at}
+use Rattle.wb_machine.proofs.TextInvariant.{text_cell_at}
 
 -- a fresh cell reads as the empty text
 read_empty : (script : Script) (n : ℕ) → read_as (field_count script) Text (zero_words (cell_length (4 + 2 * n))) ≡ units []
@@ -51,20 +49,20 @@ read_empty script n =
     let empty : IsText words [] = zeros-text (cell_length (4 + 2 * n) / 4 - 4) (omega arith) in
     ap units (text-read words [] empty).text
 
-new_text_made : (r : Rule) (script : Script) (locals : List Local) (h : Held) (p : Pointer) (o : Option ℕ) → is_pointer locals p ≡ true → FitsAfter r h (new_text_within h p o) →
+new_text_made : (r : Rule) (script : Script) (locals : List Local) (h : RunState) (p : Pointer) (o : Option ℕ) → is_pointer locals p ≡ true → FitsAfter r h (new_text_within h p o) →
     ComesTo r script h (with_some o NUMBER_OUT_OF_RANGE (state_of script h) (λ n. allocate (4 + 2 * n) Text (units []) (state_of script h) (given_to p GivesNull))) (new_text_within h p o)
 unfolding with_some
 new_text_made r script locals h p None ok f k = refl
 new_text_made r script locals h p (Some n) ok f k =
     let t = alloc_request h.debug.heap (4 + 2 * n) in
     let made : Made = alloc_made h.debug (4 + 2 * n) Text in
-    let fits : Fits r h.debug.rule (is_ceiling made.gave) (length made.debug.trace) = fits_made r h.debug.rule h p made f in
-    sym (allocated r script h (4 + 2 * n) Text (units []) (given_to p GivesNull) k (answer_in h.debug t) (read_empty script n)
+    let fits : Fits r h.debug.rule (is_ceiling made.gave) made.debug.attempts = fits_made r h.debug.rule h p made f.1 in
+    sym (allocated r script h (4 + 2 * n) Text (units []) (given_to p GivesNull) k (answer_in h.debug t) f.0 (read_empty script n)
     (answered_alike r h.debug t (after_alloc h.debug.heap t Text (zero_words t.length)) (answer_in h.debug t) refl fits)
     (fits-limit r h.debug.rule _ _ fits)
     ∙ sym (given_kept r script locals (with_debug h made.debug) p made.gave ok k))
 
-pub new_text_kept : (script : Script) (literals : ℕ) (locals : List Local) (h : Held) (p : Pointer) (v : Number) (x : Refusal) →
+pub new_text_kept : (script : Script) (literals : ℕ) (locals : List Local) (h : RunState) (p : Pointer) (v : Number) (x : Refusal) →
     is_statement literals locals (Statement-F.NewText p v x) ≡ true → Means script h (Statement-F.NewText p v x) (new_text_carried h p (number_read h v))
 unfolding statement
 new_text_kept script literals locals h p v Leaves ok r f rec k = cc
@@ -85,8 +83,8 @@ text_resized_reads script Raw n ws text is fits = cc
 text_resized_reads script (Object class) n ws text is fits = cc
 text_resized_reads script Cleanup n ws text is fits = cc
 
--- to so many units, or to a number that is out of its range
-remade_kept : (r : Rule) (script : Script) (locals : List Local) (h : Held) (p : Pointer) (c : Cell (List ℕ)) (o : Option ℕ) → is_pointer locals p ≡ true → c.head.kind ≡ Text →
+-- to a number of units, which may be out of its range
+remade_kept : (r : Rule) (script : Script) (locals : List Local) (h : RunState) (p : Pointer) (c : Cell (List ℕ)) (o : Option ℕ) → is_pointer locals p ≡ true → c.head.kind ≡ Text →
     IsText c.content (text_in c.content) → FitsAfter r h (realloc_text_within h p c o) →
     ComesTo r script h (with_some o NUMBER_OUT_OF_RANGE (state_of script h) (λ n. realloc_text p (read_cell script c) (text_in c.content) n (state_of script h))) (realloc_text_within h p c o)
 unfolding with_some realloc_text reallocate require flow
@@ -107,7 +105,7 @@ remade_kept r script locals h p c (Some n) ok text is f k = by (nat_le (length (
         (text_resized_reads script c.head.kind n c.content text is (leb-true (length (text_in c.content)) n e)) f k
 
 -- of a cell of any kind, and of a pointer that names none
-remade_found : (r : Rule) (script : Script) (locals : List Local) (h : Held) (p : Pointer) (z : ℤ) (o : Option (Cell (List ℕ))) → is_pointer locals p ≡ true →
+remade_found : (r : Rule) (script : Script) (locals : List Local) (h : RunState) (p : Pointer) (z : ℤ) (o : Option (Cell (List ℕ))) → is_pointer locals p ≡ true →
     ((c : Cell (List ℕ)) → o ≡ Some c → IsTextCell c) → FitsAfter r h (realloc_text_found h p z o) →
     ComesTo r script h (with_some (option_map (read_cell script) o) NULL_OR_STALE (state_of script h) (λ c. with_some (units_of c.head.kind c.content) WRONG_KIND (state_of script h) (λ us.
     with_some (within MOST_UNITS z) NUMBER_OUT_OF_RANGE (state_of script h) (λ n. realloc_text p c us n (state_of script h))))) (realloc_text_found h p z o)
@@ -129,7 +127,7 @@ remade_found r script locals h p z (Some c) ok texts f k = by c.head.kind (texts
     by (Object class) is e f k = refl
     by Cleanup is e f k = refl
 
-pub realloc_text_kept : (script : Script) (literals : ℕ) (locals : List Local) (h : Held) (p q : Pointer) (v : Number) → AreTexts h.debug.heap.row →
+pub realloc_text_kept : (script : Script) (literals : ℕ) (locals : List Local) (h : RunState) (p q : Pointer) (v : Number) → AreTexts h.debug.heap.row →
     is_statement literals locals (Statement-F.ReallocText p q v) ≡ true → Means script h (Statement-F.ReallocText p q v) (realloc_text_carried h p (pointer_read h q) (number_read h v))
 unfolding statement with_cell
 realloc_text_kept script literals locals h p q v texts ok r f rec k =

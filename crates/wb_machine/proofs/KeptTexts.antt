@@ -1,5 +1,5 @@
 -- Statements that change texts come to what they mean.
-use Rattle.std.proofs.Common.{◌≡◌, ℕ, ℤ, List, [], ◌∷◌, length, Bool, true, false, refl, ap, ◌∙◌, sym, subst, cond, Option, Some, None, Ok, Err}
+use Rattle.std.proofs.Common.{◌≡◌, ℕ, List, [], ◌∷◌, length, Bool, true, false, refl, ap, ◌∙◌, sym, subst, cond, Option, Some, None, Ok, Err}
 use Rattle.std.specs.Prelude.{◌&&◌, not}
 use Rattle.wb_model.specs.declared.heap.TheConstants.Panic.{NUMBER_OUT_OF_RANGE}
 use Rattle.wb_model.specs.declared.heap.Kind.{Kind}
@@ -15,51 +15,50 @@ use Rattle.wb_model.specs.declared.script.Readable.{Readable}
 use Rattle.wb_model.specs.declared.script.Statement.TheOpen.{Statement-F}
 use Rattle.wb_model.specs.declared.text.Base.{Base}
 use Rattle.wb_model.specs.declared.text.Base.TheVariants as B
-use Rattle.wb_model.specs.declared.text.View.{View}
 use Rattle.wb_model.specs.Sound.{is_statement, is_writable, is_readable, is_number}
 use Rattle.wb_model.specs.Row.{Cell, is_at, cell_at, changed}
 use Rattle.wb_model.specs.CellRow.{content_or_nil, payload_of, with_payload}
 use Rattle.wb_model.specs.Spelling.{read_as}
-use Rattle.wb_model.specs.State.{Content, units, State, Way, panics, goes_on, Process, ends, stops, and_then, with_some, require}
+use Rattle.wb_model.specs.State.{Content, units, State, panics, goes_on, Process, ends, stops, and_then, with_some, require}
 use Rattle.wb_model.specs.Operands.{number_of, not_negative, set_row}
 use Rattle.wb_model.specs.Texts.{Edited, delete_text, set_length_text, insert_text}
 use Rattle.wb_model.specs.TextCells.{text_words, text_in}
-use Rattle.wb_model.specs.Reading.{Source, base_of, with_writable, with_readable, with_units, with_room, write, set_units, is_same_base}
+use Rattle.wb_model.specs.Reading.{base_of, with_writable, with_readable, with_units, with_room, write, set_units, is_same_base}
 use Rattle.wb_model.specs.Statements.{Layer, statement}
 use Rattle.wb_hbuf.specs.declared.sources.Edit.{Edit}
-use Rattle.wb_hbuf.specs.declared.sources.Edit.TheVariants.{Copy, Append, Insert}
+use Rattle.wb_hbuf.specs.declared.sources.Edit.TheVariants.{Copy, Append}
 use Rattle.wb_hbuf.specs.Sources.{edit_text}
 use Rattle.wb_machine.specs.declared.control.Ending.{Ending}
-use Rattle.wb_machine.specs.Held.{Held, field_count, read_cell, read_row, state_of}
+use Rattle.wb_machine.specs.RunState.{RunState, field_count, read_cell, read_row, state_of}
 use Rattle.wb_machine.specs.Flow.{flow, ended_by, IsSameFlow, IsCarriedOut}
 use Rattle.wb_machine.specs.Carried.{number_read}
-use Rattle.wb_machine.specs.TextOperands.{base_named, text_refusal, base_refusal, base_text, base_max, is_writable_base, window_read, window_units}
-use Rattle.wb_machine.specs.CarriedTexts.{HasPanicked, IsWritten, UnlessRefused, WithNumber, IsEditedBy, IsInsertedBy, IsDeletedBy, IsLengthSet, same_refusal}
+use Rattle.wb_machine.specs.TextOperands.{base_named, base_refusal, base_text, base_max, is_writable_base, window_read, window_units}
+use Rattle.wb_machine.specs.CarriedTexts.{HasPanicked, IsWritten, UnlessRefused, WithNumber, IsEditedBy, IsInsertedBy, IsDeletedBy, IsLengthSet}
 use Rattle.wb_machine.proofs.Kept.{and_left, and_right, number_is}
 use Rattle.wb_machine.proofs.ReadTexts.{through, source_named, readable_is, writable_is, named_writable, room_is, shown}
 use Rattle.wb_model.proofs.TextCellsHeap.{found-changed}
-use Rattle.wb_machine.proofs.TextRows.{found_text}
+use Rattle.wb_machine.proofs.TextInvariant.{found_text}
 
 -- the state after a statement comes to what is left of it
-abbrev pub Comes : Rule → Script → Held → Ending → Held → Process → Type 0
+abbrev pub Comes : Rule → Script → RunState → Ending → RunState → Process → Type 0
 Comes r script h ending g p = IsSameFlow r (ended_by ending (state_of script g)) g p h
 
-pub comes_as : (r : Rule) (script : Script) (h : Held) (ending : Ending) (g : Held) (p q : Process) → q ≡ p → Comes r script h ending g p → Comes r script h ending g q
+pub comes_as : (r : Rule) (script : Script) (h : RunState) (ending : Ending) (g : RunState) (p q : Process) → q ≡ p → Comes r script h ending g p → Comes r script h ending g q
 comes_as r script h ending g p q same comes k = comes k ∙ ap (λ x. flow r (and_then x k) h) (sym same)
 
-panicked_comes : (r : Rule) (script : Script) (h : Held) (panic : Panic) (ending : Ending) (g : Held) → HasPanicked h panic ending g →
+panicked_comes : (r : Rule) (script : Script) (h : RunState) (panic : Panic) (ending : Ending) (g : RunState) → HasPanicked h panic ending g →
     Comes r script h ending g (stops (panics panic) (state_of script h))
 panicked_comes r script h panic ending g is k =
     ap (λ e. flow r (and_then (ended_by e (state_of script g)) k) g) is.0 ∙ ap (λ x. flow r (and_then (stops (panics panic) (state_of script x)) k) x) is.1
 
 -- past a refusal
-through_comes : (r : Rule) (script : Script) (h : Held) (ending : Ending) (g : Held) (o : Option Panic) (p : Process) (X : Type 0) → UnlessRefused h o ending g X →
+through_comes : (r : Rule) (script : Script) (h : RunState) (ending : Ending) (g : RunState) (o : Option Panic) (p : Process) (X : Type 0) → UnlessRefused h o ending g X →
     (o ≡ None → X → Comes r script h ending g p) → Comes r script h ending g (through o (state_of script h) p)
 through_comes r script h ending g (Some panic) p X is next = panicked_comes r script h panic ending g is
 through_comes r script h ending g None p X is next = next refl is
 
 -- past a number
-number_comes : (r : Rule) (script : Script) (h : Held) (ending : Ending) (g : Held) (o : Option ℕ) (p : ℕ → Process) (X : ℕ → Type 0) → WithNumber h o ending g X →
+number_comes : (r : Rule) (script : Script) (h : RunState) (ending : Ending) (g : RunState) (o : Option ℕ) (p : ℕ → Process) (X : ℕ → Type 0) → WithNumber h o ending g X →
     ((n : ℕ) → X n → Comes r script h ending g (p n)) → Comes r script h ending g (with_some o NUMBER_OUT_OF_RANGE (state_of script h) p)
 unfolding with_some
 number_comes r script h ending g None p X is next = panicked_comes r script h NUMBER_OUT_OF_RANGE ending g is
@@ -88,7 +87,7 @@ read_text_changed script p ws us (d ∷ ds) c e text reads = go (is_at p d.head)
     go false e rest = ap (λ r. read_cell script d ∷ r) (rest e)
 
 -- what was written is what the edit writes
-written_comes : (r : Rule) (script : Script) (h : Held) (to : Base) (e : Edited) (ending : Ending) (g : Held) → base_refusal h to ≡ None → IsWritten h to e ending g →
+written_comes : (r : Rule) (script : Script) (h : RunState) (to : Base) (e : Edited) (ending : Ending) (g : RunState) → base_refusal h to ≡ None → IsWritten h to e ending g →
     is_writable_base to ≡ true → Comes r script h ending g (write e (state_of script h) to (base_max h to))
 unfolding write flow
 written_comes r script h to (Err panic) ending g fine is ok k = panicked_comes r script h panic ending g is k
@@ -101,12 +100,12 @@ written_comes r script h (B.Cell p) (Ok us) ending g fine is ok k =
     let ws = text_words (length (payload_of p row)) us in
     let found = found_text (cell_at p row) fine in
     let after : cell_at p (with_payload p ws row) ≡ Some (record found.0 { content = ws }) = found-changed p ws row found.0 found.1 in
-    let reads : text_in ws ≡ us = sym (ap (λ o. text_in (content_or_nil o)) after) ∙ sym (ap (λ (x : Held). text_in (payload_of p x.debug.heap.row)) is.1) ∙ is.2 in
+    let reads : text_in ws ≡ us = sym (ap (λ o. text_in (content_or_nil o)) after) ∙ sym (ap (λ (x : RunState). text_in (payload_of p x.debug.heap.row)) is.1) ∙ is.2 in
     ap (λ e. flow r (and_then (ended_by e (state_of script g)) k) g) is.0 ∙ ap (λ x. flow r (and_then (ends goes_on (state_of script x)) k) x) is.1
     ∙ ap (λ (cells : List (Cell Content)). flow r (and_then (ends goes_on (set_row (state_of script h) cells)) k) h) (read_text_changed script p ws us row found.0 found.1 found.2 reads)
 
 -- a copy, or what is appended, comes to what its process makes of the text
-edited_comes : (r : Rule) (script : Script) (literals : ℕ) (locals : List Local) (h : Held) (d : Writable) (t : Readable) (change : Edit) (ending : Ending) (g : Held) →
+edited_comes : (r : Rule) (script : Script) (literals : ℕ) (locals : List Local) (h : RunState) (d : Writable) (t : Readable) (change : Edit) (ending : Ending) (g : RunState) →
     is_writable locals d ≡ true → is_readable literals locals t ≡ true →
     IsEditedBy script.literals h (base_named h d) (window_read script.literals h t) change ending g →
     Comes r script h ending g (with_writable (state_of script h) d (λ to. with_readable (state_of script h) t (λ from.
@@ -127,14 +126,14 @@ edited_comes r script literals locals h d t change ending g writable readable is
     through_comes r script h ending g (base_refusal h v.base) made _ is (λ there is.
     written_comes r script h to _ ending g fine is ok)))
 
-pub copy_kept : (script : Script) (literals : ℕ) (locals : List Local) (h : Held) (d : Writable) (t : Readable) (ending : Ending) (g : Held) →
+pub copy_kept : (script : Script) (literals : ℕ) (locals : List Local) (h : RunState) (d : Writable) (t : Readable) (ending : Ending) (g : RunState) →
     IsEditedBy script.literals h (base_named h d) (window_read script.literals h t) Copy ending g → is_statement literals locals (Statement-F.Copy d t) ≡ true →
     IsCarriedOut script (Statement-F.Copy d t) h ending g
 unfolding statement
 copy_kept script literals locals h d t ending g is ok r f rec =
     edited_comes r script literals locals h d t Copy ending g (and_left (is_writable locals d) (is_readable literals locals t) ok) (and_right (is_writable locals d) (is_readable literals locals t) ok) is
 
-pub append_kept : (script : Script) (literals : ℕ) (locals : List Local) (h : Held) (d : Writable) (t : Readable) (ending : Ending) (g : Held) →
+pub append_kept : (script : Script) (literals : ℕ) (locals : List Local) (h : RunState) (d : Writable) (t : Readable) (ending : Ending) (g : RunState) →
     IsEditedBy script.literals h (base_named h d) (window_read script.literals h t) Append ending g → is_statement literals locals (Statement-F.Append d t) ≡ true →
     IsCarriedOut script (Statement-F.Append d t) h ending g
 unfolding statement
@@ -142,14 +141,14 @@ append_kept script literals locals h d t ending g is ok r f rec =
     edited_comes r script literals locals h d t Append ending g (and_left (is_writable locals d) (is_readable literals locals t) ok) (and_right (is_writable locals d) (is_readable literals locals t) ok) is
 
 -- past the question whether a text is put into itself
-apart_comes : (r : Rule) (script : Script) (h : Held) (ending : Ending) (g : Held) (b : Bool) (p : State → Process) (X : Type 0) →
+apart_comes : (r : Rule) (script : Script) (h : RunState) (ending : Ending) (g : RunState) (b : Bool) (p : State → Process) (X : Type 0) →
     UnlessRefused h (cond b (Some NUMBER_OUT_OF_RANGE) None) ending g X → (X → Comes r script h ending g (p (state_of script h))) →
     Comes r script h ending g (require (not b) NUMBER_OUT_OF_RANGE (state_of script h) p)
 unfolding require
 apart_comes r script h ending g true p X is next = panicked_comes r script h NUMBER_OUT_OF_RANGE ending g is
 apart_comes r script h ending g false p X is next = next is
 
-pub insert_kept : (script : Script) (literals : ℕ) (locals : List Local) (h : Held) (d : Writable) (z : Number) (t : Readable) (ending : Ending) (g : Held) →
+pub insert_kept : (script : Script) (literals : ℕ) (locals : List Local) (h : RunState) (d : Writable) (z : Number) (t : Readable) (ending : Ending) (g : RunState) →
     IsInsertedBy script.literals h (base_named h d) (window_read script.literals h t) (number_read h z) ending g → is_statement literals locals (Statement-F.Insert d z t) ≡ true →
     IsCarriedOut script (Statement-F.Insert d z t) h ending g
 unfolding statement
@@ -180,13 +179,13 @@ insert_kept script literals locals h d z t ending g is ok r f rec =
     written_comes r script h to _ ending g fine is writable)))))
 
 -- a text that can be changed has no literals in it
-text_alone : (literals : List (List ℕ)) (h : Held) (to : Base) → is_writable_base to ≡ true → base_text literals h to ≡ base_text [] h to
+text_alone : (literals : List (List ℕ)) (h : RunState) (to : Base) → is_writable_base to ≡ true → base_text literals h to ≡ base_text [] h to
 text_alone literals h B.Nothing ok = refl
 text_alone literals h (B.Literal i) ok = cc
 text_alone literals h (B.Local i) ok = refl
 text_alone literals h (B.Cell p) ok = refl
 
-pub delete_kept : (script : Script) (literals : ℕ) (locals : List Local) (h : Held) (d : Writable) (z y : Number) (ending : Ending) (g : Held) →
+pub delete_kept : (script : Script) (literals : ℕ) (locals : List Local) (h : RunState) (d : Writable) (z y : Number) (ending : Ending) (g : RunState) →
     IsDeletedBy h (base_named h d) (number_read h z) (number_read h y) ending g → is_statement literals locals (Statement-F.DeleteText d z y) ≡ true →
     IsCarriedOut script (Statement-F.DeleteText d z y) h ending g
 unfolding statement
@@ -209,7 +208,7 @@ delete_kept script literals locals h d z y ending g is ok r f rec =
     number_comes r script h ending g (not_negative (number_read h y)) _ _ is (λ m is.
     written_comes r script h to _ ending g fine is writable))))
 
-pub length_set_kept : (script : Script) (literals : ℕ) (locals : List Local) (h : Held) (d : Writable) (z : Number) (ending : Ending) (g : Held) →
+pub length_set_kept : (script : Script) (literals : ℕ) (locals : List Local) (h : RunState) (d : Writable) (z : Number) (ending : Ending) (g : RunState) →
     IsLengthSet h (base_named h d) (number_read h z) ending g → is_statement literals locals (Statement-F.SetLength d z) ≡ true →
     IsCarriedOut script (Statement-F.SetLength d z) h ending g
 unfolding statement
@@ -230,7 +229,7 @@ length_set_kept script literals locals h d z ending g is ok r f rec =
     written_comes r script h to _ ending g fine is writable)))
 
 -- what was carried out is what the statement makes
-pub carried_as : (script : Script) (literals : ℕ) (locals : List Local) (h g : Held) (ending : Ending) (layer was : Layer) → is_statement literals locals layer ≡ true → layer ≡ was →
+pub carried_as : (script : Script) (literals : ℕ) (locals : List Local) (h g : RunState) (ending : Ending) (layer was : Layer) → is_statement literals locals layer ≡ true → layer ≡ was →
     (is_statement literals locals was ≡ true → IsCarriedOut script was h ending g) → IsCarriedOut script layer h ending g
 carried_as script literals locals h g ending layer was ok is means =
     subst (λ (l : Layer). IsCarriedOut script l h ending g) (sym is) (means (sym (ap (is_statement literals locals) is) ∙ ok))

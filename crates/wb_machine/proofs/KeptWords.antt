@@ -20,7 +20,7 @@ use Rattle.wb_model.specs.Spelling.{signed, read_as}
 use Rattle.wb_model.specs.State.{Content, words, number, State, goes_on, Process, ends, and_then, with_some, set_local}
 use Rattle.wb_model.specs.Operands.{number_of, set_row, raw_words_of, with_cell}
 use Rattle.wb_model.specs.Statements.{statement, done, is_raw, index_in, with_words}
-use Rattle.wb_machine.specs.Held.{Held, field_count, read_cell, read_row, state_of}
+use Rattle.wb_machine.specs.RunState.{RunState, field_count, read_cell, read_row, state_of}
 use Rattle.wb_machine.specs.Flow.{flow}
 use Rattle.wb_machine.specs.Carried.{panicked, pointer_read, number_read, word_stored, store_found, store_carried, word_loaded, load_found, load_carried, usable_found, usable_carried}
 use Rattle.wb_machine.proofs.Rows.{read_cell_at, read_changed, signed_word}
@@ -47,7 +47,7 @@ row_stored script p row c k z fits found raw =
     ∙ ap (λ ws. changed p (λ _. words ws) (read_row script row)) same
 
 -- a word of a Raw cell
-word_kept : (r : Rule) (script : Script) (h : Held) (p : Ptr) (c : Cell (List ℕ)) (z : ℤ) (o : Option ℕ) → FitsSigned w32 z →
+word_kept : (r : Rule) (script : Script) (h : RunState) (p : Ptr) (c : Cell (List ℕ)) (z : ℤ) (o : Option ℕ) → FitsSigned w32 z →
     cell_at p h.debug.heap.row ≡ Some c → c.head.kind ≡ Raw →
     ComesTo r script h (with_some o NUMBER_OUT_OF_RANGE (state_of script h) (λ i. done (set_row (state_of script h)
     (changed p (λ _. words (slice_set (map signed c.content) i z)) (read_row script h.debug.heap.row))))) (word_stored h p o (cast_unsigned w32 z))
@@ -57,7 +57,7 @@ word_kept r script h p c z (Some i) fits found raw k =
     ap (λ (row : List (Cell Content)). flow r (and_then (ends goes_on (set_row (state_of script h) row)) k) h) (row_stored script p h.debug.heap.row c i z fits found raw)
 
 -- a cell of any kind, and a pointer that names none
-found_kept : (r : Rule) (script : Script) (h : Held) (p : Ptr) (x z : ℤ) (o : Option (Cell (List ℕ))) → FitsSigned w32 z → cell_at p h.debug.heap.row ≡ o →
+found_kept : (r : Rule) (script : Script) (h : RunState) (p : Ptr) (x z : ℤ) (o : Option (Cell (List ℕ))) → FitsSigned w32 z → cell_at p h.debug.heap.row ≡ o →
     ComesTo r script h (in_cell (state_of script h) p x z (option_map (read_cell script) o)) (store_found h p x (cast_unsigned w32 z) o)
 unfolding flow with_some
 found_kept r script h p x z None fits found k = refl
@@ -72,7 +72,7 @@ found_kept r script h p x z (Some c) fits found k = by c.head.kind refl k
     by Text raw = λ k. refl
     by Cleanup raw = λ k. refl
 
-pub store_kept : (script : Script) (literals : ℕ) (locals : List Local) (h : Held) (p : Pointer) (v w : Number) → FitsSigned w32 (number_read h w) →
+pub store_kept : (script : Script) (literals : ℕ) (locals : List Local) (h : RunState) (p : Pointer) (v w : Number) → FitsSigned w32 (number_read h w) →
     is_statement literals locals (Statement-F.Store p v w) ≡ true →
     Means script h (Statement-F.Store p v w) (store_carried h (pointer_read h p) (number_read h v) (number_read h w))
 unfolding statement with_words with_cell
@@ -102,7 +102,7 @@ word_read (w ∷ ws) zero = refl
 word_read (w ∷ ws) (suc k) = word_read ws k
 
 -- a word of a Raw cell
-loaded_kept : (r : Rule) (script : Script) (h : Held) (x : ℕ) (p : Ptr) (c : Cell (List ℕ)) (o : Option ℕ) → cell_at p h.debug.heap.row ≡ Some c →
+loaded_kept : (r : Rule) (script : Script) (h : RunState) (x : ℕ) (p : Ptr) (c : Cell (List ℕ)) (o : Option ℕ) → cell_at p h.debug.heap.row ≡ Some c →
     ComesTo r script h (with_some o NUMBER_OUT_OF_RANGE (state_of script h) (λ k. done (set_local (state_of script h) x (number (unwrap_or (slice_get (map signed c.content) k) (pos 0))))))
     (word_loaded h x p o)
 unfolding flow with_some
@@ -112,7 +112,7 @@ loaded_kept r script h x p c (Some i) found k =
     (ap (λ o. signed (slice_index (content_or_nil o) i)) found ∙ word_read c.content i)
 
 -- a cell of any kind, and a pointer that names none
-load_found_kept : (r : Rule) (script : Script) (h : Held) (x : ℕ) (p : Ptr) (i : ℤ) (o : Option (Cell (List ℕ))) → cell_at p h.debug.heap.row ≡ o →
+load_found_kept : (r : Rule) (script : Script) (h : RunState) (x : ℕ) (p : Ptr) (i : ℤ) (o : Option (Cell (List ℕ))) → cell_at p h.debug.heap.row ≡ o →
     ComesTo r script h (from_cell (state_of script h) x i (option_map (read_cell script) o)) (load_found h x p i o)
 unfolding flow with_some
 load_found_kept r script h x p i None found k = refl
@@ -126,7 +126,7 @@ load_found_kept r script h x p i (Some c) found k = by c.head.kind refl k
     by Text raw = λ k. refl
     by Cleanup raw = λ k. refl
 
-pub load_kept : (script : Script) (literals : ℕ) (locals : List Local) (h : Held) (x : ℕ) (p : Pointer) (v : Number) →
+pub load_kept : (script : Script) (literals : ℕ) (locals : List Local) (h : RunState) (x : ℕ) (p : Pointer) (v : Number) →
     is_statement literals locals (Statement-F.Load x p v) ≡ true → Means script h (Statement-F.Load x p v) (load_carried h x (pointer_read h p) (number_read h v))
 unfolding statement with_words with_cell
 load_kept script literals locals h x p v ok r f rec k =
@@ -139,14 +139,14 @@ load_kept script literals locals h x p v ok r f rec k =
     ∙ ap (λ y. flow r (and_then (from_cell st x y (cell_at q st.heap.row)) k) h) (number_is script h v))
 
 -- the usable bytes of a cell
-usable_found_kept : (r : Rule) (script : Script) (h : Held) (x : ℕ) (o : Option (Cell (List ℕ))) →
+usable_found_kept : (r : Rule) (script : Script) (h : RunState) (x : ℕ) (o : Option (Cell (List ℕ))) →
     ComesTo r script h (with_some (option_map (read_cell script) o) BAD_CELL (state_of script h) (λ c. done (set_local (state_of script h) x (number (pos (usable_of c.head))))))
     (usable_found h x o)
 unfolding flow with_some
 usable_found_kept r script h x None k = refl
 usable_found_kept r script h x (Some c) k = refl
 
-pub usable_kept : (script : Script) (literals : ℕ) (locals : List Local) (h : Held) (x : ℕ) (p : Pointer) →
+pub usable_kept : (script : Script) (literals : ℕ) (locals : List Local) (h : RunState) (x : ℕ) (p : Pointer) →
     is_statement literals locals (Statement-F.AllocLen x p) ≡ true → Means script h (Statement-F.AllocLen x p) (usable_carried h x (pointer_read h p))
 unfolding statement
 usable_kept script literals locals h x p ok r f rec k =

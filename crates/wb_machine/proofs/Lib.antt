@@ -18,4 +18,4 @@ pub mod Rows
 pub mod Scripts
 pub mod Stayed
 pub mod Steps
-pub mod TextRows
+pub mod TextInvariant

@@ -1,5 +1,5 @@
 -- Text operands come to what they mean.
-use Rattle.std.proofs.Common.{◌≡◌, ℕ, ◌+◌, ◌-◌, List, [], ◌∷◌, ◌++◌, length, Bool, true, false, refl, ap, ◌∙◌, sym, arith, cond, Option, Some, None, take, drop, replicate}
+use Rattle.std.proofs.Common.{◌≡◌, ℕ, ◌-◌, List, ◌++◌, length, true, refl, ap, ◌∙◌, sym, arith, cond, Option, Some, None, take, drop, replicate}
 use Rattle.std.specs.Prelude.{option_map}
 use Rattle.std.proofs.lemmas.List.{take_all, append-nil}
 use Rattle.wb_model.specs.declared.heap.TheConstants.Panic.{NULL_OR_STALE, WRONG_KIND}
@@ -23,10 +23,10 @@ use Rattle.wb_model.specs.Spelling.{read_as}
 use Rattle.wb_model.specs.State.{Content, Value, pointer, number, buffer, view, State, panics, Process, stops, with_some}
 use Rattle.wb_model.specs.Operands.{with_cell, units_of}
 use Rattle.wb_model.specs.Texts.{units_of_part}
-use Rattle.wb_model.specs.TextCells.{text_in, text_at, max_at, usable_or_none}
+use Rattle.wb_model.specs.TextCells.{text_in, text_at, usable_or_none}
 use Rattle.wb_model.specs.Reading.{Source, whole, part, base_of, position_of, view_in, max_units, with_writable, with_readable, with_text_cell, with_base, with_units, with_room}
-use Rattle.wb_machine.specs.Held.{Held, field_count, read_cell, state_of, value_in}
-use Rattle.wb_machine.specs.Slots.{window_in}
+use Rattle.wb_machine.specs.RunState.{RunState, field_count, read_cell, state_of, value_in}
+use Rattle.wb_machine.specs.LocalValues.{window_in}
 use Rattle.wb_machine.specs.TextOperands.{base_named, is_text, text_refusal, base_refusal, base_text, base_max, is_writable_base, window_units, whole_of, window_read}
 use Rattle.wb_model.proofs.TextCells.{length-exactly}
 use Rattle.wb_machine.proofs.Rows.{read_cell_at}
@@ -38,7 +38,7 @@ through (Some panic) st p = stops (panics panic) st
 through None st p = p
 
 -- the text of a cell
-cell_is : (script : Script) (h : Held) (p : Ptr) (go : ℕ → List ℕ → Process) →
+cell_is : (script : Script) (h : RunState) (p : Ptr) (go : ℕ → List ℕ → Process) →
     with_text_cell (state_of script h) p (λ c us. go (usable_of c.head) us)
     ≡ through (text_refusal (cell_at p h.debug.heap.row)) (state_of script h) (go (usable_or_none (cell_at p h.debug.heap.row)) (text_at p h.debug))
 unfolding with_text_cell with_cell with_some
@@ -61,7 +61,7 @@ cell_is script h p go = ap from (read_cell_at script p h.debug.heap.row) ∙ fou
     found None = refl
     found (Some c) = kind c.head.kind (usable_of c.head) c.content
 
-base_is : (script : Script) (h : Held) (base : Base) (go : List ℕ → Process) →
+base_is : (script : Script) (h : RunState) (base : Base) (go : List ℕ → Process) →
     with_base script.literals (state_of script h) base go ≡ through (base_refusal h base) (state_of script h) (go (base_text script.literals h base))
 unfolding with_base
 base_is script h B.Nothing go = refl
@@ -70,7 +70,7 @@ base_is script h (B.Local i) go = refl
 base_is script h (B.Cell p) go = cell_is script h p (λ u us. go us)
 
 -- the maximum and the text of what can be changed
-pub room_is : (script : Script) (h : Held) (base : Base) (go : ℕ → List ℕ → Process) → is_writable_base base ≡ true →
+pub room_is : (script : Script) (h : RunState) (base : Base) (go : ℕ → List ℕ → Process) → is_writable_base base ≡ true →
     with_room (state_of script h) base go ≡ through (base_refusal h base) (state_of script h) (go (base_max h base) (base_text script.literals h base))
 unfolding with_room
 room_is script h B.Nothing go ok = cc
@@ -78,23 +78,23 @@ room_is script h (B.Literal i) go ok = cc
 room_is script h (B.Local i) go ok = refl
 room_is script h (B.Cell p) go ok = cell_is script h p (λ u us. go (max_units u) us)
 
-pub named_writable : (h : Held) (d : Writable) → is_writable_base (base_named h d) ≡ true
+pub named_writable : (h : RunState) (d : Writable) → is_writable_base (base_named h d) ≡ true
 named_writable h (OwnBuffer i) = refl
 named_writable h (InCell p) = refl
 
-pub writable_is : (script : Script) (locals : List Local) (h : Held) (d : Writable) (go : Base → Process) → is_writable locals d ≡ true →
+pub writable_is : (script : Script) (locals : List Local) (h : RunState) (d : Writable) (go : Base → Process) → is_writable locals d ≡ true →
     with_writable (state_of script h) d go ≡ go (base_named h d)
 unfolding with_writable
 writable_is script locals h (OwnBuffer i) go ok = refl
 writable_is script locals h (InCell p) go ok = pointer_is script locals h p (λ at. go (B.Cell at)) ok
 
 -- what a readable text is a part of
-abbrev pub source_named : Held → Readable → Source
+abbrev pub source_named : RunState → Readable → Source
 source_named h (Of d) = whole (base_named h d)
 source_named h (ViewOf i) = view_in (value_in h.locals i)
 source_named h (Quoted i) = whole (B.Literal i)
 
-pub readable_is : (script : Script) (literals : ℕ) (locals : List Local) (h : Held) (t : Readable) (go : Source → Process) → is_readable literals locals t ≡ true →
+pub readable_is : (script : Script) (literals : ℕ) (locals : List Local) (h : RunState) (t : Readable) (go : Source → Process) → is_readable literals locals t ≡ true →
     with_readable (state_of script h) t go ≡ go (source_named h t)
 unfolding with_readable
 readable_is script literals locals h (Of d) go ok = writable_is script locals h d (λ b. go (whole b)) ok
@@ -107,14 +107,14 @@ whole_units us =
     ap (λ n. take (length us) us ++ replicate n 0) none ∙ append-nil (take (length us) us) ∙ take_all (length us) us (omega arith)
 
 -- a part of a text is what a view shows
-pub record IsShown (script : Script) (h : Held) (s : Source) (v : View) : Type 0 where
+pub record IsShown (script : Script) (h : RunState) (s : Source) (v : View) : Type 0 where
   pub base : base_of s ≡ v.base
   pub position : position_of s ≡ v.position
   pub count : length (window_units script.literals h v) ≡ v.length
   pub units : (go : List ℕ → Process) → with_units script.literals (state_of script h) s go
       ≡ through (base_refusal h v.base) (state_of script h) (go (window_units script.literals h v))
 
-whole_shown : (script : Script) (h : Held) (base : Base) → IsShown script h (whole base) (whole_of script.literals h base)
+whole_shown : (script : Script) (h : RunState) (base : Base) → IsShown script h (whole base) (whole_of script.literals h base)
 unfolding with_units
 whole_shown script h base =
     let us = base_text script.literals h base in
@@ -125,7 +125,7 @@ whole_shown script h base =
       units = λ go. base_is script h base go ∙ ap (λ ts. through (base_refusal h base) (state_of script h) (go ts)) (sym (whole_units us));
     }
 
-view_shown : (script : Script) (h : Held) (v : View) → IsShown script h (part v) v
+view_shown : (script : Script) (h : RunState) (v : View) → IsShown script h (part v) v
 unfolding with_units
 view_shown script h v = record {
   base = refl;
@@ -134,13 +134,13 @@ view_shown script h v = record {
   units = λ go. base_is script h v.base (λ us. go (units_of_part us v.position v.length));
 }
 
-value_shown : (script : Script) (h : Held) (v : Value) → IsShown script h (view_in v) (window_in v)
+value_shown : (script : Script) (h : RunState) (v : Value) → IsShown script h (view_in v) (window_in v)
 value_shown script h (view v) = view_shown script h v
 value_shown script h (pointer p) = whole_shown script h B.Nothing
 value_shown script h (number z) = whole_shown script h B.Nothing
 value_shown script h (buffer max t) = whole_shown script h B.Nothing
 
-pub shown : (script : Script) (h : Held) (t : Readable) → IsShown script h (source_named h t) (window_read script.literals h t)
+pub shown : (script : Script) (h : RunState) (t : Readable) → IsShown script h (source_named h t) (window_read script.literals h t)
 shown script h (Of d) = whole_shown script h (base_named h d)
 shown script h (ViewOf i) = value_shown script h (value_in h.locals i)
 shown script h (Quoted i) = whole_shown script h (B.Literal i)

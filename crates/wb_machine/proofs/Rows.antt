@@ -16,7 +16,7 @@ use Rattle.wb_model.specs.declared.heap.Header.{Header}
 use Rattle.wb_model.specs.Statements.{fresh_words}
 use Rattle.wb_model.specs.Spelling.{signed, read_as}
 use Rattle.wb_model.specs.LimitedHeap.{zero_words}
-use Rattle.wb_machine.specs.Held.{field_count, read_cell, read_row}
+use Rattle.wb_machine.specs.RunState.{field_count, read_cell, read_row}
 
 pub headers_read : (script : Script) (row : List (Cell (List ℕ))) → headers (read_row script row) ≡ headers row
 headers_read script [] = refl

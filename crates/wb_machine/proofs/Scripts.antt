@@ -4,13 +4,14 @@ use Rattle.std.specs.Prelude.{◌&&◌, slice_get, unwrap_or, nat_lt, nat_le, na
 use Rattle.std.specs.List.{list_all}
 use Rattle.std.proofs.lemmas.Bool.{ltb-true, leb-true}
 use Rattle.std.proofs.lemmas.List.Folds.{list_all-append}
+use Rattle.wb_model.specs.declared.limits.TheConstants.{MOST_PROCEDURES, LONGEST_LITERAL}
 use Rattle.wb_model.specs.declared.script.Script.{Script}
 use Rattle.wb_model.specs.declared.script.Procedure.{Procedure}
 use Rattle.wb_model.specs.Statements.{no_body}
 use Rattle.wb_model.specs.Sound.{is_local, is_quotable, is_literal_text, is_body, is_procedure, is_script, are_statements}
 use Rattle.wb_machine.specs.declared.control.Piece.{Piece}
 use Rattle.wb_machine.specs.declared.control.Piece.TheVariants.{MainTrap}
-use Rattle.wb_machine.specs.Held.{main_of}
+use Rattle.wb_machine.specs.RunState.{main_of}
 use Rattle.wb_machine.specs.Flow.{is_sound_piece, are_sound}
 
 pub and_left : (a b : Bool) → (a && b) ≡ true → a ≡ true
@@ -41,7 +42,7 @@ module _ (script : Script) (ok : is_script script ≡ true) where
   nothing = nat_eq (length script.classes) 0 && nat_eq (length script.operations) 0
 
   abbrev counts : Bool
-  counts = nat_le (length script.procedures) 256 && nat_lt script.main (length script.procedures)
+  counts = nat_le (length script.procedures) MOST_PROCEDURES && nat_lt script.main (length script.procedures)
 
   abbrev procedures : Bool
   procedures = list_all (is_procedure (length script.literals)) script.procedures
@@ -57,7 +58,7 @@ module _ (script : Script) (ok : is_script script ≡ true) where
       each = and_left procedures literals (and_right (nothing && counts) (procedures && literals) ok)
 
       within : script.main < length script.procedures
-      within = ltb-true _ _ (and_right (nat_le (length script.procedures) 256) _ (and_right nothing counts (and_left (nothing && counts) (procedures && literals) ok)))
+      within = ltb-true _ _ (and_right (nat_le (length script.procedures) MOST_PROCEDURES) _ (and_right nothing counts (and_left (nothing && counts) (procedures && literals) ok)))
 
       by : (o : Option Procedure) → slice_get script.procedures script.main ≡ o →
           is_body (length script.literals) (unwrap_or o (record { parameters = []; body = no_body })).body ≡ true
@@ -65,9 +66,9 @@ module _ (script : Script) (ok : is_script script ≡ true) where
       by (Some p) e = and_right (nat_eq (length p.parameters) 0) (is_body (length script.literals) p.body) (all_at (is_procedure (length script.literals)) script.procedures script.main p each e)
 
   -- a literal has no more bytes than a script
-  pub literal_short : (i : ℕ) (text : List ℕ) → slice_get script.literals i ≡ Some text → length text ≤ 65536
+  pub literal_short : (i : ℕ) (text : List ℕ) → slice_get script.literals i ≡ Some text → length text ≤ LONGEST_LITERAL
   literal_short i text e =
-      leb-true (length text) 65536 (and_right (list_all is_quotable text) (nat_le (length text) 65536)
+      leb-true (length text) LONGEST_LITERAL (and_right (list_all is_quotable text) (nat_le (length text) LONGEST_LITERAL)
       (all_at is_literal_text script.literals i text (and_right procedures literals (and_right (nothing && counts) (procedures && literals) ok)) e))
 
 pub main_locals : (script : Script) → is_script script ≡ true → list_all is_local (main_of script).locals ≡ true

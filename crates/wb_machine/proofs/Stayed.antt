@@ -11,18 +11,19 @@ use Rattle.wb_model.specs.Rules.{Request}
 use Rattle.wb_model.specs.Heap.{AfterAnswer, alloc_request, after_alloc, realloc_request, after_realloc}
 use Rattle.wb_model.specs.LimitedHeap.{zero_words}
 use Rattle.wb_model.specs.Debug.{Debug, number_of_next, made_by, answer_in, alloc_made, longer_made, shorter_made, realloc_made}
-use Rattle.wb_machine.specs.Held.{Held, with_debug}
-use Rattle.wb_machine.specs.Flow.{Stays}
+use Rattle.wb_machine.specs.RunState.{RunState, with_debug}
+use Rattle.wb_machine.specs.Owed.{Stays, KeepsCount}
 
 -- an attempt
-made_stays : (h : Held) (t : Request) (after : ℕ → Answer → AfterAnswer (List ℕ)) → ((n : ℕ) (a : Answer) → (after n a).heap.level ≡ h.debug.heap.level) → (o : Option Answer) →
+made_stays : (h : RunState) (t : Request) (after : ℕ → Answer → AfterAnswer (List ℕ)) → ((n : ℕ) (a : Answer) → (after n a).heap.level ≡ h.debug.heap.level) → (o : Option Answer) →
     Stays h (with_debug h (made_by h.debug t after o).debug)
-made_stays h t after same None = record { rule = refl; shape = refl; fewer = omega arith; more = omega arith; deeper = omega arith }
+made_stays h t after same None = record { rule = refl; shape = refl; fewer = omega arith; more = omega arith; lines = refl; deeper = omega arith }
 made_stays h t after same (Some a) = record {
   rule = refl;
   shape = refl;
-  fewer = omega (arith, length-append {A = Attempt});
-  more = omega (arith, length-append {A = Attempt});
+  fewer = omega arith;
+  more = omega arith;
+  lines = omega (arith, length-append {A = Attempt});
   deeper = omega (arith, same (number_of_next h.debug) a);
 }
 
@@ -32,16 +33,17 @@ alloc_after d t kind n Simulated = refl
 alloc_after d t kind n Refused = refl
 
 -- an allocation
-pub alloc_stays : (h : Held) (bytes : ℕ) (kind : Kind) → Stays h (with_debug h (alloc_made h.debug bytes kind).debug)
+pub alloc_stays : (h : RunState) (bytes : ℕ) (kind : Kind) → Stays h (with_debug h (alloc_made h.debug bytes kind).debug)
 alloc_stays h bytes kind =
     let t = alloc_request h.debug.heap bytes in
     made_stays h t (after_alloc h.debug.heap t kind (zero_words t.length)) (alloc_after h.debug t kind) (answer_in h.debug t)
 
 -- a call on the debug heap that made of it what stays, or left it
-pub called_stays : {X Y : Type 0} (o : Result X Y) (h : Held) (made d : Debug) → Stays h (with_debug h made) → OnOk o (d ≡ made) → OnErr o (d ≡ h.debug) → Stays h (with_debug h d)
-called_stays (Ok x) h made d stays ok err = subst (λ (x : Debug). Stays h (with_debug h x)) (sym ok) stays
-called_stays (Err e) h made d stays ok err =
-    subst (λ (x : Debug). Stays h (with_debug h x)) (sym err) (record { rule = refl; shape = refl; fewer = omega arith; more = omega arith; deeper = omega arith })
+pub called_keeps : {X Y : Type 0} (o : Result X Y) (h : RunState) (made d : Debug) → Stays h (with_debug h made) → OnOk o (d ≡ made) → OnErr o (d ≡ h.debug) → KeepsCount h (with_debug h d)
+called_keeps (Ok x) h made d stays ok err = subst (λ (x : Debug). KeepsCount h (with_debug h x)) (sym ok) (record { steps = refl; stays = stays })
+called_keeps (Err e) h made d stays ok err =
+    subst (λ (x : Debug). KeepsCount h (with_debug h x)) (sym err)
+    (record { steps = refl; stays = record { rule = refl; shape = refl; fewer = omega arith; more = omega arith; lines = refl; deeper = omega arith } })
 
 realloc_after : (d : Debug) (t : Request) (c : Cell (List ℕ)) (n : ℕ) (a : Answer) → (after_realloc d.heap t c.head (resized_words t.length c.content) n a).heap.level ≡ d.heap.level
 realloc_after d t c n Granted = refl
@@ -49,7 +51,7 @@ realloc_after d t c n Simulated = refl
 realloc_after d t c n Refused = refl
 
 -- a reallocation
-realloc_stays : (h : Held) (c : Cell (List ℕ)) (bytes : ℕ) → Stays h (with_debug h (realloc_made h.debug c bytes).debug)
+realloc_stays : (h : RunState) (c : Cell (List ℕ)) (bytes : ℕ) → Stays h (with_debug h (realloc_made h.debug c bytes).debug)
 realloc_stays h c bytes = by (nat_lt c.head.length (cell_length bytes))
   where
     t : Request
@@ -57,13 +59,13 @@ realloc_stays h c bytes = by (nat_lt c.head.length (cell_length bytes))
 
     by : (b : Bool) → Stays h (with_debug h (cond b (longer_made h.debug c bytes) (shorter_made h.debug c bytes)).debug)
     by true = made_stays h t (after_realloc h.debug.heap t c.head (resized_words t.length c.content)) (realloc_after h.debug t c) (answer_in h.debug t)
-    by false = record { rule = refl; shape = refl; fewer = omega arith; more = omega arith; deeper = omega arith }
+    by false = record { rule = refl; shape = refl; fewer = omega arith; more = omega arith; lines = refl; deeper = omega arith }
 
-pub realloc_called : {X Y : Type 0} (o : Result X Y) (h : Held) (d : Debug) (found : Option (Cell (List ℕ))) (bytes : ℕ) → IsSome found →
-    OnOk o (IfSome found (λ c. d ≡ (realloc_made h.debug c bytes).debug)) → OnErr o (d ≡ h.debug) → Stays h (with_debug h d)
-realloc_called o h d None bytes live ok err = cc
-realloc_called o h d (Some c) bytes live ok err = called_stays o h (realloc_made h.debug c bytes).debug d (realloc_stays h c bytes) ok err
+pub realloc_keeps : {X Y : Type 0} (o : Result X Y) (h : RunState) (d : Debug) (found : Option (Cell (List ℕ))) (bytes : ℕ) → IsSome found →
+    OnOk o (IfSome found (λ c. d ≡ (realloc_made h.debug c bytes).debug)) → OnErr o (d ≡ h.debug) → KeepsCount h (with_debug h d)
+realloc_keeps o h d None bytes live ok err = cc
+realloc_keeps o h d (Some c) bytes live ok err = called_keeps o h (realloc_made h.debug c bytes).debug d (realloc_stays h c bytes) ok err
 
-pub remade_stays : {X Y : Type 0} (o : Result X Y) (h : Held) (d : Debug) (found : Option (Cell (List ℕ))) (c : Cell (List ℕ)) (bytes : ℕ) → found ≡ Some c →
-    OnOk o (IfSome found (λ c. d ≡ (realloc_made h.debug c bytes).debug)) → OnErr o (d ≡ h.debug) → Stays h (with_debug h d)
-remade_stays o h d found c bytes at ok err = realloc_called o h d found bytes (subst (λ (x : Option (Cell (List ℕ))). IsSome x) (sym at) refl) ok err
+pub remade_keeps : {X Y : Type 0} (o : Result X Y) (h : RunState) (d : Debug) (found : Option (Cell (List ℕ))) (c : Cell (List ℕ)) (bytes : ℕ) → found ≡ Some c →
+    OnOk o (IfSome found (λ c. d ≡ (realloc_made h.debug c bytes).debug)) → OnErr o (d ≡ h.debug) → KeepsCount h (with_debug h d)
+remade_keeps o h d found c bytes at ok err = realloc_keeps o h d found bytes (subst (λ (x : Option (Cell (List ℕ))). IsSome x) (sym at) refl) ok err

@@ -18,7 +18,7 @@ use Rattle.wb_machine.specs.declared.control.Ending.{Ending}
 use Rattle.wb_machine.specs.declared.control.Ending.TheVariants.{GoesOn, Panics, Cut, NoCleanup}
 use Rattle.wb_machine.specs.declared.control.Piece.{Piece}
 use Rattle.wb_machine.specs.declared.control.Piece.TheVariants.{Code, MainTrap}
-use Rattle.wb_machine.specs.Held.{Held, state_of}
+use Rattle.wb_machine.specs.RunState.{RunState, state_of}
 use Rattle.wb_machine.specs.Carried.{stepped}
 use Rattle.wb_machine.specs.Flow.{in_main_frame, is_nothing, pending_of, needs_step, pending_in, ended_by, flow, IsSameFlow, rest_from}
 
@@ -27,7 +27,7 @@ pub pending_pushed : (ps : List Piece) (p : Piece) → pending_in (ps ++ p ∷ [
 pending_pushed ps p = ap (map pending_of) (reverse-append ps (p ∷ []))
 
 -- the rest is what the pieces make of how the one above them ended
-pub rest_flow : (script : Script) (budget : ℕ) (r : Rule) (ending : Ending) (pieces : List Piece) (h : Held) →
+pub rest_flow : (script : Script) (budget : ℕ) (r : Rule) (ending : Ending) (pieces : List Piece) (h : RunState) →
     rest_from script budget r ending pieces h ≡ result_of (flow r (and_then (ended_by ending (state_of script h)) (resume script budget (pending_in pieces))) h)
 unfolding rest left_to_do flow and_then
 rest_flow script budget r GoesOn pieces h = refl
@@ -36,7 +36,7 @@ rest_flow script budget r (Cut why) pieces h = refl
 rest_flow script budget r NoCleanup pieces h = refl
 
 -- the same with the topmost piece by itself
-rest_pushed : (script : Script) (budget : ℕ) (r : Rule) (ending : Ending) (pieces below : List Piece) (p : Piece) (h : Held) → pieces ≡ below ++ p ∷ [] →
+rest_pushed : (script : Script) (budget : ℕ) (r : Rule) (ending : Ending) (pieces below : List Piece) (p : Piece) (h : RunState) → pieces ≡ below ++ p ∷ [] →
     rest_from script budget r ending pieces h
     ≡ result_of (flow r (and_then (ended_by ending (state_of script h)) (resume script budget (pending_of p ∷ pending_in below))) h)
 rest_pushed script budget r ending pieces below p h is =
@@ -44,7 +44,7 @@ rest_pushed script budget r ending pieces below p h is =
     ∙ ap (λ ps. result_of (flow r (and_then (ended_by ending (state_of script h)) (resume script budget ps)) h)) (ap pending_in is ∙ pending_pushed below p)
 
 -- a turn that begins the first statement of a block, and carries it out
-pub rest_stepped : (script : Script) (budget : ℕ) (r : Rule) (s : Statement) (ss : List Statement) (old new below : List Piece) (p q : Piece) (ending : Ending) (h g : Held) →
+pub rest_stepped : (script : Script) (budget : ℕ) (r : Rule) (s : Statement) (ss : List Statement) (old new below : List Piece) (p q : Piece) (ending : Ending) (h g : RunState) →
     old ≡ below ++ p ∷ [] → pending_of p ≡ doing in_main_frame (all (s ∷ ss)) → new ≡ below ++ q ∷ [] → pending_of q ≡ doing in_main_frame (all ss) →
     h.steps < budget →
     IsSameFlow r (ended_by ending (state_of script g)) g (statement script (meaning_of script budget) in_main_frame (out-Statement s) (state_of script (stepped h))) (stepped h) →
@@ -61,7 +61,7 @@ rest_stepped script budget r s ss old new below p q ending h g was top is next w
     (resume script budget (doing in_main_frame (all ss) ∷ pending_in below)))) h)) (lt-ltb h.steps budget within))
 
 -- at the budget the rest is a cut
-pub rest_cut : (script : Script) (budget : ℕ) (r : Rule) (ending : Ending) (pieces below : List Piece) (p : Piece) (h : Held) →
+pub rest_cut : (script : Script) (budget : ℕ) (r : Rule) (ending : Ending) (pieces below : List Piece) (p : Piece) (h : RunState) →
     ending ≡ GoesOn → pieces ≡ below ++ p ∷ [] → needs_step p ≡ true → h.steps ≡ budget →
     rest_from script budget r (Cut Budget) pieces h ≡ rest_from script budget r ending pieces h
 unfolding flow and_then begun begun_if
@@ -83,7 +83,7 @@ rest_cut script budget r ending pieces below (Code statements) h goes was first 
 rest_cut script budget r ending pieces below MainTrap h goes was first at = cc
 
 -- a piece without a step is done where the one above it goes on
-pub rest_settled : (script : Script) (budget : ℕ) (r : Rule) (ending : Ending) (pieces below : List Piece) (p : Piece) (h : Held) →
+pub rest_settled : (script : Script) (budget : ℕ) (r : Rule) (ending : Ending) (pieces below : List Piece) (p : Piece) (h : RunState) →
     pieces ≡ below ++ p ∷ [] → needs_step p ≡ false → h.steps ≤ budget → ending ≡ GoesOn →
     rest_from script budget r ending below h ≡ rest_from script budget r ending pieces h
 unfolding flow and_then resume resumed on_plain_end piece main_trapped require

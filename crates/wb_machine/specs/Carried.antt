@@ -1,4 +1,4 @@
--- What carrying out a statement makes of what is held, and how it ends.
+-- What carrying out a statement makes of the state of a run, and how it ends.
 use Rattle.std.specs.Prelude.{ℕ, ℤ, pos, ◌+◌, ◌+ℤ◌, List, [], ◌∷◌, ◌++◌, if◌then◌else◌, Option, Some, None, slice_index, slice_set, map}
 use Rattle.std.specs.Int.{w32, cast_unsigned}
 use Rattle.wb_model.specs.declared.limits.TheConstants.{LARGEST_REQUEST}
@@ -27,165 +27,165 @@ use Rattle.wb_model.specs.Spelling.{signed}
 use Rattle.wb_model.specs.Debug.{Made, alloc_made, realloc_made, release_refusal, debug_without, debug_changed, with_setting, debug_compressed, note_of_heap, note_of_available, note_of_compress}
 use Rattle.wb_machine.specs.declared.control.Ending.{Ending}
 use Rattle.wb_machine.specs.declared.control.Ending.TheVariants.{GoesOn, Panics, Cut, NoCleanup}
-use Rattle.wb_machine.specs.Held.{Held, with_debug, value_in}
+use Rattle.wb_machine.specs.RunState.{RunState, with_debug, value_in}
 
 pub record Carried : Type 0 where
   pub ending : Ending
-  pub held : Held
+  pub state : RunState
 
 -- it goes on
-abbrev pub gone_on : Held → Carried
-gone_on h = record { ending = GoesOn; held = h }
+abbrev pub gone_on : RunState → Carried
+gone_on h = record { ending = GoesOn; state = h }
 
 -- it panics, and nothing changed
-abbrev pub panicked : Held → Panic → Carried
-panicked h panic = record { ending = Panics panic; held = h }
+abbrev pub panicked : RunState → Panic → Carried
+panicked h panic = record { ending = Panics panic; state = h }
 
 -- it panics with a refusal, or goes on where there is none
-abbrev pub unless_refused : Held → Option Panic → Held → Carried
+abbrev pub unless_refused : RunState → Option Panic → RunState → Carried
 unless_refused h (Some panic) after = panicked h panic
 unless_refused h None after = gone_on after
 
 -- the pointer of an operand
-abbrev pub pointer_read : Held → Pointer → Ptr
+abbrev pub pointer_read : RunState → Pointer → Ptr
 pointer_read h (P.Held (H.Local i)) = pointer_in (value_in h.locals i)
 pointer_read h _ = null
 
 -- the number of an operand
-abbrev pub number_read : Held → Number → ℤ
+abbrev pub number_read : RunState → Number → ℤ
 number_read h (N.Constant z) = z
 number_read h (N.Variable i) = number_in (value_in h.locals i)
 
 -- a local gets a value
-abbrev pub stored : Held → ℕ → Value → Held
+abbrev pub stored : RunState → ℕ → Value → RunState
 stored h i v = record h { locals = slice_set h.locals i v }
 
 -- a pointer operand gets a pointer
-abbrev pub pointer_stored : Held → Pointer → Ptr → Held
+abbrev pub pointer_stored : RunState → Pointer → Ptr → RunState
 pointer_stored h (P.Held (H.Local i)) q = stored h i (pointer q)
 pointer_stored h _ q = h
 
 -- a target gets what an attempt gave, or null
-abbrev pub given_carried : Held → Pointer → Gave → Carried
+abbrev pub given_carried : RunState → Pointer → Gave → Carried
 given_carried h p (Granted q) = gone_on (pointer_stored h p q)
 given_carried h p Denied = gone_on (pointer_stored h p null)
-given_carried h p Ceiling = record { ending = Cut why.Ceiling; held = h }
+given_carried h p Ceiling = record { ending = Cut why.Ceiling; state = h }
 
 -- the same once the heap made of a call what it makes
-abbrev pub made_carried : Held → Pointer → Made → Carried
+abbrev pub made_carried : RunState → Pointer → Made → Carried
 made_carried h p made = given_carried (with_debug h made.debug) p made.gave
 
--- an allocation of so many bytes, or of a number that is out of its range
-abbrev pub alloc_within : Held → Pointer → Option ℕ → Carried
+-- an allocation of a number of bytes, which may be out of its range
+abbrev pub alloc_within : RunState → Pointer → Option ℕ → Carried
 alloc_within h p None = panicked h NUMBER_OUT_OF_RANGE
 alloc_within h p (Some bytes) = made_carried h p (alloc_made h.debug bytes Raw)
 
-abbrev pub alloc_carried : Held → Pointer → ℤ → Carried
+abbrev pub alloc_carried : RunState → Pointer → ℤ → Carried
 alloc_carried h p z = alloc_within h p (within LARGEST_REQUEST z)
 
--- a reallocation of a cell to so many bytes, or to a number that is out of its range
-abbrev pub realloc_within : Held → Pointer → Cell (List ℕ) → Option ℕ → Carried
+-- a reallocation of a cell to a number of bytes, which may be out of its range
+abbrev pub realloc_within : RunState → Pointer → Cell (List ℕ) → Option ℕ → Carried
 realloc_within h p c None = panicked h NUMBER_OUT_OF_RANGE
 realloc_within h p c (Some bytes) = made_carried h p (realloc_made h.debug c bytes)
 
-abbrev pub realloc_found : Held → Pointer → ℤ → Option (Cell (List ℕ)) → Carried
+abbrev pub realloc_found : RunState → Pointer → ℤ → Option (Cell (List ℕ)) → Carried
 realloc_found h p z None = panicked h BAD_CELL
 realloc_found h p z (Some c) = if is_raw c.head.kind then realloc_within h p c (within LARGEST_REQUEST z) else panicked h WRONG_KIND
 
 -- a reallocation; of null it is an allocation
-abbrev pub realloc_carried : Held → Pointer → Ptr → ℤ → Carried
+abbrev pub realloc_carried : RunState → Pointer → Ptr → ℤ → Carried
 realloc_carried h p q z = if is_null q then alloc_carried h p z else realloc_found h p z (cell_at q h.debug.heap.row)
 
 -- a release
-abbrev pub free_carried : Held → Ptr → Carried
+abbrev pub free_carried : RunState → Ptr → Carried
 free_carried h p = unless_refused h (release_refusal h.debug p) (with_debug h (debug_without h.debug p))
 
 -- a word of a payload gets another
-abbrev pub word_stored : Held → Ptr → Option ℕ → ℕ → Carried
+abbrev pub word_stored : RunState → Ptr → Option ℕ → ℕ → Carried
 word_stored h p None word = panicked h NUMBER_OUT_OF_RANGE
 word_stored h p (Some k) word = gone_on (with_debug h (debug_changed h.debug p (slice_set (payload_of p h.debug.heap.row) k word)))
 
-abbrev pub store_found : Held → Ptr → ℤ → ℕ → Option (Cell (List ℕ)) → Carried
+abbrev pub store_found : RunState → Ptr → ℤ → ℕ → Option (Cell (List ℕ)) → Carried
 store_found h p index word None = panicked h NULL_OR_STALE
 store_found h p index word (Some c) =
     if is_raw c.head.kind then word_stored h p (index_in (usable_of c.head) index) word else panicked h WRONG_KIND
 
 -- a number stored, as its word in two's complement
-abbrev pub store_carried : Held → Ptr → ℤ → ℤ → Carried
+abbrev pub store_carried : RunState → Ptr → ℤ → ℤ → Carried
 store_carried h p index value = store_found h p index (cast_unsigned w32 value) (cell_at p h.debug.heap.row)
 
 -- a number local gets the usable bytes of a cell
-abbrev pub usable_found : Held → ℕ → Option (Cell (List ℕ)) → Carried
+abbrev pub usable_found : RunState → ℕ → Option (Cell (List ℕ)) → Carried
 usable_found h x None = panicked h BAD_CELL
 usable_found h x (Some c) = gone_on (stored h x (number (pos (usable_of c.head))))
 
-abbrev pub usable_carried : Held → ℕ → Ptr → Carried
+abbrev pub usable_carried : RunState → ℕ → Ptr → Carried
 usable_carried h x p = usable_found h x (cell_at p h.debug.heap.row)
 
 -- a number local gets a word of a payload, as a signed number
-abbrev pub word_loaded : Held → ℕ → Ptr → Option ℕ → Carried
+abbrev pub word_loaded : RunState → ℕ → Ptr → Option ℕ → Carried
 word_loaded h x p None = panicked h NUMBER_OUT_OF_RANGE
 word_loaded h x p (Some k) = gone_on (stored h x (number (signed (slice_index (payload_of p h.debug.heap.row) k))))
 
-abbrev pub load_found : Held → ℕ → Ptr → ℤ → Option (Cell (List ℕ)) → Carried
+abbrev pub load_found : RunState → ℕ → Ptr → ℤ → Option (Cell (List ℕ)) → Carried
 load_found h x p index None = panicked h NULL_OR_STALE
 load_found h x p index (Some c) = if is_raw c.head.kind then word_loaded h x p (index_in (usable_of c.head) index) else panicked h WRONG_KIND
 
-abbrev pub load_carried : Held → ℕ → Ptr → ℤ → Carried
+abbrev pub load_carried : RunState → ℕ → Ptr → ℤ → Carried
 load_carried h x p index = load_found h x p index (cell_at p h.debug.heap.row)
 
 -- a number that is added to a number local
-abbrev pub sum_stored : Held → ℕ → ℤ → Carried
+abbrev pub sum_stored : RunState → ℕ → ℤ → Carried
 sum_stored h x z = if in_range z then gone_on (stored h x (number z)) else panicked h NUMBER_OUT_OF_RANGE
 
-abbrev pub add_carried : Held → ℕ → ℤ → Carried
+abbrev pub add_carried : RunState → ℕ → ℤ → Carried
 add_carried h x z = sum_stored h x (number_in (value_in h.locals x) +ℤ z)
 
 -- one level deeper
-abbrev pub marked : Held → Held
+abbrev pub marked : RunState → RunState
 marked h = with_debug h (record h.debug { heap = after_mark h.debug.heap })
 
--- the end of a mark that expects so many cells
-abbrev pub mark_end_within : Held → Option ℕ → Carried
+-- the end of a mark that expects a number of cells
+abbrev pub mark_end_within : RunState → Option ℕ → Carried
 mark_end_within h None = panicked h NUMBER_OUT_OF_RANGE
 mark_end_within h (Some n) = unless_refused h (mark_end_refusal h.debug.heap n) (with_debug h (record h.debug { heap = after_mark_end h.debug.heap }))
 
--- a check that expects so many cells, with what refuses them
-abbrev pub check_within : Held → (ℕ → Option Panic) → Option ℕ → Carried
+-- a check that expects a number of cells, with what refuses them
+abbrev pub check_within : RunState → (ℕ → Option Panic) → Option ℕ → Carried
 check_within h refusal None = panicked h NUMBER_OUT_OF_RANGE
 check_within h refusal (Some n) = unless_refused h (refusal n) h
 
 -- a setting of a rate
-abbrev pub set_within : Held → (ℕ → Setting) → Option ℕ → Carried
+abbrev pub set_within : RunState → (ℕ → Setting) → Option ℕ → Carried
 set_within h setting None = panicked h NUMBER_OUT_OF_RANGE
 set_within h setting (Some n) = gone_on (with_debug h (with_setting h.debug (setting n)))
 
 -- one more note
-abbrev pub with_note : Held → Note → Held
+abbrev pub with_note : RunState → Note → RunState
 with_note h note = record h { notes = h.notes ++ note ∷ [] }
 
 -- a note of the live cells
-abbrev pub heap_noted : Held → Held
+abbrev pub heap_noted : RunState → RunState
 heap_noted h = with_note h (note_of_heap h.debug)
 
 -- a note of the free bytes
-abbrev pub available_noted : Held → Held
+abbrev pub available_noted : RunState → RunState
 available_noted h = with_note h (note_of_available h.debug)
 
 -- a compression, with a note of what it reclaimed
-abbrev pub compress_noted : Held → Held
+abbrev pub compress_noted : RunState → RunState
 compress_noted h = with_note (with_debug h (debug_compressed h.debug)) (note_of_compress h.debug)
 
 -- a printed line
-abbrev pub line_printed : Held → List ℕ → Held
+abbrev pub line_printed : RunState → List ℕ → RunState
 line_printed h line = record h { lines = h.lines ++ line ∷ [] }
 
 -- one step more
-abbrev pub stepped : Held → Held
+abbrev pub stepped : RunState → RunState
 stepped h = record h { steps = h.steps + 1 }
 
 -- `main` begins with these locals
-abbrev pub entered : Held → Ptr → List Local → Held
+abbrev pub entered : RunState → Ptr → List Local → RunState
 entered h cell locals = record h { cleanup = cell; locals = map initial locals }
 
 -- the bytes of the cleanup stack's cell at first
@@ -193,14 +193,14 @@ abbrev pub first_bytes : ℕ
 first_bytes = 128
 
 -- the first attempt
-abbrev pub first_made : Held → Made
+abbrev pub first_made : RunState → Made
 first_made h = alloc_made h.debug first_bytes Cleanup
 
 -- `main` begins where the first attempt was granted
-abbrev pub begun_by : Held → List Local → Gave → Carried
+abbrev pub begun_by : RunState → List Local → Gave → Carried
 begun_by h locals (Granted cell) = gone_on (entered h cell locals)
-begun_by h locals Denied = record { ending = NoCleanup; held = h }
-begun_by h locals Ceiling = record { ending = Cut why.Ceiling; held = h }
+begun_by h locals Denied = record { ending = NoCleanup; state = h }
+begun_by h locals Ceiling = record { ending = Cut why.Ceiling; state = h }
 
-abbrev pub begun_carried : Held → List Local → Carried
+abbrev pub begun_carried : RunState → List Local → Carried
 begun_carried h locals = begun_by (with_debug h (first_made h).debug) locals (first_made h).gave

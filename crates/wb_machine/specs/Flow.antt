@@ -1,5 +1,5 @@
 -- What is still to do as a machine holds it, and which process of the definitions that is.
-use Rattle.std.specs.Prelude.{◌≡◌, ℕ, ◌+◌, ◌≤◌, List, [], ◌∷◌, ◌++◌, Bool, true, false, not, ◌||◌, map, reverse, length}
+use Rattle.std.specs.Prelude.{◌≡◌, ℕ, List, [], ◌∷◌, ◌++◌, Bool, true, false, not, ◌||◌, map, reverse, length}
 use Rattle.wb_model.specs.declared.heap.Rule.{Rule}
 use Rattle.wb_model.specs.declared.run.RunResult.{RunResult}
 use Rattle.wb_model.specs.declared.script.Script.{Script}
@@ -14,7 +14,7 @@ use Rattle.wb_machine.specs.declared.control.Ending.{Ending}
 use Rattle.wb_machine.specs.declared.control.Ending.TheVariants.{GoesOn, Panics, Cut, NoCleanup}
 use Rattle.wb_machine.specs.declared.control.Piece.{Piece}
 use Rattle.wb_machine.specs.declared.control.Piece.TheVariants.{Code, MainTrap}
-use Rattle.wb_machine.specs.Held.{Held, start_held, main_of, state_of, account_of}
+use Rattle.wb_machine.specs.RunState.{RunState, HasLines, first_state, main_of, state_of, account_of}
 
 -- `main` stands in the first frame, over no items
 abbrev pub in_main_frame : Where
@@ -77,40 +77,36 @@ abbrev pub progress_of : Bool → Ending → List Pending → State → Progress
 progress_of false ending ps st = not_begun
 progress_of true ending ps st = progress_by ending ps st
 
--- what a process comes to under a rule, after what is held
-unfoldable pub flow : Rule → Process → Held → Settled
+-- what a process comes to under a rule, from the state of a run on
+unfoldable pub flow : Rule → Process → RunState → Settled
 flow r p h = settled r (space_of r h.debug.shape) p (account_of h)
 
 -- one process comes to the same as another, whatever follows
-abbrev pub IsSameFlow : Rule → Process → Held → Process → Held → Type 0
+abbrev pub IsSameFlow : Rule → Process → RunState → Process → RunState → Type 0
 IsSameFlow r p h q g = (k : Way → State → Process) → flow r (and_then p k) h ≡ flow r (and_then q k) g
 
--- a statement was carried out that ended so and left what is held: under each rule that fits, it comes to what it means
-abbrev pub IsCarriedOut : Script → Layer → Held → Ending → Held → Type 0
+-- a rule fits what a statement left that ended so, from a state whose attempts have their lines
+abbrev pub FitsStep : Rule → RunState → Ending → RunState → Type 0
+FitsStep r h ending g = HasLines h × Fits r h.debug.rule (is_stop ending) g.debug.attempts
+
+-- a statement was carried out that ended so and left this state: under each rule that fits, it comes to what it means
+abbrev pub IsCarriedOut : Script → Layer → RunState → Ending → RunState → Type 0
 IsCarriedOut script layer h ending g =
-    (r : Rule) → Fits r h.debug.rule (is_stop ending) (length g.debug.trace) → (rec : Meaning) →
+    (r : Rule) → FitsStep r h ending g → (rec : Meaning) →
     IsSameFlow r (ended_by ending (state_of script g)) g (statement script rec in_main_frame layer (state_of script h)) h
 
 -- what is left of a run that was begun gives this under a rule
-abbrev pub rest_from : Script → ℕ → Rule → Ending → List Piece → Held → RunResult
+abbrev pub rest_from : Script → ℕ → Rule → Ending → List Piece → RunState → RunResult
 rest_from script budget r ending pieces h =
     rest script budget h.debug.shape r (progress_by ending (pending_in pieces) (state_of script h)) (account_of h)
 
--- what no turn changes, and that it makes at most one attempt and sets at most one mark
-pub record Stays (before after : Held) : Type 0 where
-  pub rule : after.debug.rule ≡ before.debug.rule
-  pub shape : after.debug.shape ≡ before.debug.shape
-  pub fewer : length before.debug.trace ≤ length after.debug.trace
-  pub more : length after.debug.trace ≤ length before.debug.trace + 1
-  pub deeper : after.debug.heap.level ≤ before.debug.heap.level + 1
-
 -- the same of a run that may not have begun
-abbrev pub rest_at : Script → ℕ → Rule → Bool → Ending → List Piece → Held → RunResult
+abbrev pub rest_at : Script → ℕ → Rule → Bool → Ending → List Piece → RunState → RunResult
 rest_at script budget r begun ending pieces h =
     rest script budget h.debug.shape r (progress_of begun ending (pending_in pieces) (state_of script h)) (account_of h)
 
 -- nothing is done yet, and nothing is to do
-pub record IsFirst (ending : Ending) (pieces : List Piece) (h : Held) : Type 0 where
+pub record IsFirst (ending : Ending) (pieces : List Piece) (h : RunState) : Type 0 where
   pub goes_on : ending ≡ GoesOn
   pub nothing : pieces ≡ []
-  pub start : h ≡ start_held h.debug.rule h.debug.shape
+  pub start : h ≡ first_state h.debug.rule h.debug.shape

@@ -1,11 +1,12 @@
 pub mod Carried
 pub mod CarriedTexts
 pub mod Flow
-pub mod Held
-pub mod Inside
+pub mod RunState
+pub mod StateView
 pub mod Seen
-pub mod Slots
+pub mod LocalValues
+pub mod Owed
 pub mod TextOperands
-pub mod TextRows
+pub mod TextInvariant
 pub mod Told
 pub mod Whole

@@ -18,5 +18,5 @@ pub record Seen : Type 0 where
   pub begun : Bool
   -- the run has ended
   pub over : Bool
-  -- it met want of memory
+  -- its memory ran out
   pub failed : Bool

@@ -1,8 +1,8 @@
--- What text operands stand for, over what is held.
-use Rattle.std.specs.Prelude.{◌≡◌, ℕ, List, [], length, Bool, true, false, if◌then◌else◌, Option, Some, None, Result, Ok, Err}
+-- What text operands stand for, in the state of a run.
+use Rattle.std.specs.Prelude.{ℕ, List, [], length, Bool, true, false, if◌then◌else◌, Option, Some, None, Result, Ok, Err}
 use Rattle.wb_model.specs.declared.heap.TheConstants.Panic.{NULL_OR_STALE, WRONG_KIND}
 use Rattle.wb_model.specs.declared.heap.Kind.{Kind}
-use Rattle.wb_model.specs.declared.heap.Kind.TheVariants.{Raw, Object, Text, Cleanup}
+use Rattle.wb_model.specs.declared.heap.Kind.TheVariants.{Text}
 use Rattle.wb_model.specs.declared.heap.Panic.{Panic}
 use Rattle.wb_model.specs.declared.script.Writable.{Writable}
 use Rattle.wb_model.specs.declared.script.Writable.TheVariants.{OwnBuffer, InCell}
@@ -15,12 +15,12 @@ use Rattle.wb_model.specs.Row.{Cell, cell_at}
 use Rattle.wb_model.specs.Texts.{Buffer, units_of_part}
 use Rattle.wb_model.specs.Reading.{literal_at, buffer_text, max_in}
 use Rattle.wb_model.specs.TextCells.{text_at, max_at}
-use Rattle.wb_machine.specs.Held.{Held, value_in}
-use Rattle.wb_machine.specs.Slots.{buffer_in, whole_window, window_in}
+use Rattle.wb_machine.specs.RunState.{RunState, value_in}
+use Rattle.wb_machine.specs.LocalValues.{buffer_in, whole_window, window_in}
 use Rattle.wb_machine.specs.Carried.{pointer_read}
 
 -- a text that can be changed: a buffer, or a cell
-abbrev pub base_named : Held → Writable → Base
+abbrev pub base_named : RunState → Writable → Base
 base_named h (OwnBuffer i) = B.Local i
 base_named h (InCell p) = B.Cell (pointer_read h p)
 
@@ -34,19 +34,19 @@ text_refusal None = Some NULL_OR_STALE
 text_refusal (Some c) = if is_text c.head.kind then None else Some WRONG_KIND
 
 -- what is refused of a base: only a cell can be gone, or hold no text
-abbrev pub base_refusal : Held → Base → Option Panic
+abbrev pub base_refusal : RunState → Base → Option Panic
 base_refusal h (B.Cell p) = text_refusal (cell_at p h.debug.heap.row)
 base_refusal h _ = None
 
 -- the text of a base, over these literals
-abbrev pub base_text : List (List ℕ) → Held → Base → List ℕ
+abbrev pub base_text : List (List ℕ) → RunState → Base → List ℕ
 base_text literals h B.Nothing = []
 base_text literals h (B.Literal i) = literal_at literals i
 base_text literals h (B.Local i) = buffer_text (value_in h.locals i)
 base_text literals h (B.Cell p) = text_at p h.debug
 
 -- and its maximum, where it can be changed
-abbrev pub base_max : Held → Base → ℕ
+abbrev pub base_max : RunState → Base → ℕ
 base_max h (B.Local i) = max_in (value_in h.locals i)
 base_max h (B.Cell p) = max_at p h.debug
 base_max h _ = 0
@@ -57,15 +57,15 @@ is_writable_base (B.Cell p) = true
 is_writable_base _ = false
 
 -- the units that a view shows
-abbrev pub window_units : List (List ℕ) → Held → View → List ℕ
+abbrev pub window_units : List (List ℕ) → RunState → View → List ℕ
 window_units literals h v = units_of_part (base_text literals h v.base) v.position v.length
 
 -- the whole of a base
-abbrev pub whole_of : List (List ℕ) → Held → Base → View
+abbrev pub whole_of : List (List ℕ) → RunState → Base → View
 whole_of literals h base = whole_window base (length (base_text literals h base))
 
 -- what a readable text shows, as a view
-abbrev pub window_read : List (List ℕ) → Held → Readable → View
+abbrev pub window_read : List (List ℕ) → RunState → Readable → View
 window_read literals h (Of d) = whole_of literals h (base_named h d)
 window_read literals h (ViewOf i) = window_in (value_in h.locals i)
 window_read literals h (Quoted i) = whole_of literals h (B.Literal i)
@@ -75,10 +75,10 @@ abbrev pub unless_gone : Option Panic → View → Result View Panic
 unless_gone (Some panic) v = Err panic
 unless_gone None v = Ok v
 
-abbrev pub window_found : List (List ℕ) → Held → Readable → Result View Panic
+abbrev pub window_found : List (List ℕ) → RunState → Readable → Result View Panic
 window_found literals h t = unless_gone (base_refusal h (window_read literals h t).base) (window_read literals h t)
 
 -- the buffer of a base, and an empty one where it is no buffer
-abbrev pub buffer_under : Held → Base → Buffer
+abbrev pub buffer_under : RunState → Base → Buffer
 buffer_under h (B.Local i) = buffer_in (value_in h.locals i)
 buffer_under h _ = record { max = 0; units = [] }

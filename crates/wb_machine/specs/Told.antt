@@ -1,4 +1,4 @@
--- What a run that is over tells, of what is held.
+-- What a run that is over tells.
 use Rattle.std.specs.Prelude.{List, None}
 use Rattle.wb_model.specs.declared.run.Leak.{Leak}
 use Rattle.wb_model.specs.declared.run.Outcome.{Outcome}
@@ -7,11 +7,11 @@ use Rattle.wb_model.specs.declared.run.RunResult.{RunResult}
 use Rattle.wb_model.specs.Debug.{leaks_of_heap}
 use Rattle.wb_machine.specs.declared.control.Ending.{Ending}
 use Rattle.wb_machine.specs.declared.control.Ending.TheVariants.{GoesOn, Panics, Cut, NoCleanup}
-use Rattle.wb_machine.specs.Held.{Held}
+use Rattle.wb_machine.specs.RunState.{RunState}
 
 -- the live cells but the cleanup stack's, by place
-abbrev pub leaks_held : Held → List Leak
-leaks_held h = leaks_of_heap h.debug
+abbrev pub leaks_at_end : RunState → List Leak
+leaks_at_end h = leaks_of_heap h.debug
 
 abbrev pub outcome_by : Ending → List Leak → Outcome
 outcome_by GoesOn leaks = outcomes.Ended None leaks
@@ -19,5 +19,5 @@ outcome_by (Panics p) leaks = outcomes.Panicked p
 outcome_by (Cut why) leaks = outcomes.Cut why
 outcome_by NoCleanup leaks = outcomes.NoCleanup
 
-abbrev pub told_by : Ending → List Leak → Held → RunResult
+abbrev pub told_by : Ending → List Leak → RunState → RunResult
 told_by ending leaks h = record { outcome = outcome_by ending leaks; trace = h.debug.trace; lines = h.lines; notes = h.notes; steps = h.steps }

@@ -1,5 +1,5 @@
 -- A whole machine: what callers see of it, and what it keeps.
-use Rattle.std.specs.Prelude.{◌≡◌, ◌⊎◌, ◌+◌, ◌≤◌, Bool, true, false, ◌&&◌, length}
+use Rattle.std.specs.Prelude.{◌≡◌, ◌⊎◌, ◌+◌, ◌≤◌, Bool, true, false, ◌&&◌}
 use Rattle.wb_model.specs.declared.limits.TheConstants.{LARGEST_BUDGET}
 use Rattle.wb_model.specs.declared.heap.Rule.{Rule}
 use Rattle.wb_model.specs.declared.run.RunResult.{RunResult}
@@ -7,9 +7,11 @@ use Rattle.wb_model.specs.Sound.{is_script}
 use Rattle.wb_model.specs.Run.{run}
 use Rattle.wb_model.specs.Rest.{Fits}
 use Rattle.wb_machine.specs.declared.machine.Machine.TheInside.{Inside}
+use Rattle.wb_machine.specs.declared.control.Ending.TheVariants.{GoesOn}
+use Rattle.wb_machine.specs.RunState.{HasLines}
 use Rattle.wb_machine.specs.Seen.{Seen}
 use Rattle.wb_machine.specs.Flow.{is_over, are_sound, IsReady, IsFirst, rest_at}
-use Rattle.wb_machine.specs.Told.{leaks_held}
+use Rattle.wb_machine.specs.Told.{leaks_at_end}
 
 -- the run has ended
 abbrev pub has_ended : Inside → Bool
@@ -21,7 +23,7 @@ seen m = record {
   rule = m.state.debug.rule;
   budget = m.budget;
   shape = m.state.debug.shape;
-  attempts = length m.state.debug.trace;
+  attempts = m.state.debug.attempts;
   steps = m.state.steps;
   begun = m.begun;
   over = has_ended m;
@@ -32,25 +34,26 @@ seen m = record {
 abbrev pub rest_in : Rule → Inside → RunResult
 rest_in r m = rest_at m.script.now m.budget r m.begun m.control.ending m.control.pieces.items m.state
 
--- a machine that met no want of memory
+-- a machine whose memory hasn't run out
 pub record IsSound (m : Inside) : Type 0 where
   pub script : is_script m.script.now ≡ true
   pub small : m.budget ≤ LARGEST_BUDGET
   pub within : m.state.steps ≤ m.budget
-  pub counted : length m.state.debug.trace ≤ m.state.steps + 1
+  pub counted : m.state.debug.attempts ≤ m.state.steps + 1
+  pub lines : HasLines m.state
   -- each mark took a step
   pub level : m.state.debug.heap.level ≤ m.state.steps
   pub first : m.begun ≡ false → IsFirst m.control.ending m.control.pieces.items m.state
   -- a step is to come, or the run is over
   pub settled : m.begun ≡ true → (is_over m.control.ending m.control.pieces.items ≡ true) ⊎ IsReady m.control.ending m.control.pieces.items
   pub pieces : are_sound m.script.now m.control.pieces.items ≡ true
-  pub leaks : has_ended m ≡ true → m.leaks ≡ leaks_held m.state
+  pub leaks : has_ended m ≡ true → m.control.ending ≡ GoesOn → m.leaks ≡ leaks_at_end m.state
 
 -- under each rule that fits, the rest is the run under that rule
 abbrev pub Keeps : Inside → Type 0
-Keeps m = (r : Rule) → Fits r m.state.debug.rule (has_ended m) (length m.state.debug.trace) → rest_in r m ≡ run m.script.now r m.budget m.state.debug.shape
+Keeps m = (r : Rule) → Fits r m.state.debug.rule (has_ended m) m.state.debug.attempts → rest_in r m ≡ run m.script.now r m.budget m.state.debug.shape
 
--- what each machine keeps, unless it met want of memory
+-- what each machine keeps, unless its memory ran out
 pub record IsMachine (m : Inside) : Type 0 where
   pub sound : m.failed ≡ false → IsSound m
   pub keeps : m.failed ≡ false → Keeps m

@@ -3,8 +3,9 @@
 ghost use Rattle.std.specs.Prelude.{◌≡◌, ◌+◌, ◌^◌, ◌<◌, length, IfOk, OnOk, IsTrue};
 ghost use Rattle.wb_model.specs.Sound.{is_script, is_statement};
 ghost use Rattle.wb_model.specs.declared.script.Statement.TheViews.{out-Statement};
-ghost use Rattle.wb_machine.specs.Held.{main_of};
-ghost use Rattle.wb_machine.specs.Flow.{IsCarriedOut, Stays};
+ghost use Rattle.wb_machine.specs.RunState.{main_of};
+ghost use Rattle.wb_machine.specs.Flow.{IsCarriedOut};
+ghost use Rattle.wb_machine.specs.Owed.{KeepsCount, MayAttempt};
 
 use crate::control::Ending;
 use crate::state::State;
@@ -13,15 +14,14 @@ use wb_model::memory::NoMemory;
 use wb_model::script::{Script, Statement};
 
 impl State {
-    /// Carries out a statement that runs no other: how it ends.
+    /// Carries out a statement that runs no other, and tells how it ends.
     pub fn carry_out(&mut self, script: &Script, first: &Statement) -> Result<Ending, NoMemory>
         requires script { IsTrue (is_script script.now) }
         requires statement { IsTrue (is_statement (length script.now.literals) (main_of script.now).locals (out-Statement first.now)) }
-        requires number { length self.old.debug.trace + 1 < 2 ^ 32 }
+        requires number { MayAttempt self.old }
         requires level { self.old.debug.heap.level + 1 < 2 ^ 32 }
         ensures kept { IfOk result (λ ending. IsCarriedOut script.now (out-Statement first.now) self.old ending self.new) }
-        ensures steps { OnOk result (self.new.steps ≡ self.old.steps) }
-        ensures stays { Stays self.old self.new }
+        ensures keeps { KeepsCount self.old self.new }
     {
         match first {
             Statement::Alloc(target, bytes, _) => self.alloc(*target, *bytes),

@@ -11,8 +11,9 @@ ghost use Rattle.wb_model.specs.declared.script.Script.{Script};
 ghost use Rattle.wb_model.specs.declared.script.Statement.TheViews.{out-Statement};
 ghost use Rattle.wb_machine.specs.declared.control.Piece.{Piece};
 ghost use Rattle.wb_machine.specs.declared.control.Ending.TheVariants.{GoesOn, Cut};
-ghost use Rattle.wb_machine.specs.Held.{Held, start_held, main_of};
-ghost use Rattle.wb_machine.specs.Flow.{in_main_frame, pending_of, needs_step, is_stop, is_over, are_sound, IsReady, IsFirst, Stays, rest_from, rest_at};
+ghost use Rattle.wb_machine.specs.RunState.{RunState, HasLines, first_state, main_of};
+ghost use Rattle.wb_machine.specs.Flow.{in_main_frame, pending_of, needs_step, is_stop, is_over, are_sound, IsReady, IsFirst, rest_from, rest_at};
+ghost use Rattle.wb_machine.specs.Owed.{MayAttempt, Stays};
 
 use crate::state::State;
 use std::alloc::{AllocError, Global};
@@ -121,13 +122,14 @@ impl<'a> Control<'a> {
         requires script { IsTrue (is_script script.now) }
         requires pieces { self.old.pieces.items ≡ [] }
         requires ending { self.old.ending ≡ GoesOn }
-        requires start { state.old ≡ start_held state.old.debug.rule state.old.debug.shape }
-        ensures kept { OnOk result ((r : Rule) (budget : ℕ) → Fits r state.old.debug.rule (is_stop self.new.ending) (length state.new.debug.trace) →
+        requires start { state.old ≡ first_state state.old.debug.rule state.old.debug.shape }
+        ensures kept { OnOk result ((r : Rule) (budget : ℕ) → Fits r state.old.debug.rule (is_stop self.new.ending) state.new.debug.attempts →
             rest_from script.now budget r self.new.ending self.new.pieces.items state.new ≡ run script.now r budget state.old.debug.shape) }
         ensures sound { OnOk result (are_sound script.now self.new.pieces.items ≡ true) }
         ensures stays { Stays state.old state.new }
         ensures level { OnOk result (state.new.debug.heap.level ≡ 0) }
         ensures steps { OnOk result (state.new.steps ≡ 0) }
+        ensures one { OnOk result (state.new.debug.attempts ≡ 1) }
     {
         match state.attempt(FIRST_BYTES, Kind::Cleanup)? {
             Gave::Granted(cell) => {
@@ -153,10 +155,11 @@ impl<'a> Control<'a> {
         requires script { IsTrue (is_script script.now) }
         requires going { self.old.ending ≡ GoesOn }
         requires first { IsTrue (is_statement (length script.now.literals) (main_of script.now).locals (out-Statement first.now)) }
-        requires number { length state.old.debug.trace + 1 < 2 ^ 32 }
+        requires number { MayAttempt state.old }
+        requires lines { HasLines state.old }
         requires level { state.old.debug.heap.level + 1 < 2 ^ 32 }
         requires steps { state.old.steps + 1 < 2 ^ 32 }
-        ensures kept { OnOk result ((r : Rule) (budget : ℕ) → state.old.steps < budget → Fits r state.old.debug.rule (is_stop self.new.ending) (length state.new.debug.trace) →
+        ensures kept { OnOk result ((r : Rule) (budget : ℕ) → state.old.steps < budget → Fits r state.old.debug.rule (is_stop self.new.ending) state.new.debug.attempts →
             (p : Piece) → pending_of p ≡ doing in_main_frame (all (first.now ∷ rest.now)) →
             rest_from script.now budget r self.new.ending self.new.pieces.items state.new
             ≡ rest_from script.now budget r GoesOn (self.old.pieces.items ++ p ∷ []) state.old) }
@@ -177,10 +180,11 @@ impl<'a> Control<'a> {
         requires script { IsTrue (is_script script.now) }
         requires ready { IsReady self.old.ending self.old.pieces.items }
         requires sound { are_sound script.now self.old.pieces.items ≡ true }
-        requires number { length state.old.debug.trace + 1 < 2 ^ 32 }
+        requires number { MayAttempt state.old }
+        requires lines { HasLines state.old }
         requires level { state.old.debug.heap.level + 1 < 2 ^ 32 }
         requires steps { state.old.steps + 1 < 2 ^ 32 }
-        ensures kept { OnOk result ((r : Rule) (budget : ℕ) → state.old.steps < budget → Fits r state.old.debug.rule (is_stop self.new.ending) (length state.new.debug.trace) →
+        ensures kept { OnOk result ((r : Rule) (budget : ℕ) → state.old.steps < budget → Fits r state.old.debug.rule (is_stop self.new.ending) state.new.debug.attempts →
             rest_from script.now budget r self.new.ending self.new.pieces.items state.new
             ≡ rest_from script.now budget r self.old.ending self.old.pieces.items state.old) }
         ensures sound { OnOk result (are_sound script.now self.new.pieces.items ≡ true) }
@@ -196,7 +200,7 @@ impl<'a> Control<'a> {
     /// The run is cut at the budget.
     pub fn cut(&mut self)
         requires { IsReady self.old.ending self.old.pieces.items }
-        ensures kept { (script : Script) (r : Rule) (budget : ℕ) (h : Held) → h.steps ≡ budget →
+        ensures kept { (script : Script) (r : Rule) (budget : ℕ) (h : RunState) → h.steps ≡ budget →
             rest_from script budget r self.new.ending self.new.pieces.items h ≡ rest_from script budget r self.old.ending self.old.pieces.items h }
         ensures pieces { self.new.pieces.items ≡ self.old.pieces.items }
         ensures ending { self.new.ending ≡ Cut Budget }
@@ -217,7 +221,7 @@ impl<'a> Control<'a> {
 
     /// Takes off each piece that is done, until a step is to come or the run is over.
     pub fn settle(&mut self)
-        ensures kept { (script : Script) (r : Rule) (budget : ℕ) (h : Held) → h.steps ≤ budget →
+        ensures kept { (script : Script) (r : Rule) (budget : ℕ) (h : RunState) → h.steps ≤ budget →
             rest_from script budget r self.new.ending self.new.pieces.items h ≡ rest_from script budget r self.old.ending self.old.pieces.items h }
         ensures ending { self.new.ending ≡ self.old.ending }
         ensures sound { (script : Script) → are_sound script self.old.pieces.items ≡ true → are_sound script self.new.pieces.items ≡ true }
@@ -243,18 +247,20 @@ impl<'a> Control<'a> {
         requires sound { are_sound script.now self.old.pieces.items ≡ true }
         requires small { budget ≤ LARGEST_BUDGET }
         requires within { state.old.steps ≤ budget }
-        requires counted { length state.old.debug.trace ≤ state.old.steps + 1 }
+        requires counted { state.old.debug.attempts ≤ state.old.steps + 1 }
+        requires lines { HasLines state.old }
         requires level { state.old.debug.heap.level ≤ state.old.steps }
-        ensures kept { OnOk result ((r : Rule) → Fits r state.old.debug.rule (is_over self.new.ending self.new.pieces.items) (length state.new.debug.trace) →
+        ensures kept { OnOk result ((r : Rule) → Fits r state.old.debug.rule (is_over self.new.ending self.new.pieces.items) state.new.debug.attempts →
             rest_from script.now budget r self.new.ending self.new.pieces.items state.new
             ≡ rest_at script.now budget r begun self.old.ending self.old.pieces.items state.old) }
         ensures settled { OnOk result ((is_over self.new.ending self.new.pieces.items ≡ true) ⊎ IsReady self.new.ending self.new.pieces.items) }
         ensures sound { OnOk result (are_sound script.now self.new.pieces.items ≡ true) }
         ensures stays { Stays state.old state.new }
         ensures within { OnOk result (state.new.steps ≤ budget) }
-        ensures counted { OnOk result (length state.new.debug.trace ≤ state.new.steps + 1) }
+        ensures counted { OnOk result (state.new.debug.attempts ≤ state.new.steps + 1) }
         ensures level { OnOk result (state.new.debug.heap.level ≤ state.new.steps) }
         ensures first { OnOk result (begun ≡ false → state.new.steps ≡ 0) }
+        ensures one { OnOk result (begun ≡ false → state.new.debug.attempts ≡ 1) }
         ensures later { OnOk result (begun ≡ true → state.new.steps ≡ min (state.old.steps + 1) budget) }
         ensures steps { OnOk result (begun ≡ true → is_over self.new.ending self.new.pieces.items ≡ false → state.new.steps ≡ state.old.steps + 1) }
     {

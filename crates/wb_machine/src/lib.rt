@@ -1,4 +1,4 @@
-//! A machine that runs a script one step at a time, over frames of its own.
+//! A machine that runs a script one step at a time.
 #![tactic(auto)]
 
 mod carry;
@@ -16,9 +16,13 @@ mod tell;
 mod tests;
 mod text_cells;
 mod text_operands;
-#[cfg(test)]
-mod text_tests;
 mod texts;
 mod views;
 mod windows;
 mod words;
+
+pub use machine::{Machine, RunFault, Turn, run};
+pub use wb_model::heap::{Rule, Shape};
+pub use wb_model::memory::NoMemory;
+pub use wb_model::run::RunResult;
+pub use wb_model::script::Script;

@@ -4,8 +4,8 @@ ghost use Rattle.std.specs.Prelude.{◌≡◌, [], map, slice_set, IsTrue, OnOk}
 ghost use Rattle.std.specs.List.{list_all};
 ghost use Rattle.wb_model.specs.Sound.{is_local};
 ghost use Rattle.wb_model.specs.State.{initial, pointer_in, number_in};
-ghost use Rattle.wb_machine.specs.Held.{value_in};
-ghost use Rattle.wb_machine.specs.Slots.{value_of, buffer_in, window_in};
+ghost use Rattle.wb_machine.specs.RunState.{value_in};
+ghost use Rattle.wb_machine.specs.LocalValues.{value_of, buffer_in, window_in};
 
 use crate::windows::Window;
 use std::alloc::{AllocError, Global};
@@ -36,11 +36,11 @@ pub struct Locals {
 }
 
 impl Model for Locals {
-    ghost use Rattle.wb_machine.specs.Held.{Values};
+    ghost use Rattle.wb_machine.specs.RunState.{Values};
 
     ghost Value = { Values };
 
-    ghost use Rattle.wb_machine.specs.Slots.{values_in};
+    ghost use Rattle.wb_machine.specs.LocalValues.{values_in};
 
     ghost view = { values_in };
 }

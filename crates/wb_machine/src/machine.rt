@@ -1,13 +1,15 @@
 //! The machine that callers see, and a whole run. What a turn does stands in `control`.
 
-ghost use Rattle.std.specs.Prelude.{◌≡◌, ◌+◌, ◌≤◌, ◌↔◌, true, false, min, is_err, IsTrue, IfOk, OnOk, OnErr};
+ghost use Rattle.std.specs.Prelude.{◌≡◌, ◌+◌, ◌≤◌, ◌↔◌, true, false, length, min, is_err, IsTrue, IfOk, IsOk, OnOk, OnErr};
 ghost use Rattle.wb_model.specs.Sound.{is_script};
 ghost use Rattle.wb_model.specs.Space.{is_shape};
 ghost use Rattle.wb_model.specs.Run.{run};
 ghost use Rattle.wb_machine.specs.declared.machine.Turn.TheVariants.{GoesOn, Ended};
 ghost use Rattle.wb_machine.specs.declared.machine.RunFault.TheVariants.{BadShape};
+ghost use Rattle.wb_machine.specs.Flow.{is_stop};
+ghost use Rattle.wb_machine.specs.Told.{leaks_at_end};
 
-use crate::control::Control;
+use crate::control::{Control, Ending};
 use crate::state::State;
 use std::alloc::Global;
 use std::marker::Model;
@@ -80,7 +82,7 @@ impl<'a> Machine<'a> {
     /// A machine at the start of a run: no attempt is made yet.
     ///
     /// The budget counts steps. The shape's lengths are bytes. `BadShape` comes exactly where the shape is
-    /// none that a heap may have (source: this project's profile), and before `NoMemory`.
+    /// none that a heap may have, and before `NoMemory`.
     pub fn new(
         alloc: Global,
         script: &'a Script,
@@ -125,7 +127,8 @@ impl<'a> Machine<'a> {
     /// The first makes attempt 1 and begins `main`, and counts no step. Each later one counts a step and
     /// carries it out, or cuts the run where the budget is used up; all ends that follow belong to it. A turn
     /// makes at most one attempt. Once the run is over it answers `Ended` and changes nothing. After
-    /// `NoMemory` the machine answers `NoMemory` for good.
+    /// `NoMemory` the machine answers `NoMemory` for good. The turn after which a run has ended plainly lists
+    /// the leaks; no other asks for memory for them.
     pub fn step(&mut self) -> Result<Turn, NoMemory>
         ensures script { self.new.script ≡ self.old.script }
         ensures rule { self.new.rule ≡ self.old.rule }
@@ -133,6 +136,7 @@ impl<'a> Machine<'a> {
         ensures shape { self.new.shape ≡ self.old.shape }
         ensures begun { OnOk result (self.new.begun ≡ true) }
         ensures first { OnOk result (self.old.begun ≡ false → self.new.steps ≡ 0) }
+        ensures one { OnOk result (self.old.begun ≡ false → self.new.attempts ≡ 1) }
         ensures later { OnOk result (self.old.begun ≡ true → self.old.over ≡ false → self.new.steps ≡ min (self.old.steps + 1) self.old.budget) }
         ensures counted { IfOk result (λ turn. self.old.begun ≡ true → turn ≡ Turn.GoesOn → self.new.steps ≡ self.old.steps + 1) }
         ensures within { OnOk result (self.new.steps ≤ self.new.budget) }
@@ -158,17 +162,25 @@ impl<'a> Machine<'a> {
             self.failed = false;
             return Ok(Turn::GoesOn);
         }
-        self.leaks = self.state.leaks()?;
+        list_leaks(&mut self.leaks, self.control.ending(), &self.state)?;
         self.failed = false;
         Ok(Turn::Ended)
     }
 
+    /// How many attempts were made so far. One that the ceiling cuts isn't counted.
+    pub fn attempts(&self) -> u32
+        ensures { result ≡ self.now.attempts }
+    {
+        self.state.attempts()
+    }
+
     /// What the run tells, once it is over: exactly what the definitions say of the script, the rule, the
-    /// budget and the shape.
+    /// budget and the shape. Its trace has a line for each attempt.
     pub fn result(self) -> RunResult
         requires over { self.over ≡ true }
         requires well { self.failed ≡ false }
-        ensures { result ≡ run self.entry.script self.entry.rule self.entry.budget self.entry.shape }
+        ensures told { result ≡ run self.entry.script self.entry.rule self.entry.budget self.entry.shape }
+        ensures attempts { length result.trace ≡ self.entry.attempts }
     {
         let Machine {
             script: _,
@@ -183,11 +195,23 @@ impl<'a> Machine<'a> {
     }
 }
 
+/// Lists the leaks of a run that ended so, where its outcome tells them. For any other outcome no memory is
+/// asked for.
+fn list_leaks(leaks: &mut Leaks, ending: Ending, state: &State) -> Result<(), NoMemory>
+    ensures told { OnOk result (ending ≡ Ending.GoesOn → leaks.new ≡ leaks_at_end state.now) }
+    ensures untold { is_stop ending ≡ true → (IsOk result) × (leaks.new ≡ leaks.old) }
+{
+    if let Ending::GoesOn = ending {
+        *leaks = state.leaks()?;
+    }
+    Ok(())
+}
+
 /// A whole run.
 ///
 /// An Ok is exactly what the definitions say of the script, the rule, the budget (in steps) and the shape
 /// (in bytes); a run that is cut is an outcome. `BadShape` comes exactly where the shape is none that a heap
-/// may have (source: this project's profile), and before `NoMemory`.
+/// may have, and before `NoMemory`.
 pub fn run(
     alloc: Global,
     script: &Script,

@@ -5,10 +5,10 @@ ghost use Rattle.wb_model.specs.Operands.{not_negative};
 ghost use Rattle.wb_model.specs.Statements.{at_least_one};
 ghost use Rattle.wb_model.specs.Rules.{never, next, each};
 ghost use Rattle.wb_model.specs.Debug.{check_refusal, check_all_refusal, with_setting};
-ghost use Rattle.wb_machine.specs.Held.{with_debug};
-ghost use Rattle.wb_machine.specs.Flow.{Stays};
+ghost use Rattle.wb_machine.specs.RunState.{with_debug};
 ghost use Rattle.wb_machine.specs.declared.control.Ending.TheVariants.{GoesOn};
-ghost use Rattle.wb_machine.specs.Carried.{number_read, marked, mark_end_within, check_within, set_within};
+ghost use Rattle.wb_machine.specs.Carried.{gone_on, number_read, marked, mark_end_within, check_within, set_within};
+ghost use Rattle.wb_machine.specs.Owed.{CarriesOut};
 
 use crate::control::Ending;
 use crate::operands::{at_least_one, not_negative};
@@ -20,19 +20,15 @@ impl State {
     /// Sets a mark: cells that are allocated from now on are of the next level.
     pub fn mark(&mut self) -> Ending
         requires { self.old.debug.heap.level + 1 < 2 ^ 32 }
-        ensures ending { result ≡ GoesOn }
-        ensures held { self.new ≡ marked self.old }
-        ensures stays { Stays self.old self.new }
+        ensures { CarriesOut self.old (gone_on (marked self.old)) result self.new }
     {
         self.heap.mark();
         Ending::GoesOn
     }
 
-    /// Ends the last mark, where so many cells of its level are live.
+    /// Ends the last mark, where `count` cells of its level are live.
     pub fn mark_end(&mut self, count: Number) -> Ending
-        ensures ending { result ≡ (mark_end_within self.old (not_negative (number_read self.old count))).ending }
-        ensures held { self.new ≡ (mark_end_within self.old (not_negative (number_read self.old count))).held }
-        ensures stays { Stays self.old self.new }
+        ensures { CarriesOut self.old (mark_end_within self.old (not_negative (number_read self.old count))) result self.new }
     {
         let Some(count) = not_negative(self.number(count)) else {
             return Ending::Panics(Panic::NUMBER_OUT_OF_RANGE);
@@ -43,11 +39,9 @@ impl State {
         }
     }
 
-    /// Stops the run unless so many cells of the current level are live.
+    /// Stops the run unless `count` cells of the current level are live.
     pub fn check(&mut self, count: Number) -> Ending
-        ensures ending { result ≡ (check_within self.old (check_refusal self.old.debug) (not_negative (number_read self.old count))).ending }
-        ensures held { self.new ≡ (check_within self.old (check_refusal self.old.debug) (not_negative (number_read self.old count))).held }
-        ensures stays { Stays self.old self.new }
+        ensures { CarriesOut self.old (check_within self.old (check_refusal self.old.debug) (not_negative (number_read self.old count))) result self.new }
     {
         let Some(count) = not_negative(self.number(count)) else {
             return Ending::Panics(Panic::NUMBER_OUT_OF_RANGE);
@@ -58,11 +52,9 @@ impl State {
         }
     }
 
-    /// Stops the run unless so many cells of all levels are live.
+    /// Stops the run unless `count` cells of all levels are live.
     pub fn check_all(&mut self, count: Number) -> Ending
-        ensures ending { result ≡ (check_within self.old (check_all_refusal self.old.debug) (not_negative (number_read self.old count))).ending }
-        ensures held { self.new ≡ (check_within self.old (check_all_refusal self.old.debug) (not_negative (number_read self.old count))).held }
-        ensures stays { Stays self.old self.new }
+        ensures { CarriesOut self.old (check_within self.old (check_all_refusal self.old.debug) (not_negative (number_read self.old count))) result self.new }
     {
         let Some(count) = not_negative(self.number(count)) else {
             return Ending::Panics(Panic::NUMBER_OUT_OF_RANGE);
@@ -73,11 +65,9 @@ impl State {
         }
     }
 
-    /// The attempt so many from here is to fail, and no later one.
+    /// The `rate`-th attempt from here on is to fail, and no later one.
     pub fn fail_next(&mut self, rate: Number) -> Ending
-        ensures ending { result ≡ (set_within self.old (λ n. next n) (at_least_one (number_read self.old rate))).ending }
-        ensures held { self.new ≡ (set_within self.old (λ n. next n) (at_least_one (number_read self.old rate))).held }
-        ensures stays { Stays self.old self.new }
+        ensures { CarriesOut self.old (set_within self.old (λ n. next n) (at_least_one (number_read self.old rate))) result self.new }
     {
         let Some(rate) = at_least_one(self.number(rate)) else {
             return Ending::Panics(Panic::NUMBER_OUT_OF_RANGE);
@@ -86,11 +76,9 @@ impl State {
         Ending::GoesOn
     }
 
-    /// Each of so many attempts is to fail.
+    /// Every `rate`-th attempt from here on is to fail.
     pub fn fail_every(&mut self, rate: Number) -> Ending
-        ensures ending { result ≡ (set_within self.old (λ n. each n n) (at_least_one (number_read self.old rate))).ending }
-        ensures held { self.new ≡ (set_within self.old (λ n. each n n) (at_least_one (number_read self.old rate))).held }
-        ensures stays { Stays self.old self.new }
+        ensures { CarriesOut self.old (set_within self.old (λ n. each n n) (at_least_one (number_read self.old rate))) result self.new }
     {
         let Some(rate) = at_least_one(self.number(rate)) else {
             return Ending::Panics(Panic::NUMBER_OUT_OF_RANGE);
@@ -101,9 +89,7 @@ impl State {
 
     /// No attempt is to fail but for the run's own rule.
     pub fn fail_none(&mut self) -> Ending
-        ensures ending { result ≡ GoesOn }
-        ensures held { self.new ≡ with_debug self.old (with_setting self.old.debug never) }
-        ensures stays { Stays self.old self.new }
+        ensures { CarriesOut self.old (gone_on (with_debug self.old (with_setting self.old.debug never))) result self.new }
     {
         self.heap.fail_none();
         Ending::GoesOn

@@ -2,9 +2,9 @@
 
 ghost use Rattle.std.specs.Prelude.{◌≡◌};
 ghost use Rattle.wb_model.specs.State.{number, null};
-ghost use Rattle.wb_machine.specs.Flow.{Stays};
 ghost use Rattle.wb_machine.specs.declared.control.Ending.TheVariants.{GoesOn};
-ghost use Rattle.wb_machine.specs.Carried.{pointer_read, number_read, pointer_stored, stored, add_carried};
+ghost use Rattle.wb_machine.specs.Carried.{gone_on, pointer_read, number_read, pointer_stored, stored, add_carried};
+ghost use Rattle.wb_machine.specs.Owed.{CarriesOut};
 
 use crate::control::Ending;
 use crate::locals::{NULL, Slot};
@@ -15,10 +15,7 @@ use wb_model::script::{Number, Pointer};
 impl State {
     /// A target gets the pointer of a source.
     pub fn copy_pointer(&mut self, target: Pointer, source: Pointer) -> Ending
-        ensures ending { result ≡ GoesOn }
-        ensures held { self.new ≡ pointer_stored self.old target (pointer_read self.old source) }
-        ensures steps { self.new.steps ≡ self.old.steps }
-        ensures stays { Stays self.old self.new }
+        ensures { CarriesOut self.old (gone_on (pointer_stored self.old target (pointer_read self.old source))) result self.new }
     {
         let ptr = self.pointer(source);
         self.set_pointer(target, ptr);
@@ -27,10 +24,7 @@ impl State {
 
     /// A target gets null.
     pub fn set_null(&mut self, target: Pointer) -> Ending
-        ensures ending { result ≡ GoesOn }
-        ensures held { self.new ≡ pointer_stored self.old target null }
-        ensures steps { self.new.steps ≡ self.old.steps }
-        ensures stays { Stays self.old self.new }
+        ensures { CarriesOut self.old (gone_on (pointer_stored self.old target null)) result self.new }
     {
         self.set_pointer(target, NULL);
         Ending::GoesOn
@@ -38,9 +32,7 @@ impl State {
 
     /// A number local gets a number.
     pub fn set_number(&mut self, local: u8, value: Number) -> Ending
-        ensures ending { result ≡ GoesOn }
-        ensures held { self.new ≡ stored self.old local (number (number_read self.old value)) }
-        ensures stays { Stays self.old self.new }
+        ensures { CarriesOut self.old (gone_on (stored self.old local (number (number_read self.old value)))) result self.new }
     {
         let value = self.number(value);
         self.set(local, Slot::Number(value));
@@ -49,10 +41,7 @@ impl State {
 
     /// A number is added to a number local. A sum that no int holds stops the run.
     pub fn add(&mut self, local: u8, value: Number) -> Ending
-        ensures ending { result ≡ (add_carried self.old local (number_read self.old value)).ending }
-        ensures held { self.new ≡ (add_carried self.old local (number_read self.old value)).held }
-        ensures steps { self.new.steps ≡ self.old.steps }
-        ensures stays { Stays self.old self.new }
+        ensures { CarriesOut self.old (add_carried self.old local (number_read self.old value)) result self.new }
     {
         let value = self.number(value);
         let Some(sum) = self.locals.number(local).checked_add(value) else {

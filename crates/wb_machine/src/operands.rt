@@ -39,7 +39,7 @@ pub fn at_least_one(number: i32) -> Option<u32>
     }
 }
 
-/// The word that an index names, in a payload of so many bytes.
+/// The word that an index names, in a payload of `usable` bytes.
 pub fn word_within(usable: u32, index: i32) -> Option<u32>
     ensures { result ≡ index_in usable index }
 {

@@ -5,10 +5,10 @@ ghost use Rattle.std.specs.Prelude.{◌≡◌, ◌+◌, ◌^◌, ◌<◌, ◌↔
 ghost use Rattle.std.specs.List.{list_all};
 ghost use Rattle.wb_model.specs.Sound.{is_local};
 ghost use Rattle.wb_model.specs.Space.{is_shape};
-ghost use Rattle.wb_machine.specs.Held.{start_held};
-ghost use Rattle.wb_machine.specs.Told.{leaks_held, outcome_by, told_by};
+ghost use Rattle.wb_machine.specs.RunState.{first_state};
+ghost use Rattle.wb_machine.specs.Told.{leaks_at_end, outcome_by, told_by};
 ghost use Rattle.wb_machine.specs.Carried.{pointer_read, number_read, pointer_stored, stored, stepped, entered};
-ghost use Rattle.wb_machine.specs.Slots.{value_of};
+ghost use Rattle.wb_machine.specs.LocalValues.{value_of};
 
 use crate::control::Ending;
 use crate::locals::{Locals, NULL, Slot};
@@ -34,15 +34,15 @@ pub struct State {
 }
 
 impl Model for State {
-    ghost use Rattle.wb_machine.specs.Held.{Held};
+    ghost use Rattle.wb_machine.specs.RunState.{RunState};
 
-    ghost Value = { Held };
+    ghost Value = { RunState };
 
-    ghost use Rattle.wb_machine.specs.Inside.{held};
+    ghost use Rattle.wb_machine.specs.StateView.{run_state};
 
-    ghost view = { held };
+    ghost view = { run_state };
 
-    ghost use Rattle.wb_machine.specs.TextRows.{AreTexts};
+    ghost use Rattle.wb_machine.specs.TextInvariant.{AreTexts};
 
     ghost invariant = { λ s. AreTexts s.heap.heap.row };
 }
@@ -50,7 +50,7 @@ impl Model for State {
 impl State {
     /// The state before the first attempt.
     pub fn new(alloc: Global, rule: Rule, shape: Shape) -> Result<State, DebugFault>
-        ensures ok { IfOk result (λ state. state ≡ start_held rule shape) }
+        ensures ok { IfOk result (λ state. state ≡ first_state rule shape) }
         ensures shape { (result ≡ Err DebugFault.BadShape) ↔ (is_shape shape ≡ false) }
     {
         let heap = DebugHeap::new(alloc, rule, shape)?;
@@ -62,6 +62,13 @@ impl State {
             notes: Items::new(alloc),
             steps: 0,
         })
+    }
+
+    /// How many attempts were made.
+    pub fn attempts(&self) -> u32
+        ensures { result ≡ self.now.debug.attempts }
+    {
+        self.heap.attempts()
     }
 
     /// How many steps were counted.
@@ -132,12 +139,12 @@ impl State {
 
     /// The live cells but the cleanup stack's, by place.
     pub fn leaks(&self) -> Result<Leaks, NoMemory>
-        ensures { IfOk result (λ leaks. leaks ≡ leaks_held self.now) }
+        ensures { IfOk result (λ leaks. leaks ≡ leaks_at_end self.now) }
     {
         self.heap.leaks()
     }
 
-    /// What a run tells that ended so, with these leaks.
+    /// What a run tells, by how it ended and by its leaks.
     pub fn finish(self, ending: Ending, leaks: Leaks) -> RunResult
         ensures { result ≡ told_by ending leaks self }
     {

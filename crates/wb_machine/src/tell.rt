@@ -2,9 +2,9 @@
 
 ghost use Rattle.std.specs.Prelude.{◌≡◌, IfOk, OnOk};
 ghost use Rattle.std.specs.Fmt.{signed_decimal};
-ghost use Rattle.wb_machine.specs.Flow.{Stays};
 ghost use Rattle.wb_machine.specs.declared.control.Ending.TheVariants.{GoesOn};
-ghost use Rattle.wb_machine.specs.Carried.{number_read, line_printed, with_note, heap_noted, available_noted, compress_noted};
+ghost use Rattle.wb_machine.specs.Carried.{gone_on, number_read, line_printed, with_note, heap_noted, available_noted, compress_noted};
+ghost use Rattle.wb_machine.specs.Owed.{CarriesOut, KeepsCount};
 
 use crate::control::Ending;
 use crate::print::number_line;
@@ -17,9 +17,8 @@ use wb_model::script::Number;
 impl State {
     /// Prints a line.
     pub fn print(&mut self, line: Line) -> Result<Ending, NoMemory>
-        ensures ending { IfOk result (λ ending. ending ≡ GoesOn) }
-        ensures held { OnOk result (self.new ≡ line_printed self.old line) }
-        ensures stays { Stays self.old self.new }
+        ensures carried { IfOk result (λ ending. CarriesOut self.old (gone_on (line_printed self.old line)) ending self.new) }
+        ensures keeps { KeepsCount self.old self.new }
     {
         self.lines.push(line)?;
         Ok(Ending::GoesOn)
@@ -27,9 +26,8 @@ impl State {
 
     /// Prints a number.
     pub fn print_number(&mut self, value: Number) -> Result<Ending, NoMemory>
-        ensures ending { IfOk result (λ ending. ending ≡ GoesOn) }
-        ensures held { OnOk result (self.new ≡ line_printed self.old (signed_decimal (number_read self.old value))) }
-        ensures stays { Stays self.old self.new }
+        ensures carried { IfOk result (λ ending. CarriesOut self.old (gone_on (line_printed self.old (signed_decimal (number_read self.old value)))) ending self.new) }
+        ensures keeps { KeepsCount self.old self.new }
     {
         let line = number_line(self.number(value));
         self.print(line)
@@ -37,9 +35,8 @@ impl State {
 
     /// Makes a note.
     fn note(&mut self, note: Note) -> Result<Ending, NoMemory>
-        ensures ending { IfOk result (λ ending. ending ≡ GoesOn) }
-        ensures held { OnOk result (self.new ≡ with_note self.old note) }
-        ensures stays { Stays self.old self.new }
+        ensures carried { IfOk result (λ ending. CarriesOut self.old (gone_on (with_note self.old note)) ending self.new) }
+        ensures keeps { KeepsCount self.old self.new }
     {
         self.notes.push(note)?;
         Ok(Ending::GoesOn)
@@ -47,9 +44,8 @@ impl State {
 
     /// Notes how many cells are live, their total length, and the committed length.
     pub fn note_heap(&mut self) -> Result<Ending, NoMemory>
-        ensures ending { IfOk result (λ ending. ending ≡ GoesOn) }
-        ensures held { OnOk result (self.new ≡ heap_noted self.old) }
-        ensures stays { Stays self.old self.new }
+        ensures carried { IfOk result (λ ending. CarriesOut self.old (gone_on (heap_noted self.old)) ending self.new) }
+        ensures keeps { KeepsCount self.old self.new }
     {
         let note = self.heap.note_heap();
         self.note(note)
@@ -57,9 +53,8 @@ impl State {
 
     /// Notes the total and the longest of the free runs.
     pub fn note_available(&mut self) -> Result<Ending, NoMemory>
-        ensures ending { IfOk result (λ ending. ending ≡ GoesOn) }
-        ensures held { OnOk result (self.new ≡ available_noted self.old) }
-        ensures stays { Stays self.old self.new }
+        ensures carried { IfOk result (λ ending. CarriesOut self.old (gone_on (available_noted self.old)) ending self.new) }
+        ensures keeps { KeepsCount self.old self.new }
     {
         let note = self.heap.note_available();
         self.note(note)
@@ -67,9 +62,8 @@ impl State {
 
     /// Compresses the heap, and notes what that reclaims.
     pub fn note_compress(&mut self) -> Result<Ending, NoMemory>
-        ensures ending { IfOk result (λ ending. ending ≡ GoesOn) }
-        ensures held { OnOk result (self.new ≡ compress_noted self.old) }
-        ensures stays { Stays self.old self.new }
+        ensures carried { IfOk result (λ ending. CarriesOut self.old (gone_on (compress_noted self.old)) ending self.new) }
+        ensures keeps { KeepsCount self.old self.new }
     {
         let note = self.heap.note_compress();
         self.note(note)

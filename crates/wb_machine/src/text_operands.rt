@@ -6,7 +6,7 @@ ghost use Rattle.wb_model.specs.Sound.{is_script};
 ghost use Rattle.wb_model.specs.declared.heap.Ptr.{Ptr};
 ghost use Rattle.wb_model.specs.declared.text.Base.TheVariants as B;
 ghost use Rattle.wb_hbuf.specs.Sources.{IsApart, IsForeign, IsSource, source_units};
-ghost use Rattle.wb_machine.specs.Held.{Held};
+ghost use Rattle.wb_machine.specs.RunState.{RunState};
 ghost use Rattle.wb_machine.specs.TextOperands.{base_named, is_text, base_refusal, base_text, window_units, window_found, whole_of, unless_gone, buffer_under};
 
 use crate::state::State;
@@ -40,7 +40,7 @@ pub fn is_same_base(one: Base, other: Base) -> bool
 /// How many units a literal has.
 fn literal_length(script: &Script, index: u32) -> u32
     requires { IsTrue (is_script script.now) }
-    ensures length { (h : Held) → result ≡ length (base_text script.now.literals h (B.Literal index)) }
+    ensures length { (h : RunState) → result ≡ length (base_text script.now.literals h (B.Literal index)) }
     ensures most { result < 2 ^ 31 }
 {
     match script.literals.get(index as usize) {

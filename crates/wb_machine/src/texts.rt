@@ -6,10 +6,10 @@ ghost use Rattle.wb_model.specs.Texts.{delete_text, set_length_text};
 ghost use Rattle.wb_model.specs.declared.text.Base.{Base};
 ghost use Rattle.wb_model.specs.declared.text.Base.TheVariants as B;
 ghost use Rattle.wb_hbuf.specs.Sources.{edit_text};
-ghost use Rattle.wb_machine.specs.Flow.{Stays};
 ghost use Rattle.wb_machine.specs.Carried.{number_read};
 ghost use Rattle.wb_machine.specs.TextOperands.{base_named, base_refusal, base_text, base_max, is_writable_base, window_read, window_units};
 ghost use Rattle.wb_machine.specs.CarriedTexts.{ending_by, put_back_by, IsWritten, IsEditedBy, IsInsertedBy, IsDeletedBy, IsLengthSet, SuitsBase};
+ghost use Rattle.wb_machine.specs.Owed.{KeepsCount};
 
 use crate::control::Ending;
 use crate::locals::Slot;
@@ -22,7 +22,7 @@ use wb_model::heap::{Panic, Ptr};
 use wb_model::script::{Number, Readable, Script, Writable};
 use wb_text::{Base, Buf};
 
-/// How a statement ends whose edit was answered so.
+/// How a statement ends, by the answer to its edit.
 fn ending_of(answer: Result<(), Panic>) -> Ending
     ensures { result ≡ ending_by answer }
 {
@@ -40,8 +40,7 @@ impl State {
         requires source { base_refusal self.old window.base ≡ None }
         requires suits { SuitsBase change (B.Cell ptr) window.base }
         ensures written { IsWritten self.old (B.Cell ptr) (edit_text change (base_max self.old (B.Cell ptr)) (base_text script.now.literals self.old (B.Cell ptr)) (window_units script.now.literals self.old window)) result self.new }
-        ensures steps { self.new.steps ≡ self.old.steps }
-        ensures stays { Stays self.old self.new }
+        ensures keeps { KeepsCount self.old self.new }
     {
         let view = window.view();
         let copy = self.copied(view.base);
@@ -56,9 +55,8 @@ impl State {
     /// A buffer that was edited goes back to its local, unless the edit was refused.
     fn put_back(&mut self, index: u8, buf: Buf, answer: Result<(), Panic>) -> Ending
         ensures ending { result ≡ ending_by answer }
-        ensures held { self.new ≡ put_back_by self.old index buf answer }
-        ensures steps { self.new.steps ≡ self.old.steps }
-        ensures stays { Stays self.old self.new }
+        ensures locals { self.new ≡ put_back_by self.old index buf answer }
+        ensures keeps { KeepsCount self.old self.new }
     {
         if answer.is_ok() {
             self.set(index, Slot::Buffer(buf));
@@ -70,8 +68,7 @@ impl State {
     fn write_buffer(&mut self, script: &Script, index: u8, change: Edit, window: Window) -> Ending
         requires source { base_refusal self.old window.base ≡ None }
         ensures written { IsWritten self.old (B.Local index) (edit_text change (base_max self.old (B.Local index)) (base_text script.now.literals self.old (B.Local index)) (window_units script.now.literals self.old window)) result self.new }
-        ensures steps { self.new.steps ≡ self.old.steps }
-        ensures stays { Stays self.old self.new }
+        ensures keeps { KeepsCount self.old self.new }
     {
         let view = window.view();
         let copy = self.copied(view.base);
@@ -88,8 +85,7 @@ impl State {
         requires source { base_refusal self.old window.base ≡ None }
         requires suits { SuitsBase change to window.base }
         ensures written { IsWritten self.old to (edit_text change (base_max self.old to) (base_text script.now.literals self.old to) (window_units script.now.literals self.old window)) result self.new }
-        ensures steps { self.new.steps ≡ self.old.steps }
-        ensures stays { Stays self.old self.new }
+        ensures keeps { KeepsCount self.old self.new }
     {
         match to {
             Base::Local(index) => self.write_buffer(script, index, change, window),
@@ -109,8 +105,7 @@ impl State {
         requires script { IsTrue (is_script script.now) }
         requires suits { (from : Base) → SuitsBase change (base_named self.old target) from }
         ensures edited { IsEditedBy script.now.literals self.old (base_named self.old target) (window_read script.now.literals self.old text) change result self.new }
-        ensures steps { self.new.steps ≡ self.old.steps }
-        ensures stays { Stays self.old self.new }
+        ensures keeps { KeepsCount self.old self.new }
     {
         let to = self.base(target);
         if let Some(panic) = self.refusal(to) {
@@ -132,8 +127,7 @@ impl State {
     ) -> Ending
         requires { IsTrue (is_script script.now) }
         ensures inserted { IsInsertedBy script.now.literals self.old (base_named self.old target) (window_read script.now.literals self.old text) (number_read self.old position) result self.new }
-        ensures steps { self.new.steps ≡ self.old.steps }
-        ensures stays { Stays self.old self.new }
+        ensures keeps { KeepsCount self.old self.new }
     {
         let to = self.base(target);
         if let Some(panic) = self.refusal(to) {
@@ -155,13 +149,12 @@ impl State {
 
 /// Deletions, and lengths that are set.
 impl State {
-    /// Takes so many units from a position on out of a text.
+    /// Takes `count` units from a position on out of a text.
     fn take_out(&mut self, to: Base, position: u32, count: u32) -> Ending
         requires writable { IsTrue (is_writable_base to) }
         requires target { base_refusal self.old to ≡ None }
         ensures written { IsWritten self.old to (delete_text (base_text [] self.old to) position count) result self.new }
-        ensures steps { self.new.steps ≡ self.old.steps }
-        ensures stays { Stays self.old self.new }
+        ensures keeps { KeepsCount self.old self.new }
     {
         match to {
             Base::Local(index) => {
@@ -179,8 +172,7 @@ impl State {
         requires writable { IsTrue (is_writable_base to) }
         requires target { base_refusal self.old to ≡ None }
         ensures written { IsWritten self.old to (set_length_text (base_max self.old to) (base_text [] self.old to) length) result self.new }
-        ensures steps { self.new.steps ≡ self.old.steps }
-        ensures stays { Stays self.old self.new }
+        ensures keeps { KeepsCount self.old self.new }
     {
         match to {
             Base::Local(index) => {
@@ -193,11 +185,10 @@ impl State {
         }
     }
 
-    /// So many units of a text from a position on are taken out.
+    /// `count` units of a text from a position on are taken out.
     pub fn delete_text(&mut self, target: Writable, position: Number, count: Number) -> Ending
         ensures deleted { IsDeletedBy self.old (base_named self.old target) (number_read self.old position) (number_read self.old count) result self.new }
-        ensures steps { self.new.steps ≡ self.old.steps }
-        ensures stays { Stays self.old self.new }
+        ensures keeps { KeepsCount self.old self.new }
     {
         let to = self.base(target);
         if let Some(panic) = self.refusal(to) {
@@ -215,8 +206,7 @@ impl State {
     /// A text gets another length.
     pub fn set_length(&mut self, target: Writable, length: Number) -> Ending
         ensures set { IsLengthSet self.old (base_named self.old target) (number_read self.old length) result self.new }
-        ensures steps { self.new.steps ≡ self.old.steps }
-        ensures stays { Stays self.old self.new }
+        ensures keeps { KeepsCount self.old self.new }
     {
         let to = self.base(target);
         if let Some(panic) = self.refusal(to) {

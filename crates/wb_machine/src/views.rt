@@ -3,10 +3,10 @@
 ghost use Rattle.std.specs.Prelude.{◌≡◌, ◌^◌, ◌<◌, None, IfOk, OnOk, IsTrue};
 ghost use Rattle.wb_model.specs.Operands.{not_negative};
 ghost use Rattle.wb_model.specs.Sound.{is_script};
-ghost use Rattle.wb_machine.specs.Flow.{Stays};
 ghost use Rattle.wb_machine.specs.Carried.{number_read};
 ghost use Rattle.wb_machine.specs.TextOperands.{base_named, base_refusal, base_max, window_read, window_units};
-ghost use Rattle.wb_machine.specs.CarriedTexts.{unless_panics, part_stored, left_carried, right_carried, mid_carried, length_carried, max_carried, print_carried};
+ghost use Rattle.wb_machine.specs.CarriedTexts.{unless_panics, part_stored, count_read, left_read, right_read, mid_read, length_carried, max_carried, print_carried};
+ghost use Rattle.wb_machine.specs.Owed.{CarriesOut, KeepsCount};
 
 use crate::control::Ending;
 use crate::locals::Slot;
@@ -22,10 +22,7 @@ use wb_text::Base;
 impl State {
     /// A view local gets a part, unless it was refused.
     fn set_part(&mut self, local: u8, part: Result<Window, Panic>) -> Ending
-        ensures ending { result ≡ (part_stored self.old local part).ending }
-        ensures held { self.new ≡ (part_stored self.old local part).held }
-        ensures steps { self.new.steps ≡ self.old.steps }
-        ensures stays { Stays self.old self.new }
+        ensures { CarriesOut self.old (part_stored self.old local part) result self.new }
     {
         match part {
             Ok(window) => {
@@ -36,43 +33,69 @@ impl State {
         }
     }
 
-    /// A view local gets the first so many units of a text.
+    /// A number that isn't negative, or the panic that refuses it.
+    fn count(&self, number: Number) -> Result<u32, Panic>
+        ensures { result ≡ count_read self.now number }
+    {
+        match not_negative(self.number(number)) {
+            Some(count) => Ok(count),
+            None => Err(Panic::NUMBER_OUT_OF_RANGE),
+        }
+    }
+
+    /// The first so many units of a text, or what refuses them.
+    fn left_part(&self, script: &Script, text: Readable, count: Number) -> Result<Window, Panic>
+        requires { IsTrue (is_script script.now) }
+        ensures { result ≡ left_read script.now.literals self.now text count }
+    {
+        let window = self.window(script, text)?;
+        window.left(self.count(count)?)
+    }
+
+    /// The last so many units of a text, or what refuses them.
+    fn right_part(&self, script: &Script, text: Readable, count: Number) -> Result<Window, Panic>
+        requires { IsTrue (is_script script.now) }
+        ensures { result ≡ right_read script.now.literals self.now text count }
+    {
+        let window = self.window(script, text)?;
+        window.right(self.count(count)?)
+    }
+
+    /// So many units of a text from a position on, or what refuses them.
+    fn mid_part(
+        &self,
+        script: &Script,
+        text: Readable,
+        position: Number,
+        count: Number,
+    ) -> Result<Window, Panic>
+        requires { IsTrue (is_script script.now) }
+        ensures { result ≡ mid_read script.now.literals self.now text position count }
+    {
+        let window = self.window(script, text)?;
+        let position = self.count(position)?;
+        window.mid(position, self.count(count)?)
+    }
+
+    /// A view local gets the first `count` units of a text.
     pub fn left(&mut self, script: &Script, local: u8, text: Readable, count: Number) -> Ending
         requires { IsTrue (is_script script.now) }
-        ensures ending { result ≡ (left_carried script.now.literals self.old local text (number_read self.old count)).ending }
-        ensures held { self.new ≡ (left_carried script.now.literals self.old local text (number_read self.old count)).held }
-        ensures steps { self.new.steps ≡ self.old.steps }
-        ensures stays { Stays self.old self.new }
+        ensures { CarriesOut self.old (part_stored self.old local (left_read script.now.literals self.old text count)) result self.new }
     {
-        let window = match self.window(script, text) {
-            Ok(window) => window,
-            Err(panic) => return Ending::Panics(panic),
-        };
-        let Some(count) = not_negative(self.number(count)) else {
-            return Ending::Panics(Panic::NUMBER_OUT_OF_RANGE);
-        };
-        self.set_part(local, window.left(count))
+        let part = self.left_part(script, text, count);
+        self.set_part(local, part)
     }
 
-    /// A view local gets the last so many units of a text.
+    /// A view local gets the last `count` units of a text.
     pub fn right(&mut self, script: &Script, local: u8, text: Readable, count: Number) -> Ending
         requires { IsTrue (is_script script.now) }
-        ensures ending { result ≡ (right_carried script.now.literals self.old local text (number_read self.old count)).ending }
-        ensures held { self.new ≡ (right_carried script.now.literals self.old local text (number_read self.old count)).held }
-        ensures steps { self.new.steps ≡ self.old.steps }
-        ensures stays { Stays self.old self.new }
+        ensures { CarriesOut self.old (part_stored self.old local (right_read script.now.literals self.old text count)) result self.new }
     {
-        let window = match self.window(script, text) {
-            Ok(window) => window,
-            Err(panic) => return Ending::Panics(panic),
-        };
-        let Some(count) = not_negative(self.number(count)) else {
-            return Ending::Panics(Panic::NUMBER_OUT_OF_RANGE);
-        };
-        self.set_part(local, window.right(count))
+        let part = self.right_part(script, text, count);
+        self.set_part(local, part)
     }
 
-    /// A view local gets so many units of a text from a position on.
+    /// A view local gets `count` units of a text from a position on.
     pub fn mid(
         &mut self,
         script: &Script,
@@ -82,22 +105,10 @@ impl State {
         count: Number,
     ) -> Ending
         requires { IsTrue (is_script script.now) }
-        ensures ending { result ≡ (mid_carried script.now.literals self.old local text (number_read self.old position) (number_read self.old count)).ending }
-        ensures held { self.new ≡ (mid_carried script.now.literals self.old local text (number_read self.old position) (number_read self.old count)).held }
-        ensures steps { self.new.steps ≡ self.old.steps }
-        ensures stays { Stays self.old self.new }
+        ensures { CarriesOut self.old (part_stored self.old local (mid_read script.now.literals self.old text position count)) result self.new }
     {
-        let window = match self.window(script, text) {
-            Ok(window) => window,
-            Err(panic) => return Ending::Panics(panic),
-        };
-        let Some(position) = not_negative(self.number(position)) else {
-            return Ending::Panics(Panic::NUMBER_OUT_OF_RANGE);
-        };
-        let Some(count) = not_negative(self.number(count)) else {
-            return Ending::Panics(Panic::NUMBER_OUT_OF_RANGE);
-        };
-        self.set_part(local, window.mid(position, count))
+        let part = self.mid_part(script, text, position, count);
+        self.set_part(local, part)
     }
 }
 
@@ -106,10 +117,7 @@ impl State {
     /// A number local gets the length of a text.
     pub fn get_length(&mut self, script: &Script, local: u8, text: Readable) -> Ending
         requires { IsTrue (is_script script.now) }
-        ensures ending { result ≡ (length_carried script.now.literals self.old local text).ending }
-        ensures held { self.new ≡ (length_carried script.now.literals self.old local text).held }
-        ensures steps { self.new.steps ≡ self.old.steps }
-        ensures stays { Stays self.old self.new }
+        ensures { CarriesOut self.old (length_carried script.now.literals self.old local text) result self.new }
     {
         match self.window(script, text) {
             Ok(window) => {
@@ -139,9 +147,7 @@ impl State {
 
     /// A number local gets the maximum of a text.
     pub fn get_maximum(&mut self, local: u8, target: Writable) -> Ending
-        ensures ending { result ≡ (max_carried self.old local (base_named self.old target)).ending }
-        ensures held { self.new ≡ (max_carried self.old local (base_named self.old target)).held }
-        ensures stays { Stays self.old self.new }
+        ensures { CarriesOut self.old (max_carried self.old local (base_named self.old target)) result self.new }
     {
         let base = self.base(target);
         if let Some(panic) = self.refusal(base) {
@@ -155,9 +161,8 @@ impl State {
     /// Prints a text.
     pub fn print_text(&mut self, script: &Script, text: Readable) -> Result<Ending, NoMemory>
         requires { IsTrue (is_script script.now) }
-        ensures ending { IfOk result (λ ending. ending ≡ (print_carried script.now.literals self.old text).ending) }
-        ensures held { OnOk result (self.new ≡ (print_carried script.now.literals self.old text).held) }
-        ensures stays { Stays self.old self.new }
+        ensures carried { IfOk result (λ ending. CarriesOut self.old (print_carried script.now.literals self.old text) ending self.new) }
+        ensures keeps { KeepsCount self.old self.new }
     {
         match self.window(script, text) {
             Ok(window) => {

@@ -2,7 +2,7 @@
 
 ghost use Rattle.std.specs.Prelude.{◌≡◌, ◌+◌, ◌^◌, ◌<◌};
 ghost use Rattle.wb_model.specs.Texts.{left_part, right_part, mid_part, view_of_part};
-ghost use Rattle.wb_machine.specs.Slots.{whole_window, no_window};
+ghost use Rattle.wb_machine.specs.LocalValues.{whole_window, no_window};
 
 use std::marker::Model;
 use wb_model::heap::Panic;
@@ -26,14 +26,14 @@ impl Model for Window {
 }
 
 impl Window {
-    /// No unit of nothing.
+    /// The empty part of nothing.
     pub fn nothing() -> Window
         ensures { result ≡ no_window }
     {
         Window::whole(Base::Nothing, 0)
     }
 
-    /// The first so many units of a base.
+    /// The first `length` units of a base.
     pub fn whole(base: Base, length: u32) -> Window
         requires { length < 2 ^ 31 }
         ensures { result ≡ whole_window base length }
@@ -62,7 +62,7 @@ impl Window {
         Window { view: self.view }
     }
 
-    /// The first so many units of it. `Panic::POSITION_OUT_OF_BOUNDS` where there are fewer.
+    /// The first `count` units of it. `Panic::POSITION_OUT_OF_BOUNDS` where there are fewer.
     pub fn left(self, count: u32) -> Result<Window, Panic>
         ensures { result ≡ view_of_part self (left_part self.length count) }
     {
@@ -70,7 +70,7 @@ impl Window {
         Ok(Window { view })
     }
 
-    /// The last so many units of it. `Panic::POSITION_OUT_OF_BOUNDS` where there are fewer.
+    /// The last `count` units of it. `Panic::POSITION_OUT_OF_BOUNDS` where there are fewer.
     pub fn right(self, count: u32) -> Result<Window, Panic>
         ensures { result ≡ view_of_part self (right_part self.length count) }
     {
@@ -78,7 +78,7 @@ impl Window {
         Ok(Window { view })
     }
 
-    /// So many units of it from a position on. `Panic::POSITION_OUT_OF_BOUNDS` where there are fewer.
+    /// `count` units of it from a position on. `Panic::POSITION_OUT_OF_BOUNDS` where there are fewer.
     pub fn mid(self, position: u32, count: u32) -> Result<Window, Panic>
         ensures { result ≡ view_of_part self (mid_part self.length position count) }
     {

@@ -2,8 +2,8 @@
 
 ghost use Rattle.std.specs.Prelude.{◌≡◌};
 ghost use Rattle.wb_model.specs.Statements.{is_raw};
-ghost use Rattle.wb_machine.specs.Flow.{Stays};
 ghost use Rattle.wb_machine.specs.Carried.{pointer_read, number_read, store_carried, load_carried};
+ghost use Rattle.wb_machine.specs.Owed.{CarriesOut};
 
 use crate::control::Ending;
 use crate::locals::Slot;
@@ -25,9 +25,7 @@ pub fn is_raw(kind: Kind) -> bool
 impl State {
     /// Stores a number in a word of a Raw cell.
     pub fn store(&mut self, pointer: Pointer, index: Number, value: i32) -> Ending
-        ensures ending { result ≡ (store_carried self.old (pointer_read self.old pointer) (number_read self.old index) value).ending }
-        ensures held { self.new ≡ (store_carried self.old (pointer_read self.old pointer) (number_read self.old index) value).held }
-        ensures stays { Stays self.old self.new }
+        ensures { CarriesOut self.old (store_carried self.old (pointer_read self.old pointer) (number_read self.old index) value) result self.new }
     {
         let ptr = self.pointer(pointer);
         let Some(header) = self.heap.header(ptr) else {
@@ -45,9 +43,7 @@ impl State {
 
     /// A number local gets a word of a Raw cell, as a signed number.
     pub fn load(&mut self, local: u8, pointer: Pointer, index: Number) -> Ending
-        ensures ending { result ≡ (load_carried self.old local (pointer_read self.old pointer) (number_read self.old index)).ending }
-        ensures held { self.new ≡ (load_carried self.old local (pointer_read self.old pointer) (number_read self.old index)).held }
-        ensures stays { Stays self.old self.new }
+        ensures { CarriesOut self.old (load_carried self.old local (pointer_read self.old pointer) (number_read self.old index)) result self.new }
     {
         let ptr = self.pointer(pointer);
         let Some(header) = self.heap.header(ptr) else {

@@ -10,7 +10,7 @@ use Rattle.wb_model.specs.Meaning.{begun, begun_if, piece, meaning_within}
 use Rattle.wb_model.proofs.AlikeLemmas.{Lasting, Fine, Keeps, Alike, AlikeAll, then_do-alike, with_some-alike, with_class-alike, release-alike}
 use Rattle.wb_model.proofs.AlikeStatements.{plain-alike, in_frame-alike, destroyed_item-alike, statement-alike}
 
--- so many steps at least, and no more than the budget
+-- a number of steps at least, and no more than the budget
 abbrev pub Between : ℕ → ℕ → ℕ → Type 0
 Between low budget n = (low ≤ n) × (n ≤ budget)
 

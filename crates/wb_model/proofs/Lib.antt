@@ -2,12 +2,14 @@ pub mod AgreementLemmas
 pub mod AlikeLemmas
 pub mod AlikePieces
 pub mod AlikeStatements
+pub mod CleanupCells
 pub mod LineExamples
 pub mod Places
 pub mod Reallocations
 pub mod ReallocatedHeaps
 pub mod FreeRuns
 pub mod LimitedHeaps
+pub mod ObjectCells
 pub mod Onward
 pub mod Parts
 pub mod KeptCells
@@ -15,9 +17,11 @@ pub mod ThroughoutLemmas
 pub mod Payloads
 pub mod Rows
 pub mod Settings
+pub mod Spellings
 pub mod ResumeLemmas
 pub mod WorkedCases
 pub mod MeaningLemmas
+pub mod Measures
 pub mod TextCells
 pub mod TextCellsHeap
 pub mod WordLemmas

@@ -1,6 +1,6 @@
 -- Worked cases, each by computing: the definitions give what the files of cases/ say. Written by tools/cases_to_theorems.py;
 -- edit nothing here.
-use Rattle.std.specs.Prelude.{◌≡◌, refl, ℕ, pos, negsuc, List, [], ◌∷◌, Some, None, map}
+use Rattle.std.specs.Prelude.{◌≡◌, refl, ℕ, pos, negsuc, List, [], ◌∷◌, length, Some, None, map}
 use Rattle.wb_model.specs.declared.heap.Rule.TheVariants as R
 use Rattle.wb_model.specs.declared.heap.Panic.TheVariants as P
 use Rattle.wb_model.specs.declared.script.Holder.TheVariants as H
@@ -26,6 +26,7 @@ use Rattle.wb_model.specs.declared.script.Statement.{Statement}
 use Rattle.wb_model.specs.declared.script.Statement.TheOpen.{Statement-F}
 use Rattle.wb_model.specs.declared.script.Statement.TheViews.{out-Statement, roll-Statement}
 use Rattle.wb_model.specs.Run.{run, required, rises}
+use Rattle.wb_model.specs.Sweeps.{run_at, least_bad_or_cut}
 use Rattle.std.specs.Fmt.{digits}
 
 -- what a run computes through
@@ -1181,6 +1182,139 @@ script_top_cell_grows_in_place_size = record { classes = []; procedures = (recor
 top_cell_grows_in_place_size : (required script_top_cell_grows_in_place_size 10000 (shaped 4096 4096) ≡ 272) × (rises script_top_cell_grows_in_place_size 10000 (shaped 4096 4096) ≡ (rise 1 144) ∷ (rise 2 208) ∷ (rise 3 240) ∷ (rise 4 272) ∷ [])
 unfolding everything
 top_cell_grows_in_place_size = (refl, refl)
+
+abbrev script_eighth_push_grows_the_cleanup_cell_check : Script
+script_eighth_push_grows_the_cleanup_cell_check = record { classes = []; procedures = (record { parameters = []; body = record { locals = (OfPointer None) ∷ []; statements = rolled ((Statement-F.Repeat (Constant (pos 8)) (rolled ((Statement-F.Alloc (Held (H.Local 0)) (Constant (pos 16)) Leaves) ∷ (Statement-F.Push (Held (H.Local 0))) ∷ []))) ∷ (Statement-F.PopDestroy (Constant (pos 8))) ∷ []) } }) ∷ []; operations = []; literals = []; main = 0 }
+
+eighth_push_grows_the_cleanup_cell_check : (required script_eighth_push_grows_the_cleanup_cell_check 10000 (shaped 4096 4096) ≡ 608) × (rises script_eighth_push_grows_the_cleanup_cell_check 10000 (shaped 4096 4096) ≡ (rise 1 144) ∷ (rise 2 176) ∷ (rise 3 208) ∷ (rise 4 240) ∷ (rise 5 272) ∷ (rise 6 304) ∷ (rise 7 336) ∷ (rise 8 368) ∷ (rise 9 400) ∷ (rise 10 608) ∷ []) × (length (run_at script_eighth_push_grows_the_cleanup_cell_check 10000 (shaped 4096 4096) 0).trace ≡ 10) × (least_bad_or_cut script_eighth_push_grows_the_cleanup_cell_check 10000 (shaped 4096 4096) ≡ None)
+unfolding everything
+eighth_push_grows_the_cleanup_cell_check = (refl, refl, refl, refl)
+
+abbrev script_eighth_push_grows_the_cleanup_cell_sweep : Script
+script_eighth_push_grows_the_cleanup_cell_sweep = record { classes = []; procedures = (record { parameters = []; body = record { locals = (OfPointer None) ∷ []; statements = rolled ((Statement-F.Repeat (Constant (pos 8)) (rolled ((Statement-F.Alloc (Held (H.Local 0)) (Constant (pos 16)) Leaves) ∷ (Statement-F.Push (Held (H.Local 0))) ∷ []))) ∷ (Statement-F.PopDestroy (Constant (pos 8))) ∷ []) } }) ∷ []; operations = []; literals = []; main = 0 }
+
+eighth_push_grows_the_cleanup_cell_sweep : (length (run_at script_eighth_push_grows_the_cleanup_cell_sweep 10000 (shaped 4096 4096) 0).trace ≡ 10) × (least_bad_or_cut script_eighth_push_grows_the_cleanup_cell_sweep 10000 (shaped 4096 4096) ≡ None)
+unfolding everything
+eighth_push_grows_the_cleanup_cell_sweep = (refl, refl)
+
+abbrev script_empty_main_json_check : Script
+script_empty_main_json_check = record { classes = []; procedures = (record { parameters = []; body = record { locals = []; statements = [] } }) ∷ []; operations = []; literals = []; main = 0 }
+
+empty_main_json_check : (required script_empty_main_json_check 10000 (shaped 4096 4096) ≡ 144) × (rises script_empty_main_json_check 10000 (shaped 4096 4096) ≡ (rise 1 144) ∷ []) × (length (run_at script_empty_main_json_check 10000 (shaped 4096 4096) 0).trace ≡ 1) × (least_bad_or_cut script_empty_main_json_check 10000 (shaped 4096 4096) ≡ None)
+unfolding everything
+empty_main_json_check = (refl, refl, refl, refl)
+
+abbrev script_empty_main_check : Script
+script_empty_main_check = record { classes = []; procedures = (record { parameters = []; body = record { locals = []; statements = [] } }) ∷ []; operations = []; literals = []; main = 0 }
+
+empty_main_check : (required script_empty_main_check 10000 (shaped 4096 4096) ≡ 144) × (rises script_empty_main_check 10000 (shaped 4096 4096) ≡ (rise 1 144) ∷ []) × (length (run_at script_empty_main_check 10000 (shaped 4096 4096) 0).trace ≡ 1) × (least_bad_or_cut script_empty_main_check 10000 (shaped 4096 4096) ≡ None)
+unfolding everything
+empty_main_check = (refl, refl, refl, refl)
+
+abbrev script_failure_that_outruns_the_budget_json_check : Script
+script_failure_that_outruns_the_budget_json_check = record { classes = []; procedures = (record { parameters = []; body = record { locals = (OfPointer None) ∷ []; statements = rolled ((Statement-F.Alloc (Held (H.Local 0)) (Constant (pos 16)) GivesNull) ∷ (Statement-F.If (IsNull (Held (H.Local 0))) (rolled ((Statement-F.Repeat (Constant (pos 20000)) []) ∷ []))) ∷ (Statement-F.Free (Held (H.Local 0))) ∷ []) } }) ∷ []; operations = []; literals = []; main = 0 }
+
+failure_that_outruns_the_budget_json_check : (required script_failure_that_outruns_the_budget_json_check 10000 (shaped 4096 4096) ≡ 176) × (rises script_failure_that_outruns_the_budget_json_check 10000 (shaped 4096 4096) ≡ (rise 1 144) ∷ (rise 2 176) ∷ []) × (least_bad_or_cut script_failure_that_outruns_the_budget_json_check 10000 (shaped 4096 4096) ≡ Some 2) × ((run_at script_failure_that_outruns_the_budget_json_check 10000 (shaped 4096 4096) 2).outcome ≡ Cut Budget)
+unfolding everything
+failure_that_outruns_the_budget_json_check = (refl, refl, refl, refl)
+
+abbrev script_failure_that_outruns_the_budget_check : Script
+script_failure_that_outruns_the_budget_check = record { classes = []; procedures = (record { parameters = []; body = record { locals = (OfPointer None) ∷ []; statements = rolled ((Statement-F.Alloc (Held (H.Local 0)) (Constant (pos 16)) GivesNull) ∷ (Statement-F.If (IsNull (Held (H.Local 0))) (rolled ((Statement-F.Repeat (Constant (pos 20000)) []) ∷ []))) ∷ (Statement-F.Free (Held (H.Local 0))) ∷ []) } }) ∷ []; operations = []; literals = []; main = 0 }
+
+failure_that_outruns_the_budget_check : (required script_failure_that_outruns_the_budget_check 10000 (shaped 4096 4096) ≡ 176) × (rises script_failure_that_outruns_the_budget_check 10000 (shaped 4096 4096) ≡ (rise 1 144) ∷ (rise 2 176) ∷ []) × (least_bad_or_cut script_failure_that_outruns_the_budget_check 10000 (shaped 4096 4096) ≡ Some 2) × ((run_at script_failure_that_outruns_the_budget_check 10000 (shaped 4096 4096) 2).outcome ≡ Cut Budget)
+unfolding everything
+failure_that_outruns_the_budget_check = (refl, refl, refl, refl)
+
+abbrev script_failure_that_outruns_the_budget_sweep : Script
+script_failure_that_outruns_the_budget_sweep = record { classes = []; procedures = (record { parameters = []; body = record { locals = (OfPointer None) ∷ []; statements = rolled ((Statement-F.Alloc (Held (H.Local 0)) (Constant (pos 16)) GivesNull) ∷ (Statement-F.If (IsNull (Held (H.Local 0))) (rolled ((Statement-F.Repeat (Constant (pos 20000)) []) ∷ []))) ∷ (Statement-F.Free (Held (H.Local 0))) ∷ []) } }) ∷ []; operations = []; literals = []; main = 0 }
+
+failure_that_outruns_the_budget_sweep : (least_bad_or_cut script_failure_that_outruns_the_budget_sweep 10000 (shaped 4096 4096) ≡ Some 2) × ((run_at script_failure_that_outruns_the_budget_sweep 10000 (shaped 4096 4096) 2).outcome ≡ Cut Budget)
+unfolding everything
+failure_that_outruns_the_budget_sweep = (refl, refl)
+
+abbrev script_first_fit_reuses_hole_check : Script
+script_first_fit_reuses_hole_check = record { classes = []; procedures = (record { parameters = []; body = record { locals = (OfPointer None) ∷ (OfPointer None) ∷ (OfPointer None) ∷ []; statements = rolled ((Statement-F.Alloc (Held (H.Local 0)) (Constant (pos 10)) GivesNull) ∷ (Statement-F.Alloc (Held (H.Local 1)) (Constant (pos 100)) GivesNull) ∷ (Statement-F.Free (Held (H.Local 0))) ∷ (Statement-F.Alloc (Held (H.Local 2)) (Constant (pos 16)) GivesNull) ∷ (Statement-F.Free (Held (H.Local 1))) ∷ (Statement-F.Free (Held (H.Local 2))) ∷ []) } }) ∷ []; operations = []; literals = []; main = 0 }
+
+first_fit_reuses_hole_check : (required script_first_fit_reuses_hole_check 10000 (shaped 4096 4096) ≡ 304) × (rises script_first_fit_reuses_hole_check 10000 (shaped 4096 4096) ≡ (rise 1 144) ∷ (rise 2 176) ∷ (rise 3 304) ∷ []) × (length (run_at script_first_fit_reuses_hole_check 10000 (shaped 4096 4096) 0).trace ≡ 4) × (least_bad_or_cut script_first_fit_reuses_hole_check 10000 (shaped 4096 4096) ≡ None)
+unfolding everything
+first_fit_reuses_hole_check = (refl, refl, refl, refl)
+
+abbrev script_leak_that_needs_two_failures_sweep : Script
+script_leak_that_needs_two_failures_sweep = record { classes = []; procedures = (record { parameters = []; body = record { locals = (OfPointer None) ∷ (OfPointer None) ∷ (OfPointer None) ∷ []; statements = rolled ((Statement-F.Alloc (Held (H.Local 0)) (Constant (pos 16)) GivesNull) ∷ (Statement-F.Alloc (Held (H.Local 1)) (Constant (pos 16)) GivesNull) ∷ (Statement-F.Alloc (Held (H.Local 2)) (Constant (pos 16)) GivesNull) ∷ (Statement-F.If (IsNull (Held (H.Local 0))) (rolled ((Statement-F.If (IsNull (Held (H.Local 2))) (rolled ((Statement-F.Leave (Constant (negsuc 3))) ∷ []))) ∷ []))) ∷ (Statement-F.Free (Held (H.Local 0))) ∷ (Statement-F.Free (Held (H.Local 1))) ∷ (Statement-F.Free (Held (H.Local 2))) ∷ []) } }) ∷ []; operations = []; literals = []; main = 0 }
+
+leak_that_needs_two_failures_sweep : (length (run_at script_leak_that_needs_two_failures_sweep 10000 (shaped 4096 4096) 0).trace ≡ 4) × (least_bad_or_cut script_leak_that_needs_two_failures_sweep 10000 (shaped 4096 4096) ≡ None)
+unfolding everything
+leak_that_needs_two_failures_sweep = (refl, refl)
+
+abbrev script_leak_without_any_failure_json_sweep : Script
+script_leak_without_any_failure_json_sweep = record { classes = []; procedures = (record { parameters = []; body = record { locals = (OfPointer None) ∷ []; statements = rolled ((Statement-F.Alloc (Held (H.Local 0)) (Constant (pos 16)) GivesNull) ∷ []) } }) ∷ []; operations = []; literals = []; main = 0 }
+
+leak_without_any_failure_json_sweep : (length (run_at script_leak_without_any_failure_json_sweep 10000 (shaped 4096 4096) 0).trace ≡ 2) × (least_bad_or_cut script_leak_without_any_failure_json_sweep 10000 (shaped 4096 4096) ≡ Some 0) × (run_at script_leak_without_any_failure_json_sweep 10000 (shaped 4096 4096) 0 ≡ record { outcome = Ended None ((record { number = 2; length = 32; place = 144 }) ∷ []); trace = (line 1 144 0 Granted) ∷ (line 2 32 144 Granted) ∷ []; lines = []; notes = []; steps = 1 })
+unfolding everything
+leak_without_any_failure_json_sweep = (refl, refl, refl)
+
+abbrev script_leak_without_any_failure_sweep : Script
+script_leak_without_any_failure_sweep = record { classes = []; procedures = (record { parameters = []; body = record { locals = (OfPointer None) ∷ []; statements = rolled ((Statement-F.Alloc (Held (H.Local 0)) (Constant (pos 16)) GivesNull) ∷ []) } }) ∷ []; operations = []; literals = []; main = 0 }
+
+leak_without_any_failure_sweep : (length (run_at script_leak_without_any_failure_sweep 10000 (shaped 4096 4096) 0).trace ≡ 2) × (least_bad_or_cut script_leak_without_any_failure_sweep 10000 (shaped 4096 4096) ≡ Some 0) × (run_at script_leak_without_any_failure_sweep 10000 (shaped 4096 4096) 0 ≡ record { outcome = Ended None ((record { number = 2; length = 32; place = 144 }) ∷ []); trace = (line 1 144 0 Granted) ∷ (line 2 32 144 Granted) ∷ []; lines = []; notes = []; steps = 1 })
+unfolding everything
+leak_without_any_failure_sweep = (refl, refl, refl)
+
+abbrev script_marks_never_count_the_cleanup_cell_check : Script
+script_marks_never_count_the_cleanup_cell_check = record { classes = []; procedures = (record { parameters = []; body = record { locals = (OfPointer None) ∷ []; statements = rolled (Statement-F.Mark ∷ (Statement-F.Repeat (Constant (pos 8)) (rolled ((Statement-F.Push (Held (H.Local 0))) ∷ []))) ∷ (Statement-F.Pop (Constant (pos 8))) ∷ (Statement-F.MarkEnd (Constant (pos 0))) ∷ []) } }) ∷ []; operations = []; literals = []; main = 0 }
+
+marks_never_count_the_cleanup_cell_check : (required script_marks_never_count_the_cleanup_cell_check 10000 (shaped 4096 4096) ≡ 208) × (rises script_marks_never_count_the_cleanup_cell_check 10000 (shaped 4096 4096) ≡ (rise 1 144) ∷ (rise 2 208) ∷ []) × (length (run_at script_marks_never_count_the_cleanup_cell_check 10000 (shaped 4096 4096) 0).trace ≡ 2) × (least_bad_or_cut script_marks_never_count_the_cleanup_cell_check 10000 (shaped 4096 4096) ≡ None)
+unfolding everything
+marks_never_count_the_cleanup_cell_check = (refl, refl, refl, refl)
+
+abbrev script_panic_without_any_failure_sweep : Script
+script_panic_without_any_failure_sweep = record { classes = []; procedures = (record { parameters = []; body = record { locals = (OfPointer None) ∷ (OfPointer None) ∷ []; statements = rolled ((Statement-F.Alloc (Held (H.Local 0)) (Constant (pos 16)) GivesNull) ∷ (Statement-F.Free (Held (H.Local 0))) ∷ (Statement-F.Alloc (Held (H.Local 1)) (Constant (pos 16)) GivesNull) ∷ (Statement-F.Free (Held (H.Local 0))) ∷ []) } }) ∷ []; operations = []; literals = []; main = 0 }
+
+panic_without_any_failure_sweep : (length (run_at script_panic_without_any_failure_sweep 10000 (shaped 4096 4096) 0).trace ≡ 3) × (least_bad_or_cut script_panic_without_any_failure_sweep 10000 (shaped 4096 4096) ≡ Some 0) × (run_at script_panic_without_any_failure_sweep 10000 (shaped 4096 4096) 0 ≡ record { outcome = Panicked (P.User 42); trace = (line 1 144 0 Granted) ∷ (line 2 32 144 Granted) ∷ (line 3 32 144 Granted) ∷ []; lines = []; notes = []; steps = 4 })
+unfolding everything
+panic_without_any_failure_sweep = (refl, refl, refl)
+
+abbrev script_procedure_returns_a_pushed_cell_check : Script
+script_procedure_returns_a_pushed_cell_check = record { classes = []; procedures = (record { parameters = Par.OfNumber ∷ []; body = record { locals = (OfPointer None) ∷ []; statements = rolled ((Statement-F.Alloc (Held (H.Local 1)) (Variable 0) Leaves) ∷ (Statement-F.Push (Held (H.Local 1))) ∷ (Statement-F.ReturnPointer (Held (H.Local 1))) ∷ []) } }) ∷ (record { parameters = []; body = record { locals = (OfPointer None) ∷ []; statements = rolled ((Statement-F.CallTo 0 0 ((Given (Constant (pos 40))) ∷ [])) ∷ (Statement-F.PopDestroy (Constant (pos 1))) ∷ []) } }) ∷ []; operations = []; literals = []; main = 1 }
+
+procedure_returns_a_pushed_cell_check : (required script_procedure_returns_a_pushed_cell_check 10000 (shaped 4096 4096) ≡ 208) × (rises script_procedure_returns_a_pushed_cell_check 10000 (shaped 4096 4096) ≡ (rise 1 144) ∷ (rise 2 208) ∷ []) × (length (run_at script_procedure_returns_a_pushed_cell_check 10000 (shaped 4096 4096) 0).trace ≡ 2) × (least_bad_or_cut script_procedure_returns_a_pushed_cell_check 10000 (shaped 4096 4096) ≡ None)
+unfolding everything
+procedure_returns_a_pushed_cell_check = (refl, refl, refl, refl)
+
+abbrev script_pushed_object_survives_every_failure_sweep : Script
+script_pushed_object_survives_every_failure_sweep = record { classes = (record { extra = 16; fields = None ∷ []; construct = Some (record { locals = []; statements = rolled ((Statement-F.NewText (Field H.This 0 0) (Constant (pos 4)) Leaves) ∷ []) }); destroy = Some (record { locals = []; statements = rolled ((Statement-F.Free (Field H.This 0 0)) ∷ []) }) }) ∷ []; procedures = (record { parameters = []; body = record { locals = (OfPointer (Some 0)) ∷ []; statements = rolled ((Statement-F.New (Held (H.Local 0)) 0 Leaves) ∷ (Statement-F.PushObject (Held (H.Local 0))) ∷ (Statement-F.Construct (Held (H.Local 0))) ∷ (Statement-F.Pop (Constant (pos 1))) ∷ (Statement-F.Delete (Held (H.Local 0))) ∷ []) } }) ∷ []; operations = []; literals = []; main = 0 }
+
+pushed_object_survives_every_failure_sweep : (length (run_at script_pushed_object_survives_every_failure_sweep 10000 (shaped 4096 4096) 0).trace ≡ 3) × (least_bad_or_cut script_pushed_object_survives_every_failure_sweep 10000 (shaped 4096 4096) ≡ None)
+unfolding everything
+pushed_object_survives_every_failure_sweep = (refl, refl)
+
+abbrev script_retry_that_fails_again_sweep : Script
+script_retry_that_fails_again_sweep = record { classes = []; procedures = (record { parameters = []; body = record { locals = (OfPointer None) ∷ (OfPointer None) ∷ []; statements = rolled ((Statement-F.Alloc (Held (H.Local 1)) (Constant (pos 16)) GivesNull) ∷ (Statement-F.Alloc (Held (H.Local 0)) (Constant (pos 16)) GivesNull) ∷ (Statement-F.If (IsNull (Held (H.Local 0))) (rolled ((Statement-F.Alloc (Held (H.Local 0)) (Constant (pos 16)) GivesNull) ∷ (Statement-F.If (IsNull (Held (H.Local 0))) (rolled ((Statement-F.Leave (Constant (negsuc 3))) ∷ []))) ∷ []))) ∷ (Statement-F.Free (Held (H.Local 0))) ∷ (Statement-F.Free (Held (H.Local 1))) ∷ []) } }) ∷ []; operations = []; literals = []; main = 0 }
+
+retry_that_fails_again_sweep : (length (run_at script_retry_that_fails_again_sweep 10000 (shaped 4096 4096) 0).trace ≡ 3) × (least_bad_or_cut script_retry_that_fails_again_sweep 10000 (shaped 4096 4096) ≡ None)
+unfolding everything
+retry_that_fails_again_sweep = (refl, refl)
+
+abbrev script_top_cell_grows_in_place_check : Script
+script_top_cell_grows_in_place_check = record { classes = []; procedures = (record { parameters = []; body = record { locals = (OfPointer None) ∷ (OfPointer None) ∷ (OfPointer None) ∷ []; statements = rolled ((Statement-F.Alloc (Held (H.Local 0)) (Constant (pos 48)) GivesNull) ∷ (Statement-F.Alloc (Held (H.Local 1)) (Constant (pos 16)) GivesNull) ∷ (Statement-F.Free (Held (H.Local 0))) ∷ (Statement-F.Realloc (Held (H.Local 2)) (Held (H.Local 1)) (Constant (pos 48)) GivesNull) ∷ (Statement-F.IfElse (IsNull (Held (H.Local 2))) (rolled ((Statement-F.Free (Held (H.Local 1))) ∷ [])) (rolled ((Statement-F.Free (Held (H.Local 2))) ∷ []))) ∷ []) } }) ∷ []; operations = []; literals = []; main = 0 }
+
+top_cell_grows_in_place_check : (required script_top_cell_grows_in_place_check 10000 (shaped 4096 4096) ≡ 272) × (rises script_top_cell_grows_in_place_check 10000 (shaped 4096 4096) ≡ (rise 1 144) ∷ (rise 2 208) ∷ (rise 3 240) ∷ (rise 4 272) ∷ []) × (length (run_at script_top_cell_grows_in_place_check 10000 (shaped 4096 4096) 0).trace ≡ 4) × (least_bad_or_cut script_top_cell_grows_in_place_check 10000 (shaped 4096 4096) ≡ None)
+unfolding everything
+top_cell_grows_in_place_check = (refl, refl, refl, refl)
+
+abbrev script_unpushed_object_leaks_when_construction_fails_check : Script
+script_unpushed_object_leaks_when_construction_fails_check = record { classes = (record { extra = 16; fields = None ∷ []; construct = Some (record { locals = []; statements = rolled ((Statement-F.NewText (Field H.This 0 0) (Constant (pos 4)) Leaves) ∷ []) }); destroy = Some (record { locals = []; statements = rolled ((Statement-F.Free (Field H.This 0 0)) ∷ []) }) }) ∷ []; procedures = (record { parameters = []; body = record { locals = (OfPointer (Some 0)) ∷ []; statements = rolled ((Statement-F.New (Held (H.Local 0)) 0 Leaves) ∷ (Statement-F.Construct (Held (H.Local 0))) ∷ (Statement-F.Delete (Held (H.Local 0))) ∷ []) } }) ∷ []; operations = []; literals = []; main = 0 }
+
+unpushed_object_leaks_when_construction_fails_check : (required script_unpushed_object_leaks_when_construction_fails_check 10000 (shaped 4096 4096) ≡ 224) × (rises script_unpushed_object_leaks_when_construction_fails_check 10000 (shaped 4096 4096) ≡ (rise 1 144) ∷ (rise 2 192) ∷ (rise 3 224) ∷ []) × (length (run_at script_unpushed_object_leaks_when_construction_fails_check 10000 (shaped 4096 4096) 0).trace ≡ 3) × (least_bad_or_cut script_unpushed_object_leaks_when_construction_fails_check 10000 (shaped 4096 4096) ≡ Some 3) × (run_at script_unpushed_object_leaks_when_construction_fails_check 10000 (shaped 4096 4096) 3 ≡ record { outcome = Ended (Some (negsuc 3)) ((record { number = 2; length = 48; place = 144 }) ∷ []); trace = (line 1 144 0 Granted) ∷ (line 2 48 144 Granted) ∷ (line 3 32 192 Simulated) ∷ []; lines = []; notes = []; steps = 3 })
+unfolding everything
+unpushed_object_leaks_when_construction_fails_check = (refl, refl, refl, refl, refl)
+
+abbrev script_unpushed_object_leaks_when_construction_fails_sweep : Script
+script_unpushed_object_leaks_when_construction_fails_sweep = record { classes = (record { extra = 16; fields = None ∷ []; construct = Some (record { locals = []; statements = rolled ((Statement-F.NewText (Field H.This 0 0) (Constant (pos 4)) Leaves) ∷ []) }); destroy = Some (record { locals = []; statements = rolled ((Statement-F.Free (Field H.This 0 0)) ∷ []) }) }) ∷ []; procedures = (record { parameters = []; body = record { locals = (OfPointer (Some 0)) ∷ []; statements = rolled ((Statement-F.New (Held (H.Local 0)) 0 Leaves) ∷ (Statement-F.Construct (Held (H.Local 0))) ∷ (Statement-F.Delete (Held (H.Local 0))) ∷ []) } }) ∷ []; operations = []; literals = []; main = 0 }
+
+unpushed_object_leaks_when_construction_fails_sweep : (length (run_at script_unpushed_object_leaks_when_construction_fails_sweep 10000 (shaped 4096 4096) 0).trace ≡ 3) × (least_bad_or_cut script_unpushed_object_leaks_when_construction_fails_sweep 10000 (shaped 4096 4096) ≡ Some 3) × (run_at script_unpushed_object_leaks_when_construction_fails_sweep 10000 (shaped 4096 4096) 3 ≡ record { outcome = Ended (Some (negsuc 3)) ((record { number = 2; length = 48; place = 144 }) ∷ []); trace = (line 1 144 0 Granted) ∷ (line 2 48 144 Granted) ∷ (line 3 32 192 Simulated) ∷ []; lines = []; notes = []; steps = 3 })
+unfolding everything
+unpushed_object_leaks_when_construction_fails_sweep = (refl, refl, refl)
 
 abbrev script_shortened_text_still_needs_its_units_run : Script
 script_shortened_text_still_needs_its_units_run = record { classes = []; procedures = (record { parameters = []; body = record { locals = (OfPointer None) ∷ []; statements = rolled ((Statement-F.NewText (Held (H.Local 0)) (Constant (pos 3)) Leaves) ∷ (Statement-F.Copy (InCell (Held (H.Local 0))) (Quoted 0)) ∷ (Statement-F.SetLength (InCell (Held (H.Local 0))) (Constant (pos 1))) ∷ (Statement-F.ReallocText (Held (H.Local 0)) (Held (H.Local 0)) (Constant (pos 1))) ∷ (Statement-F.PrintText (Of (InCell (Held (H.Local 0))))) ∷ (Statement-F.ReallocText (Held (H.Local 0)) (Held (H.Local 0)) (Constant (pos 0))) ∷ []) } }) ∷ []; operations = []; literals = (97 ∷ 98 ∷ 99 ∷ []) ∷ []; main = 0 }

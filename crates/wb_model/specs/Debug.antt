@@ -1,5 +1,5 @@
--- The debug heap: cells of words with levels, the script's own setting, a rule, and the trace of the attempts; and what each
--- of its calls makes of it and gives.
+-- The debug heap: cells of words with levels, the script's own setting, a rule, how many attempts were made, and their trace;
+-- and what each of its calls makes of it and gives.
 use Rattle.std.specs.Prelude.{◌≡◌, ℕ, ◌+◌, ◌-◌, ◌%◌, ◌≤◌, List, [], ◌∷◌, ◌++◌, Option, Some, None, All, true, length, nat_lt, sum, map, if◌then◌else◌}
 use Rattle.wb_model.specs.declared.heap.TheConstants.Panic.{BAD_CELL}
 use Rattle.wb_model.specs.declared.heap.Ptr.{Ptr}
@@ -32,6 +32,8 @@ pub record Debug : Type 0 where
   pub rule : Rule
   pub shape : Shape
   pub committed : ℕ
+  -- how many attempts were made
+  pub attempts : ℕ
   pub trace : List Attempt
 
 abbrev pub row_of : Debug → List (Cell (List ℕ))
@@ -47,12 +49,13 @@ first_debug rule shape = record {
   rule = rule;
   shape = shape;
   committed = (space_of rule shape).least;
+  attempts = 0;
   trace = [];
 }
 
 -- attempts count from 1
 abbrev pub number_of_next : Debug → ℕ
-number_of_next d = length d.trace + 1
+number_of_next d = d.attempts + 1
 
 -- the heap after a call, and what the call gives
 pub record Made : Type 0 where
@@ -74,6 +77,7 @@ made_by d t after (Some answer) = record {
   debug = record d {
     heap = (after (number_of_next d) answer).heap;
     committed = committed_after (space_under d) t answer d.committed;
+    attempts = number_of_next d;
     trace = d.trace ++ trace_line (number_of_next d) t answer ∷ [];
   };
   gave = gave_of (after (number_of_next d) answer).given;
@@ -83,7 +87,7 @@ made_by d t after (Some answer) = record {
 abbrev pub answer_in : Debug → Request → Option Answer
 answer_in d t = answer_to d.rule (number_of_next d) t
 
--- Attempt: a cell for so many bytes, whose words are zeros
+-- Attempt: a cell for a number of bytes, whose words are zeros
 abbrev pub alloc_made : Debug → ℕ → Kind → Made
 alloc_made d bytes kind =
     let t = alloc_request d.heap bytes in made_by d t (after_alloc d.heap t kind (zero_words t.length)) (answer_in d t)
@@ -101,7 +105,7 @@ shorter_made d c bytes = record {
   gave = Granted (pointer_to c.head);
 }
 
--- Reallocation of a cell to so many bytes
+-- Reallocation of a cell to a number of bytes
 abbrev pub realloc_made : Debug → Cell (List ℕ) → ℕ → Made
 realloc_made d c bytes = if nat_lt c.head.length (cell_length bytes) then longer_made d c bytes else shorter_made d c bytes
 
@@ -167,12 +171,14 @@ pub record IsLiveIn (d : Debug) (h : Header) : Type 0 where
   pub aligned : h.length % 16 ≡ 0
   pub least : 16 ≤ h.length
   pub numbered : 1 ≤ h.number
-  pub counted : h.number ≤ length d.trace
+  pub counted : h.number ≤ d.attempts
   pub within : end_of h ≤ limit_under d.rule
 
--- what holds of every debug heap: its cells are a row, each of an attempt that was made, and their payloads fill them
+-- what holds of every debug heap: its cells are a row, each of an attempt that was made, their payloads fill them, and each
+-- attempt has its line
 pub record IsSoundDebug (d : Debug) : Type 0 where
   pub row : IsRow (headers d.heap.row)
   pub filled : All IsFilled d.heap.row
   pub live : All (IsLiveIn d) (headers d.heap.row)
+  pub attempts : d.attempts ≡ length d.trace
   pub shape : is_shape d.shape ≡ true

@@ -2,6 +2,7 @@ pub mod Account
 pub mod Agreement
 pub mod Attempts
 pub mod CellRow
+pub mod CleanupCells
 pub mod Debug
 pub mod Forms
 pub mod Grammar
@@ -13,6 +14,7 @@ pub mod LimitedHeap
 pub mod Lines
 pub mod Meaning
 pub mod Names
+pub mod ObjectCells
 pub mod Operands
 pub mod Passes
 pub mod Reading

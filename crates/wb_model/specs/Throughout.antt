@@ -35,7 +35,7 @@ SuitsKind _ _ = ⊥
 abbrev pub HoldsItsKind : Cell Content → Type 0
 HoldsItsKind c = SuitsKind c.head.kind c.content
 
--- what the live cells are once so many attempts were made: a row, numbered by these attempts, each with what its kind holds
+-- what the live cells are once a number of attempts were made: a row, numbered by these attempts, each with what its kind holds
 pub record AreCellsAfter (made : ℕ) (cells : List (Cell Content)) : Type 0 where
   pub row : IsRow (headers cells)
   pub made_before : All (λ h. h.number ≤ made) (headers cells)

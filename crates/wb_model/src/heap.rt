@@ -1,6 +1,9 @@
 //! What a heap is made of, what is asked of it, and what it answers. All places and lengths are in bytes, a
 //! place from where the chunk begins; the first attempt has number 1.
 
+ghost use Rattle.std.specs.Prelude.{◌≡◌, ◌+◌, ◌/◌, ◌^◌, ◌<◌, ◌≤◌};
+ghost use Rattle.wb_model.specs.Row.{end_of, pointer_to, usable_of};
+
 /// A cell, by its place and its allocation number. Number 0 is null.
 #[derive(Clone, Copy, Debug, PartialEq, Eq)]
 pub struct Ptr {
@@ -31,6 +34,42 @@ pub struct Header {
     pub level: u32,
     /// The allocation number: the number of the attempt that granted the cell, or that last moved it.
     pub number: u32,
+}
+
+impl Header {
+    /// The length of the payload, in bytes: the cell length without the 16 bytes of the header.
+    pub fn usable(self) -> u32
+        requires { 16 ≤ self.length }
+        ensures { result ≡ usable_of self }
+    {
+        self.length - 16
+    }
+
+    /// The length of the payload, in words.
+    pub fn words(self) -> u32
+        requires { 16 ≤ self.length }
+        ensures { result ≡ usable_of self / 4 }
+    {
+        self.usable() / 4
+    }
+
+    /// The place where the cell ends.
+    pub fn end(self) -> u32
+        requires { self.place + self.length < 2 ^ 32 }
+        ensures { result ≡ end_of self }
+    {
+        self.place + self.length
+    }
+
+    /// The pointer that names the cell.
+    pub fn pointer(self) -> Ptr
+        ensures { result ≡ pointer_to self }
+    {
+        Ptr {
+            place: self.place,
+            number: self.number,
+        }
+    }
 }
 
 /// Which attempts a run refuses, beside what the script itself asks for.
@@ -73,7 +112,7 @@ pub struct Attempt {
     pub answer: Answer,
 }
 
-/// What an attempt gives to who made it.
+/// What an attempt gives to its caller.
 #[derive(Clone, Copy, Debug, PartialEq, Eq)]
 pub enum Gave {
     Granted(Ptr),

@@ -4,9 +4,17 @@
 //! stands in the crate below.
 #![tactic(auto)]
 
+pub use fault::HeapFault;
+pub use heap::Heap;
+pub use wb_model::heap::{Header, Kind, Ptr, Shape};
+
 pub mod fault;
 pub mod heap;
 mod moves;
+mod payloads;
+mod realloc;
+#[cfg(test)]
+mod realloc_tests;
 mod room;
 mod runs;
 mod space;

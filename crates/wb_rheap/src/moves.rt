@@ -5,7 +5,7 @@ ghost use Rattle.wb_model.specs.CellRow.{FitsInPlace, IsGap, payload_of, resized
 ghost use Rattle.wb_model.specs.LimitedHeap.{IsFilled};
 ghost use Rattle.wb_model.specs.Row.{IsRow, IsSpacedFrom, cell_at, headers, inserted, pointer_to, without};
 
-use wb_cells::cells::Cells;
+use wb_cells::Cells;
 use wb_model::heap::{Header, Ptr};
 
 /// Makes a live cell longer at a place, and answers the pointer that names it then. At its own place it keeps its
@@ -29,10 +29,7 @@ pub fn lengthen(cells: &mut Cells, cell: Header, place: u32, length: u32, number
       }) (without (pointer_to cell) cells.old.row);
     } }
 {
-    let ptr = Ptr {
-        place: cell.place,
-        number: cell.number,
-    };
+    let ptr = cell.pointer();
     if place == cell.place {
         cells.resize(ptr, length);
         return ptr;
@@ -44,7 +41,7 @@ pub fn lengthen(cells: &mut Cells, cell: Header, place: u32, length: u32, number
         level: cell.level,
         number,
     };
-    move_to(cells, ptr, (cell.length - 16) / 4, moved);
+    move_to(cells, ptr, cell.words(), moved);
     Ptr { place, number }
 }
 
@@ -66,10 +63,6 @@ fn move_to(cells: &mut Cells, ptr: Ptr, words: u32, moved: Header)
     } }
 {
     cells.take(moved.place, moved.length, moved);
-    let to = Ptr {
-        place: moved.place,
-        number: moved.number,
-    };
-    cells.copy_payload(ptr, to, words);
+    cells.copy_payload(ptr, moved.pointer(), words);
     cells.give(ptr);
 }

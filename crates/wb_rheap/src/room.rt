@@ -1,28 +1,13 @@
 //! Memory of the workbench itself for the simulated chunk.
 
-ghost use Rattle.std.specs.Prelude.{◌≡◌, ◌≢◌, ◌≤◌, ◌<◌, ◌%◌, ◌↔◌, true, max, IfOk, IfErr, IsOk, OnOk, OnErr};
+ghost use Rattle.std.specs.Prelude.{◌≡◌, ◌≢◌, ◌≤◌, ◌<◌, ◌%◌, ◌↔◌, true, max, IfOk, IfErr, OnOk, OnErr};
 ghost use Rattle.wb_model.specs.Space.{is_shape, space_below, bound_below, committed_by};
 
 use crate::fault::HeapFault;
 use crate::space;
-use wb_cells::cells::Cells;
+use wb_cells::Cells;
 use wb_model::heap::Shape;
 use wb_model::limits::CEILING;
-use wb_model::memory::NoMemory;
-
-/// Holds so many bytes at least, and takes no memory where they are held.
-pub fn hold(cells: &mut Cells, bytes: u32) -> Result<(), NoMemory>
-    requires rounded { bytes % 16 ≡ 0 }
-    requires within { bytes ≤ CEILING }
-    ensures ok { OnOk result (cells.new ≡ record cells.old { held = max cells.old.held bytes }) }
-    ensures there { bytes ≤ cells.old.held → IsOk result }
-    ensures err { OnErr result (cells.new ≡ cells.old) }
-{
-    if bytes <= cells.held() {
-        return Ok(());
-    }
-    cells.reserve(bytes)
-}
 
 /// Asks the limit for a cell with this end, and answers the committed length that the cell needs, which is held then.
 ///
@@ -54,6 +39,6 @@ pub fn hold_for(
         return Err(HeapFault::TooShort);
     }
     let bytes = space::committed_for(limit, shape, committed, end);
-    hold(cells, bytes)?;
+    cells.reserve(bytes)?;
     Ok(bytes)
 }

@@ -4,7 +4,7 @@ ghost use Rattle.std.specs.Prelude.{◌≡◌, ◌≤◌};
 ghost use Rattle.wb_model.specs.Row.{IsSpacedFrom, headers, top_of};
 ghost use Rattle.wb_model.specs.Space.{free_runs, longest};
 
-use wb_cells::cells::Cells;
+use wb_cells::Cells;
 
 /// The length of the longest run below the committed length that no cell meets.
 pub fn longest_run(cells: &Cells, committed: u32) -> u32
@@ -16,7 +16,7 @@ pub fn longest_run(cells: &Cells, committed: u32) -> u32
     let mut greatest = 0;
     while let Some(cell) = cells.next_live(from) {
         greatest = (cell.place - from).max(greatest);
-        from = cell.place + cell.length;
+        from = cell.end();
     }
     (committed - from).max(greatest)
 }

@@ -1,8 +1,15 @@
 -- The steps of a loop that makes a pass.
-use Rattle.std.proofs.Common.{◌≡◌, ℕ, suc, ◌+◌, ◌<◌, ◌≤◌, List, [], ◌∷◌, length, get_or, drop, map, Option, Some, None, Bool, true, false, refl, sym, ap, ◌∙◌, arith, add-zero, add-one, drop-cons, ◌++◌, append_assoc}
+use Rattle.std.proofs.Common.{◌≡◌, ℕ, suc, ◌+◌, ◌<◌, ◌≤◌, List, [], ◌∷◌, length, get_or, drop, map, Option, Some, None, Bool, true, false, ◌||◌, refl, sym, ap, ◌∙◌, arith, add-zero, add-one, drop-cons, ◌++◌, append_assoc}
 use Rattle.std.proofs.lemmas.List.{drop_all}
 use Rattle.std.specs.Option.{option_map}
 use Rattle.std.specs.List.{list_any}
+use Rattle.wb_model.specs.declared.script_lines.Form.{Form}
+use Rattle.wb_model.specs.declared.script_lines.Form.TheVariants.{Skip, Unknown, Line}
+use Rattle.wb_model.specs.declared.script_lines.Role.{Role}
+use Rattle.wb_model.specs.declared.script_lines.Role.TheVariants.{Procedure}
+use Rattle.wb_model.specs.Forms.{role_of_form, renamed}
+use Rattle.wb_model.specs.Keys.{role_of}
+use Rattle.wb_model.specs.Names.{Text, Known, names_in_space}
 use Rattle.wb_model.specs.Passes.{first_bad, each_with}
 
 shifted : (i : ℕ) (o : Option ℕ) → option_map (λ n. i + n) (option_map suc o) ≡ option_map (λ n. suc i + n) o
@@ -32,9 +39,17 @@ module _ {S L V M : Type 0} (view : V → L) (next : S → L → S) (out : S →
       append_assoc found (y ∷ []) (each_with next out t (map view (drop (i + 1) lines)))
       ∙ rw (add-one i, t_is, y_is) (ap (λ l. found ++ l) (sym here) ∙ so_far)
 
-module _ {V L : Type 0} (view : V → L) (p : L → Bool) where
-  pub any_here : (lines : List V) (i : ℕ) (d : V) → i < length lines → p (view (get_or lines i d)) ≡ true → list_any p (map view (drop i lines)) ≡ true
-  any_here lines i d lt is = rw (drop-cons lines i d lt) (rw is refl)
+-- a test of lines through a view
+pub any_lent : {V L : Type 0} (p : L → Bool) (view : V → L) (lines : List V) → list_any p (map view lines) ≡ list_any (λ l. p (view l)) lines
+any_lent p view [] = refl
+any_lent p view (l ∷ ls) = ap (λ b. p (view l) || b) (any_lent p view ls)
 
-  pub any_later : (lines : List V) (i : ℕ) (d : V) → i < length lines → p (view (get_or lines i d)) ≡ false → list_any p (map view (drop (i + 1) lines)) ≡ list_any p (map view (drop i lines))
-  any_later lines i d lt is = sym (rw (drop-cons lines i d lt) (rw is (rw (add-one i) refl)))
+-- a line that begins no procedure declares among the locals
+pub other_space : {N : Type 0} (known : Known) (view : N → Text) (form : Form N) → (role_of_form form ≡ Procedure → ⊥) → names_in_space (role_of_form (renamed view form)) known ≡ known.locals
+other_space known view Skip other = refl
+other_space known view Unknown other = refl
+other_space known view (Line key operands) other = go (role_of key) other
+  where
+    go : (role : Role) → (role ≡ Procedure → ⊥) → names_in_space role known ≡ known.locals
+    go Procedure other = absurd (other refl)
+    go _ other = refl

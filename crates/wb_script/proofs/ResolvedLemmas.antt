@@ -32,7 +32,8 @@ use Rattle.wb_model.specs.Passes.{first_bad, first_where, state_after, each_with
 use Rattle.wb_model.specs.Names.{Text, Known, known_with, nothing_known, name_declared, literal_in, kind_declared, picked_of, picked, known_after, known_of, first_declaration_of, passes_limit, first_refused}
 use Rattle.wb_model.specs.Resolved.{local_meant, meant_at, resolved_operand, resolved_operands, resolved_line, resolved}
 use Rattle.wb_model.specs.Sound.{is_pointer_local, is_number_local, is_buffer_local, is_view_local, is_number, is_literal_text}
-use Rattle.wb_script.specs.Building.{Counts, nothing_counted, counts_after, counts_of, operand_fits, letters_fit, sides_fit, operands_fit, is_small, is_local_due, is_due, fits, unfit, AllFit}
+use Rattle.wb_script.specs.Building.{Counts, nothing_counted, counts_after, counts_of, is_small, is_local_due, is_due, fits, unfit, AllFit}
+use Rattle.wb_script.specs.Fitting.{operand_fits, letters_fit, sides_fit, operands_fit}
 use Rattle.wb_script.specs.Typed.{is_short, is_operand, are_operands, is_typed, AreTyped}
 use Rattle.wb_script.proofs.Steps.{good_first}
 use Rattle.wb_script.proofs.TypedLemmas.{both}

@@ -4,10 +4,10 @@ use Rattle.std.proofs.lemmas.Option.{option_and_then_some}
 use Rattle.std.specs.Option.{option_and_then}
 use Rattle.wb_model.specs.declared.script_lines.Role.{Role}
 use Rattle.wb_model.specs.declared.script_lines.Role.TheVariants.{Class, Field, Construct, Destroy, Procedure, Declaration, Plain, Loop, If, Else, End}
-use Rattle.wb_script.specs.declared.nesting.Open.{Open}
-use Rattle.wb_script.specs.declared.nesting.Open.TheVariants.{Fields, Made, Destroyed, Declarations, Statements, Branch, Block}
-use Rattle.wb_script.specs.declared.nesting.Move.{Move}
-use Rattle.wb_script.specs.declared.nesting.Move.TheVariants.{Close, Stay, Enter}
+use Rattle.wb_script.specs.declared.checks.nesting.Open.{Open}
+use Rattle.wb_script.specs.declared.checks.nesting.Open.TheVariants.{Fields, Made, Destroyed, Declarations, Statements, Branch, Block}
+use Rattle.wb_script.specs.declared.checks.nesting.Move.{Move}
+use Rattle.wb_script.specs.declared.checks.nesting.Move.TheVariants.{Close, Stay, Enter}
 use Rattle.wb_script.specs.Machine.{statement, move_of, after, moved, step}
 use Rattle.wb_model.specs.Grammar.{AreStatements, IsBody, AreFields, IsOptional, AreItems}
 

@@ -38,8 +38,8 @@ use Rattle.wb_model.specs.Lines.{lines_of}
 use Rattle.wb_model.specs.Resolved.{resolved}
 use Rattle.wb_model.specs.Scripts.{IsScriptOf}
 use Rattle.wb_model.specs.Trees.{Indexed, Spelled, counted, pointer_operand, variable_operand, number_operand, writable_operand, view_operand, text_operand, line, local_line, statement_line, statement_lines, local_lines, head_line, body_lines, procedure_lines, procedures_lines}
-use Rattle.wb_script.specs.declared.nesting.Open.{Open}
-use Rattle.wb_script.specs.declared.nesting.Open.TheVariants.{Fields, Made, Destroyed, Declarations, Statements, Branch, Block}
+use Rattle.wb_script.specs.declared.checks.nesting.Open.{Open}
+use Rattle.wb_script.specs.declared.checks.nesting.Open.TheVariants.{Fields, Made, Destroyed, Declarations, Statements, Branch, Block}
 use Rattle.wb_script.specs.Machine.{step}
 use Rattle.wb_script.proofs.Runs.{run, items_run}
 use Rattle.wb_script.proofs.ResolvedLemmas.{roles-resolved}

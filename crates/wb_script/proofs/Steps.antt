@@ -10,7 +10,7 @@ use Rattle.wb_model.specs.Forms.{role_of_form}
 use Rattle.wb_model.specs.Grammar.{IsGrammatical}
 use Rattle.wb_model.specs.Passes.{first_bad, state_after}
 use Rattle.wb_model.specs.Trees.{Indexed, counted}
-use Rattle.wb_script.specs.declared.nesting.Open.{Open}
+use Rattle.wb_script.specs.declared.checks.nesting.Open.{Open}
 use Rattle.wb_script.specs.Building.{AllFit, counts_of, fits, unfit, counts_after, nothing_counted}
 use Rattle.wb_script.specs.Machine.{after_line}
 use Rattle.wb_script.proofs.Misfits.{blocks_after, one_line, never_stuck}

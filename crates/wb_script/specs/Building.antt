@@ -1,15 +1,14 @@
 -- What a tree in the making stands for, and which lines can be added to it.
-use Rattle.std.specs.Prelude.{◌≡◌, ℕ, suc, pos, List, [], ◌∷◌, ◌++◌, Bool, true, false, not, ◌&&◌, ◌||◌, if◌then◌else◌, ◌<◌, nat_eq, nat_lt, nat_le, Option, Some, None, IsTrue, length, slice_get}
+use Rattle.std.specs.Prelude.{◌≡◌, ℕ, suc, pos, List, [], ◌∷◌, ◌++◌, Bool, true, false, not, ◌&&◌, ◌<◌, nat_eq, nat_lt, nat_le, Option, Some, None, IsTrue, length}
 use Rattle.std.specs.List.{list_all}
 use Rattle.std.specs.Option.{option_map_or}
+use Rattle.wb_model.specs.declared.limits.TheConstants.{LARGEST_BUFFER, MOST_LOCALS, MOST_PROCEDURES}
 use Rattle.wb_model.specs.declared.script_lines.Key.{Key}
 use Rattle.wb_model.specs.declared.script_lines.Key.TheVariants as key
-use Rattle.wb_model.specs.declared.script_lines.Letter.{Letter}
-use Rattle.wb_model.specs.declared.script_lines.Letter.TheVariants as letter
 use Rattle.wb_model.specs.declared.script_lines.Meant.{Meant}
 use Rattle.wb_model.specs.declared.script_lines.Meant.TheVariants as meant
 use Rattle.wb_model.specs.declared.script_lines.Operand.{Operand}
-use Rattle.wb_model.specs.declared.script_lines.Operand.TheVariants.{Name, Number, Literal}
+use Rattle.wb_model.specs.declared.script_lines.Operand.TheVariants.{Name, Number}
 use Rattle.wb_model.specs.declared.script_lines.Form.TheVariants.{Line}
 use Rattle.wb_model.specs.declared.script_lines.Role.{Role}
 use Rattle.wb_model.specs.declared.script_lines.Role.TheVariants.{Procedure, Declaration}
@@ -17,19 +16,19 @@ use Rattle.wb_model.specs.declared.script.Body.{Body}
 use Rattle.wb_model.specs.declared.script.Local.{Local}
 use Rattle.wb_model.specs.declared.script.Local.TheVariants.{OfPointer, OfNumber, OfBuffer, OfView}
 use Rattle.wb_model.specs.declared.script.Procedure as model
-use Rattle.wb_model.specs.declared.script.Number.TheVariants.{Constant}
 use Rattle.wb_model.specs.declared.script.Statement.{Statement}
 use Rattle.wb_model.specs.Forms.{role_of_form}
-use Rattle.wb_model.specs.Keys.{letters_of, role_of}
+use Rattle.wb_model.specs.Keys.{role_of}
 use Rattle.wb_model.specs.Names.{with_one}
 use Rattle.wb_model.specs.Passes.{first_bad, state_after}
-use Rattle.wb_model.specs.Sound.{is_local, is_pointer_local, is_buffer_local, is_view, is_variable, is_number, is_body, is_procedure}
+use Rattle.wb_model.specs.Sound.{is_local, is_body, is_procedure}
 use Rattle.wb_model.specs.Trees.{Indexed, local_line, body_lines, procedures_lines}
-use Rattle.wb_script.specs.declared.nesting.Open.{Open}
-use Rattle.wb_script.specs.declared.nesting.Open.TheVariants.{Declarations, Statements}
+use Rattle.wb_script.specs.declared.checks.nesting.Open.{Open}
+use Rattle.wb_script.specs.declared.checks.nesting.Open.TheVariants.{Declarations, Statements}
 use Rattle.wb_script.specs.declared.tree.Building.{Building}
 use Rattle.wb_script.specs.declared.tree.Left.{Left}
 use Rattle.wb_script.specs.declared.tree.Left.TheVariants.{Inside, Done}
+use Rattle.wb_script.specs.Fitting.{operands_fit}
 
 -- the local that a line of a key declares
 abbrev pub local_of : Key → List (Operand Meant) → Option Local
@@ -59,90 +58,24 @@ counts_with _ local counts = counts
 abbrev pub counts_after : Counts → Indexed → Counts
 counts_after counts line = counts_with (role_of_form line) (local_in line) counts
 
--- the name of a local that is declared and holds a pointer
-abbrev pub is_held : List Local → Operand Meant → Bool
-is_held locals (Name (meant.Pointer index)) = is_pointer_local (slice_get locals index)
-is_held locals _ = false
-
--- the name of a local that is declared and holds a number
-abbrev pub is_counted : List Local → Operand Meant → Bool
-is_counted locals (Name (meant.Number index)) = is_variable locals index
-is_counted locals _ = false
-
--- a number of nine digits at most, or the name of a local that holds one
-abbrev pub is_numeric : List Local → Operand Meant → Bool
-is_numeric locals (Number z) = is_number locals (Constant z)
-is_numeric locals operand = is_counted locals operand
-
--- a text that can be changed: the name of a local that is declared and holds one, or a pointer
-abbrev pub is_changeable : List Local → Operand Meant → Bool
-is_changeable locals (Name (meant.Buffer index)) = is_buffer_local (slice_get locals index)
-is_changeable locals operand = is_held locals operand
-
--- the name of a view that is declared
-abbrev pub is_seen : List Local → Operand Meant → Bool
-is_seen locals (Name (meant.View index)) = is_view locals index
-is_seen locals _ = false
-
--- a text that can be read: one that can be changed, a view, or a literal of the script
-abbrev pub is_legible : ℕ → List Local → Operand Meant → Bool
-is_legible literals locals (Literal (meant.Literal index)) = nat_lt index literals
-is_legible literals locals (Name (meant.View index)) = is_view locals index
-is_legible literals locals operand = is_changeable locals operand
-
--- what can be printed: a number, or a text that can be read
-abbrev pub is_printable : ℕ → List Local → Operand Meant → Bool
-is_printable literals locals (Number z) = is_number locals (Constant z)
-is_printable literals locals (Name (meant.Number index)) = is_variable locals index
-is_printable literals locals operand = is_legible literals locals operand
-
--- an operand is of its letter, and what it names is there, among so many literals and these locals
-abbrev pub operand_fits : ℕ → List Local → Letter → Operand Meant → Bool
-operand_fits literals locals letter.Declared (Name (meant.Declared index)) = true
-operand_fits literals locals letter.Declared _ = false
-operand_fits literals locals letter.Pointer operand = is_held locals operand
-operand_fits literals locals letter.Value operand = is_numeric locals operand
-operand_fits literals locals letter.Variable operand = is_counted locals operand
-operand_fits literals locals letter.Target operand = is_held locals operand || is_counted locals operand
-operand_fits literals locals letter.Source operand = is_held locals operand || is_numeric locals operand
-operand_fits literals locals letter.Size (Number (pos max)) = true
-operand_fits literals locals letter.Size _ = false
-operand_fits literals locals letter.Writable operand = is_changeable locals operand
-operand_fits literals locals letter.Readable operand = is_legible literals locals operand
-operand_fits literals locals letter.ViewName operand = is_seen locals operand
-operand_fits literals locals letter.Printed operand = is_printable literals locals operand
-
-abbrev pub letters_fit : ℕ → List Local → List Letter → List (Operand Meant) → Bool
-letters_fit literals locals [] [] = true
-letters_fit literals locals (letter ∷ letters) (operand ∷ operands) = operand_fits literals locals letter operand && letters_fit literals locals letters operands
-letters_fit literals locals _ _ = false
-
--- two pointers, or the name of a number and a number
-abbrev pub sides_fit : List Local → Operand Meant → Operand Meant → Bool
-sides_fit locals target source = if is_held locals target then is_held locals source else (is_counted locals target && is_numeric locals source)
-
-abbrev pub operands_fit : ℕ → List Local → Key → List (Operand Meant) → Bool
-operands_fit literals locals key.Set (target ∷ source ∷ []) = sides_fit locals target source
-operands_fit literals locals k operands = letters_fit literals locals (letters_of k) operands
-
 -- the first operand declares what has this index
 abbrev pub declares : ℕ → List (Operand Meant) → Bool
 declares index (Name (meant.Declared name) ∷ operands) = nat_eq name index
 declares index _ = false
 
--- a text of at most 256 units, where a size is told
+-- a text no larger than texts may be, where a size is told
 abbrev pub is_small : List (Operand Meant) → Bool
-is_small (name ∷ Number (pos max) ∷ []) = nat_le max 256
+is_small (name ∷ Number (pos max) ∷ []) = nat_le max LARGEST_BUFFER
 is_small _ = true
 
 -- a local is the next of its body, not one more than there may be, and not too large
 abbrev pub is_local_due : Role → List Local → List (Operand Meant) → Bool
-is_local_due Declaration locals operands = declares (length locals) operands && (nat_lt (length locals) 32 && is_small operands)
+is_local_due Declaration locals operands = declares (length locals) operands && (nat_lt (length locals) MOST_LOCALS && is_small operands)
 is_local_due _ locals operands = true
 
 -- a declaration is the next of its space, and not one more than there may be
 abbrev pub is_due : Role → Counts → List (Operand Meant) → Bool
-is_due Procedure counts operands = declares counts.procedures operands && nat_lt counts.procedures 256
+is_due Procedure counts operands = declares counts.procedures operands && nat_lt counts.procedures MOST_PROCEDURES
 is_due role counts operands = is_local_due role counts.locals operands
 
 -- a line of a body with these locals has the operands of its key and keeps the limits
@@ -175,12 +108,12 @@ pub record TakesLocal (body : Body) (key : Key) (operands : List (Operand Meant)
   pub line : local_line (length body.locals) local ≡ Line key operands
   pub declared : local_of key operands ≡ Some local
   pub sound : IsTrue (is_local local)
-  pub room : length body.locals < 32
+  pub room : length body.locals < MOST_LOCALS
 
 -- a script takes one more procedure: by its index, and below the limit
 pub record TakesProcedure (procedures : List model.Procedure) (operands : List (Operand Meant)) : Type 0 where
   pub next : operands ≡ Name (meant.Declared (length procedures)) ∷ []
-  pub room : length procedures < 256
+  pub room : length procedures < MOST_PROCEDURES
 
 -- the counts in the body of the procedure that is the n-th
 abbrev pub counts_in : ℕ → Body → Counts
@@ -223,4 +156,4 @@ building_counts b = counts_where b.procedures.items b.open
 -- what stands so far keeps what a script's tree has to keep
 abbrev pub is_sound : ℕ → Building → Bool
 is_sound literals b =
-    list_all (is_procedure literals) b.procedures.items && option_map_or (is_body literals) b.open true && nat_le (building_counts b).procedures 256
+    list_all (is_procedure literals) b.procedures.items && option_map_or (is_body literals) b.open true && nat_le (building_counts b).procedures MOST_PROCEDURES

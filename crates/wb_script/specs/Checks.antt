@@ -1,12 +1,13 @@
 -- What the code's names of picks and checks mean.
-use Rattle.std.specs.Prelude.{Bool, map}
+use Rattle.std.specs.Prelude.{Bool}
 use Rattle.wb_model.specs.declared.script_lines.Form.{Form}
 use Rattle.wb_model.specs.Names.{Text, Pick, name_declared, name_used, name_in, literal_in, uses_unknown, declares_again, passes_limit}
 use Rattle.wb_model.specs.Names as model
 use Rattle.wb_model.specs.Kinds.{has_wrong_kind}
-use Rattle.wb_script.specs.declared.names.Wanted.{Wanted}
-use Rattle.wb_script.specs.declared.names.Wanted.TheVariants.{Declared, Used, Names, Literals}
-use Rattle.wb_script.specs.declared.names.Known.{Known}
+use Rattle.wb_script.specs.Lent.{lent_texts}
+use Rattle.wb_script.specs.declared.checks.known.Wanted.{Wanted}
+use Rattle.wb_script.specs.declared.checks.known.Wanted.TheVariants.{Declared, Used, Names, Literals}
+use Rattle.wb_script.specs.declared.checks.known.Known.{Known}
 use Rattle.wb_script.specs.declared.checks.Check.{Check}
 use Rattle.wb_script.specs.declared.checks.Check.TheVariants as check
 
@@ -19,10 +20,10 @@ pick_of Literals = literal_in
 -- what is known, without the references
 abbrev pub known_in : Known → model.Known
 known_in known = record {
-  procedures = map (λ n. n.now) known.procedures.items;
-  locals = map (λ n. n.now) known.locals.items;
+  procedures = lent_texts known.procedures.items;
+  locals = lent_texts known.locals.items;
   kinds = known.kinds.items;
-  literals = map (λ n. n.now) known.literals.items;
+  literals = lent_texts known.literals.items;
 }
 
 abbrev pub test_of : Check → model.Known → Form Text → Bool

@@ -1,6 +1,9 @@
 pub mod Building
 pub mod Checks
+pub mod Fitting
+pub mod Lent
 pub mod Machine
 pub mod Pieces
 pub mod Reads
+pub mod Stated
 pub mod Typed

@@ -1,6 +1,7 @@
 -- Forms whose operands are of the letters of their keys, as each line's is that is no longer than a script.
 use Rattle.std.specs.Prelude.{ℤ, pos, negsuc, nat_le, nat_lt, List, [], ◌∷◌, Bool, true, false, ◌&&◌, IsTrue}
 use Rattle.std.specs.List.{list_all}
+use Rattle.wb_model.specs.declared.limits.TheConstants.{NINE_DIGITS}
 use Rattle.wb_model.specs.declared.script_lines.Letter.{Letter}
 use Rattle.wb_model.specs.declared.script_lines.Letter.TheVariants as letter
 use Rattle.wb_model.specs.declared.script_lines.Operand.{Operand}
@@ -13,8 +14,8 @@ use Rattle.wb_model.specs.Sound.{is_literal_text}
 
 -- at most nine digits
 abbrev pub is_short : ℤ → Bool
-is_short (pos n) = nat_le n 999999999
-is_short (negsuc n) = nat_lt n 999999999
+is_short (pos n) = nat_le n NINE_DIGITS
+is_short (negsuc n) = nat_lt n NINE_DIGITS
 
 abbrev pub is_operand : Letter → Operand Text → Bool
 is_operand letter.Declared (Name name) = true

@@ -1,17 +1,24 @@
 //! The checks of names, kinds and limits. Each is one pass over all lines.
 
-ghost use Rattle.std.specs.Prelude.{◌≡◌, ◌<◌, length, map, IfOk, IfSome};
-ghost use Rattle.wb_model.specs.Forms.{renamed};
+pub(crate) mod kinds;
+pub(crate) mod known;
+pub(crate) mod limits;
+pub(crate) mod names;
+pub(crate) mod nesting;
+pub(crate) mod resolved;
+
+ghost use Rattle.std.specs.Prelude.{◌≡◌, ◌<◌, length, IfOk, IfSome};
 ghost use Rattle.wb_model.specs.Kinds.{has_wrong_kind};
 ghost use Rattle.wb_model.specs.Names.{uses_unknown, declares_again, passes_limit, first_refused};
+ghost use Rattle.wb_script.specs.Lent.{lent_form, lent_forms};
 ghost use Rattle.wb_script.specs.Checks.{known_in, test_of};
 
-use crate::forms::role;
-use crate::kinds::is_right_line;
-use crate::names::{
-    Known, Wanted, add_line, any_known, any_long, any_unknown, is_large, is_one_more, picked,
-};
-use crate::resolved::resolved_line;
+use crate::checks::kinds::is_right_line;
+use crate::checks::known::{Known, Wanted, add_line, picked};
+use crate::checks::limits::{any_long, is_large, is_one_more};
+use crate::checks::names::{any_known, any_unknown};
+use crate::checks::resolved::resolved_line;
+use crate::lines::forms::role;
 use std::alloc::{AllocError, Global};
 use wb_model::script_lines::{Form, Role};
 
@@ -25,14 +32,15 @@ pub(crate) enum Check {
 }
 
 fn uses_unknown(alloc: Global, known: &Known, form: &Form<&[u8]>) -> Result<bool, AllocError>
-    ensures { IfOk result (λ bad. bad ≡ uses_unknown (known_in known.now) (renamed (λ n. n.now) form.now)) }
+    ensures { IfOk result (λ bad. bad ≡ uses_unknown (known_in known.now) (lent_form form.now)) }
 {
     let names = picked(alloc, Wanted::Used, form)?;
     Ok(any_unknown(&known.locals, &names))
 }
 
+#[tactic(auto, using(crate::proofs::Passes::any_lent))]
 fn declares_again(alloc: Global, known: &Known, form: &Form<&[u8]>) -> Result<bool, AllocError>
-    ensures { IfOk result (λ bad. bad ≡ declares_again (known_in known.now) (renamed (λ n. n.now) form.now)) }
+    ensures { IfOk result (λ bad. bad ≡ declares_again (known_in known.now) (lent_form form.now)) }
 {
     let names = picked(alloc, Wanted::Declared, form)?;
     match role(form) {
@@ -42,14 +50,14 @@ fn declares_again(alloc: Global, known: &Known, form: &Form<&[u8]>) -> Result<bo
 }
 
 fn has_wrong_kind(alloc: Global, known: &Known, form: &Form<&[u8]>) -> Result<bool, AllocError>
-    ensures { IfOk result (λ bad. bad ≡ has_wrong_kind (known_in known.now) (renamed (λ n. n.now) form.now)) }
+    ensures { IfOk result (λ bad. bad ≡ has_wrong_kind (known_in known.now) (lent_form form.now)) }
 {
     let line = resolved_line(alloc, known, form)?;
     Ok(!is_right_line(&line))
 }
 
 fn passes_limit(alloc: Global, known: &Known, form: &Form<&[u8]>) -> Result<bool, AllocError>
-    ensures { IfOk result (λ bad. bad ≡ passes_limit (known_in known.now) (renamed (λ n. n.now) form.now)) }
+    ensures { IfOk result (λ bad. bad ≡ passes_limit (known_in known.now) (lent_form form.now)) }
 {
     let names = picked(alloc, Wanted::Names, form)?;
     if any_long(&names) || is_one_more(role(form), known) {
@@ -64,7 +72,7 @@ fn is_refused(
     known: &Known,
     form: &Form<&[u8]>,
 ) -> Result<bool, AllocError>
-    ensures { IfOk result (λ bad. bad ≡ test_of check (known_in known.now) (renamed (λ n. n.now) form.now)) }
+    ensures { IfOk result (λ bad. bad ≡ test_of check (known_in known.now) (lent_form form.now)) }
 {
     match check {
         Check::UnknownName => uses_unknown(alloc, known, form),
@@ -80,7 +88,7 @@ pub(crate) fn first_refused(
     check: Check,
     forms: &[Form<&[u8]>],
 ) -> Result<Option<usize>, AllocError>
-    ensures found { IfOk result (λ found. found ≡ first_refused (test_of check) (map (renamed (λ n. n.now)) forms.now)) }
+    ensures found { IfOk result (λ found. found ≡ first_refused (test_of check) (lent_forms forms.now)) }
     ensures within { IfOk result (λ found. IfSome found (λ n. n < length forms.now)) }
 {
     let mut known = Known::nothing(alloc);

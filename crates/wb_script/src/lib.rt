@@ -4,26 +4,11 @@
 //! the forms; the tree is made of lines that no check refuses.
 #![tactic(auto)]
 
-mod bytes;
 mod checks;
-mod forms;
-mod keys;
-mod kinds;
 pub mod laws;
-#[cfg(test)]
-mod line_tests;
 mod lines;
-mod names;
-mod nesting;
 mod reading;
-#[cfg(test)]
-mod reading_tests;
-mod resolved;
-mod spelled;
-mod statements;
-mod text_statements;
 mod tree;
-mod words;
 
 pub use reading::read;
 pub use wb_model::fault::ScriptFault;

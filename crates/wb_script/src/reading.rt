@@ -1,26 +1,32 @@
 //! A script from its bytes.
 
-ghost use Rattle.std.specs.Prelude.{◌≡◌, ◌≢◌, ◌≤◌, ◌+◌, false, length, map, IsTrue, IfOk, IfErr, MatchOption, None, Some};
-ghost use Rattle.wb_model.specs.Forms.{renamed, role_of_form};
+#[cfg(test)]
+mod tests;
+
+ghost use Rattle.std.specs.Prelude.{◌≡◌, ◌≢◌, ◌≤◌, ◌+◌, length, map, IsTrue, IfOk, IfErr, MatchOption, None, Some};
+ghost use Rattle.wb_model.specs.Forms.{role_of_form};
 ghost use Rattle.wb_model.specs.Grammar.{IsGrammatical, IsFirstMisfit};
 ghost use Rattle.wb_model.specs.Names.{first_refused, known_of};
 ghost use Rattle.wb_model.specs.Scripts.{IsText, IsScriptOf, IsFaultOf, IsTreeOf, IsLinesFault, line_of};
 ghost use Rattle.wb_model.specs.Sound.{is_script};
+ghost use Rattle.wb_script.specs.Lent.{lent_texts, lent_forms};
 ghost use Rattle.wb_script.specs.Checks.{known_in, test_of};
 ghost use Rattle.wb_script.specs.Reads.{roles_of, IsFaultless, IsFormsFault};
 ghost use Rattle.wb_script.specs.Typed.{AreTyped};
 
-use crate::bytes::{first_foreign_line, is_too_long};
+use crate::checks::known::{Known, known_of};
+use crate::checks::names::place_of;
+use crate::checks::nesting::first_misfit;
+use crate::checks::resolved::resolved;
 use crate::checks::{Check, first_refused};
-use crate::forms::{forms, role};
-use crate::lines::lines;
-use crate::names::{Known, known_of, place_of};
-use crate::nesting::first_misfit;
-use crate::resolved::resolved;
+use crate::lines::bytes::{first_foreign_line, is_too_long};
+use crate::lines::forms::{forms, role};
+use crate::lines::pieces::lines;
 use crate::tree::procedures_of;
 use std::alloc::{AllocError, Global};
 use wb_model::fault::ScriptFault;
 use wb_model::items::Items;
+use wb_model::limits::LONGEST_SCRIPT;
 use wb_model::script::{Chars, Script};
 use wb_model::script_lines::{Form, Role};
 
@@ -37,8 +43,8 @@ fn roles<N>(alloc: Global, forms: &[Form<N>]) -> Result<Vec<Role>, AllocError>
 /// The index of the first line that no script has in its place.
 fn misfit(alloc: Global, forms: &[Form<&[u8]>]) -> Result<Option<usize>, AllocError>
     ensures { IfOk result (λ found. MatchOption found
-        (IsGrammatical (roles_of (map (renamed (λ n. n.now)) forms.now)))
-        (IsFirstMisfit (roles_of (map (renamed (λ n. n.now)) forms.now)))) }
+        (IsGrammatical (roles_of (lent_forms forms.now)))
+        (IsFirstMisfit (roles_of (lent_forms forms.now)))) }
 {
     let roles = roles(alloc, forms)?;
     first_misfit(alloc, &roles)
@@ -50,8 +56,8 @@ fn refused_line(
     check: Check,
     forms: &[Form<&[u8]>],
 ) -> Result<Option<u32>, AllocError>
-    requires { length forms.now ≤ 65536 }
-    ensures { IfOk result (λ found. found ≡ line_of (first_refused (test_of check) (map (renamed (λ n. n.now)) forms.now))) }
+    requires { length forms.now ≤ LONGEST_SCRIPT }
+    ensures { IfOk result (λ found. found ≡ line_of (first_refused (test_of check) (lent_forms forms.now))) }
 {
     match first_refused(alloc, check, forms)? {
         Some(index) => Ok(Some(index as u32 + 1)),
@@ -68,7 +74,7 @@ fn chars_of(alloc: Global, text: &[u8]) -> Result<Chars, AllocError>
 }
 
 fn literals_of(alloc: Global, texts: &[&[u8]]) -> Result<Items<Chars>, AllocError>
-    ensures { IfOk result (λ literals. literals ≡ map (λ n. n.now) texts.now) }
+    ensures { IfOk result (λ literals. literals ≡ lent_texts texts.now) }
 {
     let mut literals = Vec::new(alloc);
     for text in texts {
@@ -84,17 +90,18 @@ fn script_of(
     known: &Known,
     main: usize,
 ) -> Result<Script, AllocError>
-    requires few { length forms.now ≤ 65536 }
-    requires typed { AreTyped (map (renamed (λ n. n.now)) forms.now) }
-    requires grammar { IsGrammatical (roles_of (map (renamed (λ n. n.now)) forms.now)) }
-    requires names { known_in known.now ≡ known_of (map (renamed (λ n. n.now)) forms.now) }
-    requires faultless { IsFaultless (map (renamed (λ n. n.now)) forms.now) main }
-    ensures tree { IfOk result (IsTreeOf (map (renamed (λ n. n.now)) forms.now)) }
+    requires few { length forms.now ≤ LONGEST_SCRIPT }
+    requires typed { AreTyped (lent_forms forms.now) }
+    requires grammar { IsGrammatical (roles_of (lent_forms forms.now)) }
+    requires names { known_in known.now ≡ known_of (lent_forms forms.now) }
+    requires faultless { IsFaultless (lent_forms forms.now) main }
+    ensures tree { IfOk result (IsTreeOf (lent_forms forms.now)) }
     ensures sound { IfOk result (λ s. IsTrue (is_script s)) }
 {
     let lines = resolved(alloc, forms)?;
     let literals = literals_of(alloc, &known.literals)?;
-    let procedures = procedures_of(alloc, literals.len(), &lines)?;
+    let count = literals.len() as u32;
+    let procedures = procedures_of(alloc, count, &lines)?;
     Ok(Script {
         classes: Items::new(alloc),
         procedures: Items::from_vec(procedures),
@@ -106,12 +113,12 @@ fn script_of(
 
 /// The script of lines that are grammatical, or the first fault of their names, kinds and limits.
 fn checked(alloc: Global, forms: &[Form<&[u8]>]) -> Result<Result<Script, ScriptFault>, AllocError>
-    requires few { length forms.now ≤ 65536 }
-    requires typed { AreTyped (map (renamed (λ n. n.now)) forms.now) }
-    requires grammar { IsGrammatical (roles_of (map (renamed (λ n. n.now)) forms.now)) }
-    ensures tree { IfOk result (λ answer. IfOk answer (IsTreeOf (map (renamed (λ n. n.now)) forms.now))) }
+    requires few { length forms.now ≤ LONGEST_SCRIPT }
+    requires typed { AreTyped (lent_forms forms.now) }
+    requires grammar { IsGrammatical (roles_of (lent_forms forms.now)) }
+    ensures tree { IfOk result (λ answer. IfOk answer (IsTreeOf (lent_forms forms.now))) }
     ensures sound { IfOk result (λ answer. IfOk answer (λ s. IsTrue (is_script s))) }
-    ensures fault { IfOk result (λ answer. IfErr answer (IsLinesFault (map (renamed (λ n. n.now)) forms.now))) }
+    ensures fault { IfOk result (λ answer. IfErr answer (IsLinesFault (lent_forms forms.now))) }
 {
     match refused_line(alloc, Check::UnknownName, forms)? {
         Some(line) => return Ok(Err(ScriptFault::UnknownName { line })),
@@ -140,12 +147,12 @@ fn read_forms(
     alloc: Global,
     forms: &[Form<&[u8]>],
 ) -> Result<Result<Script, ScriptFault>, AllocError>
-    requires few { length forms.now ≤ 65536 }
-    requires typed { AreTyped (map (renamed (λ n. n.now)) forms.now) }
-    ensures grammar { IfOk result (λ answer. IfOk answer (λ _. IsGrammatical (roles_of (map (renamed (λ n. n.now)) forms.now)))) }
-    ensures tree { IfOk result (λ answer. IfOk answer (IsTreeOf (map (renamed (λ n. n.now)) forms.now))) }
+    requires few { length forms.now ≤ LONGEST_SCRIPT }
+    requires typed { AreTyped (lent_forms forms.now) }
+    ensures grammar { IfOk result (λ answer. IfOk answer (λ _. IsGrammatical (roles_of (lent_forms forms.now)))) }
+    ensures tree { IfOk result (λ answer. IfOk answer (IsTreeOf (lent_forms forms.now))) }
     ensures sound { IfOk result (λ answer. IfOk answer (λ s. IsTrue (is_script s))) }
-    ensures fault { IfOk result (λ answer. IfErr answer (IsFormsFault (map (renamed (λ n. n.now)) forms.now))) }
+    ensures fault { IfOk result (λ answer. IfErr answer (IsFormsFault (lent_forms forms.now))) }
 {
     match misfit(alloc, forms)? {
         Some(index) => Ok(Err(ScriptFault::Grammar {
@@ -167,7 +174,7 @@ fn read_text(alloc: Global, bytes: &[u8]) -> Result<Result<Script, ScriptFault>,
     read_forms(alloc, &forms)
 }
 
-/// The script that bytes spell, or their first fault. The language and its limits are this project's own.
+/// The script that bytes spell, or their first fault.
 ///
 /// The checks are made in the order of `ScriptFault`'s variants, each over the whole script, and the first
 /// that finds a fault names the first line where it stands; lines count from 1. `NoMemory` is answered only

@@ -1,5 +1,9 @@
 //! The tree of a script, from its lines with what their names stand for.
 
+mod scope;
+mod statements;
+mod text_statements;
+
 ghost use Rattle.std.specs.Prelude.{◌≡◌, ℕ, List, ◌+◌, ◌<◌, ◌≤◌, ◌^◌, [], ◌∷◌, ◌++◌, length, map, is_some, false, IsTrue, IfOk, IfSome, Some, None, ◌↔◌};
 ghost use Rattle.std.specs.Option.{option_map};
 ghost use Rattle.std.specs.List.{list_all, flat_map};
@@ -15,14 +19,16 @@ ghost use Rattle.wb_model.specs.Grammar.{IsGrammatical};
 ghost use Rattle.wb_model.specs.Keys.{role_of};
 ghost use Rattle.wb_model.specs.Sound.{is_local, is_body, is_procedure};
 ghost use Rattle.wb_model.specs.Trees.{counted, local_line, body_lines, procedures_lines};
-ghost use Rattle.wb_script.specs.declared.nesting.Open.TheVariants.{Statements};
-ghost use Rattle.wb_script.specs.Building.{local_of, letters_fit, operands_fit, declares, is_small, fits_inside, fits, TakesLocal, TakesProcedure, counts_in, counts_with, place_in, left_body, left_lines, left_places, building_lines, building_places, building_counts, counts_after, is_sound, AllFit, counts_of};
+ghost use Rattle.wb_script.specs.declared.checks.nesting.Open.TheVariants.{Statements};
+ghost use Rattle.wb_script.specs.Building.{local_of, declares, is_small, fits_inside, fits, TakesLocal, TakesProcedure, counts_in, counts_with, place_in, left_body, left_lines, left_places, building_lines, building_places, building_counts, counts_after, is_sound, AllFit, counts_of};
+ghost use Rattle.wb_script.specs.Fitting.{letters_fit, operands_fit};
 ghost use Rattle.wb_script.specs.Machine.{step, after_line};
 
-use crate::names::{LOCALS, PROCEDURES, UNITS};
-use crate::statements::statement_of;
+use crate::tree::scope::Scope;
+use crate::tree::statements::statement_of;
 use std::alloc::{AllocError, Global};
 use wb_model::items::Items;
+use wb_model::limits::{LARGEST_BUFFER, MOST_LOCALS, MOST_PROCEDURES};
 use wb_model::script::{Body, Local, Procedure, Statement};
 use wb_model::script_lines::{Form, Key, Meant, Operand};
 
@@ -55,7 +61,7 @@ fn sized(index: usize, operands: &[Operand<Meant>]) -> Option<Local>
 {
     match operands {
         [Operand::Name(Meant::Declared(name)), Operand::Number(max)] => {
-            if *name == index && *max >= 0 && *max <= UNITS {
+            if *name == index && *max >= 0 && *max <= LARGEST_BUFFER as i32 {
                 Some(Local::OfBuffer(*max as u16))
             } else {
                 None
@@ -86,7 +92,7 @@ fn next_local(body: &Body, key: Key, operands: &[Operand<Meant>]) -> Option<Loca
     ensures takes { IfSome result (TakesLocal body.now key operands.now) }
     ensures late { (literals : ℕ) → is_some result ≡ false → role_of key ≡ Declaration → IsTrue (fits_inside literals body.now.locals key operands.now) → place_in body.now.statements ≡ Statements }
 {
-    if body.statements.len() > 0 || body.locals.len() >= LOCALS {
+    if body.statements.len() > 0 || body.locals.len() >= MOST_LOCALS as usize {
         return None;
     }
     declared_local(body.locals.len(), key, operands)
@@ -97,7 +103,7 @@ fn takes_procedure(procedures: &[Procedure], operands: &[Operand<Meant>]) -> boo
 {
     match operands {
         [Operand::Name(Meant::Declared(index))] => {
-            *index == procedures.len() && procedures.len() < PROCEDURES
+            *index == procedures.len() && procedures.len() < MOST_PROCEDURES as usize
         }
         _ => false,
     }
@@ -134,12 +140,11 @@ enum Left {
 
 /// Adds a declaration to an open body; none where it has no place there.
 fn declared(
-    literals: usize,
+    literals: u32,
     body: Body,
     key: Key,
     operands: &[Operand<Meant>],
 ) -> Result<Option<Left>, AllocError>
-    requires literals { literals < 2 ^ 32 }
     requires sound { IsTrue (is_body literals body) }
     requires declares { role_of key ≡ Declaration }
     ensures lines { IfOk result (λ next. IfSome next (λ left. left_lines left ≡ body_lines body ++ Line key operands.now ∷ [])) }
@@ -155,12 +160,11 @@ fn declared(
 
 /// Adds a statement to an open body; none where its operands don't fit.
 fn stated(
-    literals: usize,
+    literals: u32,
     body: Body,
     key: Key,
     operands: &[Operand<Meant>],
 ) -> Result<Option<Left>, AllocError>
-    requires literals { literals < 2 ^ 32 }
     requires sound { IsTrue (is_body literals body) }
     requires plain { role_of key ≡ Plain }
     ensures lines { IfOk result (λ next. IfSome next (λ left. left_lines left ≡ body_lines body ++ Line key operands.now ∷ [])) }
@@ -168,7 +172,11 @@ fn stated(
     ensures counts { IfOk result (λ next. IfSome next (λ left. (n : ℕ) → counts_in n (left_body left) ≡ counts_with (role_of key) (local_of key operands.now) (counts_in n body))) }
     ensures places { IfOk result (λ next. IsTrue (fits_inside literals body.locals key operands.now) → step (place_in body.statements ∷ []) (role_of key) ≡ option_map left_places next) }
 {
-    match statement_of(literals, body.locals.as_slice(), key, operands) {
+    let here = Scope {
+        literals,
+        locals: body.locals.as_slice(),
+    };
+    match statement_of(here, key, operands) {
         Some(statement) => Ok(Some(Left::Inside(with_statement(body, statement)?))),
         None => Ok(None),
     }
@@ -176,12 +184,11 @@ fn stated(
 
 /// Adds a line to an open body; none where it has no place there.
 fn inside(
-    literals: usize,
+    literals: u32,
     body: Body,
     key: Key,
     operands: &[Operand<Meant>],
 ) -> Result<Option<Left>, AllocError>
-    requires literals { literals < 2 ^ 32 }
     requires sound { IsTrue (is_body literals body) }
     ensures lines { IfOk result (λ next. IfSome next (λ left. left_lines left ≡ body_lines body ++ Line key operands.now ∷ [])) }
     ensures sound { IfOk result (λ next. IfSome next (λ left. IsTrue (is_body literals (left_body left)))) }
@@ -205,11 +212,10 @@ fn inside(
 /// Adds a line to the tree; none where it has no place there.
 fn add_line(
     alloc: Global,
-    literals: usize,
+    literals: u32,
     building: Building,
     line: &Form<Meant>,
 ) -> Result<Option<Building>, AllocError>
-    requires literals { literals < 2 ^ 32 }
     requires sound { IsTrue (is_sound literals building) }
     ensures lines { IfOk result (λ next. IfSome next (λ b. building_lines b ≡ building_lines building ++ counted line.now)) }
     ensures sound { IfOk result (λ next. IfSome next (λ b. IsTrue (is_sound literals b))) }
@@ -260,19 +266,18 @@ fn add_line(
     }
 }
 
-/// The procedures of a script with so many literals, from all its lines.
+/// The procedures of a script with that number of literals, from all its lines.
 pub(crate) fn procedures_of(
     alloc: Global,
-    literals: usize,
+    literals: u32,
     lines: &[Form<Meant>],
 ) -> Result<Vec<Procedure>, AllocError>
-    requires literals { literals < 2 ^ 32 }
     requires grammar { IsGrammatical (map role_of_form lines.now) }
     requires fit { AllFit literals lines.now }
     ensures lines { IfOk result (λ ps. procedures_lines 0 ps.items ≡ flat_map counted lines.now) }
     ensures sound { IfOk result (λ ps. IsTrue (list_all (is_procedure literals) ps.items)) }
     ensures count { IfOk result (λ ps. length ps.items ≡ (counts_of lines.now).procedures) }
-    ensures few { IfOk result (λ ps. length ps.items ≤ 256) }
+    ensures few { IfOk result (λ ps. length ps.items ≤ MOST_PROCEDURES) }
 {
     let mut building = Building {
         procedures: Vec::new(alloc),

@@ -1,6 +1,6 @@
 //! Why a script was not sized.
 
-use wb_machine::machine::RunFault;
+use wb_machine::RunFault;
 use wb_model::memory::NoMemory;
 use wb_model::run::Why;
 

@@ -13,7 +13,7 @@ ghost use Rattle.wb_size.specs.Sizing.{IsSizing};
 use crate::fault::SizeFault;
 use crate::sizing::{Sizing, sizing_of};
 use std::alloc::Global;
-use wb_machine::machine::run;
+use wb_machine::run;
 use wb_model::heap::{Rule, Shape};
 use wb_model::limits::LARGEST_BUDGET;
 use wb_model::run::Outcome;

@@ -8,7 +8,7 @@ use crate::measure::size;
 use crate::sizing::Sizing;
 use std::alloc::{AllocError, Global};
 use std::test::Fail;
-use wb_machine::machine::run;
+use wb_machine::run;
 use wb_model::heap::{Answer, Rule, Shape};
 use wb_model::items::Items;
 use wb_model::run::{RunResult, Why};

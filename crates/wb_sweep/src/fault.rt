@@ -1,6 +1,6 @@
 //! Why a sweep has no answer.
 
-use wb_machine::machine::RunFault;
+use wb_machine::RunFault;
 use wb_model::run::Why;
 
 /// Why a sweep has no answer.

@@ -11,7 +11,7 @@ ghost use Rattle.wb_sweep.specs.Sweeping.{IsBadAt, IsNumbered, IsSweep};
 use crate::fault::SweepFault;
 use crate::found::{Found, Sweep};
 use std::alloc::Global;
-use wb_machine::machine::run;
+use wb_machine::run;
 use wb_model::heap::{Attempt, Rule, Shape};
 use wb_model::limits::LARGEST_BUDGET;
 use wb_model::run::{Outcome, RunResult};

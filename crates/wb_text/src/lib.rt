@@ -11,4 +11,5 @@ pub mod units;
 
 pub use buf::Buf;
 pub use units::Units;
+pub use wb_model::heap::Panic;
 pub use wb_model::text::{Base, View};

@@ -10,7 +10,6 @@ use Rattle.workbench.specs.declared.answer.TheConstants.{READ_OR_WRITE_FAULT, WA
 use Rattle.workbench.specs.declared.command.Command.{Command}
 use Rattle.workbench.specs.declared.command.Task.{Task}
 use Rattle.workbench.specs.declared.command.Task.TheVariants as T
-use Rattle.workbench.specs.declared.streams.Failures.{Failures}
 use Rattle.workbench.specs.Answer.{IsAnswer, IsAnyMessage, IsMessage, IsPartWritten, IsReported, IsReportWritten, IsSaid}
 use Rattle.workbench.specs.Report.{IsReport, no_memory, outcome_status, task_status}
 use Rattle.workbench.specs.Streams.{AppendsFirst}
@@ -57,13 +56,17 @@ module _ (command : Command) (told held held' : Option (List ℕ)) where
   said_is_first true text own status s = s.0
   said_is_first false text own status s = (length text, subst (Appends held held') (sym (take_all (length text) text (le_refl _))) s.0)
 
-  pub answer_by_status : (failures : Failures) (status : ℕ) → IsAnswer command told held held' failures status
-      → (status ≤ READ_OR_WRITE_FAULT) × (status < WANT_OF_MEMORY → IsReportWritten command told held held' status) × (status ≡ WANT_OF_MEMORY → Appends held held' no_memory)
-  answer_by_status failures status a = by_status failures.reads failures.writes a.text a.own status a.message a.said
+module _ {R W : Type 0} (remaining : R → Option (List ℕ)) (reads : R → Bool → R → Type 0)
+    (contents : W → Option (List ℕ)) (writes : W → Bool → W → Type 0)
+    (command : Command) (reader reader' : R) (writer writer' : W) (status : ℕ)
+    (a : IsAnswer remaining reads contents writes command reader reader' writer writer' status) where
+  pub answer_by_status : (status ≤ READ_OR_WRITE_FAULT) × (status < WANT_OF_MEMORY → IsReportWritten command (remaining reader) (contents writer) (contents writer') status)
+      × (status ≡ WANT_OF_MEMORY → Appends (contents writer) (contents writer') no_memory)
+  answer_by_status = by_status command (remaining reader) (contents writer) (contents writer') a.failed a.written.failed a.text a.own status a.message a.written.said
 
-  pub answer_is_part : (failures : Failures) (status : ℕ) → IsAnswer command told held held' failures status → IsPartWritten command told held held'
-  answer_is_part failures status a = record {
+  pub answer_is_part : IsPartWritten command (remaining reader) (contents writer) (contents writer')
+  answer_is_part = record {
     text = a.text;
-    message = message_is_any failures.reads a.text a.own a.message;
-    written = said_is_first failures.writes a.text a.own status a.said;
+    message = message_is_any command (remaining reader) (contents writer) (contents writer') a.failed a.text a.own a.message;
+    written = said_is_first command (remaining reader) (contents writer) (contents writer') a.written.failed a.text a.own status a.written.said;
   }

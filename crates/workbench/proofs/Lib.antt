@@ -5,7 +5,9 @@ pub mod Hexadecimal
 pub mod KnownBytesLemmas
 pub mod MatchesLemmas
 pub mod PassedValues
+pub mod ProgramLemmas
 pub mod RefusalLemmas
+pub mod TriesLemmas
 pub mod WordLemmas
 pub mod WorkedReports
 pub mod WorkedWords

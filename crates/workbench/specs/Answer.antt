@@ -5,9 +5,8 @@ use Rattle.workbench.specs.declared.answer.ReportFault.{ReportFault}
 use Rattle.workbench.specs.declared.answer.ReportFault.TheVariants.{Read}
 use Rattle.workbench.specs.declared.answer.TheConstants.{MOST_READ, READ_OR_WRITE_FAULT, WANT_OF_MEMORY}
 use Rattle.workbench.specs.declared.command.Command.{Command}
-use Rattle.workbench.specs.declared.streams.Failures.{Failures}
 use Rattle.workbench.specs.Report.{IsReport, no_memory, read_fault}
-use Rattle.workbench.specs.Streams.{AppendsFirst}
+use Rattle.workbench.specs.Streams.{AppendsFirst, Tries}
 
 -- the bytes are the first of those that a reader tells, where it does, and never more than this
 pub record AreFirst (most : ℕ) (told : Option (List ℕ)) (bytes : List ℕ) : Type 0 where
@@ -37,12 +36,23 @@ abbrev pub IsSaid : Option (List ℕ) → Option (List ℕ) → Bool → List �
 IsSaid held held' true text own status = AppendsFirst held held' text × (status ≡ READ_OR_WRITE_FAULT)
 IsSaid held held' false text own status = Appends held held' text × (status ≡ own)
 
--- the answer to a command: what the reader tells, what the writer held and holds, and which reads and writes failed
-pub record IsAnswer (command : Command) (told held held' : Option (List ℕ)) (failures : Failures) (status : ℕ) : Type 0 where
+-- a text is written, and a status answered, by what the writes came to
+pub record IsWritten {W : Type 0} (contents : W → Option (List ℕ)) (writes : W → Bool → W → Type 0) (old new : W)
+    (text : List ℕ) (own status : ℕ) : Type 0 where
+  pub failed : Bool
+  pub tried : Tries writes old failed new
+  pub said : IsSaid (contents old) (contents new) failed text own status
+
+-- the answer to a command, by what the reads and the writes came to
+pub record IsAnswer {R W : Type 0} (remaining : R → Option (List ℕ)) (reads : R → Bool → R → Type 0)
+    (contents : W → Option (List ℕ)) (writes : W → Bool → W → Type 0)
+    (command : Command) (reader reader' : R) (writer writer' : W) (status : ℕ) : Type 0 where
+  pub failed : Bool
+  pub tried : Tries reads reader failed reader'
   pub text : List ℕ
   pub own : ℕ
-  pub message : IsMessage command told failures.reads text own
-  pub said : IsSaid held held' failures.writes text own status
+  pub message : IsMessage command (remaining reader) failed text own
+  pub written : IsWritten contents writes writer writer' text own status
 
 -- ---- the answer, by its status
 

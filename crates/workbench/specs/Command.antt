@@ -1,7 +1,7 @@
 -- What every command that words spell keeps.
 use Rattle.std.specs.Prelude.{Bool, true, ◌&&◌, ◌%◌, nat_eq, nat_le, not}
 use Rattle.wb_model.specs.Space.{is_shape}
-use Rattle.wb_model.specs.declared.limits.TheConstants.{CEILING}
+use Rattle.wb_model.specs.declared.limits.TheConstants.{CEILING, LARGEST_BUDGET}
 use Rattle.wb_model.specs.declared.heap.Rule.TheVariants.{Limit, Number, Unlimited}
 use Rattle.wb_model.specs.declared.heap.Shape.{Shape}
 use Rattle.workbench.specs.declared.command.Command.{Command}
@@ -20,4 +20,4 @@ is_sixteenfold shape = nat_eq (shape.min % 16) 0 && nat_eq (shape.step % 16) 0
 
 -- the numbers of a command are in their ranges, and it asks for lines of text
 abbrev pub is_answerable : Command → Bool
-is_answerable c = nat_le 1 c.budget && nat_le c.budget 1000000 && is_shape c.shape && not c.json && is_in_range c.task
+is_answerable c = nat_le 1 c.budget && nat_le c.budget LARGEST_BUDGET && is_shape c.shape && not c.json && is_in_range c.task

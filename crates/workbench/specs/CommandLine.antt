@@ -3,6 +3,7 @@ use Rattle.std.specs.Prelude.{true, ℕ, Some, codes, pos}
 use Rattle.clap.specs.Words.{App, Rule, Text, new_app, new_rule, with_rule, with_subcommand}
 use Rattle.clap.specs.Simple.{Shape, built_leaf}
 use Rattle.clap.specs.declared.builder.value_parser.ValueParser.TheVariants.{Signed}
+use Rattle.wb_model.specs.declared.limits.TheConstants.{CEILING, LARGEST_MINIMUM, LARGEST_STEP, SMALLEST_STEP}
 
 -- `--NAME N`, where N is a number from the least to the most
 abbrev pub number_option : Text → ℕ → ℕ → Rule
@@ -12,16 +13,16 @@ abbrev pub file_argument : Rule
 file_argument = record (new_rule (codes "file")) { value_names = 1 }
 
 abbrev pub limit_option : Rule
-limit_option = number_option (codes "limit") 0 16777216
+limit_option = number_option (codes "limit") 0 CEILING
 
 abbrev pub fail_option : Rule
-fail_option = number_option (codes "fail") 0 16777216
+fail_option = number_option (codes "fail") 0 CEILING
 
 abbrev pub min_option : Rule
-min_option = number_option (codes "min") 0 1048576
+min_option = number_option (codes "min") 0 LARGEST_MINIMUM
 
 abbrev pub step_option : Rule
-step_option = number_option (codes "step") 16 1048576
+step_option = number_option (codes "step") SMALLEST_STEP LARGEST_STEP
 
 -- `run [--limit L] [--fail N] [--min M] [--step G] [FILE]`
 abbrev pub run_line : App

@@ -3,6 +3,7 @@ pub mod Command
 pub mod CommandLine
 pub mod Fault
 pub mod Passed
+pub mod Program
 pub mod Report
 pub mod Spelled
 pub mod Streams

@@ -8,16 +8,14 @@ use Rattle.clap.specs.Words.{Row, Text, fault_of, first_of, one_of, subcommand_o
 use Rattle.wb_model.specs.declared.heap.Rule.{Rule}
 use Rattle.wb_model.specs.declared.heap.Rule.TheVariants.{Limit, Number, Unlimited}
 use Rattle.wb_model.specs.declared.heap.Shape.{Shape}
+use Rattle.wb_model.specs.declared.limits.TheConstants.{DEFAULT_BUDGET, DEFAULT_MINIMUM, DEFAULT_STEP}
 use Rattle.workbench.specs.CommandLine.{command_line}
 use Rattle.workbench.specs.declared.command.Command.{Command}
 use Rattle.workbench.specs.declared.command.Task.TheVariants.{Run}
 
 -- what holds where the words don't say otherwise
-abbrev pub default_budget : ℕ
-default_budget = 10000
-
 abbrev pub default_shape : Shape
-default_shape = record { min = 4096; step = 4096 }
+default_shape = record { min = DEFAULT_MINIMUM; step = DEFAULT_STEP }
 
 -- the number of a decimal text; a plus before it and leading zeros make no difference
 abbrev pub decimal : Text → ℕ
@@ -46,7 +44,7 @@ abbrev pub run_of : List Row → Command
 run_of rows = record {
   task = Run (rule_of rows);
   file = first_of (codes "file") rows;
-  budget = default_budget;
+  budget = DEFAULT_BUDGET;
   shape = shape_of rows;
   json = false;
 }

@@ -5,8 +5,9 @@ use Rattle.std.specs.Str.{bytes_eq}
 use Rattle.clap.specs.Lexer.{long_of}
 use Rattle.clap.specs.Words.{Text, fault_of, takes}
 use Rattle.wb_model.specs.declared.heap.Rule.TheVariants.{Unlimited}
+use Rattle.wb_model.specs.declared.limits.TheConstants.{DEFAULT_BUDGET}
 use Rattle.workbench.specs.CommandLine.{command_line}
-use Rattle.workbench.specs.Spelled.{IsSpelledBy, default_budget, default_shape}
+use Rattle.workbench.specs.Spelled.{IsSpelledBy, default_shape}
 use Rattle.workbench.specs.declared.command.Command.{Command}
 use Rattle.workbench.specs.declared.command.Task.TheVariants.{Run}
 
@@ -48,7 +49,7 @@ file_in _ = None
 
 -- a run of the file, or of standard input, without a limit or a number and with the default shape
 abbrev pub plain_run : Option Text → Command
-plain_run file = record { task = Run Unlimited; file = file; budget = default_budget; shape = default_shape; json = false }
+plain_run file = record { task = Run Unlimited; file = file; budget = DEFAULT_BUDGET; shape = default_shape; json = false }
 
 pub record AreTaken (words : List Text) (file : Option Text) : Type 0 where
   pub taken : takes command_line words ≡ true

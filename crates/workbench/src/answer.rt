@@ -1,20 +1,19 @@
 //! The answer to a command: what is read, what is written, and the exit status. What a report says stands in
 //! `report`.
 
-ghost use Rattle.std.specs.Prelude.{◌≡◌, ◌<◌, ◌≤◌, false, length, take, IfOk, IfSome, IsTrue, OnOk, OnErr, is_err};
+ghost use Rattle.std.specs.Prelude.{◌≡◌, ◌<◌, ◌≤◌, length, take, IfOk, IfSome, IsTrue, OnOk, OnErr, is_err};
 ghost use Rattle.std.specs.Io.{ReadsAtMost};
 ghost use Rattle.std.specs.Io.KnownBytes.{Appends};
 ghost use Rattle.workbench.specs.declared.answer.ReportFault.TheVariants.{Read, NoMemory};
-ghost use Rattle.workbench.specs.Answer.{AreFirst, IsAnswer, IsPartWritten, IsReported, IsReportWritten, IsSaid, is_read_fault};
+ghost use Rattle.workbench.specs.Answer.{AreFirst, IsAnswer, IsPartWritten, IsReported, IsReportWritten, IsWritten, is_read_fault};
 ghost use Rattle.workbench.specs.Command.{is_answerable};
-ghost use Rattle.workbench.specs.Report.{no_memory};
-ghost use Rattle.workbench.specs.Streams.{AppendsFirst, TakesAtMost, no_failures, with_read, with_write};
+ghost use Rattle.workbench.specs.Report.{no_memory, read_fault};
+ghost use Rattle.workbench.specs.Streams.{AppendsFirst, TakesAtMost, Tries};
 
 use crate::command::Command;
 use crate::report::{Report, report_on};
-use crate::streams::{Failures, StreamFault, read_some, write_some};
+use crate::streams::{Sink, Source, StreamFault, read_some, write_some};
 use std::alloc::{AllocError, Global};
-use std::io::{Read, Write};
 use wb_model::memory;
 
 /// The most that is read of a script, in bytes: one more than a script may have, so that a longer one shows.
@@ -67,19 +66,17 @@ impl From<memory::NoMemory> for ReportFault {
 /// `read fault` is written; or a write failed, or took no byte, and what went out is the first of what was
 /// being written. Nothing is written before the whole text is there.
 ///
-/// `failures` is the log of what failed, empty at first. Only the one call that reads and the one that
-/// writes enter a failure there, so that `READ_OR_WRITE_FAULT` comes exactly where one failed.
-pub fn answer<R: Read, W: Write>(
+/// What failed is what the reads and writes that were made answered, so that `READ_OR_WRITE_FAULT` comes
+/// exactly where one of them failed. After one that failed no other is made of that kind.
+pub fn answer<R: Source, W: Sink>(
     alloc: Global,
     command: &Command,
     reader: &mut R,
     writer: &mut W,
-    failures: &mut Failures,
 ) -> u8
-    requires answerable { IsTrue (is_answerable command.now) }
-    requires unfailed { failures.old ≡ no_failures }
-    ensures answer { IsAnswer command.now (R.remaining reader.old)
-        (W.contents writer.old) (W.contents writer.new) failures.new result }
+    requires { IsTrue (is_answerable command.now) }
+    ensures answer { IsAnswer R.remaining R.reads W.contents W.writes
+        command.now reader.old reader.new writer.old writer.new result }
     ensures status { result ≤ READ_OR_WRITE_FAULT }
     ensures report { result < WANT_OF_MEMORY → IsReportWritten command.now (R.remaining reader.old)
         (W.contents writer.old) (W.contents writer.new) result }
@@ -89,93 +86,89 @@ pub fn answer<R: Read, W: Write>(
         (W.contents writer.old) (W.contents writer.new) }
     ensures taken { TakesAtMost MOST_READ (R.remaining reader.old) (R.remaining reader.new) }
 {
-    read_and_say(alloc, command, reader, writer, failures)
+    read_and_say(alloc, command, reader, writer)
 }
 
-/// The answer, by what failed.
-fn read_and_say<R: Read, W: Write>(
+/// The answer, by what the reads and the writes came to.
+fn read_and_say<R: Source, W: Sink>(
     alloc: Global,
     command: &Command,
     reader: &mut R,
     writer: &mut W,
-    failures: &mut Failures,
 ) -> u8
-    requires answerable { IsTrue (is_answerable command.now) }
-    requires unfailed { failures.old ≡ no_failures }
-    ensures answer { IsAnswer command.now (R.remaining reader.old)
-        (W.contents writer.old) (W.contents writer.new) failures.new result }
+    requires { IsTrue (is_answerable command.now) }
+    ensures answer { IsAnswer R.remaining R.reads W.contents W.writes
+        command.now reader.old reader.new writer.old writer.new result }
     ensures taken { TakesAtMost MOST_READ (R.remaining reader.old) (R.remaining reader.new) }
 {
-    match reported(alloc, command, reader, failures) {
-        Ok(report) => say(writer, report.text.as_slice(), report.status, failures),
-        Err(ReportFault::NoMemory) => say(writer, b"no memory\n", WANT_OF_MEMORY, failures),
-        Err(ReportFault::Read) => say(writer, b"read fault\n", READ_OR_WRITE_FAULT, failures),
+    match reported(alloc, command, reader) {
+        Ok(report) => say(writer, report.text.as_slice(), report.status),
+        Err(ReportFault::NoMemory) => say(writer, b"no memory\n", WANT_OF_MEMORY),
+        Err(ReportFault::Read) => say_read_fault(writer),
     }
 }
 
-/// Writes a text and gives its status, or `READ_OR_WRITE_FAULT` where a write failed.
-fn say<W: Write>(writer: &mut W, text: &[u8], status: u8, failures: &mut Failures) -> u8
-    requires { failures.old.writes ≡ false }
-    ensures said { IsSaid (W.contents writer.old) (W.contents writer.new)
-        failures.new.writes text.now status result }
-    ensures reads { failures.new.reads ≡ failures.old.reads }
+/// Writes the line of a read that failed, and gives its status.
+pub fn say_read_fault<W: Sink>(writer: &mut W) -> u8
+    ensures { IsWritten W.contents W.writes writer.old writer.new read_fault READ_OR_WRITE_FAULT result }
 {
-    match write_whole(writer, text, failures) {
+    say(writer, b"read fault\n", READ_OR_WRITE_FAULT)
+}
+
+/// Writes a text and gives its status, or `READ_OR_WRITE_FAULT` where a write failed.
+fn say<W: Sink>(writer: &mut W, text: &[u8], status: u8) -> u8
+    ensures { IsWritten W.contents W.writes writer.old writer.new text.now status result }
+{
+    match write_whole(writer, text) {
         Ok(()) => status,
         Err(StreamFault) => READ_OR_WRITE_FAULT,
     }
 }
 
 /// The report of the command on the first bytes that the reader gives.
-fn reported<R: Read>(
+fn reported<R: Source>(
     alloc: Global,
     command: &Command,
     reader: &mut R,
-    failures: &mut Failures,
 ) -> Result<Report, ReportFault>
     requires { IsTrue (is_answerable command.now) }
     ensures report { IfOk result (λ r.
         IsReported command.now (R.remaining reader.old) r.text.items r.status) }
     ensures taken { TakesAtMost MOST_READ (R.remaining reader.old) (R.remaining reader.new) }
-    ensures entered { failures.new ≡ with_read failures.old (is_read_fault result) }
+    ensures tried { Tries R.reads reader.old (is_read_fault result) reader.new }
 {
-    let bytes = first_bytes(alloc, reader, MOST_READ, failures)?;
+    let bytes = first_bytes(alloc, reader, MOST_READ)?;
     Ok(report_on(alloc, command, bytes.as_slice())?)
 }
 
 /// The first bytes that the reader gives, up to its end or to the most that are wanted.
-fn first_bytes<R: Read>(
+fn first_bytes<R: Source>(
     alloc: Global,
     reader: &mut R,
     most: usize,
-    failures: &mut Failures,
 ) -> Result<Vec<u8>, ReportFault>
     ensures bytes { IfOk result (λ bytes. AreFirst most (R.remaining reader.old) bytes.items) }
     ensures taken { TakesAtMost most (R.remaining reader.old) (R.remaining reader.new) }
-    ensures entered { failures.new ≡ with_read failures.old (is_read_fault result) }
+    ensures tried { Tries R.reads reader.old (is_read_fault result) reader.new }
 {
     let mut bytes = vec![in alloc; 0; most]?;
-    let count = filled(reader, bytes.as_mut_slice(), failures)?;
+    let count = filled(reader, bytes.as_mut_slice())?;
     bytes.truncate(count);
     Ok(bytes)
 }
 
 /// Reads until the buffer is full or the reader has no more, and gives how many bytes came. Each read but
 /// the last brings a byte, so there are no more reads than the buffer has bytes, and one.
-fn filled<R: Read>(
-    reader: &mut R,
-    buffer: &mut [u8],
-    failures: &mut Failures,
-) -> Result<usize, StreamFault>
+fn filled<R: Source>(reader: &mut R, buffer: &mut [u8]) -> Result<usize, StreamFault>
     ensures bound { ReadsAtMost result buffer.new }
     ensures bytes { IfOk result (λ n. IfSome (R.remaining reader.old)
         (λ all. take n buffer.new ≡ take (length buffer.old) all)) }
     ensures taken { TakesAtMost (length buffer.old) (R.remaining reader.old) (R.remaining reader.new) }
-    ensures entered { failures.new ≡ with_read failures.old (is_err result) }
+    ensures tried { Tries R.reads reader.old (is_err result) reader.new }
 {
     let mut filled = 0;
     while filled < buffer.len() {
-        let count = read_some(reader, &mut buffer[filled..], failures)?;
+        let count = read_some(reader, &mut buffer[filled..])?;
         if count == 0 {
             return Ok(filled);
         }
@@ -185,18 +178,14 @@ fn filled<R: Read>(
 }
 
 /// Writes the whole text, or the first of it up to a write that fails.
-fn write_whole<W: Write>(
-    writer: &mut W,
-    text: &[u8],
-    failures: &mut Failures,
-) -> Result<(), StreamFault>
+fn write_whole<W: Sink>(writer: &mut W, text: &[u8]) -> Result<(), StreamFault>
     ensures ok { OnOk result (Appends (W.contents writer.old) (W.contents writer.new) text.now) }
     ensures err { OnErr result (AppendsFirst (W.contents writer.old) (W.contents writer.new) text.now) }
-    ensures entered { failures.new ≡ with_write failures.old (is_err result) }
+    ensures tried { Tries W.writes writer.old (is_err result) writer.new }
 {
     let mut written = 0;
     while written < text.len() {
-        written += write_some(writer, &text[written..], failures)?;
+        written += write_some(writer, &text[written..])?;
     }
     Ok(())
 }

@@ -18,31 +18,13 @@ use clap::{Arg, ArgMatches, value_parser};
 use std::alloc::{AllocError, Global};
 use std::convert::AsStr;
 use wb_model::heap::{Rule, Shape};
-use wb_model::limits::CEILING;
-
-/// The greatest number of steps of a run that names none. Source: this project's profile.
-const DEFAULT_BUDGET: u32 = 10_000;
-/// The heap's minimum length and step, in bytes, of a run that names none. Source: this project's profile.
-const DEFAULT_SHAPE: Shape = Shape {
-    min: 4096,
-    step: 4096,
+use wb_model::limits::{
+    CEILING, DEFAULT_BUDGET, DEFAULT_MINIMUM, DEFAULT_STEP, LARGEST_MINIMUM, LARGEST_STEP,
+    SMALLEST_STEP,
 };
 
-/// The granule of a heap's lengths, in bytes. Source: this project's profile.
+/// The granule of a heap's lengths, in bytes.
 const GRANULE: u32 = 16;
-/// The greatest minimum length and step of a heap, in bytes. Source: this project's profile.
-const MOST_OF_SHAPE: u32 = 1_048_576;
-
-const LIMIT_HELP: &str = "Refuses what would make the heap longer than L bytes, from 0 to 16777216";
-
-const FAIL_HELP: &str =
-    "Refuses the attempt with number N, from 0 to 16777216; there is no attempt 0";
-
-const MIN_HELP: &str =
-    "The heap's minimum length in bytes, a multiple of 16 from 0 to 1048576 [default: 4096]";
-
-const STEP_HELP: &str =
-    "The step by which the heap grows in bytes, a multiple of 16 from 16 to 1048576 [default: 4096]";
 
 /// The command that the words spell; the first of them is the program's name, and is not looked at. What the
 /// words don't say has its default, and the numbers are in their ranges.
@@ -57,7 +39,8 @@ pub fn command<'a, S: AsStr>(alloc: Global, words: &'a [S]) -> Result<Command, C
     ensures taken { takes command_line (map S.text words.now) ≡ true → IfErr result IsAfterUsage }
     ensures fault { IfErr result (IsFaultOf (map S.text words.now)) }
 {
-    let matches = parser(alloc)?.try_get_matches_from(words)?;
+    let help = NumberHelp::new(alloc)?;
+    let matches = parser(alloc, &help)?.try_get_matches_from(words)?;
 
     // Words that pass name a subcommand, and `help` never passes.
     let run = matches.subcommand_matches("run").unwrap();
@@ -97,8 +80,8 @@ fn shape_in(run: &ArgMatches) -> Result<Shape, CommandFault>
     ensures fault { IfErr result (λ fault. fault ≡ CommandFault.Shape) }
     ensures misshapen { IfErr result (λ _. is_sixteenfold (spelled_shape (rows_of (found_of run.now))) ≡ false) }
 {
-    let min = run.get_one("min").unwrap_or(DEFAULT_SHAPE.min);
-    let step = run.get_one("step").unwrap_or(DEFAULT_SHAPE.step);
+    let min = run.get_one("min").unwrap_or(DEFAULT_MINIMUM);
+    let step = run.get_one("step").unwrap_or(DEFAULT_STEP);
     if min % GRANULE == 0 && step % GRANULE == 0 {
         Ok(Shape { min, step })
     } else {
@@ -106,7 +89,7 @@ fn shape_in(run: &ArgMatches) -> Result<Shape, CommandFault>
     }
 }
 
-/// The script's file, where they name one. The only error is want of memory.
+/// The script's file, where they name one. The only error is that memory ran out.
 fn file_in(alloc: Global, run: &ArgMatches) -> Result<Option<FileName>, AllocError>
     ensures { IfOk result (λ file. file ≡ first_of (codes "file") (rows_of (found_of run.now))) }
 {
@@ -116,11 +99,41 @@ fn file_in(alloc: Global, run: &ArgMatches) -> Result<Option<FileName>, AllocErr
     }
 }
 
+/// The help on options that take a number: its bounds, and its default where it has one.
+#[derive(Drop)]
+struct NumberHelp {
+    limit: String,
+    fail: String,
+    min: String,
+    step: String,
+}
+
+impl NumberHelp {
+    fn new(alloc: Global) -> Result<NumberHelp, AllocError> {
+        Ok(NumberHelp {
+            limit: format!(in alloc;
+                "Refuses what would make the heap longer than L bytes, from 0 to {CEILING}"
+            )?,
+            fail: format!(in alloc;
+                "Refuses the attempt with number N, from 0 to {CEILING}; there is no attempt 0"
+            )?,
+            min: format!(in alloc;
+                "The heap's minimum length in bytes, a multiple of {GRANULE} \
+                 from 0 to {LARGEST_MINIMUM} [default: {DEFAULT_MINIMUM}]"
+            )?,
+            step: format!(in alloc;
+                "The step by which the heap grows in bytes, a multiple of {GRANULE} \
+                 from {SMALLEST_STEP} to {LARGEST_STEP} [default: {DEFAULT_STEP}]"
+            )?,
+        })
+    }
+}
+
 /// The words that `clap` is to read.
-fn parser<'a>(alloc: Global) -> Result<clap::Command<'a>, AllocError>
+fn parser<'a>(alloc: Global, help: &'a NumberHelp) -> Result<clap::Command<'a>, AllocError>
     ensures { IfOk result (λ line. app_of line ≡ command_line) }
 {
-    let run = run_parser(alloc)?;
+    let run = run_parser(alloc, help)?;
     clap::Command::new(alloc, "workbench")
         .about("Runs scripts against a simulated heap that may refuse")
         .subcommand_required(true)
@@ -128,14 +141,14 @@ fn parser<'a>(alloc: Global) -> Result<clap::Command<'a>, AllocError>
 }
 
 /// Those after `run`.
-fn run_parser<'a>(alloc: Global) -> Result<clap::Command<'a>, AllocError>
+fn run_parser<'a>(alloc: Global, help: &'a NumberHelp) -> Result<clap::Command<'a>, AllocError>
     ensures words { IfOk result (λ line. app_of line ≡ run_line) }
     ensures own { IfOk result (λ line. (fields_of line).has_globals ≡ false) }
 {
-    let limit = number(alloc, "limit", "L", 0, CEILING).help(LIMIT_HELP);
-    let fail = number(alloc, "fail", "N", 0, CEILING).help(FAIL_HELP);
-    let min = number(alloc, "min", "M", 0, MOST_OF_SHAPE).help(MIN_HELP);
-    let step = number(alloc, "step", "G", 16, MOST_OF_SHAPE).help(STEP_HELP);
+    let limit = number(alloc, "limit", "L", 0, CEILING).help(help.limit.as_str());
+    let fail = number(alloc, "fail", "N", 0, CEILING).help(help.fail.as_str());
+    let min = number(alloc, "min", "M", 0, LARGEST_MINIMUM).help(help.min.as_str());
+    let step = number(alloc, "step", "G", SMALLEST_STEP, LARGEST_STEP).help(help.step.as_str());
     let line = clap::Command::new(alloc, "run").about("Runs a script once and reports");
     let line = with_argument(line, file(alloc))?;
     let line = with_argument(line, limit)?;

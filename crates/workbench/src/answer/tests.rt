@@ -6,21 +6,21 @@ ghost use Rattle.workbench.specs.Command.{is_answerable};
 use super::*;
 use crate::command::Task;
 use std::io;
-use std::io::ErrorKind;
+use std::io::{ErrorKind, Read, Write};
 use std::process::Abort;
 use std::test::Fail;
 use wb_model::heap::{Rule, Shape};
 
-/// Gives its bytes, so many at once, and then fails or is at its end.
+/// Gives its bytes, `at_once` at a time, and then fails or is at its end.
 #[derive(Drop)]
-struct Source<'a> {
+struct Giver<'a> {
     bytes: &'a [u8],
     at_once: usize,
     then: Option<ErrorKind>,
     reads: usize,
 }
 
-impl Read for Source<'_> {
+impl Read for Giver<'_> {
     fn read(&mut self, buffer: &mut [u8]) -> io::Result<usize> {
         self.reads = self.reads.wrapping_add(1);
         let count = self.bytes.len().min(buffer.len()).min(self.at_once);
@@ -37,9 +37,9 @@ impl Read for Source<'_> {
     }
 }
 
-/// Takes so many bytes, so many at once, and then fails or takes none.
+/// Takes `room` bytes, `at_once` at a time, and then fails or takes none.
 #[derive(Drop)]
-struct Sink {
+struct Taker {
     taken: Vec<u8>,
     room: usize,
     at_once: usize,
@@ -47,7 +47,7 @@ struct Sink {
     writes: usize,
 }
 
-impl Write for Sink {
+impl Write for Taker {
     fn write(&mut self, bytes: &[u8]) -> io::Result<usize> {
         self.writes = self.writes.wrapping_add(1);
         let count = bytes.len().min(self.room).min(self.at_once);
@@ -60,6 +60,63 @@ impl Write for Sink {
         self.taken.extend_from_slice(&bytes[..count])?;
         self.room -= count;
         Ok(count)
+    }
+
+    fn flush(&mut self) -> io::Result<()> {
+        Ok(())
+    }
+}
+
+/// Fails at one of its calls, the first being 0, and works before and after it: with an error, or for want of a
+/// kind by taking no byte.
+#[derive(Drop)]
+struct FailingOnce<S> {
+    stream: S,
+    at: usize,
+    with: Option<ErrorKind>,
+    calls: usize,
+}
+
+impl<S> FailingOnce<S> {
+    fn new(stream: S, at: usize, with: Option<ErrorKind>) -> FailingOnce<S> {
+        FailingOnce {
+            stream,
+            at,
+            with,
+            calls: 0,
+        }
+    }
+
+    /// What the next call answers, where it is the one that fails.
+    fn failure(&mut self) -> Option<io::Result<usize>> {
+        let call = self.calls;
+        self.calls = call.wrapping_add(1);
+        if call != self.at {
+            return None;
+        }
+        Some(match self.with {
+            Some(kind) => Err(io::Error::from(kind)),
+            None => Ok(0),
+        })
+    }
+}
+
+impl Read for FailingOnce<Giver<'_>> {
+    fn read(&mut self, buffer: &mut [u8]) -> io::Result<usize> {
+        if let Some(Err(error)) = self.failure() {
+            return Err(error);
+        }
+        self.stream.read(buffer)
+    }
+}
+
+impl Write for FailingOnce<Taker> {
+    fn write(&mut self, bytes: &[u8]) -> io::Result<usize> {
+        match self.failure() {
+            Some(Err(error)) => Err(error),
+            Some(Ok(_)) => Ok(0),
+            None => self.stream.write(bytes),
+        }
     }
 
     fn flush(&mut self) -> io::Result<()> {
@@ -82,8 +139,8 @@ fn run_command() -> Command
     }
 }
 
-fn giving(bytes: &[u8], then: Option<ErrorKind>) -> Source<'_> {
-    Source {
+fn giving(bytes: &[u8], then: Option<ErrorKind>) -> Giver<'_> {
+    Giver {
         bytes,
         at_once: 7,
         then,
@@ -91,8 +148,8 @@ fn giving(bytes: &[u8], then: Option<ErrorKind>) -> Source<'_> {
     }
 }
 
-fn taking(alloc: Global, room: usize, then: Option<ErrorKind>) -> Sink {
-    Sink {
+fn taking(alloc: Global, room: usize, then: Option<ErrorKind>) -> Taker {
+    Taker {
         taken: Vec::new(alloc),
         room,
         at_once: 5,
@@ -132,13 +189,7 @@ fn reports_what_the_bytes_come_to(rt: HostRuntime) {
     for (script, text, status) in cases {
         let mut reader = script;
         let mut writer = Vec::new(rt.alloc());
-        let got = answer(
-            rt.alloc(),
-            &run_command(),
-            &mut reader,
-            &mut writer,
-            &mut Failures::none(),
-        );
+        let got = answer(rt.alloc(), &run_command(), &mut reader, &mut writer);
         assert_eq!(rt; writer.as_slice(), text);
         assert_eq!(rt; got, status);
     }
@@ -149,15 +200,46 @@ fn says_that_a_read_failed(rt: HostRuntime) {
     for kind in [ErrorKind::Other, ErrorKind::Interrupted] {
         let mut reader = giving(LEAKING, Some(kind));
         let mut writer = Vec::new(rt.alloc());
-        let status = answer(
-            rt.alloc(),
-            &run_command(),
-            &mut reader,
-            &mut writer,
-            &mut Failures::none(),
-        );
+        let status = answer(rt.alloc(), &run_command(), &mut reader, &mut writer);
         assert_eq!(rt; writer.as_slice(), b"read fault\n".as_slice());
         assert_eq!(rt; status, 5);
+    }
+}
+
+/// The script comes in five reads, and a sixth finds its end.
+#[test]
+fn reads_no_more_where_a_read_failed(rt: HostRuntime) {
+    for kind in [ErrorKind::Other, ErrorKind::Interrupted] {
+        for at in 0..6 {
+            let mut reader = FailingOnce::new(giving(LEAKING, None), at, Some(kind));
+            let mut writer = Vec::new(rt.alloc());
+            let status = answer(rt.alloc(), &run_command(), &mut reader, &mut writer);
+            assert_eq!(rt; writer.as_slice(), b"read fault\n".as_slice());
+            assert_eq!(rt; status, 5);
+            assert_eq!(rt; reader.calls, at + 1);
+        }
+    }
+}
+
+#[test]
+fn writes_no_more_where_a_write_failed(rt: HostRuntime) {
+    for kind in [Some(ErrorKind::Other), Some(ErrorKind::Interrupted), None] {
+        for at in 0..6 {
+            let sink = taking(rt.alloc(), 1000, None);
+            let mut writer = FailingOnce::new(sink, at, kind);
+            let status = answer(
+                rt.alloc(),
+                &run_command(),
+                &mut giving(LEAKING, None),
+                &mut writer,
+            );
+            assert_eq!(rt;
+                Some(writer.stream.taken.as_slice()),
+                LEAKING_REPORT.get(..5 * at)
+            );
+            assert_eq!(rt; status, 5);
+            assert_eq!(rt; writer.calls, at + 1);
+        }
     }
 }
 
@@ -177,18 +259,12 @@ fn stops_at_a_write_that_fails(rt: HostRuntime) {
 /// Whatever room the writer has, it holds the first of the text, and the status is 5.
 fn check_stop(
     rt: &(impl Abort + AllocGlobal),
-    reader: &mut Source<'_>,
+    reader: &mut Giver<'_>,
     text: &[u8],
     then: Option<ErrorKind>,
 ) {
     let mut writer = taking(rt.alloc(), 6, then);
-    let status = answer(
-        rt.alloc(),
-        &run_command(),
-        reader,
-        &mut writer,
-        &mut Failures::none(),
-    );
+    let status = answer(rt.alloc(), &run_command(), reader, &mut writer);
     assert_eq!(rt; Some(writer.taken.as_slice()), text.get(..6));
     assert_eq!(rt; status, 5);
 }
@@ -200,16 +276,40 @@ fn reads_and_writes_no_oftener_than_there_are_bytes(rt: HostRuntime) -> Result<(
     reader.at_once = 1;
     let mut writer = taking(rt.alloc(), 100, None);
     writer.at_once = 1;
-    let status = answer(
-        rt.alloc(),
-        &run_command(),
-        &mut reader,
-        &mut writer,
-        &mut Failures::none(),
-    );
+    let status = answer(rt.alloc(), &run_command(), &mut reader, &mut writer);
     assert_eq!(rt; reader.reads, 65_537);
     assert_eq!(rt; writer.taken.as_slice(), b"refused 1\n".as_slice());
     assert_eq!(rt; writer.writes, 10);
     assert_eq!(rt; status, 2);
+    Ok(())
+}
+
+/// Two thousand numbers are printed, and then as many cells of 32 bytes lie end to end behind the cleanup
+/// stack's, the first of them at 144, and all of them leak.
+#[test]
+fn writes_thousands_of_lines(rt: HostRuntime) -> Result<(), Fail> {
+    let mut script = Vec::new(rt.alloc());
+    let mut report = Vec::new(rt.alloc());
+    let mut leaks = Vec::new(rt.alloc());
+    writeln!(script, "proc main\nptr a")?;
+    for number in 1..=2000u32 {
+        writeln!(script, "print {number}")?;
+        writeln!(report, "print {number}")?;
+    }
+    writeln!(report, "attempt 1 length 144 place 0 granted")?;
+    for (number, place) in (2..=2001u32).zip((144..64_144u32).step_by(32)) {
+        writeln!(script, "alloc a 1")?;
+        writeln!(report, "attempt {number} length 32 place {place} granted")?;
+        writeln!(leaks, "leak {number} length 32 place {place}")?;
+    }
+    writeln!(script, "end")?;
+    writeln!(report, "ended\nleaks 2000")?;
+    report.extend_from_slice(leaks.as_slice())?;
+    writeln!(report, "steps 4000")?;
+    let mut reader = script.as_slice();
+    let mut writer = Vec::new(rt.alloc());
+    let status = answer(rt.alloc(), &run_command(), &mut reader, &mut writer);
+    assert_eq!(rt; writer.as_slice(), report.as_slice());
+    assert_eq!(rt; status, 1);
     Ok(())
 }

@@ -26,7 +26,7 @@ pub loop-cell-smaller : goal.loop-cell-smaller
 loop-cell-smaller c =
     let row = headers c.args.heap.now.row in
     let next = onward_next c.loop-cell.from 0 c.in-Some.cell row c.next_live.ensures.sound.row.spaced (sym c.in-Some.ensures.first) in
-    onward_fewer row c.loop-cell.from c.in-Some.cell next
+    rw c.end-from.ensures (onward_fewer row c.loop-cell.from c.in-Some.cell next)
 
 pub loop-cell-preserved : goal.loop-cell-preserved
 loop-cell-preserved c =
@@ -34,7 +34,7 @@ loop-cell-preserved c =
     let cell = c.in-Some.cell in
     let test = is_counted c.args.levels in
     let next = onward_next c.loop-cell.from 0 cell row c.next_live.ensures.sound.row.spaced (sym c.in-Some.ensures.first) in
-    elim c.if-is_counted.branch [
+    rw c.end-from.ensures (elim c.if-is_counted.branch [
       | then-is_counted w ↦
           let low : IsLowest c.loop-cell.found c.loop-cell.place cell w.if-found-eq0.place = elim w.if-found-eq0.branch [
             | then-found-eq0 v ↦ record { first = λ none. v.place-is; later = λ some. absurd (some v.if-found-eq0.true) }
@@ -48,7 +48,7 @@ loop-cell-preserved c =
           subst (λ p. IsCounted test row (end_of cell) c.if-is_counted.found p) (sym w.place-is)
           (subst (λ n. IsCounted test row (end_of cell) n c.loop-cell.place) (sym w.found-is)
           (count-past test row c.loop-cell.from c.loop-cell.found c.loop-cell.place cell next (sym c.is_counted.ensures ∙ w.if-is_counted.false) c.loop-cell.invariant))
-    ]
+    ])
 
 pub returns-clause-number : goal.returns-clause-number
 returns-clause-number c =

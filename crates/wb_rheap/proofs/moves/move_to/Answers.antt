@@ -16,9 +16,9 @@ pub copy_payload-requires-clause-target : goal.copy_payload-requires-clause-targ
 copy_payload-requires-clause-target c =
     let r = c.requires in
     let taken = ap (λ (x : CellRow). x.row) c.take.ensures.taken in
-    subst (λ row. c.args.words ≤ length (payload_of (pointer_to c.args.moved) row)) (sym taken)
+    rw c.pointer.ensures (subst (λ row. c.args.words ≤ length (payload_of (pointer_to c.args.moved) row)) (sym taken)
     (subst (λ o. c.args.words ≤ length (content_or_nil o)) (sym (new-there c.args.ptr c.args.moved c.args.cells.now.row r.spaced r.live r.unused))
-    (omega (arith, r.longer, length-replicate (c.args.moved.length / 4 - 4) (◌-◌ 0 0))))
+    (omega (arith, r.longer, length-replicate (c.args.moved.length / 4 - 4) (◌-◌ 0 0)))))
 
 pub copy_payload-requires-clause-from_live : goal.copy_payload-requires-clause-from_live
 copy_payload-requires-clause-from_live c =
@@ -31,17 +31,17 @@ pub copy_payload-requires-clause-to_live : goal.copy_payload-requires-clause-to_
 copy_payload-requires-clause-to_live c =
     let r = c.requires in
     let taken = ap (λ (x : CellRow). x.row) c.take.ensures.taken in
-    subst (λ row. IsSome (cell_at (pointer_to c.args.moved) row)) (sym taken)
-    (subst IsSome (sym (new-there c.args.ptr c.args.moved c.args.cells.now.row r.spaced r.live r.unused)) refl)
+    rw c.pointer.ensures (subst (λ row. IsSome (cell_at (pointer_to c.args.moved) row)) (sym taken)
+    (subst IsSome (sym (new-there c.args.ptr c.args.moved c.args.cells.now.row r.spaced r.live r.unused)) refl))
 
 pub give-requires : goal.give-requires
 give-requires c =
     let r = c.requires in
     still-live c.args.ptr c.args.moved c.args.cells.now c.take.new.self c.copy_payload.new.self c.copy_payload.new.self c.args.words r.spaced r.live r.unused
-    c.take.ensures.taken c.copy_payload.ensures.copied r.whole r.longer
+    c.take.ensures.taken (rw c.pointer.ensures at c.copy_payload.ensures.copied) r.whole r.longer
 
 pub returns : goal.returns
 returns c =
     let r = c.requires in
     moved-all c.args.ptr c.args.moved c.args.cells.now c.take.new.self c.copy_payload.new.self c.give.new.self c.args.words r.spaced r.live r.unused
-    c.take.ensures.taken c.copy_payload.ensures.copied r.whole r.longer c.give.ensures.given
+    c.take.ensures.taken (rw c.pointer.ensures at c.copy_payload.ensures.copied) r.whole r.longer c.give.ensures.given

@@ -4,8 +4,8 @@ use Rattle.wb_model.specs.Space.{space_below, bound_below}
 use Rattle.wb_model.proofs.LimitedHeaps.{shape_is, committed_by-is}
 use Rattle.wb_rheap.proofs.room.hold_for.Goals as goal
 
-pub hold-requires-clause-rounded : goal.hold-requires-clause-rounded
-hold-requires-clause-rounded c =
+pub reserve-requires-clause-rounded : goal.reserve-requires-clause-rounded
+reserve-requires-clause-rounded c =
     let shape = shape_is c.args.shape c.requires.shape in
     subst (λ n. n % 16 ≡ 0) (sym c.committed_for-bytes.ensures)
     (committed_by-is (space_below (bound_below c.args.limit) c.args.shape) c.args.committed c.args.end (omega (arith, shape.step_least)) shape.step_aligned

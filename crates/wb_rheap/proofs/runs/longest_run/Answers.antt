@@ -10,8 +10,8 @@ loop-cell-init c = at_first (headers c.args.cells.now.row) c.args.committed c.re
 pub overflow_sub-cell : goal.overflow_sub-cell
 overflow_sub-cell c = (onward_next c.loop-cell.from 0 c.in-Some.cell (headers c.args.cells.now.row) c.requires.spaced (sym c.in-Some.ensures.first)).above
 
-pub overflow_add-from : goal.overflow_add-from
-overflow_add-from c =
+pub end-from-requires : goal.end-from-requires
+end-from-requires c =
     let row = headers c.args.cells.now.row in
     let next = onward_next c.loop-cell.from 0 c.in-Some.cell row c.requires.spaced (sym c.in-Some.ensures.first) in
     let past = passed row c.args.committed c.loop-cell.from c.loop-cell.greatest c.in-Some.cell next c.loop-cell.invariant in
@@ -21,13 +21,13 @@ pub loop-cell-preserved : goal.loop-cell-preserved
 loop-cell-preserved c =
     let row = headers c.args.cells.now.row in
     let next = onward_next c.loop-cell.from 0 c.in-Some.cell row c.requires.spaced (sym c.in-Some.ensures.first) in
-    subst (λ n. IsSoFar row c.args.committed (end_of c.in-Some.cell) n) (sym c.max-greatest.ensures)
-    (passed row c.args.committed c.loop-cell.from c.loop-cell.greatest c.in-Some.cell next c.loop-cell.invariant).next
+    rw c.end-from.ensures (subst (λ n. IsSoFar row c.args.committed (end_of c.in-Some.cell) n) (sym c.max-greatest.ensures)
+    (passed row c.args.committed c.loop-cell.from c.loop-cell.greatest c.in-Some.cell next c.loop-cell.invariant).next)
 
 pub loop-cell-smaller : goal.loop-cell-smaller
 loop-cell-smaller c =
     let row = headers c.args.cells.now.row in
-    onward_fewer row c.loop-cell.from c.in-Some.cell (onward_next c.loop-cell.from 0 c.in-Some.cell row c.requires.spaced (sym c.in-Some.ensures.first))
+    rw c.end-from.ensures (onward_fewer row c.loop-cell.from c.in-Some.cell (onward_next c.loop-cell.from 0 c.in-Some.cell row c.requires.spaced (sym c.in-Some.ensures.first)))
 
 pub overflow_sub-committed : goal.overflow_sub-committed
 overflow_sub-committed c =

@@ -4,12 +4,13 @@ use Rattle.workbench.proofs.answer.answer.Goals as goal
 
 pub returns : goal.returns
 returns g c =
-    let (bound, report, memory) = answer_by_status _ _ _ _ _ _ c.read_and_say.ensures.answer in
+    let answered = c.read_and_say.ensures.answer in
+    let (bound, report, memory) = answer_by_status _ _ _ _ _ _ _ _ _ _ answered in
     record {
-      answer = c.read_and_say.ensures.answer;
+      answer = answered;
       status = bound;
       report = report;
       no_memory = memory;
-      nothing_else = answer_is_part _ _ _ _ _ _ c.read_and_say.ensures.answer;
+      nothing_else = answer_is_part _ _ _ _ _ _ _ _ _ _ answered;
       taken = c.read_and_say.ensures.taken;
     }

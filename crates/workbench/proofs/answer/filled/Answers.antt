@@ -1,7 +1,12 @@
 -- Proof: filled. Each read puts its bytes behind those that came before.
 use Rattle.std.proofs.Common.{rules}
-use Rattle.workbench.proofs.KnownBytesLemmas.{Consumes-more, taken_before_end, taken_before_fault, taken_front}
+use Rattle.workbench.proofs.KnownBytesLemmas.{Consumes-more, Consumes-nothing, taken_before_end, taken_before_fault, taken_front}
+use Rattle.workbench.specs.Streams.{more, none}
+use Rattle.workbench.proofs.TriesLemmas.{more_failed}
 use Rattle.workbench.proofs.answer.filled.Goals as goal
+
+pub loop-filled-init : goal.loop-filled-init
+loop-filled-init g c = record { within = search rules; gave = Consumes-nothing _; tried = none }
 
 pub loop-filled-preserved : goal.loop-filled-preserved
 loop-filled-preserved g c =
@@ -10,7 +15,7 @@ loop-filled-preserved g c =
     record {
       within = search rules;
       gave = Consumes-more _ _ _ c.loop-filled.buffer c.read_some.new.buffer _ _ _ before.within read.bound.0 before.gave read.bytes.0;
-      unfailed = search rules;
+      tried = more _ _ _ before.tried read.once;
     }
 
 pub returns-in_err-count-clause-taken : goal.returns-in_err-count-clause-taken
@@ -19,6 +24,12 @@ returns-in_err-count-clause-taken g c = taken_before_fault _ _ _ _ c.loop-filled
 pub returns-then-count-eq0-clause-taken : goal.returns-then-count-eq0-clause-taken
 returns-then-count-eq0-clause-taken g c =
     taken_before_end _ _ _ _ c.loop-filled.buffer _ _ _ (search rules) c.if-count-eq0.true c.loop-filled.invariant.gave c.in_ok-count.ensures.bytes.0
+
+pub returns-in_err-count-clause-tried : goal.returns-in_err-count-clause-tried
+returns-in_err-count-clause-tried g c = more_failed _ _ _ _ _ (search rules) c.loop-filled.invariant.tried c.in_err-count.ensures.once
+
+pub returns-then-count-eq0-clause-tried : goal.returns-then-count-eq0-clause-tried
+returns-then-count-eq0-clause-tried g c = more _ _ _ c.loop-filled.invariant.tried c.in_ok-count.ensures.once
 
 pub returns-clause-taken : goal.returns-clause-taken
 returns-clause-taken g c = taken_front _ _ _ c.loop-filled.buffer _ (search rules) c.loop-filled.invariant.gave

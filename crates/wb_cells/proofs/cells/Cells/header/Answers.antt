@@ -1,6 +1,7 @@
 use Rattle.std.proofs.Common.{◌≡◌, false, true, Some, option_map, refl, ap, sym, ◌∙◌, arith}
 use Rattle.std.specs.Prelude.{nat_eq}
 use Rattle.std.proofs.lemmas.Bool.{eq-eqb, ne_eqb, cond-true, cond-false}
+use Rattle.std.proofs.lemmas.Option.{same_Some}
 use Rattle.wb_model.specs.Row.{cell_at}
 use Rattle.wb_cells.proofs.Laying.{spelled-laid}
 use Rattle.wb_cells.proofs.Finding.{live_at, unnamed_unrounded, unnamed_off, within-live_at, state-live_at, header-live_at, cell_at-live_at}
@@ -43,7 +44,7 @@ pub returns-then-header-ptr-clause-header : goal.returns-then-header-ptr-clause-
 returns-then-header-ptr-clause-header c =
     let at = live_at _ _ _ _ c.self.invariant c.args.ptr.place c.if-ptr-ne0.false (sym c.is_on.ensures ∙ c.if-not-is_on.false) in
     let row = ap (λ v. v.row) (sym c.self.view_is) ∙ spelled-laid _ _ _ _ c.self.invariant in
-    let head = c.header_at-header.ensures ∙ header-live_at _ _ _ at in
+    let head = same_Some _ _ (sym c.header_at-header.ensures ∙ header-live_at _ _ _ at) in
     let number : nat_eq c.args.ptr.number at.number ≡ true = eq-eqb _ _ (sym c.if-header-ptr.true ∙ ap (λ h. h.number) head) in
     ap (λ h. Some h) head
     ∙ sym (ap (λ r. option_map (λ c. c.head) (cell_at c.args.ptr r)) row
@@ -56,7 +57,7 @@ pub returns-else-header-ptr-clause-header : goal.returns-else-header-ptr-clause-
 returns-else-header-ptr-clause-header c =
     let at = live_at _ _ _ _ c.self.invariant c.args.ptr.place c.if-ptr-ne0.false (sym c.is_on.ensures ∙ c.if-not-is_on.false) in
     let row = ap (λ v. v.row) (sym c.self.view_is) ∙ spelled-laid _ _ _ _ c.self.invariant in
-    let head = c.header_at-header.ensures ∙ header-live_at _ _ _ at in
+    let head = same_Some _ _ (sym c.header_at-header.ensures ∙ header-live_at _ _ _ at) in
     let number : nat_eq c.args.ptr.number at.number ≡ false = ne_eqb _ _ (λ e. c.if-header-ptr.false (ap (λ h. h.number) head ∙ sym e)) in
     sym (ap (λ r. option_map (λ c. c.head) (cell_at c.args.ptr r)) row
     ∙ ap (option_map (λ c. c.head)) (cell_at-live_at _ _ _ at c.args.ptr refl ∙ cond-false _ _ _ number))

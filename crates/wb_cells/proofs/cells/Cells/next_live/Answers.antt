@@ -1,4 +1,4 @@
-use Rattle.std.proofs.Common.{◌≡◌, ◌+◌, ◌*◌, ◌/◌, ◌%◌, ℕ, get_or, false, Some, ap, sym, ◌∙◌, arith}
+use Rattle.std.proofs.Common.{◌≡◌, ◌+◌, ◌*◌, ◌/◌, ◌%◌, ℕ, get_or, false, ap, sym, ◌∙◌, arith}
 use Rattle.std.specs.Int.{div_ceil}
 use Rattle.wb_model.specs.Row.{headers}
 use Rattle.wb_model.specs.LimitedHeap.{next_live_of}
@@ -55,6 +55,6 @@ returns-in-Some-clause-first c =
     let at = live_at _ _ _ _ c.self.invariant (16 * c.in-Some.start) rounded (ap (λ k. get_or c.self.inside.starts k false) index ∙ next.2) in
     let row = ap (λ v. v.row) (sym c.self.view_is) ∙ spelled-laid _ _ _ _ c.self.invariant in
     let first = c.div_ceil.ensures ∙ ceiling c.args.from in
-    ap (λ h. Some h) (c.header_at.ensures ∙ header-live_at _ _ _ at)
+    (sym c.header_at.ensures ∙ header-live_at _ _ _ at)
     ∙ sym (ap (λ r. next_live_of c.args.from (headers r)) row
     ∙ some_from _ _ _ _ c.self.invariant c.args.from c.in-Some.start at (omega (arith, first, next.0)) (λ j le lt. next.3 j (omega (arith, first, le)) lt))

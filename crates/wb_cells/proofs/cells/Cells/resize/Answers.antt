@@ -32,7 +32,7 @@ zero-requires c =
     let r = resized _ _ _ _ c.self.invariant c.args.ptr c.args.self.now.row (ap (λ v. v.row) c.self.view_is) (some_cell c.args.ptr c.args.self.now.row c.requires.live)
     c.around-around.result c.around-around.ensures.round c.args.length c.requires.rounded c.requires.least within c.requires.fits
     c.length_at-old.result c.length_at-old.ensures c.hole_behind-hole.result c.hole_behind-hole.ensures in
-    rw (c.set_word.ensures, length-set, c.saturating_sub.ensures) r.zeros
+    rw (c.words_in-2.ensures, c.words_in-3.ensures, c.set_word.ensures, length-set, c.saturating_sub.ensures) r.zeros
 
 pub close-ends-requires-clause-start : goal.close-ends-requires-clause-start
 close-ends-requires-clause-start c =
@@ -40,7 +40,7 @@ close-ends-requires-clause-start c =
     let r = resized _ _ _ _ c.self.invariant c.args.ptr c.args.self.now.row (ap (λ v. v.row) c.self.view_is) (some_cell c.args.ptr c.args.self.now.row c.requires.live)
     c.around-around.result c.around-around.ensures.round c.args.length c.requires.rounded c.requires.least within c.requires.fits
     c.length_at-old.result c.length_at-old.ensures c.hole_behind-hole.result c.hole_behind-hole.ensures in
-    rw (c.zero.ensures, c.set_word.ensures, c.saturating_sub.ensures) r.start
+    rw (c.zero.ensures, c.set_word.ensures, c.words_in.ensures, c.words_in-2.ensures, c.words_in-3.ensures, c.saturating_sub.ensures) r.start
 
 pub close-ends-requires-clause-order : goal.close-ends-requires-clause-order
 close-ends-requires-clause-order c =
@@ -57,7 +57,7 @@ invariant_of-self c =
     c.around-around.result c.around-around.ensures.round c.args.length c.requires.rounded c.requires.least within c.requires.fits
     c.length_at-old.result c.length_at-old.ensures c.hole_behind-hole.result c.hole_behind-hole.ensures in
     let bytes : c.zero.new.self ≡ lengthened_words c.self.inside.words c.args.ptr.place c.length_at-old.result c.args.length =
-    rw (c.zero.ensures, c.set_word.ensures, c.saturating_sub.ensures) refl in
+    rw (c.zero.ensures, c.set_word.ensures, c.words_in.ensures, c.words_in-2.ensures, c.words_in-3.ensures, c.saturating_sub.ensures) refl in
     let count : length c.close-ends.new.words ≡ length c.self.inside.words = c.close-ends.ensures.count ∙ ap length bytes ∙ r.count in
     rw (c.close-ends.ensures.words, c.close-ends.ensures.ends, bytes) (r.laid (rw (c.close-ends.ensures.words, bytes) at count))
 
@@ -68,7 +68,7 @@ returns-clause-resized c =
     c.around-around.result c.around-around.ensures.round c.args.length c.requires.rounded c.requires.least within c.requires.fits
     c.length_at-old.result c.length_at-old.ensures c.hole_behind-hole.result c.hole_behind-hole.ensures in
     let bytes : c.zero.new.self ≡ lengthened_words c.self.inside.words c.args.ptr.place c.length_at-old.result c.args.length =
-    rw (c.zero.ensures, c.set_word.ensures, c.saturating_sub.ensures) refl in
+    rw (c.zero.ensures, c.set_word.ensures, c.words_in.ensures, c.words_in-2.ensures, c.words_in-3.ensures, c.saturating_sub.ensures) refl in
     let row : spelled c.close-ends.new.words c.close-ends.result.top ≡ with_length c.args.ptr c.args.length c.args.self.now.row =
     rw (c.close-ends.ensures.words, c.close-ends.ensures.ends, bytes) r.spells in
     let held : 4 * length c.close-ends.new.words ≡ c.args.self.now.held =

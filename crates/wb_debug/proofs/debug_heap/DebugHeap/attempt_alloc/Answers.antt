@@ -1,4 +1,4 @@
-use Rattle.std.proofs.Common.{refl, ap, length, subst, sym, ◌∙◌, arith}
+use Rattle.std.proofs.Common.{◌+◌, refl, ap, subst, sym, ◌∙◌}
 use Rattle.wb_model.specs.declared.heap.Attempt.{Attempt}
 use Rattle.wb_model.specs.Debug.{Debug, IsSoundDebug}
 use Rattle.wb_debug.specs.declared.debug_heap.DebugHeap.TheInside.{Inside}
@@ -22,17 +22,17 @@ returns-in_err-gave-in-Granted-clause-sound c =
 
 pub invariant_of-self-2 : goal.invariant_of-self-2
 invariant_of-self-2 c =
-    let fits = ap (λ (d : Debug). length d.trace) c.self.view_is in
+    let next = ap (λ (a : Attempt). a.number) c.in-Some.ensures.line ∙ ap (λ (d : Debug). d.attempts + 1) (sym c.self.view_is) in
     elim c.match-line.branch [
       | in-Granted+in_ok-gave-in-Granted w ↦
-          subst (λ (x : Inside). IsKept (record x { setting = c.counted-self-inside.result })) (sym w.self-inside-is)
-          (granted-kept c.self.inside w.alloc-granted.new.self c.counted-self-inside.result w.granted_or_undone.new.trace c.in-Some.line _ _ _ _
+          subst (λ (x : Inside). IsKept (record x { setting = c.counted-self-inside.result; attempts = c.in-Some.line.number })) (sym w.self-inside-is)
+          (granted-kept c.self.inside w.alloc-granted.new.self c.counted-self-inside.result w.granted_or_undone.new.trace c.in-Some.line _ _ _
           (on-ok w.alloc-granted.result _ _ w.in_ok-gave-in-Granted.ensures.granted w.alloc-granted.ensures.granted)
-          (omega (arith, ap (λ (a : Attempt). a.number) c.in-Some.ensures.line, fits)) w.alloc-granted.ensures.sound
-          (w.in_ok-gave-in-Granted.ensures.kept ∙ c.in_ok-push.ensures.pushed) (omega (arith, fits)) c.self.invariant)
+          next w.alloc-granted.ensures.sound
+          (w.in_ok-gave-in-Granted.ensures.kept ∙ c.in_ok-push.ensures.pushed) c.self.invariant)
       | in-Simulated w ↦
-          subst (λ (x : Inside). IsKept (record x { setting = c.counted-self-inside.result })) (sym w.self-inside-is)
-          (refused-kept c.self.inside c.counted-self-inside.result c.push.new.self _ c.in_ok-push.ensures.pushed (omega (arith, fits)) c.self.invariant)
+          subst (λ (x : Inside). IsKept (record x { setting = c.counted-self-inside.result; attempts = c.in-Some.line.number })) (sym w.self-inside-is)
+          (refused-kept c.self.inside c.counted-self-inside.result c.push.new.self c.in-Some.line c.in_ok-push.ensures.pushed next c.self.invariant)
     ]
 
 pub returns-clause-sound : goal.returns-clause-sound

@@ -1,4 +1,5 @@
-use Rattle.std.proofs.Common.{◌≡◌, IfSome, refl, ap, length, subst, sym, ◌∙◌, arith}
+use Rattle.std.proofs.Common.{◌≡◌, IfSome, refl, ap, subst, sym, ◌∙◌, arith}
+use Rattle.wb_model.specs.declared.heap.Attempt.{Attempt}
 use Rattle.wb_model.specs.declared.heap.Gave.{Gave}
 use Rattle.wb_model.specs.Debug.{Debug, IsSoundDebug, realloc_made}
 use Rattle.wb_model.specs.Row.{cell_at}
@@ -33,7 +34,7 @@ returns-in_err-gave-in-Granted-clause-sound c =
     (c.in_err-gave-in-Granted.ensures.undone c.self.inside.trace c.in-Some.line c.in_ok-push.ensures.pushed) c.self.invariant)
 
 -- what was asked, and what was answered
-asked-for : (c : goal.After-self-1) → IsAsked c.self.inside c.args.ptr c.args.bytes c.cell_length-length.result c.in-Some.line
+asked-for : (c : goal.After-self-2-1) → IsAsked c.self.inside c.args.ptr c.args.bytes c.cell_length-length.result c.in-Some.line
 asked-for c =
     asked c.self.inside c.args.self.now c.args.ptr c.unwrap-cell.result c.args.bytes c.cell_length-length.result c.place_for_realloc-place.result c.in-Some.line
     c.self.view_is (sym c.header.ensures.header ∙ c.unwrap-cell.ensures) c.cell_length-length.ensures.exact (omega (arith, c.if-length-cell.false))
@@ -41,17 +42,16 @@ asked-for c =
 
 pub invariant_of-self-2 : goal.invariant_of-self-2
 invariant_of-self-2 c =
-    let fits = ap (λ (d : Debug). length d.trace) c.self.view_is in
     elim c.match-line.branch [
       | in-Granted+in_ok-gave-in-Granted w ↦
-          subst (λ (x : Inside). IsKept (record x { setting = c.counted-self-inside.result })) (sym w.self-inside-is)
+          subst (λ (x : Inside). IsKept (record x { setting = c.counted-self-inside.result; attempts = c.in-Some.line.number })) (sym w.self-inside-is)
           (grown-kept c.self.inside c.args.ptr c.args.bytes c.cell_length-length.result c.in-Some.line w.realloc-granted.new.self
           c.counted-self-inside.result w.granted_or_undone.new.trace (asked-for c)
           (on-ok w.realloc-granted.result _ _ w.in_ok-gave-in-Granted.ensures.granted w.realloc-granted.ensures.done) w.realloc-granted.ensures.sound
-          (w.in_ok-gave-in-Granted.ensures.kept ∙ c.in_ok-push.ensures.pushed) (omega (arith, fits)) c.self.invariant)
+          (w.in_ok-gave-in-Granted.ensures.kept ∙ c.in_ok-push.ensures.pushed) c.self.invariant)
       | in-Simulated w ↦
-          subst (λ (x : Inside). IsKept (record x { setting = c.counted-self-inside.result })) (sym w.self-inside-is)
-          (refused-kept c.self.inside c.counted-self-inside.result c.push.new.self _ c.in_ok-push.ensures.pushed (omega (arith, fits)) c.self.invariant)
+          subst (λ (x : Inside). IsKept (record x { setting = c.counted-self-inside.result; attempts = c.in-Some.line.number })) (sym w.self-inside-is)
+          (refused-kept c.self.inside c.counted-self-inside.result c.push.new.self c.in-Some.line c.in_ok-push.ensures.pushed (ap (λ (a : Attempt). a.number) (asked-for c).added) c.self.invariant)
     ]
 
 pub returns-clause-sound : goal.returns-clause-sound
@@ -73,9 +73,9 @@ returns-clause-gave c =
 pub returns-clause-made : goal.returns-clause-made
 returns-clause-made c =
     let P : Inside → Type 0 = λ i. IfSome (cell_at c.args.ptr c.self.inside.heap.row)
-    (λ x. debug_of (record i { setting = c.counted-self-inside.result }) ≡ (realloc_made (debug_of c.self.inside) x c.args.bytes).debug) in
+    (λ x. debug_of (record i { setting = c.counted-self-inside.result; attempts = c.in-Some.line.number }) ≡ (realloc_made (debug_of c.self.inside) x c.args.bytes).debug) in
     subst (λ (d : Debug). IfSome (cell_at c.args.ptr d.heap.row)
-    (λ x. debug_of (record c.match-line.self-inside { setting = c.counted-self-inside.result }) ≡ (realloc_made d x c.args.bytes).debug)) c.self.view_is
+    (λ x. debug_of (record c.match-line.self-inside { setting = c.counted-self-inside.result; attempts = c.in-Some.line.number }) ≡ (realloc_made d x c.args.bytes).debug)) c.self.view_is
     (elim c.match-line.branch [
       | in-Granted+in_ok-gave-in-Granted w ↦
           subst P (sym w.self-inside-is) (granted-debug c.self.inside c.args.ptr c.args.bytes c.cell_length-length.result c.in-Some.line

@@ -1,7 +1,7 @@
 use Rattle.std.proofs.Common.{◌≡◌, ◌≤◌, ℕ, true, vec_len}
 use Rattle.wb_model.specs.declared.heap.Rule.{Rule}
 use Rattle.wb_model.specs.declared.script.Script.{Script}
-use Rattle.wb_machine.specs.Held.{Held}
+use Rattle.wb_machine.specs.RunState.{RunState}
 use Rattle.wb_machine.specs.Flow.{are_sound, rest_from}
 use Rattle.wb_machine.proofs.control.Control.settle.Given as goal
 
@@ -9,7 +9,7 @@ use Rattle.wb_machine.proofs.control.Control.settle.Given as goal
 abbrev pub invariant-loop-self : goal.invariant-loop-self
 invariant-loop-self l =
     record {
-      kept : (script : Script) (r : Rule) (budget : ℕ) (h : Held) → h.steps ≤ budget →
+      kept : (script : Script) (r : Rule) (budget : ℕ) (h : RunState) → h.steps ≤ budget →
           rest_from script budget r l.self.ending l.self.pieces.items h ≡ rest_from script budget r l.fn.self.ending l.fn.self.pieces.items h;
       ending : l.self.ending ≡ l.fn.self.ending;
       sound : (script : Script) → are_sound script l.fn.self.pieces.items ≡ true → are_sound script l.self.pieces.items ≡ true;

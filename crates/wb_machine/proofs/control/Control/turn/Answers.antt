@@ -1,11 +1,11 @@
-use Rattle.std.proofs.Common.{◌≡◌, ◌≤◌, ap, ◌∙◌, sym, subst, arith, length, true, false}
+use Rattle.std.proofs.Common.{◌≡◌, ◌≤◌, ap, ◌∙◌, sym, subst, arith, true, false}
 use Rattle.std.proofs.Common.{ℕ}
 use Rattle.wb_model.specs.declared.heap.Rule.{Rule}
 use Rattle.wb_model.specs.declared.run.RunResult.{RunResult}
 use Rattle.wb_model.specs.declared.script.Script.{Script}
 use Rattle.wb_model.specs.Rest.{Fits}
 use Rattle.wb_machine.specs.declared.control.Control.{Control}
-use Rattle.wb_machine.specs.Held.{Held}
+use Rattle.wb_machine.specs.RunState.{RunState}
 use Rattle.wb_machine.specs.Flow.{is_stop, is_over, are_sound, rest_from, rest_at}
 use Rattle.wb_machine.proofs.Begins.{rest_first}
 use Rattle.wb_machine.proofs.Fitting.{fits-limit, fits-before, going_on}
@@ -23,18 +23,18 @@ returns-clause-sound c =
     ])
 
 -- a fact of what one of the branches made
-moved_on : (script : Script) (budget : ℕ) (r own : Rule) (made mid : Control) (st g : Held) (told : RunResult) → mid ≡ made → g ≡ st →
-    Fits r own (is_stop mid.ending) (length g.debug.trace) →
-    (Fits r own (is_stop made.ending) (length st.debug.trace) → rest_from script budget r made.ending made.pieces.items st ≡ told) →
+moved_on : (script : Script) (budget : ℕ) (r own : Rule) (made mid : Control) (st g : RunState) (told : RunResult) → mid ≡ made → g ≡ st →
+    Fits r own (is_stop mid.ending) g.debug.attempts →
+    (Fits r own (is_stop made.ending) st.debug.attempts → rest_from script budget r made.ending made.pieces.items st ≡ told) →
     rest_from script budget r mid.ending mid.pieces.items g ≡ told
 moved_on script budget r own made mid st g told e d f go =
-    let f' : Fits r own (is_stop made.ending) (length st.debug.trace) =
-    subst (λ (x : Held). Fits r own (is_stop made.ending) (length x.debug.trace)) d (subst (λ (x : Control). Fits r own (is_stop x.ending) (length g.debug.trace)) e f) in
+    let f' : Fits r own (is_stop made.ending) st.debug.attempts =
+    subst (λ (x : RunState). Fits r own (is_stop made.ending) x.debug.attempts) d (subst (λ (x : Control). Fits r own (is_stop x.ending) g.debug.attempts) e f) in
     ap (λ (x : Control). rest_from script budget r x.ending x.pieces.items g) e
-    ∙ ap (λ (x : Held). rest_from script budget r made.ending made.pieces.items x) d ∙ go f'
+    ∙ ap (λ (x : RunState). rest_from script budget r made.ending made.pieces.items x) d ∙ go f'
 
-steps_are : (g st : Held) (budget : ℕ) → g ≡ st → st.steps ≤ budget → g.steps ≤ budget
-steps_are g st budget e le = subst (λ (x : Held). x.steps ≤ budget) (sym e) le
+steps_are : (g st : RunState) (budget : ℕ) → g ≡ st → st.steps ≤ budget → g.steps ≤ budget
+steps_are g st budget e le = subst (λ (x : RunState). x.steps ≤ budget) (sym e) le
 
 pub returns-clause-kept : goal.returns-clause-kept
 returns-clause-kept c r f =
@@ -47,7 +47,7 @@ returns-clause-kept c r f =
     let g = c.if-not-begun.state in
     let goes : is_over c.settle.new.self.ending c.settle.new.self.pieces.items ≡ false → is_stop mid.ending ≡ false =
     λ e. sym (ap is_stop c.settle.ensures.ending) ∙ going_on c.settle.new.self.ending c.settle.new.self.pieces.items e in
-    let fits : Fits r own (is_stop mid.ending) (length g.debug.trace) = fits-before r own _ _ (length g.debug.trace) (length g.debug.trace) goes (omega arith) f in
+    let fits : Fits r own (is_stop mid.ending) g.debug.attempts = fits-before r own _ _ g.debug.attempts g.debug.attempts goes (omega arith) f in
     let steps : g.steps ≤ budget = elim c.if-not-begun.branch [
       | then-not-begun+in_ok-begin w ↦ steps_are g w.begin.new.state budget w.state-is (omega (arith, w.in_ok-begin.ensures.steps))
       | else-not-begun+then-steps-budget+in_ok-step w ↦ steps_are g w.step.new.state budget w.state-is (omega (arith, w.in_ok-step.ensures.steps, w.if-steps-budget.true, w.steps.ensures))

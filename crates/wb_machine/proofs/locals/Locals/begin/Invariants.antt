@@ -1,6 +1,6 @@
 use Rattle.std.proofs.Common.{◌≡◌, map, take}
 use Rattle.wb_model.specs.State.{initial}
-use Rattle.wb_machine.specs.Slots.{value_of}
+use Rattle.wb_machine.specs.LocalValues.{value_of}
 use Rattle.wb_machine.proofs.locals.Locals.begin.Given as goal
 
 abbrev pub invariant-loop-local : goal.invariant-loop-local

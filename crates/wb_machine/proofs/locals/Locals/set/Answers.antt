@@ -1,6 +1,6 @@
 use Rattle.std.proofs.Common.{ap, ◌∙◌, slice_set}
 use Rattle.std.proofs.lemmas.List.{map-set}
-use Rattle.wb_machine.specs.Slots.{value_of}
+use Rattle.wb_machine.specs.LocalValues.{value_of}
 use Rattle.wb_machine.proofs.locals.Locals.set.Goals as goal
 
 pub returns-then-index-len : goal.returns-then-index-len

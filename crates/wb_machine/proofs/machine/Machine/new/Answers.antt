@@ -1,5 +1,5 @@
 use Rattle.std.proofs.Common.{◌≡◌, ap, ◌∙◌, sym, arith, length}
-use Rattle.wb_machine.specs.Held.{start_held}
+use Rattle.wb_machine.specs.RunState.{first_state}
 use Rattle.wb_machine.specs.Flow.{are_sound, IsFirst}
 use Rattle.wb_machine.proofs.Begins.{rest_first}
 use Rattle.wb_machine.proofs.Fitting.{fits-limit}
@@ -10,20 +10,21 @@ invariant_of-result c =
     let script = c.args.script.now in
     let own = c.args.rule in
     let h = c.in-Ok.state in
-    let start : h ≡ start_held own c.args.shape = c.in-Ok.ensures.ok in
-    let first : h ≡ start_held h.debug.rule h.debug.shape = start ∙ ap (λ x. start_held x c.args.shape) (sym (ap (λ x. x.debug.rule) start)) ∙ ap (start_held h.debug.rule) (sym (ap (λ x. x.debug.shape) start)) in
+    let start : h ≡ first_state own c.args.shape = c.in-Ok.ensures.ok in
+    let first : h ≡ first_state h.debug.rule h.debug.shape = start ∙ ap (λ x. first_state x c.args.shape) (sym (ap (λ x. x.debug.rule) start)) ∙ ap (first_state h.debug.rule) (sym (ap (λ x. x.debug.shape) start)) in
     let is_first : IsFirst c.new-2.result.ending c.new-2.result.pieces.items h = record { goes_on = c.new-2.ensures.ending; nothing = c.new-2.ensures.pieces; start = first } in
     record {
       sound = λ well. record {
         script = c.requires.script;
         small = c.requires.greatest;
         within = omega (arith, ap (λ x. x.steps) start);
-        counted = omega (arith, ap (λ x. length x.debug.trace) start);
+        counted = omega (arith, ap (λ x. x.debug.attempts) start);
+        lines = ap (λ x. x.debug.attempts) start ∙ sym (ap (λ x. length x.debug.trace) start);
         level = omega (arith, ap (λ x. x.debug.heap.level) start);
         first = λ e. is_first;
         settled = λ e. cc;
         pieces = ap (are_sound script) c.new-2.ensures.pieces;
-        leaks = λ e. cc;
+        leaks = λ e goes. cc;
       };
       keeps = λ well r f. rest_first r script c.args.budget c.new-2.result.ending c.new-2.result.pieces.items h first (fits-limit r h.debug.rule _ _ f);
     }

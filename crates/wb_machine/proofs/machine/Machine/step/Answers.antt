@@ -1,4 +1,4 @@
-use Rattle.std.proofs.Common.{◌≡◌, ap, ◌∙◌, sym, subst, length, false}
+use Rattle.std.proofs.Common.{◌≡◌, ap, ◌∙◌, sym, subst, arith, false}
 use Rattle.wb_model.specs.Rest.{Fits}
 use Rattle.std.specs.Prelude.{◌&&◌}
 use Rattle.wb_model.specs.Run.{run}
@@ -24,15 +24,16 @@ invariant_of-self-2 c =
         small = old.small;
         within = turn.within;
         counted = turn.counted;
+        lines = omega (arith, turn.stays.lines, old.lines);
         level = turn.level;
         first = λ e. cc;
         settled = λ e. turn.settled;
         pieces = turn.sound;
-        leaks = λ e. c.in_ok-self-inside.ensures;
+        leaks = λ e goes. c.in_ok-list_leaks.ensures.told (c.ending.ensures ∙ goes);
       };
       keeps = λ well r f.
-          let f' = subst (λ own. Fits r own (is_over c.turn.new.self.ending c.turn.new.self.pieces.items) (length c.turn.new.state.debug.trace)) turn.stays.rule f in
+          let f' = subst (λ own. Fits r own (is_over c.turn.new.self.ending c.turn.new.self.pieces.items) c.turn.new.state.debug.attempts) turn.stays.rule f in
           turn.kept r f'
-          ∙ c.self.invariant.keeps c.if-self.false r (fits-before r m.state.debug.rule (has_ended m) _ (length m.state.debug.trace) (length c.turn.new.state.debug.trace) (λ e. going) turn.stays.fewer f')
+          ∙ c.self.invariant.keeps c.if-self.false r (fits-before r m.state.debug.rule (has_ended m) _ m.state.debug.attempts c.turn.new.state.debug.attempts (λ e. going) turn.stays.fewer f')
           ∙ ap (run m.script.now r m.budget) (sym turn.stays.shape);
     }

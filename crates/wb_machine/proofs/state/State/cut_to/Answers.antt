@@ -1,9 +1,9 @@
-use Rattle.wb_machine.specs.Inside.{held}
-use Rattle.wb_machine.proofs.TextRows.{text_of_base, texts_edited}
+use Rattle.wb_machine.specs.StateView.{run_state}
+use Rattle.wb_machine.proofs.TextInvariant.{text_of_base, texts_edited}
 use Rattle.wb_machine.proofs.state.State.cut_to.Goals as goal
 
 pub set_length-requires : goal.set_length-requires
-set_length-requires c = text_of_base (held c.self-in-Cell.inside) c.args.self.now c.args.to c.in-Cell.ptr c.self-in-Cell.view_is c.self-in-Cell.invariant c.in-Cell.is c.requires.target
+set_length-requires c = text_of_base (run_state c.self-in-Cell.inside) c.args.self.now c.args.to c.in-Cell.ptr c.self-in-Cell.view_is c.self-in-Cell.invariant c.in-Cell.is c.requires.target
 
 pub invariant_of-self : goal.invariant_of-self
 invariant_of-self c =

@@ -1,5 +1,5 @@
 use Rattle.wb_model.specs.Debug.{debug_without}
-use Rattle.wb_machine.proofs.TextRows.{texts_called, texts_released}
+use Rattle.wb_machine.proofs.TextInvariant.{texts_called, texts_released}
 use Rattle.wb_machine.proofs.state.State.free.Goals as goal
 
 pub invariant_of-self : goal.invariant_of-self

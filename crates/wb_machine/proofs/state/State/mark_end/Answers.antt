@@ -1,5 +1,5 @@
 use Rattle.wb_model.specs.Heap.{after_mark_end}
-use Rattle.wb_machine.proofs.TextRows.{texts_called, texts_lowered}
+use Rattle.wb_machine.proofs.TextInvariant.{texts_called, texts_lowered}
 use Rattle.wb_machine.proofs.state.State.mark_end.Goals as goal
 
 pub invariant_of-self : goal.invariant_of-self

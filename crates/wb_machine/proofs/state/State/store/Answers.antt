@@ -1,7 +1,7 @@
 use Rattle.std.proofs.Common.{subst, sym, ◌∙◌}
 use Rattle.wb_model.specs.Debug.{Debug}
-use Rattle.wb_machine.specs.TextRows.{AreTexts}
-use Rattle.wb_machine.proofs.TextRows.{texts_stored}
+use Rattle.wb_machine.specs.TextInvariant.{AreTexts}
+use Rattle.wb_machine.proofs.TextInvariant.{texts_stored}
 use Rattle.wb_machine.proofs.state.State.store.Goals as goal
 
 pub invariant_of-self : goal.invariant_of-self

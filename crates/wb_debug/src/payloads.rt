@@ -1,0 +1,69 @@
+//! Headers, and the words of payloads. Words and their halves are counted from 0; the half 2k is the low half of word k.
+
+ghost use Rattle.std.specs.Prelude.{◌≡◌, ◌*◌, ◌<◌, ◌≤◌, ◌++◌, length, take, drop, slice_index, slice_set, option_map, IfSome, IsSome};
+ghost use Rattle.wb_chunk.specs.Halves.{half_of, with_half};
+ghost use Rattle.wb_model.specs.CellRow.{payload_of};
+ghost use Rattle.wb_model.specs.Debug.{IsLiveIn, IsSoundDebug, debug_changed};
+ghost use Rattle.wb_model.specs.Row.{cell_at, usable_of};
+
+use crate::debug_heap::DebugHeap;
+use wb_model::heap::{Header, Ptr};
+
+impl DebugHeap {
+    /// The header of the cell that the pointer names, or `None` exactly where it names no live cell. Its payload has a
+    /// word for each four bytes of its usable length.
+    pub fn header(&self, ptr: Ptr) -> Option<Header>
+        ensures header { result ≡ option_map (λ c. c.head) (cell_at ptr self.now.heap.row) }
+        ensures live { IfSome result (IsLiveIn self.now) }
+        ensures payload { IfSome result (λ h. 4 * length (payload_of ptr self.now.heap.row) ≡ usable_of h) }
+        ensures sound { IsSoundDebug self.now }
+    {
+        self.heap.header(ptr)
+    }
+
+    /// A word of a payload.
+    pub fn payload(&self, ptr: Ptr, i: u32) -> u32
+        requires { i < length (payload_of ptr self.now.heap.row) }
+        ensures { result ≡ slice_index (payload_of ptr self.now.heap.row) i }
+    {
+        self.heap.payload(ptr, i)
+    }
+
+    /// Changes a word of a payload, and nothing else.
+    pub fn set_payload(&mut self, ptr: Ptr, i: u32, v: u32)
+        requires { i < length (payload_of ptr self.old.heap.row) }
+        ensures changed { self.new ≡ debug_changed self.old ptr (slice_set (payload_of ptr self.old.heap.row) i v) }
+        ensures sound { IsSoundDebug self.new }
+    {
+        self.heap.set_payload(ptr, i, v);
+    }
+
+    /// A half of a payload's words.
+    pub fn payload_half(&self, ptr: Ptr, i: u32) -> u16
+        requires { i < 2 * length (payload_of ptr self.now.heap.row) }
+        ensures { result ≡ half_of (payload_of ptr self.now.heap.row) i }
+    {
+        self.heap.payload_half(ptr, i)
+    }
+
+    /// Changes a half of a payload's words, and nothing else.
+    pub fn set_payload_half(&mut self, ptr: Ptr, i: u32, v: u16)
+        requires { i < 2 * length (payload_of ptr self.old.heap.row) }
+        ensures changed { self.new ≡ debug_changed self.old ptr (with_half (payload_of ptr self.old.heap.row) i v) }
+        ensures sound { IsSoundDebug self.new }
+    {
+        self.heap.set_payload_half(ptr, i, v);
+    }
+
+    /// Copies the first `n` words of one cell's payload to the front of another's, or of its own.
+    pub fn copy_payload(&mut self, from: Ptr, to: Ptr, n: u32)
+        requires from_live { IsSome (cell_at from self.old.heap.row) }
+        requires to_live { IsSome (cell_at to self.old.heap.row) }
+        requires source { n ≤ length (payload_of from self.old.heap.row) }
+        requires target { n ≤ length (payload_of to self.old.heap.row) }
+        ensures changed { self.new ≡ debug_changed self.old to (take n (payload_of from self.old.heap.row) ++ drop n (payload_of to self.old.heap.row)) }
+        ensures sound { IsSoundDebug self.new }
+    {
+        self.heap.copy_payload(from, to, n);
+    }
+}

@@ -1,0 +1,30 @@
+-- What each method owes that carries out a statement, or a part of one.
+use Rattle.std.specs.Prelude.{◌≡◌, ◌+◌, ◌^◌, ◌<◌, ◌≤◌, length}
+use Rattle.wb_machine.specs.declared.control.Ending.{Ending}
+use Rattle.wb_machine.specs.RunState.{RunState}
+use Rattle.wb_machine.specs.Carried.{Carried}
+
+-- one attempt more has a number of 32 bits
+abbrev pub MayAttempt : RunState → Type 0
+MayAttempt h = h.debug.attempts + 1 < 2 ^ 32
+
+-- what no turn changes, and that it makes at most one attempt and sets at most one mark
+pub record Stays (before after : RunState) : Type 0 where
+  pub rule : after.debug.rule ≡ before.debug.rule
+  pub shape : after.debug.shape ≡ before.debug.shape
+  pub fewer : before.debug.attempts ≤ after.debug.attempts
+  pub more : after.debug.attempts ≤ before.debug.attempts + 1
+  -- each attempt has a line of the trace
+  pub lines : before.debug.attempts + length after.debug.trace ≡ after.debug.attempts + length before.debug.trace
+  pub deeper : after.debug.heap.level ≤ before.debug.heap.level + 1
+
+-- the same of a statement, which counts no step itself
+pub record KeepsCount (before after : RunState) : Type 0 where
+  pub steps : after.steps ≡ before.steps
+  pub stays : Stays before after
+
+-- a statement ended so and left this state, as it is to be carried out
+pub record CarriesOut (before : RunState) (carried : Carried) (ending : Ending) (after : RunState) : Type 0 where
+  pub ends_so : ending ≡ carried.ending
+  pub becomes : after ≡ carried.state
+  pub keeps : KeepsCount before after

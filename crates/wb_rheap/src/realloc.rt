@@ -1,0 +1,172 @@
+//! Reallocation: cells that become longer or shorter, where they stand or elsewhere; and what else is asked and told of one
+//! cell.
+
+ghost use Rattle.std.specs.Prelude.{◌≡◌, ◌≢◌, ◌+◌, ◌<◌, ◌≤◌, ◌%◌, ◌↔◌, All, IfOk, IfErr, IfSome, IsOk, IsSome, IsSomeAnd, OnOk, OnErr, Some, None, option_map};
+ghost use Rattle.wb_model.specs.CellRow.{FitsInPlace, payload_of};
+ghost use Rattle.wb_model.specs.Heap.{fits_in_place};
+ghost use Rattle.wb_model.specs.LimitedHeap.{IsCellLength, IsSoundHeap, heap_grown, heap_shortened, heap_leveled, heap_reallocated, place_to_grow, committed_grown, grown_pointer, reallocated_pointer};
+ghost use Rattle.wb_model.specs.Row.{IsLeastPlace, cell_at, headers, pointer_to, usable_of};
+
+use crate::fault::HeapFault;
+use crate::heap::Heap;
+use crate::{moves, room};
+use wb_model::heap::{Header, Ptr};
+
+impl Heap {
+    /// The place where a cell goes that is to be longer: its own where the bytes after it are free, so always where it
+    /// is the last; else the one that `place_for` gives while the cell is still there.
+    ///
+    /// The length is the cell length in bytes, header included. The limit isn't asked, and the place plus any cell
+    /// length stays below 2^32.
+    pub fn place_for_realloc(&self, ptr: Ptr, length: u32) -> u32
+        requires live { IsSome (cell_at ptr self.now.row) }
+        requires length { IsCellLength length }
+        requires longer { IfSome (cell_at ptr self.now.row) (λ c. c.head.length < length) }
+        ensures place { IfSome (cell_at ptr self.now.row) (λ c. result ≡ place_to_grow self.now c.head length) }
+        ensures stays { FitsInPlace ptr length (headers self.now.row) → result ≡ ptr.place }
+        ensures moves { ¬ (FitsInPlace ptr length (headers self.now.row)) → IsLeastPlace (headers self.now.row) length result }
+        ensures within { result ≤ self.now.committed }
+        ensures sound { IsSoundHeap self.now }
+    {
+        let cell = self.header(ptr).unwrap();
+        self.place_to_grow(cell, length)
+    }
+
+    /// The same, of a live cell's header.
+    fn place_to_grow(&self, cell: Header, length: u32) -> u32
+        requires live { option_map (λ c. c.head) (cell_at (pointer_to cell) self.now.row) ≡ Some cell }
+        requires length { IsCellLength length }
+        requires longer { cell.length < length }
+        ensures place { result ≡ place_to_grow self.now cell length }
+        ensures aligned { result % 16 ≡ 0 }
+        ensures within { result ≤ self.now.committed }
+        ensures sound { IsSoundHeap self.now }
+    {
+        if self.fits(cell, length) {
+            cell.place
+        } else {
+            self.place_for(length)
+        }
+    }
+
+    /// Whether a live cell can have this length where it stands.
+    fn fits(&self, cell: Header, length: u32) -> bool
+        requires live { option_map (λ c. c.head) (cell_at (pointer_to cell) self.now.row) ≡ Some cell }
+        requires longer { cell.length < length }
+        ensures fits { result ≡ fits_in_place (headers self.now.row) cell length }
+        ensures sound { IsSoundHeap self.now }
+    {
+        match self.cells.room_after(cell.pointer()) {
+            Some(room) => length - cell.length <= room,
+            None => true,
+        }
+    }
+
+    /// Gives a cell another length, and answers the pointer that names it from then on.
+    ///
+    /// The length is the cell length in bytes, header included, and the number that of the attempt, from 1 on.
+    /// A cell that becomes no longer keeps place and number: its tail is free, what stood there is dropped, and that is
+    /// never refused. One that becomes longer goes to the place that `place_for_realloc` gives; what it holds is kept,
+    /// with zeros behind it, and so are kind and level. It keeps its number where it stays, and takes the new one where
+    /// it moves: the old pointer is stale then.
+    ///
+    /// `BadCell` exactly where the pointer names no live cell; `TooShort` exactly where a longer cell would end past
+    /// the limit, and then no lower place is tried; else `NoMemory` at worst, and not even that where the new committed
+    /// length is within `held`. A refusal leaves the heap as it was. Source: Symbian OS v9 SDK reference, RHeap, for
+    /// contents that are kept and for a refusal that leaves the old cell, and this project's profile for places and
+    /// numbers.
+    pub fn realloc(&mut self, ptr: Ptr, length: u32, number: u32) -> Result<Ptr, HeapFault>
+        requires length { IsCellLength length }
+        requires numbered { 1 ≤ number }
+        requires unused { All (λ h. h.number ≢ number) (headers self.old.row) }
+        ensures pointer { IfOk result (λ p. IsSomeAnd (cell_at ptr self.old.row) (λ c. p ≡ reallocated_pointer self.old c.head length number)) }
+        ensures done { OnOk result (IsSomeAnd (cell_at ptr self.old.row) (λ c. self.new ≡ heap_reallocated self.old c length number)) }
+
+        ensures bad { (result ≡ Err HeapFault.BadCell) ↔ (cell_at ptr self.old.row ≡ None) }
+        ensures short { (result ≡ Err HeapFault.TooShort) ↔ IsSomeAnd (cell_at ptr self.old.row) (λ c.
+            (c.head.length < length) × (self.old.limit < place_to_grow self.old c.head length + length)) }
+        ensures no_other { IfErr result (λ fault. fault ≢ HeapFault.BadCell → fault ≢ HeapFault.TooShort → fault ≡ HeapFault.NoMemory) }
+        ensures no_growth { IfSome (cell_at ptr self.old.row) (λ c.
+            (heap_reallocated self.old c length number).committed ≤ self.old.held → result ≢ Err HeapFault.NoMemory) }
+        ensures shorter { IfSome (cell_at ptr self.old.row) (λ c. length ≤ c.head.length → IsOk result) }
+        ensures err { OnErr result (self.new ≡ self.old) }
+
+        ensures sound { IsSoundHeap self.new }
+    {
+        let Some(cell) = self.header(ptr) else {
+            return Err(HeapFault::BadCell);
+        };
+        if length <= cell.length {
+            self.shorten(cell, length);
+            return Ok(ptr);
+        }
+        self.lengthen(cell, length, number)
+    }
+
+    /// Makes a live cell longer, and answers the pointer that names it then.
+    fn lengthen(&mut self, cell: Header, length: u32, number: u32) -> Result<Ptr, HeapFault>
+        requires live { option_map (λ c. c.head) (cell_at (pointer_to cell) self.old.row) ≡ Some cell }
+        requires longer { cell.length < length }
+        requires length { IsCellLength length }
+        requires numbered { 1 ≤ number }
+        requires unused { All (λ h. h.number ≢ number) (headers self.old.row) }
+        ensures pointer { IfOk result (λ p. p ≡ grown_pointer self.old cell length number) }
+        ensures grown { OnOk result (self.new ≡ heap_grown self.old (record { head = cell; content = payload_of (pointer_to cell) self.old.row }) length number) }
+
+        ensures short { (result ≡ Err HeapFault.TooShort) ↔ (self.old.limit < place_to_grow self.old cell length + length) }
+        ensures no_other { IfErr result (λ fault. fault ≢ HeapFault.TooShort → fault ≡ HeapFault.NoMemory) }
+        ensures no_growth { committed_grown self.old cell length ≤ self.old.held → result ≢ Err HeapFault.NoMemory }
+        ensures err { OnErr result (self.new ≡ self.old) }
+
+        ensures sound { IsSoundHeap self.new }
+    {
+        let place = self.place_to_grow(cell, length);
+        let new_end = place + length;
+        let committed = room::hold_for(
+            &mut self.cells,
+            self.limit,
+            self.shape,
+            self.committed,
+            new_end,
+        )?;
+        let ptr = moves::lengthen(&mut self.cells, cell, place, length, number);
+        self.committed = committed;
+        self.total += length - cell.length;
+        Ok(ptr)
+    }
+
+    /// Makes a live cell shorter where it stands, or leaves its length.
+    fn shorten(&mut self, cell: Header, length: u32)
+        requires live { option_map (λ c. c.head) (cell_at (pointer_to cell) self.old.row) ≡ Some cell }
+        requires shorter { length ≤ cell.length }
+        requires length { IsCellLength length }
+        ensures shortened { self.new ≡ heap_shortened self.old (record { head = cell; content = payload_of (pointer_to cell) self.old.row }) length }
+        ensures sound { IsSoundHeap self.new }
+    {
+        self.cells.resize(cell.pointer(), length);
+        self.total -= cell.length - length;
+    }
+
+    /// The usable length of the cell that the pointer names, in bytes: its cell length without the header.
+    ///
+    /// `BadCell` exactly where it names no live cell. Source: Symbian OS v9 SDK reference, RHeap.
+    pub fn alloc_len(&self, ptr: Ptr) -> Result<u32, HeapFault>
+        ensures usable { IfOk result (λ bytes. IsSomeAnd (cell_at ptr self.now.row) (λ c. bytes ≡ usable_of c.head)) }
+        ensures bad { (result ≡ Err HeapFault.BadCell) ↔ (cell_at ptr self.now.row ≡ None) }
+        ensures no_other { IfErr result (λ fault. fault ≡ HeapFault.BadCell) }
+    {
+        match self.header(ptr) {
+            Some(cell) => Ok(cell.usable()),
+            None => Err(HeapFault::BadCell),
+        }
+    }
+
+    /// Puts the cell that the pointer names under another level of heap marks, and changes nothing else.
+    pub fn set_level(&mut self, ptr: Ptr, level: u32)
+        requires { IsSome (cell_at ptr self.old.row) }
+        ensures leveled { self.new ≡ heap_leveled self.old ptr level }
+        ensures sound { IsSoundHeap self.new }
+    {
+        self.cells.set_level(ptr, level);
+    }
+}

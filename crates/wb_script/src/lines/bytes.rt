@@ -1,0 +1,37 @@
+//! Bytes of which no script is made: too many, or ones that no line holds.
+
+ghost use Rattle.std.specs.Prelude.{◌≡◌, false};
+ghost use Rattle.wb_model.specs.Lines.{is_foreign, first_foreign_line, is_too_long};
+
+use wb_model::limits::LONGEST_SCRIPT;
+
+/// More bytes than a script may have.
+pub(crate) fn is_too_long(bytes: &[u8]) -> bool
+    ensures { result ≡ is_too_long bytes.now }
+{
+    bytes.len() > LONGEST_SCRIPT as usize
+}
+
+fn is_foreign(byte: u8) -> bool
+    ensures { result ≡ is_foreign byte }
+{
+    !matches!(byte, b'\t' | b'\n' | b'\r' | b' '..=b'~')
+}
+
+/// The number of the first line that holds a byte other than a tab, a carriage return or printable
+/// ASCII; lines count from 1.
+pub(crate) fn first_foreign_line(bytes: &[u8]) -> Option<u32>
+    requires { is_too_long bytes.now ≡ false }
+    ensures { result ≡ first_foreign_line bytes.now }
+{
+    let mut line = 1;
+    for byte in bytes {
+        if is_foreign(*byte) {
+            return Some(line);
+        }
+        if *byte == b'\n' {
+            line += 1;
+        }
+    }
+    None
+}

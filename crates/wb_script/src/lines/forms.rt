@@ -1,0 +1,184 @@
+//! What a line says: the first key whose text and letters fit its words, and its operands.
+
+ghost use Rattle.std.specs.Prelude.{◌≡◌, length, IfOk, IfErr};
+ghost use Rattle.std.specs.Option.{option_map};
+ghost use Rattle.wb_model.specs.declared.script_lines.Letter.TheVariants.{Printed};
+ghost use Rattle.wb_model.specs.Forms.{either, name_word, number_word, size_of, literal_word, operand_of, operands_of, form_in, form_of, forms_of, line_form, begins_comment, role_of_form};
+ghost use Rattle.wb_model.specs.Keys.{keys};
+ghost use Rattle.wb_model.specs.Words.{number_spelled};
+ghost use Rattle.wb_script.specs.Lent.{lent_texts, lent_operand, lent_operands, lent_form, lent_forms};
+
+use crate::lines::keys::{ALL, letters_of, role_of, text_of};
+use crate::lines::pieces::words;
+use crate::lines::words::{declared_name, literal_of, number_of, used_name};
+use std::alloc::{AllocError, Global};
+use wb_model::items::Items;
+use wb_model::script_lines::{Form, Key, Letter, Operand, Role};
+
+fn name_word<'a>(word: &'a [u8]) -> Option<Operand<&'a [u8]>>
+    ensures { option_map lent_operand result ≡ name_word word.now }
+{
+    Some(Operand::Name(used_name(word)?))
+}
+
+fn number_or_name<'a>(word: &'a [u8]) -> Option<Operand<&'a [u8]>>
+    ensures { option_map lent_operand result ≡ either (number_word word.now) (name_word word.now) }
+{
+    match number_of(word) {
+        Some(number) => Some(Operand::Number(number)),
+        None => name_word(word),
+    }
+}
+
+fn name_or_literal<'a>(word: &'a [u8]) -> Option<Operand<&'a [u8]>>
+    ensures { option_map lent_operand result ≡ either (name_word word.now) (literal_word word.now) }
+{
+    match used_name(word) {
+        Some(name) => Some(Operand::Name(name)),
+        None => Some(Operand::Literal(literal_of(word)?)),
+    }
+}
+
+fn size_word<'a>(word: &'a [u8]) -> Option<Operand<&'a [u8]>>
+    ensures { option_map lent_operand result ≡ size_of (number_spelled word.now) }
+{
+    let number = number_of(word)?;
+    if number < 0 {
+        None
+    } else {
+        Some(Operand::Number(number))
+    }
+}
+
+fn printed_word<'a>(word: &'a [u8]) -> Option<Operand<&'a [u8]>>
+    ensures { option_map lent_operand result ≡ operand_of Printed word.now }
+{
+    match number_of(word) {
+        Some(number) => Some(Operand::Number(number)),
+        None => name_or_literal(word),
+    }
+}
+
+/// What a word is where a letter stands.
+fn operand_of<'a>(letter: Letter, word: &'a [u8]) -> Option<Operand<&'a [u8]>>
+    ensures { option_map lent_operand result ≡ operand_of letter word.now }
+{
+    match letter {
+        Letter::Declared => Some(Operand::Name(declared_name(word)?)),
+        Letter::Pointer | Letter::Variable | Letter::Target => name_word(word),
+        Letter::Writable | Letter::ViewName => name_word(word),
+        Letter::Value | Letter::Source => number_or_name(word),
+        Letter::Size => size_word(word),
+        Letter::Readable => name_or_literal(word),
+        Letter::Printed => printed_word(word),
+    }
+}
+
+/// What the words are, one for each letter; none where they do not fit. Memory is asked for only where there are
+/// as many words as letters.
+fn operands_of<'a>(
+    alloc: Global,
+    letters: &[Letter],
+    words: &[&'a [u8]],
+) -> Result<Option<Vec<Operand<&'a [u8]>>>, AllocError>
+    ensures operands { IfOk result (λ found.
+        option_map (λ o. lent_operands o.items) found ≡ operands_of letters.now (lent_texts words.now)) }
+    ensures memory { IfErr result (λ _. length letters.now ≡ length words.now) }
+{
+    if letters.len() != words.len() {
+        return Ok(None);
+    }
+    let mut found = Vec::new(alloc);
+    for (index, letter) in letters.iter().enumerate() {
+        match operand_of(*letter, words[index]) {
+            None => return Ok(None),
+            Some(operand) => found.push(operand)?,
+        }
+    }
+    Ok(Some(found))
+}
+
+/// The line of the first of the keys that fits a first word and the words behind it.
+fn form_in<'a>(
+    alloc: Global,
+    keys: &[Key],
+    first: &[u8],
+    words: &[&'a [u8]],
+) -> Result<Form<&'a [u8]>, AllocError>
+    ensures { IfOk result (λ form. lent_form form ≡ form_in keys.now first.now (lent_texts words.now)) }
+{
+    for key in keys {
+        if text_of(*key) == first {
+            match operands_of(alloc, letters_of(*key), words)? {
+                Some(operands) => return Ok(Form::Line(*key, Items::from_vec(operands))),
+                None => {}
+            }
+        }
+    }
+    Ok(Form::Unknown)
+}
+
+/// The form of words that are no comment, by the tables.
+fn keyed_form<'a>(
+    alloc: Global,
+    first: &[u8],
+    words: &[&'a [u8]],
+) -> Result<Form<&'a [u8]>, AllocError>
+    ensures { IfOk result (λ form. lent_form form ≡ form_in keys first.now (lent_texts words.now)) }
+{
+    form_in(alloc, &ALL, first, words)
+}
+
+fn begins_comment(word: &[u8]) -> bool
+    ensures { result ≡ begins_comment word.now }
+{
+    matches!(word, [b'#', ..])
+}
+
+/// The form of the words of a line.
+fn form_of<'a>(alloc: Global, words: &[&'a [u8]]) -> Result<Form<&'a [u8]>, AllocError>
+    ensures { IfOk result (λ form. lent_form form ≡ form_of (lent_texts words.now)) }
+{
+    match words {
+        [] => Ok(Form::Skip),
+        [first, rest @ ..] => {
+            if begins_comment(first) {
+                return Ok(Form::Skip);
+            }
+            keyed_form(alloc, first, rest)
+        }
+    }
+}
+
+/// The form of a line, without its line feed.
+pub(crate) fn line_form<'a>(alloc: Global, line: &'a [u8]) -> Result<Form<&'a [u8]>, AllocError>
+    ensures { IfOk result (λ form. lent_form form ≡ line_form line.now) }
+{
+    let words = words(alloc, line)?;
+    form_of(alloc, &words)
+}
+
+/// The forms of lines, one for each.
+pub(crate) fn forms<'a>(
+    alloc: Global,
+    lines: &[&'a [u8]],
+) -> Result<Vec<Form<&'a [u8]>>, AllocError>
+    ensures { IfOk result (λ found. lent_forms found.items ≡ forms_of (lent_texts lines.now)) }
+{
+    let mut found = Vec::new(alloc);
+    for line in lines {
+        found.push(line_form(alloc, *line)?)?;
+    }
+    Ok(found)
+}
+
+/// What a line is to the grammar of blocks.
+pub(crate) fn role<N>(form: &Form<N>) -> Role
+    ensures { result ≡ role_of_form form.now }
+{
+    match form {
+        Form::Skip => Role::Skip,
+        Form::Unknown => Role::Unknown,
+        Form::Line(key, _) => role_of(*key),
+    }
+}

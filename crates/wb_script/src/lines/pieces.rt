@@ -1,0 +1,89 @@
+//! Bytes cut into lines, and lines into words.
+
+ghost use Rattle.std.specs.Prelude.{◌≡◌, ◌≢◌, ◌∷◌, ◌<◌, [], length, IfOk};
+ghost use Rattle.std.specs.List.{flat_map};
+ghost use Rattle.wb_model.specs.Lines.{quoted_after, pieces, lines_of, words_of, unless_empty};
+ghost use Rattle.wb_script.specs.Lent.{lent_texts};
+ghost use Rattle.wb_script.specs.Pieces.{ends_of};
+
+use std::alloc::{AllocError, Global};
+
+/// What bytes are cut into.
+#[derive(Clone, Copy)]
+enum Cut {
+    Lines,
+    Words,
+}
+
+impl Cut {
+    fn ends_at(self, quoted: bool, byte: u8) -> bool
+        ensures { result ≡ ends_of self quoted byte }
+    {
+        match self {
+            Cut::Lines => byte == b'\n',
+            Cut::Words => !quoted && (byte == b' ' || byte == b'\t' || byte == b'\r'),
+        }
+    }
+}
+
+fn quoted_after(quoted: bool, byte: u8) -> bool
+    ensures { result ≡ quoted_after quoted byte }
+{
+    if byte == b'"' { !quoted } else { quoted }
+}
+
+/// The first piece, and the bytes behind its end.
+fn first_piece<'a>(cut: Cut, bytes: &'a [u8]) -> (&'a [u8], &'a [u8])
+    requires { bytes.now ≢ [] }
+    ensures pieces { pieces (ends_of cut) bytes.now ≡ result.0.now ∷ pieces (ends_of cut) result.1.now }
+    ensures shorter { length result.1.now < length bytes.now }
+{
+    let mut quoted = false;
+    for (index, byte) in bytes.iter().enumerate() {
+        if cut.ends_at(quoted, *byte) {
+            return (&bytes[..index], &bytes[index + 1..]);
+        }
+        quoted = quoted_after(quoted, *byte);
+    }
+    (bytes, &bytes[bytes.len()..])
+}
+
+fn pieces<'a>(alloc: Global, cut: Cut, bytes: &'a [u8]) -> Result<Vec<&'a [u8]>, AllocError>
+    ensures { IfOk result (λ found. lent_texts found.items ≡ pieces (ends_of cut) bytes.now) }
+{
+    let mut found = Vec::new(alloc);
+    let mut rest = bytes;
+    while !rest.is_empty() {
+        let (piece, after) = first_piece(cut, rest);
+        found.push(piece)?;
+        rest = after;
+    }
+    Ok(found)
+}
+
+fn nonempty<'a>(alloc: Global, pieces: &[&'a [u8]]) -> Result<Vec<&'a [u8]>, AllocError>
+    ensures { IfOk result (λ found. lent_texts found.items ≡ flat_map unless_empty (lent_texts pieces.now)) }
+{
+    let mut found = Vec::new(alloc);
+    for piece in pieces {
+        if !piece.is_empty() {
+            found.push(*piece)?;
+        }
+    }
+    Ok(found)
+}
+
+/// The lines of a script, without their line feeds.
+pub(crate) fn lines<'a>(alloc: Global, bytes: &'a [u8]) -> Result<Vec<&'a [u8]>, AllocError>
+    ensures { IfOk result (λ found. lent_texts found.items ≡ lines_of bytes.now) }
+{
+    pieces(alloc, Cut::Lines, bytes)
+}
+
+/// The words of a line. A blank between quotes ends no word.
+pub(crate) fn words<'a>(alloc: Global, line: &'a [u8]) -> Result<Vec<&'a [u8]>, AllocError>
+    ensures { IfOk result (λ found. lent_texts found.items ≡ words_of line.now) }
+{
+    let pieces = pieces(alloc, Cut::Words, line)?;
+    nonempty(alloc, &pieces)
+}

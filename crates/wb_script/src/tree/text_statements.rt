@@ -1,0 +1,177 @@
+//! The statements of lines on texts, each from its operands.
+
+ghost use Rattle.std.specs.Prelude.{[], ◌∷◌};
+ghost use Rattle.wb_model.specs.declared.script_lines.Key.TheVariants as key;
+ghost use Rattle.wb_script.specs.Stated.{IsStatementOf};
+
+use crate::tree::scope::Scope;
+use wb_model::script::{Refusal, Statement};
+use wb_model::script_lines::{Meant, Operand};
+
+pub(crate) fn new_text(here: Scope, operands: &[Operand<Meant>]) -> Option<Statement>
+    ensures { IsStatementOf here.entry key.HNew operands.now result }
+{
+    match operands {
+        [pointer, maximum] => Some(Statement::NewText(
+            here.pointer(pointer)?,
+            here.number(maximum)?,
+            Refusal::GivesNull,
+        )),
+        _ => None,
+    }
+}
+
+pub(crate) fn realloc_text(here: Scope, operands: &[Operand<Meant>]) -> Option<Statement>
+    ensures { IsStatementOf here.entry key.HRealloc operands.now result }
+{
+    match operands {
+        [target, source, maximum] => Some(Statement::ReallocText(
+            here.pointer(target)?,
+            here.pointer(source)?,
+            here.number(maximum)?,
+        )),
+        _ => None,
+    }
+}
+
+pub(crate) fn copy(here: Scope, operands: &[Operand<Meant>]) -> Option<Statement>
+    ensures { IsStatementOf here.entry key.Copy operands.now result }
+{
+    match operands {
+        [target, source] => Some(Statement::Copy(here.writable(target)?, here.readable(source)?)),
+        _ => None,
+    }
+}
+
+pub(crate) fn append(here: Scope, operands: &[Operand<Meant>]) -> Option<Statement>
+    ensures { IsStatementOf here.entry key.Append operands.now result }
+{
+    match operands {
+        [target, source] => Some(Statement::Append(here.writable(target)?, here.readable(source)?)),
+        _ => None,
+    }
+}
+
+pub(crate) fn insert(here: Scope, operands: &[Operand<Meant>]) -> Option<Statement>
+    ensures { IsStatementOf here.entry key.Insert operands.now result }
+{
+    match operands {
+        [target, position, source] => Some(Statement::Insert(
+            here.writable(target)?,
+            here.number(position)?,
+            here.readable(source)?,
+        )),
+        _ => None,
+    }
+}
+
+pub(crate) fn delete_text(here: Scope, operands: &[Operand<Meant>]) -> Option<Statement>
+    ensures { IsStatementOf here.entry key.DelText operands.now result }
+{
+    match operands {
+        [target, position, count] => Some(Statement::DeleteText(
+            here.writable(target)?,
+            here.number(position)?,
+            here.number(count)?,
+        )),
+        _ => None,
+    }
+}
+
+pub(crate) fn set_length(here: Scope, operands: &[Operand<Meant>]) -> Option<Statement>
+    ensures { IsStatementOf here.entry key.SetLength operands.now result }
+{
+    match operands {
+        [target, length] => Some(Statement::SetLength(
+            here.writable(target)?,
+            here.number(length)?,
+        )),
+        _ => None,
+    }
+}
+
+pub(crate) fn left(here: Scope, operands: &[Operand<Meant>]) -> Option<Statement>
+    ensures { IsStatementOf here.entry key.Left operands.now result }
+{
+    match operands {
+        [view, source, count] => Some(Statement::Left(
+            here.view(view)?,
+            here.readable(source)?,
+            here.number(count)?,
+        )),
+        _ => None,
+    }
+}
+
+pub(crate) fn right(here: Scope, operands: &[Operand<Meant>]) -> Option<Statement>
+    ensures { IsStatementOf here.entry key.Right operands.now result }
+{
+    match operands {
+        [view, source, count] => Some(Statement::Right(
+            here.view(view)?,
+            here.readable(source)?,
+            here.number(count)?,
+        )),
+        _ => None,
+    }
+}
+
+pub(crate) fn mid(here: Scope, operands: &[Operand<Meant>]) -> Option<Statement>
+    ensures { IsStatementOf here.entry key.Mid operands.now result }
+{
+    match operands {
+        [view, source, position, count] => Some(Statement::Mid(
+            here.view(view)?,
+            here.readable(source)?,
+            here.number(position)?,
+            here.number(count)?,
+        )),
+        _ => None,
+    }
+}
+
+pub(crate) fn get_length(here: Scope, operands: &[Operand<Meant>]) -> Option<Statement>
+    ensures { IsStatementOf here.entry key.GetLen operands.now result }
+{
+    match operands {
+        [variable, source] => Some(Statement::GetLength(
+            here.variable(variable)?,
+            here.readable(source)?,
+        )),
+        _ => None,
+    }
+}
+
+pub(crate) fn get_maximum(here: Scope, operands: &[Operand<Meant>]) -> Option<Statement>
+    ensures { IsStatementOf here.entry key.GetMax operands.now result }
+{
+    match operands {
+        [variable, target] => Some(Statement::GetMaximum(
+            here.variable(variable)?,
+            here.writable(target)?,
+        )),
+        _ => None,
+    }
+}
+
+/// A `print` of what one operand spells.
+fn printed(here: Scope, operand: &Operand<Meant>) -> Option<Statement>
+    ensures { IsStatementOf here.entry key.Print (operand.now ∷ []) result }
+{
+    match operand {
+        Operand::Number(_) | Operand::Name(Meant::Number(_)) => {
+            Some(Statement::PrintNumber(here.number(operand)?))
+        }
+        _ => Some(Statement::PrintText(here.readable(operand)?)),
+    }
+}
+
+/// A `print` of a number or of a text.
+pub(crate) fn print(here: Scope, operands: &[Operand<Meant>]) -> Option<Statement>
+    ensures { IsStatementOf here.entry key.Print operands.now result }
+{
+    match operands {
+        [operand] => printed(here, operand),
+        _ => None,
+    }
+}

@@ -1,0 +1,32 @@
+-- What the program has done, by what its words came to.
+use Rattle.std.proofs.Common.{◌≡◌, ◌⊎◌, ℕ, List, Bool, true, false, Result, Ok, Err, MatchResult, inl, refl, sym, subst}
+use Rattle.clap.specs.Words.{Text, takes}
+use Rattle.workbench.specs.CommandLine.{command_line}
+use Rattle.workbench.specs.Fault.{IsAfterUsage, IsFaultOf}
+use Rattle.workbench.specs.Program.{IsDone, IsReadAs, IsRefused}
+use Rattle.workbench.specs.declared.command.Command.{Command}
+use Rattle.workbench.specs.declared.command.CommandFault.{CommandFault}
+use Rattle.workbench.specs.declared.host.WordsFault.{WordsFault}
+use Rattle.workbench.specs.declared.host.WordsFault.TheVariants.{Refused}
+
+-- words that could be had, and that `command` refuses
+pub read_as_fault : {V E : Type 0} (words : Result V E) (had : V) (texts : V → List Text) (told : List Text) (unread : E → WordsFault) (fault : CommandFault)
+    (read : Result Command WordsFault) → words ≡ Ok had → texts had ≡ told → read ≡ Err (Refused fault) → IsFaultOf told fault
+    → (takes command_line told ≡ true → IsAfterUsage fault)
+    → MatchResult words (λ v. IsReadAs (texts v) read) (λ e. read ≡ Err (unread e))
+read_as_fault words had texts told unread fault read is same gave found taken =
+    subst (λ w. MatchResult w (λ v. IsReadAs (texts v) read) (λ e. read ≡ Err (unread e))) (sym is)
+    (subst (λ t. IsReadAs t read) (sym same) (subst (IsReadAs told) (sym gave) (found, taken)))
+
+-- words that came to a command, which was carried out
+pub done_with : {V E H W M : Type 0} (words : Result V E) (texts : V → List Text) (unread : E → WordsFault)
+    (carries_out : Command → H → H → W → W → ℕ → Type 0) (tells : M → WordsFault → M → Type 0) (command : Command)
+    (host host' : H) (output output' : W) (messages : M) (status : ℕ)
+    → MatchResult words (λ v. IsReadAs (texts v) (Ok command)) (λ e. Ok command ≡ Err (unread e))
+    → carries_out command host host' output output' status
+    → MatchResult words (λ v. IsDone carries_out tells (texts v) host host' output output' messages messages status)
+    (λ e. IsRefused tells (unread e) host host' output output' messages messages status)
+done_with (Ok had) texts unread carries_out tells command host host' output output' messages status read done =
+    inl (record { command = command; spelled = read.0; done = done; untold = refl })
+done_with (Err e) texts unread carries_out tells command host host' output output' messages status read done =
+    absurd (subst (λ r. MatchResult r (λ _. Unit {0}) (λ _. ⊥)) read tt)

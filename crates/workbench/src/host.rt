@@ -1,0 +1,106 @@
+//! What the program is run in: files, standard input, and where messages go. What is done with them stands in
+//! `program`.
+//!
+//! What each call does is a relation into which no contract looks, as it is with streams (`streams`).
+
+ghost use Rattle.std.specs.Prelude.{◌≡◌, ℕ, List, Option, ⊤};
+ghost use Rattle.workbench.specs.Program.{fault_of_words};
+ghost use Rattle.workbench.specs.declared.host.WordsFault.{WordsFault as Fault};
+ghost use Rattle.workbench.specs.declared.host.WordsFault.TheVariants.{Refused};
+
+use crate::command::CommandFault;
+use crate::streams::Source;
+use std::fs::File;
+use std::io;
+use std::io::{ErrorKind, StdinLock, Write};
+use thiserror::Error;
+
+/// Why the program's words are no command.
+#[derive(Debug, Drop, Error)]
+pub enum WordsFault {
+    /// A word is not UTF-8.
+    #[error("error: a word of the command line is not UTF-8\n")]
+    NotUtf8,
+    /// They are refused, or memory ran out.
+    #[error("{0}")]
+    Refused(CommandFault),
+}
+
+impl From<CommandFault> for WordsFault {
+    ghost from_gives = { λ error fault. fault ≡ Refused error };
+
+    fn from(error: CommandFault) -> WordsFault {
+        WordsFault::Refused(error)
+    }
+}
+
+/// The words themselves could not be had.
+impl From<io::Error> for WordsFault {
+    ghost from_gives = { λ error fault. fault ≡ fault_of_words error };
+
+    fn from(error: io::Error) -> WordsFault {
+        if error.kind() == ErrorKind::OutOfMemory {
+            WordsFault::Refused(CommandFault::NoMemory)
+        } else {
+            WordsFault::NotUtf8
+        }
+    }
+}
+
+/// Files by their names, and standard input.
+pub trait Host {
+    type File: Source + Drop;
+
+    type Input: Source + Drop;
+
+    /// What opening a file does: the host before it, the file's name, the file where it can be opened, and the host
+    /// after it.
+    ghost opens: { Self → List ℕ → Option Self.File → Self → Type 0 };
+
+    /// What asking for standard input does: the host before it, the input, and the host after it.
+    ghost lends: { Self → Self.Input → Self → Type 0 };
+
+    /// Opens a file to read it; `None` where it can't be opened.
+    fn open(&mut self, name: &str) -> Option<Self::File>
+        ensures { opens self.old name.now result self.new };
+
+    fn standard_input(&mut self) -> Self::Input
+        ensures { lends self.old result self.new };
+}
+
+/// The process's own.
+impl Host for &HostRuntime {
+    type File = File;
+
+    type Input = StdinLock<'static>;
+
+    ghost opens = { λ _ _ _ _. ⊤ };
+
+    ghost lends = { λ _ _ _. ⊤ };
+
+    fn open(&mut self, name: &str) -> Option<File> {
+        File::open(*self, name).ok()
+    }
+
+    fn standard_input(&mut self) -> StdinLock<'static> {
+        self.reader()
+    }
+}
+
+/// Where the user is told why there is no command.
+pub trait Messages {
+    /// What telling it does: what stood there before, the fault, and what stands there after.
+    ghost tells: { Self → Fault → Self → Type 0 };
+
+    fn tell(&mut self, fault: &WordsFault)
+        ensures { tells self.old fault.now self.new };
+}
+
+impl<W: Write> Messages for W {
+    ghost tells = { λ _ _ _. ⊤ };
+
+    /// Whether the message went out makes no difference.
+    fn tell(&mut self, fault: &WordsFault) {
+        let _ = write!(self, "{fault}");
+    }
+}

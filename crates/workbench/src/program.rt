@@ -1,0 +1,106 @@
+//! The whole program, over the words, the files and the streams that it is handed. `main` hands over the
+//! process's own.
+
+ghost use Rattle.std.specs.Prelude.{◌≡◌, ◌≤◌, IfErr, IfOk, IsTrue, MatchResult, map, true};
+ghost use Rattle.clap.specs.Words.{takes};
+ghost use Rattle.workbench.specs.Answer.{IsAnswer, IsWritten};
+ghost use Rattle.workbench.specs.Command.{is_answerable};
+ghost use Rattle.workbench.specs.Program.{IsCarriedOut, IsDone, IsReadAs, IsRefused, fault_of_words, words_status};
+ghost use Rattle.workbench.specs.Report.{read_fault};
+
+use crate::answer::{READ_OR_WRITE_FAULT, WANT_OF_MEMORY, answer, say_read_fault};
+use crate::command::{Command, CommandFault};
+use crate::command_line::command;
+use crate::host::{Host, Messages, WordsFault};
+use crate::streams::Sink;
+use std::alloc::Global;
+use std::convert::AsStr;
+use std::io;
+
+/// The exit status of a fault in the command line.
+pub const COMMAND_LINE_FAULT: u8 = 6;
+
+/// Carries out the command that the words spell, and gives the exit status. `words` are all of the program's
+/// words, its name first, or why they could not be had; all of them are handed to `command`.
+///
+/// Where they are no command, `messages` is told why, and nothing else is touched: the status is
+/// `COMMAND_LINE_FAULT`, or `WANT_OF_MEMORY` where the memory for the command ran out. Else `messages` is not
+/// touched. The script is what the named file holds, which is opened once, or standard input where none is named,
+/// and `output` is given the answer. Where the file can't be opened that is the line `read fault`, with
+/// `READ_OR_WRITE_FAULT`.
+pub fn program<S: AsStr + Drop, H: Host, W: Sink, M: Messages>(
+    alloc: Global,
+    words: io::Result<Vec<S>>,
+    host: &mut H,
+    output: &mut W,
+    messages: &mut M,
+) -> u8
+    ensures done { MatchResult words
+        (λ had. IsDone
+        (IsCarriedOut H.lends H.opens
+        (IsAnswer H.Input.remaining H.Input.reads W.contents W.writes)
+        (IsAnswer H.File.remaining H.File.reads W.contents W.writes)
+        (λ old new. IsWritten W.contents W.writes old new read_fault READ_OR_WRITE_FAULT))
+        M.tells (map S.text had.items)
+        host.old host.new output.old output.new messages.old messages.new result)
+        (λ error. IsRefused M.tells (fault_of_words error)
+        host.old host.new output.old output.new messages.old messages.new result) }
+    ensures status { result ≤ COMMAND_LINE_FAULT }
+{
+    match commanded(alloc, words) {
+        Ok(command) => carry_out(alloc, &command, host, output),
+        Err(fault) => {
+            messages.tell(&fault);
+            status_of(&fault)
+        }
+    }
+}
+
+/// The command of the words, where they could be had.
+fn commanded<S: AsStr + Drop>(
+    alloc: Global,
+    words: io::Result<Vec<S>>,
+) -> Result<Command, WordsFault>
+    ensures { MatchResult words
+        (λ had. IsReadAs (map S.text had.items) result)
+        (λ error. result ≡ Err (fault_of_words error)) }
+{
+    let words = words?;
+    Ok(command(alloc, words.as_slice())?)
+}
+
+/// Answers the command over its file, or over standard input where it names none. The file is opened before any
+/// of it is read.
+fn carry_out<H: Host, W: Sink>(alloc: Global, command: &Command, host: &mut H, output: &mut W) -> u8
+    requires { IsTrue (is_answerable command.now) }
+    ensures done { IsCarriedOut H.lends H.opens
+        (IsAnswer H.Input.remaining H.Input.reads W.contents W.writes)
+        (IsAnswer H.File.remaining H.File.reads W.contents W.writes)
+        (λ old new. IsWritten W.contents W.writes old new read_fault READ_OR_WRITE_FAULT)
+        command.now host.old host.new output.old output.new result }
+    ensures status { result ≤ READ_OR_WRITE_FAULT }
+{
+    let Some(name) = &command.file else {
+        let mut input = host.standard_input();
+        return answer(alloc, command, &mut input, output);
+    };
+    match host.open(name.as_str()) {
+        Some(mut file) => answer(alloc, command, &mut file, output),
+        None => say_read_fault(output),
+    }
+}
+
+/// The exit status where there is no command.
+fn status_of(fault: &WordsFault) -> u8
+    ensures { result ≡ words_status fault.now }
+{
+    match fault {
+        WordsFault::Refused(CommandFault::NoMemory) => WANT_OF_MEMORY,
+        WordsFault::NotUtf8
+        | WordsFault::Refused(CommandFault::Usage(_) | CommandFault::Both | CommandFault::Shape) =>
+            COMMAND_LINE_FAULT,
+    }
+}
+
+#[cfg(test)]
+mod tests;
