@@ -56,8 +56,8 @@ impl Cells {
         }
     }
 
-    /// Holds so many bytes at least; the cells stay as they are. Where memory is refused, nothing changes; it takes none
-    /// where so many are held.
+    /// Holds at least `bytes` bytes; the cells stay as they are. Where memory is refused, nothing changes; none is asked
+    /// for where they are held already.
     pub fn reserve(&mut self, bytes: u32) -> Result<(), NoMemory>
         requires rounded { bytes % 16 ≡ 0 }
         requires within { bytes ≤ CEILING }

@@ -14,7 +14,7 @@ use wb_model::heap::{Header, Kind};
 /// The link of the last free cell.
 pub const NONE: u32 = 0xffff_ffff;
 
-/// How many words so many bytes are, in whole places of 16 bytes; so a place's first word has this index.
+/// The number of words in a length, of whole places of 16 bytes; and so the index of the first word at a place.
 pub fn words_in(bytes: u32) -> u32
     ensures { result ≡ bytes / 16 * 4 }
 {
@@ -83,8 +83,8 @@ pub fn write_header(words: &mut Chunk, place: u32, bytes: u32, state: u32, link:
     words.set_word(at + 3, number);
 }
 
-/// Appends words that are 0, up to so many words. Where memory is refused, the words are as they were; it takes none
-/// where there are so many.
+/// Appends words that are 0 until there are `count`. Where memory is refused, the words are as they were; none is asked
+/// for where there are as many already.
 pub fn grow_to(words: &mut Chunk, count: u32) -> Result<(), AllocError>
     requires { count ≤ MOST_WORDS }
     ensures grown { OnOk result (words.new ≡ words.old ++ replicate (count - length words.old) 0) }

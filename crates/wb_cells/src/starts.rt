@@ -50,8 +50,8 @@ impl Starts {
         32 * self.words.words()
     }
 
-    /// Appends bits that are off, up to so many bits, in steps of 32. Where memory is refused, the bits are as they were; it
-    /// takes none where there are so many.
+    /// Appends bits that are off, in steps of 32, until there are at least `count`. Where memory is refused, the bits
+    /// are as they were; none is asked for where there are as many already.
     pub fn grow_to(&mut self, count: u32) -> Result<(), AllocError>
         requires { count ≤ MOST_PLACES }
         ensures grown { OnOk result (self.new ≡ self.old ++ replicate (32 * ((count + 31) / 32) - length self.old) false) }

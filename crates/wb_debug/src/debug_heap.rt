@@ -123,7 +123,7 @@ impl DebugHeap {
 
 /// Attempts to get a cell, and releases.
 impl DebugHeap {
-    /// An attempt to get a cell for so many bytes, with zeros for its payload.
+    /// An attempt to get a cell for `bytes` bytes, with zeros for its payload.
     ///
     /// `Denied` where the setting or the rule refuses it, which counts it. `Ceiling` where neither does and the cell
     /// would end past the ceiling: nothing is counted, and the heap is as it was; so it is on `NoMemory`, which never comes
@@ -156,7 +156,7 @@ impl DebugHeap {
         Ok(gave)
     }
 
-    /// Gives the cell that the pointer names another length, for so many bytes.
+    /// Gives the cell that the pointer names another length, for `bytes` bytes.
     ///
     /// A cell length that isn't longer is no attempt: it answers `Granted` with the pointer, the tail is free, and what
     /// stood there is dropped. A longer one is an attempt, and is answered as `attempt_alloc` does. Its place is the
@@ -241,7 +241,7 @@ impl DebugHeap {
     }
 }
 
-/// What an attempt gives that the heap was asked to grant. Where the workbench's own memory was wanting, it is no attempt:
+/// What an attempt gives that the heap was asked to grant. Where the workbench's own memory ran out, it is no attempt:
 /// its line, the trace's last, is taken back.
 fn granted_or_undone(granted: Result<Ptr, HeapFault>, trace: &mut Trace) -> Result<Gave, NoMemory>
     ensures granted { IfOk result (λ gave. IsOkAnd granted (λ ptr. gave ≡ Gave.Granted ptr)) }
@@ -269,10 +269,11 @@ impl DebugHeap {
         self.level += 1;
     }
 
-    /// Closes the innermost mark, where so many live cells are of its level: they take the level below.
+    /// Closes the innermost mark, where `n` live cells are of its level: they take the level below.
     ///
-    /// `Panic::NO_OPEN_MARK` where no mark is open, and else what `check` refuses; the heap is then as it was. Source: Symbian OS
-    /// v9 SDK reference, `__UHEAP_MARKEND` and `__UHEAP_MARKENDC`, and this project's profile for the levels.
+    /// `Panic::NO_OPEN_MARK` where no mark is open, and else what `check` refuses; the heap is then as it was. Source:
+    /// Symbian OS v9 SDK reference, `__UHEAP_MARKEND` and `__UHEAP_MARKENDC`, and this project's profile for the
+    /// levels.
     pub fn mark_end(&mut self, n: u32) -> Result<(), Panic>
         ensures refused { IfErr result (λ panic. mark_end_refusal self.old.heap n ≡ Some panic) }
         ensures fine { OnOk result (mark_end_refusal self.old.heap n ≡ None) }
@@ -290,7 +291,7 @@ impl DebugHeap {
         Ok(())
     }
 
-    /// Expects so many live cells of the current level.
+    /// Expects `n` live cells of the current level.
     ///
     /// Where they are fewer or more, `Alloc` names the place of the lowest, or 0 where there is none. Source: Symbian OS
     /// v9 SDK reference, `__UHEAP_CHECK`, and this project's profile for the cell that is named.
@@ -301,7 +302,7 @@ impl DebugHeap {
         marks::expect(&self.heap, Levels::One(self.level), n)
     }
 
-    /// Expects so many live cells of all levels. It refuses as `check` does. Source: Symbian OS v9 SDK reference,
+    /// Expects `n` live cells of all levels. It refuses as `check` does. Source: Symbian OS v9 SDK reference,
     /// `__UHEAP_CHECKALL`, and this project's profile for the cell that is named.
     pub fn check_all(&self, n: u32) -> Result<(), Panic>
         ensures refused { IfErr result (λ panic. check_all_refusal self.now n ≡ Some panic) }

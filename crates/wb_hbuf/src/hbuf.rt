@@ -21,7 +21,7 @@ use wb_model::memory::NoMemory;
 use wb_model::printed_line::Line;
 use wb_text::Buf;
 
-/// An attempt to get a cell for an empty text that may have so many units.
+/// An attempt to get a cell for an empty text that may have `n` units.
 ///
 /// `Denied` and `Ceiling` are the heap's answers. `NoMemory` leaves the heap as it was, and never comes in place of
 /// `Ceiling`. Source: Symbian OS v9 SDK
@@ -39,11 +39,11 @@ pub fn make(heap: &mut DebugHeap, n: u32) -> Result<Gave, NoMemory>
     heap.attempt_alloc(4 + 2 * n, Kind::Text)
 }
 
-/// Gives a text another maximum: a reallocation of its cell for so many units, which keeps the text.
+/// Gives a text another maximum: a reallocation of its cell for `n` units, which keeps the text.
 ///
 /// Its length may not pass them. `Denied` and `Ceiling` are the heap's answers, and leave the cell as it was.
-/// `NoMemory` leaves the heap as it was, and doesn't come where the cell gets no longer or in place of `Ceiling`. Source: Symbian OS v9 SDK
-/// reference, HBufC::ReAlloc, and this project's profile for the length of the cell.
+/// `NoMemory` leaves the heap as it was, and doesn't come where the cell gets no longer or in place of `Ceiling`.
+/// Source: Symbian OS v9 SDK reference, HBufC::ReAlloc, and this project's profile for the length of the cell.
 pub fn remake(heap: &mut DebugHeap, ptr: Ptr, n: u32) -> Result<Gave, NoMemory>
     requires text { IsTextAt ptr heap.old }
     requires fits { length (text_at ptr heap.old) ≤ n }
@@ -100,8 +100,8 @@ fn measure(heap: &DebugHeap, ptr: Ptr) -> Measured
 /// Changes the text in a cell by the units of a source, which count as they stood before.
 ///
 /// `Panic::POSITION_OUT_OF_BOUNDS` where an insertion's position is past the end, then `Panic::TOO_LONG` where the text
-/// would be longer than its maximum. A refusal leaves the heap as it was. Other cells stay. Source: Symbian OS v9 SDK reference, 16-bit
-/// descriptors.
+/// would be longer than its maximum. A refusal leaves the heap as it was. Other cells stay. Source: Symbian OS v9 SDK
+/// reference, 16-bit descriptors.
 pub fn edit(heap: &mut DebugHeap, ptr: Ptr, change: Edit, source: Source) -> Result<(), Panic>
     requires text { IsTextAt ptr heap.old }
     requires source { IsSource heap.old source }
@@ -170,7 +170,7 @@ fn insert(heap: &mut DebugHeap, ptr: Ptr, at: u32, source: Source) -> Result<(),
     Ok(())
 }
 
-/// Takes so many units from a position on out of the text in a cell, or all from there where there are fewer.
+/// Takes `count` units from a position on out of the text in a cell, or all from there where there are fewer.
 ///
 /// `Panic::POSITION_OUT_OF_BOUNDS` where the position is past the end, and then the heap is as it was. Units past the new
 /// end are zero. Other cells stay. Source: Symbian OS v9 SDK reference, 16-bit descriptors.
@@ -221,7 +221,8 @@ pub fn set_length(heap: &mut DebugHeap, ptr: Ptr, n: u32) -> Result<(), Panic>
 /// stands.
 ///
 /// `Panic::POSITION_OUT_OF_BOUNDS` where an insertion's position is past the end, then `Panic::TOO_LONG` where the text
-/// would be longer than its maximum. A refusal leaves the buffer as it was. Source: Symbian OS v9 SDK reference, 16-bit descriptors.
+/// would be longer than its maximum. A refusal leaves the buffer as it was. Source: Symbian OS v9 SDK reference, 16-bit
+/// descriptors.
 pub fn edit_buf(heap: &DebugHeap, buf: &mut Buf, change: Edit, source: Source) -> Result<(), Panic>
     requires source { IsSource heap.now source }
     requires suits { SuitsEdit change source }

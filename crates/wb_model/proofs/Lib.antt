@@ -1,5 +1,7 @@
 pub mod AgreementLemmas
 pub mod AlikeLemmas
+pub mod AlikePieces
+pub mod AlikeStatements
 pub mod CleanupCells
 pub mod LineExamples
 pub mod Places
@@ -10,6 +12,8 @@ pub mod LimitedHeaps
 pub mod ObjectCells
 pub mod Onward
 pub mod Parts
+pub mod KeptCells
+pub mod ThroughoutLemmas
 pub mod Payloads
 pub mod Rows
 pub mod Settings
@@ -17,11 +21,12 @@ pub mod Spellings
 pub mod ResumeLemmas
 pub mod WorkedCases
 pub mod MeaningLemmas
+pub mod Measures
 pub mod TextCells
 pub mod TextCellsHeap
 pub mod WordLemmas
 pub mod WritingLemmas
 pub mod TraceLemmas
-pub mod LimitLemmas
+pub mod SizeLemmas
 pub mod SameRuns
 pub mod SweepLemmas

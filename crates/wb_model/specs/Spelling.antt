@@ -37,7 +37,7 @@ abbrev pub with_cell_if : Option (Cell (List ℕ)) → List (Cell (List ℕ)) �
 with_cell_if None cs = cs
 with_cell_if (Some c) cs = c ∷ cs
 
--- at most so many headers, from a place on, with the words from there on
+-- at most a number of headers, from a place on, with the words from there on
 abbrev pub spelled_from : ℕ → ℕ → ℕ → List ℕ → List (Cell (List ℕ))
 spelled_from zero top place ws = []
 spelled_from (suc n) top place ws =
@@ -62,11 +62,11 @@ abbrev pub halves : List ℕ → List ℕ
 halves [] = []
 halves (w ∷ ws) = w % 2 ^ 16 ∷ w / 2 ^ 16 ∷ halves ws
 
--- the fields that the words of an object read as, where its class has so many
+-- the fields that the words of an object read as, where its class has a number of them
 abbrev pub fields_in : ℕ → List ℕ → List Ptr
 fields_in count ws = take count (pointers (drop 2 ws))
 
--- a cell's content, where a class has so many fields
+-- a cell's content, where a class has a number of fields
 abbrev pub read_as : (ℕ → ℕ) → Kind → List ℕ → Content
 read_as count Raw ws = words (map signed ws)
 read_as count (Object class) ws = fields (fields_in (count class) ws)

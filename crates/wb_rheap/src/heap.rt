@@ -89,10 +89,10 @@ impl Heap {
 
     /// Grants a cell at the place that `place_for` gives, with zeros for its payload.
     ///
-    /// The length is the cell length in bytes, the number that of the attempt, from 1 on, and the level that
-    /// of the heap marks. `TooShort` exactly where the cell would end past the limit, and else `NoMemory` at
-    /// worst, and not even that where the new committed length is within `held`. A refusal leaves the heap as it was.
-    /// Source: Symbian OS v9 SDK reference, RHeap, for a grant that is refused, and this project's profile.
+    /// The length is the cell length in bytes, the number that of the attempt, from 1 on, and the level that of the
+    /// heap marks. `TooShort` exactly where the cell would end past the limit, and else `NoMemory` at worst, and not
+    /// even that where the new committed length is within `held`. A refusal leaves the heap as it was. Source: Symbian
+    /// OS v9 SDK reference, RHeap, for a grant that is refused.
     pub fn alloc(
         &mut self,
         length: u32,

@@ -49,7 +49,7 @@ impl Heap {
         }
     }
 
-    /// Whether a live cell can be so long where it stands.
+    /// Whether a live cell can have this length where it stands.
     fn fits(&self, cell: Header, length: u32) -> bool
         requires live { option_map (λ c. c.head) (cell_at (pointer_to cell) self.now.row) ≡ Some cell }
         requires longer { cell.length < length }
@@ -70,10 +70,11 @@ impl Heap {
     /// with zeros behind it, and so are kind and level. It keeps its number where it stays, and takes the new one where
     /// it moves: the old pointer is stale then.
     ///
-    /// `BadCell` exactly where the pointer names no live cell; `TooShort` exactly where a longer cell would end past the
-    /// limit, and then no lower place is tried; else `NoMemory` at worst, and not even that where the new committed
-    /// length is within `held`. A refusal leaves the heap as it was. Source: Symbian OS v9 SDK reference, RHeap, for contents that are kept and
-    /// for a refusal that leaves the old cell, and this project's profile for places and numbers.
+    /// `BadCell` exactly where the pointer names no live cell; `TooShort` exactly where a longer cell would end past
+    /// the limit, and then no lower place is tried; else `NoMemory` at worst, and not even that where the new committed
+    /// length is within `held`. A refusal leaves the heap as it was. Source: Symbian OS v9 SDK reference, RHeap, for
+    /// contents that are kept and for a refusal that leaves the old cell, and this project's profile for places and
+    /// numbers.
     pub fn realloc(&mut self, ptr: Ptr, length: u32, number: u32) -> Result<Ptr, HeapFault>
         requires length { IsCellLength length }
         requires numbered { 1 ≤ number }
