@@ -342,7 +342,7 @@ def rises_term(lines: list[str]) -> str:
     """The rises that a size text tells: each with its number and its top, where the next line begins."""
     rows = [line.split(" ") for line in lines[1:]]
     tops = [row[1] for row in rows[1:-1]] + [rows[-1][2]]
-    return listed([f"({row[3]}, {top})" for row, top in zip(rows, tops)])
+    return listed([apply("rise", row[3], top) for row, top in zip(rows, tops)])
 
 
 # --- cases -------------------------------------------------------------------
@@ -419,7 +419,7 @@ DECLARED = """
 heap.Rule.TheVariants as R; heap.Panic.TheVariants as P; script.Holder.TheVariants as H; heap.Shape.{Shape}; heap.Answer.{Answer};
 heap.Answer.TheVariants.{Granted, Simulated, Refused}; heap.Attempt.{Attempt}; run.Note.TheVariants.{Heap, Available, Compress};
 run.Why.TheVariants.{Budget, Ceiling}; run.Outcome.TheVariants.{Ended, Panicked, NoCleanup, Cut}; script.Script.{Script};
-script.Body.{Body}; script.Parameter.TheVariants as Par; script.Local.TheVariants.{OfPointer, OfNumber, OfBuffer, OfView}; script.Pointer.TheVariants.{Held, Field};
+script.Body.{Body}; size.Rise.{Rise}; script.Parameter.TheVariants as Par; script.Local.TheVariants.{OfPointer, OfNumber, OfBuffer, OfView}; script.Pointer.TheVariants.{Held, Field};
 script.Number.TheVariants.{Constant, Variable}; script.Writable.TheVariants.{OwnBuffer, InCell};
 script.Readable.TheVariants.{Of, ViewOf, Quoted}; script.Condition.TheVariants.{IsNull, NotNull, Equal, Less};
 script.Argument.TheVariants.{Passed, Given}; script.Refusal.TheVariants.{GivesNull, Leaves}; script.Statement.{Statement};
@@ -440,6 +440,9 @@ shaped min step = record { min = min; step = step }
 
 abbrev line : ℕ → ℕ → ℕ → Answer → Attempt
 line number length place answer = record { number = number; length = length; place = place; answer = answer }
+
+abbrev rise : ℕ → ℕ → Rise
+rise number top = record { number = number; top = top }
 """
 
 

@@ -14,7 +14,7 @@ use Rattle.wb_model.specs.State.{is_cut, State, Query, heap_note, available_note
 use Rattle.wb_model.specs.Space.{Space, space_below, bound_below, limit_under, space_of}
 use Rattle.wb_model.specs.Account.{stopped, Account, Settled, settled, on_answer, recorded, noted, next_number}
 use Rattle.wb_model.specs.Run.{process, before, result_of, outcome_of}
-use Rattle.wb_model.specs.Agreement.{RefusesAtLeast, IsNoLimit, IsSameButNotes, PartsAt, Agrees}
+use Rattle.wb_model.specs.Agreement.{RefusesAtLeast, IsNoLimit, IsSameRun, PartsAt, Agrees}
 
 -- a note leaves the trace
 noted-trace : (space : Space) (q : Query) (a : Account) → (noted space q a).trace ≡ a.trace
@@ -82,6 +82,28 @@ not_cut r s h n one t = due t.due
     due true e = cc
     due false e = by (refusal_of r n end) (refusal_of s n end) (h n end one) e
 
+-- where the answers differ, the second rule refuses, and what the first rule says is told by its answer
+record Parting (r s : Rule) (n end : ℕ) (v w : Answer) : Type 0 where
+  answered : unless_refused (refusal_of r n end) end ≡ Some v
+  refused : refusal_of s n end ≡ Some w
+
+parting : (r s : Rule) → RefusesAtLeast r s → (n : ℕ) → 1 ≤ n → (t : Request) (v w : Answer) →
+    answer_to r n t ≡ Some v → answer_to s n t ≡ Some w → w ≢ v → Parting r s n (t.place + t.length) v w
+parting r s h n one t v w = due t.due
+  where
+    end : ℕ
+    end = t.place + t.length
+
+    by : (x y : Option Answer) → (IsSome x → IsSome y) → unless_refused x end ≡ Some v → unless_refused y end ≡ Some w → w ≢ v → y ≡ Some w
+    by x (Some u) k e f ne = f
+    by None None k e f ne = absurd (ne cc)
+    by (Some u) None k e f ne = let no : false ≡ true = k refl in cc
+
+    due : (b : Bool) → cond b (Some Simulated) (unless_refused (refusal_of r n end) end) ≡ Some v →
+        cond b (Some Simulated) (unless_refused (refusal_of s n end) end) ≡ Some w → w ≢ v → Parting r s n end v w
+    due true e f ne = absurd (ne cc)
+    due false e f ne = record { answered = e; refused = by (refusal_of r n end) (refusal_of s n end) (h n end one) e f ne }
+
 -- two ends that are the same, with accounts that differ in notes alone
 pub record Same (x_space y_space : Space) (a b : Account) (x y : Settled) : Type 0 where
   pub end : y.end ≡ x.end
@@ -89,8 +111,8 @@ pub record Same (x_space y_space : Space) (a b : Account) (x y : Settled) : Type
   pub trace : y.account.trace ≡ x.account.trace
   pub account : y_space ≡ x_space → b ≡ a → y.account ≡ x.account
 
-abbrev Law : Space → Space → Account → Account → Settled → Settled → Type 0
-Law x_space y_space a b x y = Same x_space y_space a b x y ⊎ PartsAt x.account.trace y.account.trace
+abbrev Law : Rule → Rule → Space → Space → Account → Account → Settled → Settled → Type 0
+Law r s x_space y_space a b x y = Same x_space y_space a b x y ⊎ PartsAt r s x.account.trace y.account.trace
 
 -- accounts with the same trace
 same_number : (a b : Account) → b.trace ≡ a.trace → next_number b ≡ next_number a
@@ -108,9 +130,11 @@ recorded_trace : (x_space y_space : Space) (n : ℕ) (t : Request) (w : Answer) 
 recorded_trace x_space y_space n t w a b e = ap (λ l. l ++ record { number = n; length = t.length; place = t.place; answer = w } ∷ []) e
 
 -- the answers differ: the traces part here
-parts : (r s : Rule) (x_space y_space : Space) (t : Request) (go : ℕ → Answer → Process) (a b : Account) (n : ℕ) (v w : Answer) →
-    b.trace ≡ a.trace → w ≢ v → PartsAt (after r x_space t go a n v).account.trace (after s y_space t go b n w).account.trace
-parts r s x_space y_space t go a b n v w e ne =
+parts : (r s : Rule) (x_space y_space : Space) (t : Request) (go : ℕ → Answer → Process) (a b : Account) (v w : Answer) →
+    b.trace ≡ a.trace → w ≢ v → Parting r s (next_number a) (t.place + t.length) v w →
+    PartsAt r s (after r x_space t go a (next_number a) v).account.trace (after s y_space t go b (next_number a) w).account.trace
+parts r s x_space y_space t go a b v w e ne parting =
+    let n = next_number a in
     let line : Answer → Attempt = λ u. record { number = n; length = t.length; place = t.place; answer = u } in
     let x = settled_extends r x_space (go n v) (recorded x_space n t v a) in
     let y = settled_extends s y_space (go n w) (recorded y_space n t w b) in
@@ -122,21 +146,24 @@ parts r s x_space y_space t go a b n v w e ne =
       after_other = y.more;
       is_one = x.is ∙ append_assoc a.trace (line v ∷ []) x.more;
       is_other = y.is ∙ append_assoc b.trace (line w ∷ []) y.more ∙ ap (λ l. l ++ line w ∷ y.more) e;
+      counted = refl;
       number = refl;
       length = refl;
       place = refl;
+      answered = parting.answered;
+      refused = parting.refused;
       answer = ne;
     }
 
 pub agree : (r s : Rule) (x_space y_space : Space) → RefusesAtLeast r s → (p : Process) (a b : Account) → b.trace ≡ a.trace →
-    (settled r x_space p a).end ≢ stopped (is_cut Ceiling) → Law x_space y_space a b (settled r x_space p a) (settled s y_space p b)
+    (settled r x_space p a).end ≢ stopped (is_cut Ceiling) → Law r s x_space y_space a b (settled r x_space p a) (settled s y_space p b)
 agree r s x_space y_space h (ends way st) a b e not = inl (record { end = refl; state = refl; trace = e; account = λ _ ab. ab })
 agree r s x_space y_space h (stops stop st) a b e not = inl (record { end = refl; state = refl; trace = e; account = λ _ ab. ab })
 agree r s x_space y_space h (notes q p) a b e not =
     let e' = noted-trace y_space q b ∙ e ∙ sym (noted-trace x_space q a) in
     noted_too (agree r s x_space y_space h p (noted x_space q a) (noted y_space q b) e' not)
   where
-    noted_too : {x y : Settled} → Law x_space y_space (noted x_space q a) (noted y_space q b) x y → Law x_space y_space a b x y
+    noted_too : {x y : Settled} → Law r s x_space y_space (noted x_space q a) (noted y_space q b) x y → Law r s x_space y_space a b x y
     noted_too (inl same) = inl (record {
       end = same.end;
       state = same.state;
@@ -145,17 +172,17 @@ agree r s x_space y_space h (notes q p) a b e not =
     })
     noted_too (inr part) = inr part
 agree r s x_space y_space h (asks t cut go) a b e not =
-    let P : ℕ → Type 0 = λ m. Law x_space y_space a b
+    let P : ℕ → Type 0 = λ m. Law r s x_space y_space a b
     (on_answer (answer_to r (next_number a) t) (cut_at cut a) (after r x_space t go a (next_number a)))
     (on_answer (answer_to s m t) (cut_at cut b) (after s y_space t go b m)) in
     subst P (sym (same_number a b e))
-    (told (answer_to r n t) (answer_to s n t) (not_cut r s h n (omega arith) t)
+    (told (answer_to r n t) (answer_to s n t) refl refl (not_cut r s h n (omega arith) t)
     (λ w. agree r s x_space y_space h (go n w) (recorded x_space n t w a) (recorded y_space n t w b) (recorded_trace x_space y_space n t w a b e)) not)
   where
     n : ℕ
     n = next_number a
 
-    recorded_too : (w : Answer) {x y : Settled} → Law x_space y_space (recorded x_space n t w a) (recorded y_space n t w b) x y → Law x_space y_space a b x y
+    recorded_too : (w : Answer) {x y : Settled} → Law r s x_space y_space (recorded x_space n t w a) (recorded y_space n t w b) x y → Law r s x_space y_space a b x y
     recorded_too w (inl same) = inl (record {
       end = same.end;
       state = same.state;
@@ -164,22 +191,22 @@ agree r s x_space y_space h (asks t cut go) a b e not =
     })
     recorded_too w (inr part) = inr part
 
-    one : (v w : Answer) → (v ≡ w) ⊎ (w ≢ v) →
-        Law x_space y_space (recorded x_space n t v a) (recorded y_space n t v b) (after r x_space t go a n v) (after s y_space t go b n v) →
-        Law x_space y_space a b (after r x_space t go a n v) (after s y_space t go b n w)
-    one v w (inl vw) ih =
-        let P : Answer → Type 0 = λ u. Law x_space y_space a b (after r x_space t go a n v) (after s y_space t go b n u) in
+    one : (v w : Answer) → (v ≡ w) ⊎ (w ≢ v) → (w ≢ v → Parting r s n (t.place + t.length) v w) →
+        Law r s x_space y_space (recorded x_space n t v a) (recorded y_space n t v b) (after r x_space t go a n v) (after s y_space t go b n v) →
+        Law r s x_space y_space a b (after r x_space t go a n v) (after s y_space t go b n w)
+    one v w (inl vw) part ih =
+        let P : Answer → Type 0 = λ u. Law r s x_space y_space a b (after r x_space t go a n v) (after s y_space t go b n u) in
         subst P vw (recorded_too v ih)
-    one v w (inr ne) ih = inr (parts r s x_space y_space t go a b n v w e ne)
+    one v w (inr ne) part ih = inr (parts r s x_space y_space t go a b v w e ne (part ne))
 
-    told : (o o' : Option Answer) → (o' ≡ None → o ≡ None) →
+    told : (o o' : Option Answer) → answer_to r n t ≡ o → answer_to s n t ≡ o' → (o' ≡ None → o ≡ None) →
         ((w : Answer) → (after r x_space t go a n w).end ≢ stopped (is_cut Ceiling) →
-        Law x_space y_space (recorded x_space n t w a) (recorded y_space n t w b) (after r x_space t go a n w) (after s y_space t go b n w)) →
+        Law r s x_space y_space (recorded x_space n t w a) (recorded y_space n t w b) (after r x_space t go a n w) (after s y_space t go b n w)) →
         (on_answer o (cut_at cut a) (after r x_space t go a n)).end ≢ stopped (is_cut Ceiling) →
-        Law x_space y_space a b (on_answer o (cut_at cut a) (after r x_space t go a n)) (on_answer o' (cut_at cut b) (after s y_space t go b n))
-    told None o' k ih not = absurd (not refl)
-    told (Some v) None k ih not = let never : Some v ≡ None = k refl in absurd cc
-    told (Some v) (Some w) k ih not = one v w (answer_cases v w) (ih v not)
+        Law r s x_space y_space a b (on_answer o (cut_at cut a) (after r x_space t go a n)) (on_answer o' (cut_at cut b) (after s y_space t go b n))
+    told None o' x y k ih not = absurd (not refl)
+    told (Some v) None x y k ih not = let never : Some v ≡ None = k refl in absurd cc
+    told (Some v) (Some w) x y k ih not = one v w (answer_cases v w) (parting r s h n (omega arith) t v w x y) (ih v not)
 
 -- the law, of whole runs
 pub rules_agree-law : (script : Script) (budget : ℕ) (shape : Shape) (r s : Rule) → Agrees script budget shape r s
@@ -209,15 +236,15 @@ rules_agree-law script budget shape r s h not =
         ∙ ap (λ st. result_of (record { end = x.end; state = st; account = y.account })) same.state
         ∙ ap (λ a. result_of (record { end = x.end; state = x.state; account = a })) account
 
-    of_run : Law (space_of r shape) (space_of s shape) (before (space_of r shape)) (before (space_of s shape)) x y →
-        (IsSameButNotes (result_of x) (result_of y) × (IsNoLimit r → IsNoLimit s → result_of y ≡ result_of x)) ⊎ PartsAt (result_of x).trace (result_of y).trace
-    of_run (inl same) = inl (
-      record {
+    of_run : Law r s (space_of r shape) (space_of s shape) (before (space_of r shape)) (before (space_of s shape)) x y →
+        IsSameRun r s (result_of x) (result_of y) ⊎ PartsAt r s (result_of x).trace (result_of y).trace
+    of_run (inl same) = inl (record {
+      but_notes = record {
         outcome = ap (λ w. outcome_of w y.state) same.end ∙ ap (λ st. outcome_of x.end st) same.state;
         trace = same.trace;
         lines = ap (λ st. st.lines) same.state;
         steps = ap (λ st. st.steps) same.state;
-      },
-      whole same,
-    )
+      };
+      notes_too = whole same;
+    })
     of_run (inr part) = inr part

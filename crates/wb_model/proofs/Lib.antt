@@ -18,3 +18,7 @@ pub mod TextCells
 pub mod TextCellsHeap
 pub mod WordLemmas
 pub mod WritingLemmas
+pub mod TraceLemmas
+pub mod LimitLemmas
+pub mod SameRuns
+pub mod SweepLemmas

@@ -12,6 +12,7 @@ use Rattle.wb_model.specs.declared.run.Note.TheVariants.{Heap, Available, Compre
 use Rattle.wb_model.specs.declared.run.Why.TheVariants.{Budget, Ceiling}
 use Rattle.wb_model.specs.declared.run.Outcome.TheVariants.{Ended, Panicked, NoCleanup, Cut}
 use Rattle.wb_model.specs.declared.script.Script.{Script}
+use Rattle.wb_model.specs.declared.size.Rise.{Rise}
 use Rattle.wb_model.specs.declared.script.Parameter.TheVariants as Par
 use Rattle.wb_model.specs.declared.script.Local.TheVariants.{OfPointer, OfNumber, OfBuffer, OfView}
 use Rattle.wb_model.specs.declared.script.Pointer.TheVariants.{Held, Field}
@@ -99,6 +100,9 @@ shaped min step = record { min = min; step = step }
 
 abbrev line : ℕ → ℕ → ℕ → Answer → Attempt
 line number length place answer = record { number = number; length = length; place = place; answer = answer }
+
+abbrev rise : ℕ → ℕ → Rise
+rise number top = record { number = number; top = top }
 
 abbrev script_buffer_edits_one_after_another_run : Script
 script_buffer_edits_one_after_another_run = record { classes = []; procedures = (record { parameters = []; body = record { locals = (OfBuffer 8) ∷ OfView ∷ []; statements = rolled ((Statement-F.Copy (OwnBuffer 0) (Quoted 0)) ∷ (Statement-F.Insert (OwnBuffer 0) (Constant (pos 1)) (Quoted 1)) ∷ (Statement-F.DeleteText (OwnBuffer 0) (Constant (pos 4)) (Constant (pos 99))) ∷ (Statement-F.Right 1 (Of (OwnBuffer 0)) (Constant (pos 2))) ∷ (Statement-F.Append (OwnBuffer 0) (ViewOf 1)) ∷ (Statement-F.SetLength (OwnBuffer 0) (Constant (pos 8))) ∷ (Statement-F.PrintText (Of (OwnBuffer 0))) ∷ []) } }) ∷ []; operations = []; literals = (97 ∷ 98 ∷ 99 ∷ 100 ∷ []) ∷ (88 ∷ 89 ∷ []) ∷ []; main = 0 }
@@ -936,49 +940,49 @@ items_left_at_the_plain_end_of_a_trap_run = refl
 abbrev script_cell_for_zero_bytes_size : Script
 script_cell_for_zero_bytes_size = record { classes = []; procedures = (record { parameters = []; body = record { locals = (OfPointer None) ∷ OfNumber ∷ []; statements = rolled ((Statement-F.Alloc (Held (H.Local 0)) (Constant (pos 0)) GivesNull) ∷ (Statement-F.AllocLen 1 (Held (H.Local 0))) ∷ (Statement-F.PrintNumber (Variable 1)) ∷ (Statement-F.Free (Held (H.Local 0))) ∷ []) } }) ∷ []; operations = []; literals = []; main = 0 }
 
-cell_for_zero_bytes_size : (required script_cell_for_zero_bytes_size 10000 (shaped 4096 4096) ≡ 160) × (rises script_cell_for_zero_bytes_size 10000 (shaped 4096 4096) ≡ ((1, 144)) ∷ ((2, 160)) ∷ [])
+cell_for_zero_bytes_size : (required script_cell_for_zero_bytes_size 10000 (shaped 4096 4096) ≡ 160) × (rises script_cell_for_zero_bytes_size 10000 (shaped 4096 4096) ≡ (rise 1 144) ∷ (rise 2 160) ∷ [])
 unfolding everything
 cell_for_zero_bytes_size = (refl, refl)
 
 abbrev script_eighth_push_grows_the_cleanup_cell_size : Script
 script_eighth_push_grows_the_cleanup_cell_size = record { classes = []; procedures = (record { parameters = []; body = record { locals = (OfPointer None) ∷ []; statements = rolled ((Statement-F.Repeat (Constant (pos 8)) (rolled ((Statement-F.Alloc (Held (H.Local 0)) (Constant (pos 16)) Leaves) ∷ (Statement-F.Push (Held (H.Local 0))) ∷ []))) ∷ (Statement-F.PopDestroy (Constant (pos 8))) ∷ []) } }) ∷ []; operations = []; literals = []; main = 0 }
 
-eighth_push_grows_the_cleanup_cell_size : (required script_eighth_push_grows_the_cleanup_cell_size 10000 (shaped 4096 4096) ≡ 608) × (rises script_eighth_push_grows_the_cleanup_cell_size 10000 (shaped 4096 4096) ≡ ((1, 144)) ∷ ((2, 176)) ∷ ((3, 208)) ∷ ((4, 240)) ∷ ((5, 272)) ∷ ((6, 304)) ∷ ((7, 336)) ∷ ((8, 368)) ∷ ((9, 400)) ∷ ((10, 608)) ∷ [])
+eighth_push_grows_the_cleanup_cell_size : (required script_eighth_push_grows_the_cleanup_cell_size 10000 (shaped 4096 4096) ≡ 608) × (rises script_eighth_push_grows_the_cleanup_cell_size 10000 (shaped 4096 4096) ≡ (rise 1 144) ∷ (rise 2 176) ∷ (rise 3 208) ∷ (rise 4 240) ∷ (rise 5 272) ∷ (rise 6 304) ∷ (rise 7 336) ∷ (rise 8 368) ∷ (rise 9 400) ∷ (rise 10 608) ∷ [])
 unfolding everything
 eighth_push_grows_the_cleanup_cell_size = (refl, refl)
 
 abbrev script_empty_main_json_size : Script
 script_empty_main_json_size = record { classes = []; procedures = (record { parameters = []; body = record { locals = []; statements = [] } }) ∷ []; operations = []; literals = []; main = 0 }
 
-empty_main_json_size : (required script_empty_main_json_size 10000 (shaped 4096 4096) ≡ 144) × (rises script_empty_main_json_size 10000 (shaped 4096 4096) ≡ ((1, 144)) ∷ [])
+empty_main_json_size : (required script_empty_main_json_size 10000 (shaped 4096 4096) ≡ 144) × (rises script_empty_main_json_size 10000 (shaped 4096 4096) ≡ (rise 1 144) ∷ [])
 unfolding everything
 empty_main_json_size = (refl, refl)
 
 abbrev script_empty_main_size : Script
 script_empty_main_size = record { classes = []; procedures = (record { parameters = []; body = record { locals = []; statements = [] } }) ∷ []; operations = []; literals = []; main = 0 }
 
-empty_main_size : (required script_empty_main_size 10000 (shaped 4096 4096) ≡ 144) × (rises script_empty_main_size 10000 (shaped 4096 4096) ≡ ((1, 144)) ∷ [])
+empty_main_size : (required script_empty_main_size 10000 (shaped 4096 4096) ≡ 144) × (rises script_empty_main_size 10000 (shaped 4096 4096) ≡ (rise 1 144) ∷ [])
 unfolding everything
 empty_main_size = (refl, refl)
 
 abbrev script_first_fit_reuses_hole_size : Script
 script_first_fit_reuses_hole_size = record { classes = []; procedures = (record { parameters = []; body = record { locals = (OfPointer None) ∷ (OfPointer None) ∷ (OfPointer None) ∷ []; statements = rolled ((Statement-F.Alloc (Held (H.Local 0)) (Constant (pos 10)) GivesNull) ∷ (Statement-F.Alloc (Held (H.Local 1)) (Constant (pos 100)) GivesNull) ∷ (Statement-F.Free (Held (H.Local 0))) ∷ (Statement-F.Alloc (Held (H.Local 2)) (Constant (pos 16)) GivesNull) ∷ (Statement-F.Free (Held (H.Local 1))) ∷ (Statement-F.Free (Held (H.Local 2))) ∷ []) } }) ∷ []; operations = []; literals = []; main = 0 }
 
-first_fit_reuses_hole_size : (required script_first_fit_reuses_hole_size 10000 (shaped 4096 4096) ≡ 304) × (rises script_first_fit_reuses_hole_size 10000 (shaped 4096 4096) ≡ ((1, 144)) ∷ ((2, 176)) ∷ ((3, 304)) ∷ [])
+first_fit_reuses_hole_size : (required script_first_fit_reuses_hole_size 10000 (shaped 4096 4096) ≡ 304) × (rises script_first_fit_reuses_hole_size 10000 (shaped 4096 4096) ≡ (rise 1 144) ∷ (rise 2 176) ∷ (rise 3 304) ∷ [])
 unfolding everything
 first_fit_reuses_hole_size = (refl, refl)
 
 abbrev script_freed_neighbours_merge_size : Script
 script_freed_neighbours_merge_size = record { classes = []; procedures = (record { parameters = []; body = record { locals = (OfPointer None) ∷ (OfPointer None) ∷ (OfPointer None) ∷ (OfPointer None) ∷ (OfPointer None) ∷ []; statements = rolled ((Statement-F.Alloc (Held (H.Local 0)) (Constant (pos 16)) GivesNull) ∷ (Statement-F.Alloc (Held (H.Local 1)) (Constant (pos 16)) GivesNull) ∷ (Statement-F.Alloc (Held (H.Local 2)) (Constant (pos 16)) GivesNull) ∷ (Statement-F.Alloc (Held (H.Local 3)) (Constant (pos 16)) GivesNull) ∷ (Statement-F.Free (Held (H.Local 1))) ∷ (Statement-F.Free (Held (H.Local 0))) ∷ (Statement-F.Free (Held (H.Local 2))) ∷ (Statement-F.Alloc (Held (H.Local 4)) (Constant (pos 80)) GivesNull) ∷ (Statement-F.Free (Held (H.Local 3))) ∷ (Statement-F.Free (Held (H.Local 4))) ∷ []) } }) ∷ []; operations = []; literals = []; main = 0 }
 
-freed_neighbours_merge_size : (required script_freed_neighbours_merge_size 10000 (shaped 4096 4096) ≡ 272) × (rises script_freed_neighbours_merge_size 10000 (shaped 4096 4096) ≡ ((1, 144)) ∷ ((2, 176)) ∷ ((3, 208)) ∷ ((4, 240)) ∷ ((5, 272)) ∷ [])
+freed_neighbours_merge_size : (required script_freed_neighbours_merge_size 10000 (shaped 4096 4096) ≡ 272) × (rises script_freed_neighbours_merge_size 10000 (shaped 4096 4096) ≡ (rise 1 144) ∷ (rise 2 176) ∷ (rise 3 208) ∷ (rise 4 240) ∷ (rise 5 272) ∷ [])
 unfolding everything
 freed_neighbours_merge_size = (refl, refl)
 
 abbrev script_last_cell_ends_at_the_ceiling_size : Script
 script_last_cell_ends_at_the_ceiling_size = record { classes = []; procedures = (record { parameters = []; body = record { locals = (OfPointer None) ∷ []; statements = rolled ((Statement-F.Repeat (Constant (pos 15)) (rolled ((Statement-F.Alloc (Held (H.Local 0)) (Constant (pos 1048560)) GivesNull) ∷ []))) ∷ (Statement-F.Alloc (Held (H.Local 0)) (Constant (pos 1048416)) GivesNull) ∷ []) } }) ∷ []; operations = []; literals = []; main = 0 }
 
-last_cell_ends_at_the_ceiling_size : (required script_last_cell_ends_at_the_ceiling_size 10000 (shaped 4096 4096) ≡ 16777216) × (rises script_last_cell_ends_at_the_ceiling_size 10000 (shaped 4096 4096) ≡ ((1, 144)) ∷ ((2, 1048720)) ∷ ((3, 2097296)) ∷ ((4, 3145872)) ∷ ((5, 4194448)) ∷ ((6, 5243024)) ∷ ((7, 6291600)) ∷ ((8, 7340176)) ∷ ((9, 8388752)) ∷ ((10, 9437328)) ∷ ((11, 10485904)) ∷ ((12, 11534480)) ∷ ((13, 12583056)) ∷ ((14, 13631632)) ∷ ((15, 14680208)) ∷ ((16, 15728784)) ∷ ((17, 16777216)) ∷ [])
+last_cell_ends_at_the_ceiling_size : (required script_last_cell_ends_at_the_ceiling_size 10000 (shaped 4096 4096) ≡ 16777216) × (rises script_last_cell_ends_at_the_ceiling_size 10000 (shaped 4096 4096) ≡ (rise 1 144) ∷ (rise 2 1048720) ∷ (rise 3 2097296) ∷ (rise 4 3145872) ∷ (rise 5 4194448) ∷ (rise 6 5243024) ∷ (rise 7 6291600) ∷ (rise 8 7340176) ∷ (rise 9 8388752) ∷ (rise 10 9437328) ∷ (rise 11 10485904) ∷ (rise 12 11534480) ∷ (rise 13 12583056) ∷ (rise 14 13631632) ∷ (rise 15 14680208) ∷ (rise 16 15728784) ∷ (rise 17 16777216) ∷ [])
 unfolding everything
 last_cell_ends_at_the_ceiling_size = (refl, refl)
 
@@ -992,7 +996,7 @@ last_cell_passes_the_ceiling_size = refl
 abbrev script_marks_never_count_the_cleanup_cell_size : Script
 script_marks_never_count_the_cleanup_cell_size = record { classes = []; procedures = (record { parameters = []; body = record { locals = (OfPointer None) ∷ []; statements = rolled (Statement-F.Mark ∷ (Statement-F.Repeat (Constant (pos 8)) (rolled ((Statement-F.Push (Held (H.Local 0))) ∷ []))) ∷ (Statement-F.Pop (Constant (pos 8))) ∷ (Statement-F.MarkEnd (Constant (pos 0))) ∷ []) } }) ∷ []; operations = []; literals = []; main = 0 }
 
-marks_never_count_the_cleanup_cell_size : (required script_marks_never_count_the_cleanup_cell_size 10000 (shaped 4096 4096) ≡ 208) × (rises script_marks_never_count_the_cleanup_cell_size 10000 (shaped 4096 4096) ≡ ((1, 144)) ∷ ((2, 208)) ∷ [])
+marks_never_count_the_cleanup_cell_size : (required script_marks_never_count_the_cleanup_cell_size 10000 (shaped 4096 4096) ≡ 208) × (rises script_marks_never_count_the_cleanup_cell_size 10000 (shaped 4096 4096) ≡ (rise 1 144) ∷ (rise 2 208) ∷ [])
 unfolding everything
 marks_never_count_the_cleanup_cell_size = (refl, refl)
 
@@ -1006,28 +1010,28 @@ objects_that_delete_each_other_small_budget_size = refl
 abbrev script_procedure_returns_a_pushed_cell_size : Script
 script_procedure_returns_a_pushed_cell_size = record { classes = []; procedures = (record { parameters = Par.OfNumber ∷ []; body = record { locals = (OfPointer None) ∷ []; statements = rolled ((Statement-F.Alloc (Held (H.Local 1)) (Variable 0) Leaves) ∷ (Statement-F.Push (Held (H.Local 1))) ∷ (Statement-F.ReturnPointer (Held (H.Local 1))) ∷ []) } }) ∷ (record { parameters = []; body = record { locals = (OfPointer None) ∷ []; statements = rolled ((Statement-F.CallTo 0 0 ((Given (Constant (pos 40))) ∷ [])) ∷ (Statement-F.PopDestroy (Constant (pos 1))) ∷ []) } }) ∷ []; operations = []; literals = []; main = 1 }
 
-procedure_returns_a_pushed_cell_size : (required script_procedure_returns_a_pushed_cell_size 10000 (shaped 4096 4096) ≡ 208) × (rises script_procedure_returns_a_pushed_cell_size 10000 (shaped 4096 4096) ≡ ((1, 144)) ∷ ((2, 208)) ∷ [])
+procedure_returns_a_pushed_cell_size : (required script_procedure_returns_a_pushed_cell_size 10000 (shaped 4096 4096) ≡ 208) × (rises script_procedure_returns_a_pushed_cell_size 10000 (shaped 4096 4096) ≡ (rise 1 144) ∷ (rise 2 208) ∷ [])
 unfolding everything
 procedure_returns_a_pushed_cell_size = (refl, refl)
 
 abbrev script_pushed_object_made_and_deleted_size : Script
 script_pushed_object_made_and_deleted_size = record { classes = (record { extra = 16; fields = None ∷ []; construct = Some (record { locals = []; statements = rolled ((Statement-F.NewText (Field H.This 0 0) (Constant (pos 4)) Leaves) ∷ []) }); destroy = Some (record { locals = []; statements = rolled ((Statement-F.Free (Field H.This 0 0)) ∷ []) }) }) ∷ []; procedures = (record { parameters = []; body = record { locals = (OfPointer (Some 0)) ∷ []; statements = rolled ((Statement-F.New (Held (H.Local 0)) 0 Leaves) ∷ (Statement-F.PushObject (Held (H.Local 0))) ∷ (Statement-F.Construct (Held (H.Local 0))) ∷ (Statement-F.Pop (Constant (pos 1))) ∷ (Statement-F.Delete (Held (H.Local 0))) ∷ []) } }) ∷ []; operations = []; literals = []; main = 0 }
 
-pushed_object_made_and_deleted_size : (required script_pushed_object_made_and_deleted_size 10000 (shaped 4096 4096) ≡ 224) × (rises script_pushed_object_made_and_deleted_size 10000 (shaped 4096 4096) ≡ ((1, 144)) ∷ ((2, 192)) ∷ ((3, 224)) ∷ [])
+pushed_object_made_and_deleted_size : (required script_pushed_object_made_and_deleted_size 10000 (shaped 4096 4096) ≡ 224) × (rises script_pushed_object_made_and_deleted_size 10000 (shaped 4096 4096) ≡ (rise 1 144) ∷ (rise 2 192) ∷ (rise 3 224) ∷ [])
 unfolding everything
 pushed_object_made_and_deleted_size = (refl, refl)
 
 abbrev script_simulated_refusal_needs_no_room_size : Script
 script_simulated_refusal_needs_no_room_size = record { classes = []; procedures = (record { parameters = []; body = record { locals = (OfPointer None) ∷ (OfPointer None) ∷ []; statements = rolled ((Statement-F.NewText (Held (H.Local 0)) (Constant (pos 4)) Leaves) ∷ (Statement-F.Append (InCell (Held (H.Local 0))) (Quoted 0)) ∷ (Statement-F.FailNext (Constant (pos 1))) ∷ (Statement-F.ReallocText (Held (H.Local 1)) (Held (H.Local 0)) (Constant (pos 20))) ∷ (Statement-F.PrintText (Of (InCell (Held (H.Local 0))))) ∷ (Statement-F.Free (Held (H.Local 0))) ∷ []) } }) ∷ []; operations = []; literals = (97 ∷ 98 ∷ 99 ∷ []) ∷ []; main = 0 }
 
-simulated_refusal_needs_no_room_size : (required script_simulated_refusal_needs_no_room_size 10000 (shaped 4096 4096) ≡ 176) × (rises script_simulated_refusal_needs_no_room_size 10000 (shaped 4096 4096) ≡ ((1, 144)) ∷ ((2, 176)) ∷ [])
+simulated_refusal_needs_no_room_size : (required script_simulated_refusal_needs_no_room_size 10000 (shaped 4096 4096) ≡ 176) × (rises script_simulated_refusal_needs_no_room_size 10000 (shaped 4096 4096) ≡ (rise 1 144) ∷ (rise 2 176) ∷ [])
 unfolding everything
 simulated_refusal_needs_no_room_size = (refl, refl)
 
 abbrev script_top_cell_grows_in_place_size : Script
 script_top_cell_grows_in_place_size = record { classes = []; procedures = (record { parameters = []; body = record { locals = (OfPointer None) ∷ (OfPointer None) ∷ (OfPointer None) ∷ []; statements = rolled ((Statement-F.Alloc (Held (H.Local 0)) (Constant (pos 48)) GivesNull) ∷ (Statement-F.Alloc (Held (H.Local 1)) (Constant (pos 16)) GivesNull) ∷ (Statement-F.Free (Held (H.Local 0))) ∷ (Statement-F.Realloc (Held (H.Local 2)) (Held (H.Local 1)) (Constant (pos 48)) GivesNull) ∷ (Statement-F.IfElse (IsNull (Held (H.Local 2))) (rolled ((Statement-F.Free (Held (H.Local 1))) ∷ [])) (rolled ((Statement-F.Free (Held (H.Local 2))) ∷ []))) ∷ []) } }) ∷ []; operations = []; literals = []; main = 0 }
 
-top_cell_grows_in_place_size : (required script_top_cell_grows_in_place_size 10000 (shaped 4096 4096) ≡ 272) × (rises script_top_cell_grows_in_place_size 10000 (shaped 4096 4096) ≡ ((1, 144)) ∷ ((2, 208)) ∷ ((3, 240)) ∷ ((4, 272)) ∷ [])
+top_cell_grows_in_place_size : (required script_top_cell_grows_in_place_size 10000 (shaped 4096 4096) ≡ 272) × (rises script_top_cell_grows_in_place_size 10000 (shaped 4096 4096) ≡ (rise 1 144) ∷ (rise 2 208) ∷ (rise 3 240) ∷ (rise 4 272) ∷ [])
 unfolding everything
 top_cell_grows_in_place_size = (refl, refl)
 

@@ -33,3 +33,6 @@ pub mod Trees
 pub mod Words
 pub mod Writing
 pub mod formers
+pub mod Limits
+pub mod Sweeps
+pub mod Traces

@@ -15,6 +15,7 @@ use Rattle.wb_model.specs.declared.run.Outcome.{Outcome}
 use Rattle.wb_model.specs.declared.run.Outcome.TheVariants.{Ended, Panicked, NoCleanup, Cut}
 use Rattle.wb_model.specs.declared.run.RunResult.{RunResult}
 use Rattle.wb_model.specs.declared.script.Script.{Script}
+use Rattle.wb_model.specs.declared.size.Rise.{Rise}
 use Rattle.wb_model.specs.Row.{headers}
 use Rattle.wb_model.specs.Rules.{never}
 use Rattle.wb_model.specs.Heap.{cells_of_all_levels}
@@ -118,18 +119,19 @@ highest_end (t ∷ ts) = max (end_of_line t) (highest_end ts)
 abbrev pub required : Script → ℕ → Shape → ℕ
 required script budget shape = highest_end (run script Unlimited budget shape).trace
 
--- the grants that made the heap longer than all before them: their numbers and ends
-abbrev pub rises_above : ℕ → List Attempt → List (ℕ × ℕ)
+-- the grants that made the heap longer than a length and than all before them
+abbrev pub rises_above : ℕ → List Attempt → List Rise
 rises_above top [] = []
-rises_above top (t ∷ ts) = if nat_lt top (end_of_line t) then (t.number, end_of_line t) ∷ rises_above (end_of_line t) ts else rises_above top ts
+rises_above top (t ∷ ts) =
+    if nat_lt top (end_of_line t) then record { number = t.number; top = end_of_line t } ∷ rises_above (end_of_line t) ts else rises_above top ts
 
-abbrev pub rises : Script → ℕ → Shape → List (ℕ × ℕ)
+abbrev pub rises : Script → ℕ → Shape → List Rise
 rises script budget shape = rises_above 0 (run script Unlimited budget shape).trace
 
 -- the number of the first rise that passes a length
-abbrev pub first_rise_above : ℕ → List (ℕ × ℕ) → Option ℕ
+abbrev pub first_rise_above : ℕ → List Rise → Option ℕ
 first_rise_above length [] = None
-first_rise_above length (r ∷ rs) = if nat_lt length r.1 then Some r.0 else first_rise_above length rs
+first_rise_above length (r ∷ rs) = if nat_lt length r.top then Some r.number else first_rise_above length rs
 
 -- the attempt that a heap of a length refuses first
 abbrev pub refused_at : Script → ℕ → Shape → ℕ → Option ℕ

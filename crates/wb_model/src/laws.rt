@@ -1,15 +1,24 @@
 //! Laws of the definitions. Each is the contract of a function that does nothing, so that the gate proves it.
 
-ghost use Rattle.std.specs.Prelude.{◌≡◌, ℕ, ◌+◌, ◌%◌, ◌<◌, ◌≤◌, List, nat_eq, length, take, drop, slice_index};
-ghost use Rattle.wb_model.specs.Agreement.{Agrees};
+ghost use Rattle.std.specs.Prelude.{◌≡◌, ◌≢◌, ℕ, ◌+◌, ◌%◌, ◌<◌, ◌≤◌, ◌↔◌, List, Some, None, nat_eq, length, take, drop, slice_get, slice_index};
+ghost use Rattle.wb_model.specs.Agreement.{Agrees, RefusesAtLeast, RefusesNoGrant, IsSameRun, IsSameButNotes};
+ghost use Rattle.wb_model.specs.Limits.{first_refused, IsTable};
 ghost use Rattle.wb_model.specs.Rest.{Unfolds};
 ghost use Rattle.wb_model.specs.Row.{IsSpacedFrom, IsLeastPlace, place_of, top_of};
 ghost use Rattle.wb_model.specs.Rules.{next, each, is_due, after_attempts};
+ghost use Rattle.wb_model.specs.Run.{process, run, required, rises, refused_at};
 ghost use Rattle.wb_model.specs.Space.{AreFreeRuns, free_runs};
+ghost use Rattle.wb_model.specs.Sweeps.{run_at, AreAllFine, IsLeastUnfine, least_bad_or_cut};
 ghost use Rattle.wb_model.specs.Texts.{units_of_part};
+ghost use Rattle.wb_model.specs.Traces.{asked_for, AreLines};
+ghost use Rattle.wb_model.specs.declared.limits.TheConstants.{CEILING};
+ghost use Rattle.wb_model.specs.declared.heap.Attempt.{Attempt};
 ghost use Rattle.wb_model.specs.declared.heap.Header.{Header};
 ghost use Rattle.wb_model.specs.declared.heap.Rule.{Rule};
+ghost use Rattle.wb_model.specs.declared.heap.Rule.TheVariants.{Unlimited, Limit, Number};
 ghost use Rattle.wb_model.specs.declared.heap.Shape.{Shape};
+ghost use Rattle.wb_model.specs.declared.run.Outcome.TheVariants.{Cut};
+ghost use Rattle.wb_model.specs.declared.run.Why.TheVariants.{Ceiling};
 ghost use Rattle.wb_model.specs.declared.script.Script.{Script};
 
 /// The place of a request is the least multiple of 16 from which on no cell of the row meets its bytes.
@@ -42,6 +51,49 @@ pub fn parts_are_read()
 /// run up to the first attempt that they answer differently.
 pub fn rules_agree()
     ensures { (script : Script) (budget : ℕ) (shape : Shape) (r : Rule) (s : Rule) → Agrees script budget shape r s }
+{}
+
+/// The lines of a run's trace are those of the attempts that it asks for, in order: the number is the line's index, from 1; a
+/// granted attempt is one that the rule leaves open and that ends within the ceiling; a refused one ends past the limit that
+/// the rule is; a simulated one is refused by the script's own setting, or named by the rule.
+pub fn lines_are_answered()
+    ensures lines { (script : Script) (budget : ℕ) (shape : Shape) (r : Rule) →
+        AreLines r 0 (asked_for r 0 (process script budget)) (run script r budget shape).trace }
+    ensures numbered { (script : Script) (budget : ℕ) (shape : Shape) (r : Rule) (k : ℕ) (t : Attempt) →
+        slice_get (run script r budget shape).trace k ≡ Some t → t.number ≡ k + 1 }
+{}
+
+/// What a heap of each length refuses first, where the ceiling doesn't cut the run without a limit: the attempt that the
+/// rises of that run name; nothing exactly from the required length on; and what the table of the rises says. From the
+/// required length on the run is the one without a limit, but for notes.
+pub fn limits_refuse()
+    ensures first { (script : Script) (budget : ℕ) (shape : Shape) (length : ℕ) → (run script Unlimited budget shape).outcome ≢ Cut Ceiling →
+        first_refused (run script (Limit length) budget shape).trace ≡ refused_at script budget shape length }
+    ensures none { (script : Script) (budget : ℕ) (shape : Shape) (length : ℕ) →
+        (refused_at script budget shape length ≡ None) ↔ (required script budget shape ≤ length) }
+    ensures table { (script : Script) (budget : ℕ) (shape : Shape) → (run script Unlimited budget shape).outcome ≢ Cut Ceiling →
+        IsTable (λ length. first_refused (run script (Limit length) budget shape).trace) (required script budget shape) 0 (rises script budget shape) }
+    ensures enough { (script : Script) (budget : ℕ) (shape : Shape) (length : ℕ) → (run script Unlimited budget shape).outcome ≢ Cut Ceiling →
+        required script budget shape ≤ length → IsSameButNotes (run script Unlimited budget shape) (run script (Limit length) budget shape) }
+    ensures within { (script : Script) (budget : ℕ) (shape : Shape) → required script budget shape ≤ CEILING }
+{}
+
+/// Two rules, of which the second refuses at least what the first refuses, but nothing that is granted in the run under the
+/// first, give the same run. So the numbers past the last attempt of the run without failure give that run.
+pub fn unasked_rules_agree()
+    ensures rules { (script : Script) (budget : ℕ) (shape : Shape) (r : Rule) (s : Rule) → RefusesAtLeast r s →
+        (run script r budget shape).outcome ≢ Cut Ceiling → RefusesNoGrant s (run script r budget shape).trace →
+        IsSameRun r s (run script r budget shape) (run script s budget shape) }
+    ensures numbers { (script : Script) (budget : ℕ) (shape : Shape) (number : ℕ) → (run script (Number 0) budget shape).outcome ≢ Cut Ceiling →
+        length (run script (Number 0) budget shape).trace < number → run script (Number number) budget shape ≡ run script (Number 0) budget shape }
+{}
+
+/// What is found among the numbers up to the last attempt of the run without failure is, of all numbers, the least whose
+/// run is bad or cut; where nothing is, the run of every number is fine.
+pub fn sweeps_end()
+    ensures some { (script : Script) (budget : ℕ) (shape : Shape) (number : ℕ) →
+        (least_bad_or_cut script budget shape ≡ Some number) ↔ IsLeastUnfine (run_at script budget shape) number }
+    ensures none { (script : Script) (budget : ℕ) (shape : Shape) → (least_bad_or_cut script budget shape ≡ None) ↔ AreAllFine (run_at script budget shape) }
 {}
 
 /// The meaning of a piece is its first step, and then the meaning of what that leaves.

@@ -16,6 +16,7 @@ pub mod printed_line;
 pub mod run;
 pub mod script;
 pub mod script_lines;
+pub mod size;
 #[cfg(test)]
 mod tests;
 pub mod text;

@@ -1,0 +1,166 @@
+-- Each line of a run's trace is that of an attempt which the run asked for, answered by the script's own setting or the rule.
+use Rattle.std.proofs.Common.{◌≡◌, ◌≢◌, ℕ, zero, suc, ◌+◌, ◌<◌, ◌≤◌, ◌⊎◌, inl, inr, arith, Bool, true, false, List, [], ◌∷◌, ◌++◌, length, length-append, append-nil, append_assoc, refl, sym, ◌∙◌, ap, subst, Option, Some, None, cond}
+use Rattle.std.specs.Prelude.{nat_eq, nat_lt, slice_get}
+use Rattle.std.proofs.lemmas.Bool.{eqb-true, ltb-true, ltb-false}
+use Rattle.wb_model.specs.declared.limits.TheConstants.{CEILING}
+use Rattle.wb_model.specs.declared.heap.Rule.{Rule}
+use Rattle.wb_model.specs.declared.heap.Rule.TheVariants.{Unlimited, Limit, Number}
+use Rattle.wb_model.specs.declared.heap.Shape.{Shape}
+use Rattle.wb_model.specs.declared.heap.Answer.{Answer}
+use Rattle.wb_model.specs.declared.heap.Answer.TheVariants.{Granted, Simulated, Refused}
+use Rattle.wb_model.specs.declared.heap.Attempt.{Attempt}
+use Rattle.wb_model.specs.declared.run.Why.TheVariants.{Ceiling}
+use Rattle.wb_model.specs.declared.script.Script.{Script}
+use Rattle.wb_model.specs.Rules.{refusal_of, unless_refused, answer_to, Request}
+use Rattle.wb_model.specs.State.{is_cut, Query, heap_note, available_note, compress_note, Process, ends, stops, asks, notes}
+use Rattle.wb_model.specs.Space.{Space, space_of}
+use Rattle.wb_model.specs.Account.{stopped, Account, settled, on_answer, recorded, noted, next_number}
+use Rattle.wb_model.specs.Run.{process, before, run, granted_end, highest_end, required}
+use Rattle.wb_model.specs.Traces.{asked_before, asked_for, refusal_by, end_of_attempt, IsLine, AreLines}
+
+-- what a rule refuses, by the answer
+record IsRefusal (rule : Rule) (number end : ℕ) (w : Answer) : Type 0 where
+  granted : w ≢ Granted
+  refused : w ≡ Refused → (limit : ℕ) × (rule ≡ Limit limit) × (limit < end)
+  simulated : w ≡ Simulated → rule ≡ Number number
+
+refusal-is : (rule : Rule) (number end : ℕ) (w : Answer) → refusal_of rule number end ≡ Some w → IsRefusal rule number end w
+refusal-is Unlimited number end w e = cc
+refusal-is (Limit limit) number end w e = by (nat_lt limit end) refl e
+  where
+    by : (b : Bool) → nat_lt limit end ≡ b → cond b (Some Refused) None ≡ Some w → IsRefusal (Limit limit) number end w
+    by true t f = record { granted = λ g. cc; refused = λ r. (limit, refl, ltb-true _ _ t); simulated = λ s. cc }
+    by false t f = cc
+refusal-is (Number n) number end w e = by (nat_eq n number) refl e
+  where
+    by : (b : Bool) → nat_eq n number ≡ b → cond b (Some Simulated) None ≡ Some w → IsRefusal (Number n) number end w
+    by true t f = record { granted = λ g. cc; refused = λ r. cc; simulated = λ s. ap Number (eqb-true _ _ t) }
+    by false t f = cc
+
+-- the line of an answer
+abbrev line_of : ℕ → Request → Answer → Attempt
+line_of number asked w = record { number = number; length = asked.length; place = asked.place; answer = w }
+
+line-is : (rule : Rule) (made : ℕ) (asked : Request) (w : Answer) → answer_to rule (made + 1) asked ≡ Some w → IsLine rule made asked (line_of (made + 1) asked w)
+line-is rule made asked w = due asked.due refl
+  where
+    end : ℕ
+    end = asked.place + asked.length
+
+    open_to : (b : Bool) → nat_lt CEILING end ≡ b → cond b None (Some Granted) ≡ Some w → (w ≡ Granted) × (end ≤ CEILING)
+    open_to true c e = cc
+    open_to false c e = (cc, ltb-false _ _ c)
+
+    left : (o : Option Answer) → refusal_of rule (made + 1) end ≡ o → asked.due ≡ false → unless_refused o end ≡ Some w → IsLine rule made asked (line_of (made + 1) asked w)
+    left (Some v) f undue e =
+        let same : v ≡ w = cc in
+        let is = refusal-is rule (made + 1) end w (f ∙ ap Some same) in
+        record { number = refl; length = refl; place = refl; granted = λ g. absurd (is.granted g); refused = is.refused; simulated = λ s. inr (is.simulated s); due = λ d. cc }
+    left None f undue e =
+        let is = open_to (nat_lt CEILING end) refl e in
+        let granted : w ≡ Granted = is.0 in
+        record { number = refl; length = refl; place = refl; granted = λ g. (f, is.1); refused = λ r. cc; simulated = λ s. cc; due = λ d. cc }
+
+    due : (b : Bool) → asked.due ≡ b → cond b (Some Simulated) (unless_refused (refusal_of rule (made + 1) end) end) ≡ Some w → IsLine rule made asked (line_of (made + 1) asked w)
+    due true d e =
+        let simulated : w ≡ Simulated = cc in
+        record { number = refl; length = refl; place = refl; granted = λ g. cc; refused = λ r. cc; simulated = λ s. inl d; due = λ _. simulated }
+    due false d e = left (refusal_of rule (made + 1) end) refl d e
+
+zero_add : (n : ℕ) → 0 + n ≡ n
+zero_add n = omega arith
+
+-- one more line
+lines_push : (rule : Rule) (made : ℕ) (qs : List Request) (ts : List Attempt) (asked : Request) (t : Attempt) → AreLines rule made qs ts →
+    IsLine rule (made + length ts) asked t → AreLines rule made (qs ++ asked ∷ []) (ts ++ t ∷ [])
+lines_push rule made [] [] asked t are is = let z : made + 0 ≡ made = omega arith in (subst (λ m. IsLine rule m asked t) z is, tt)
+lines_push rule made [] (u ∷ ts) asked t are is = absurd are
+lines_push rule made (q ∷ qs) [] asked t are is = absurd are
+lines_push rule made (q ∷ qs) (u ∷ ts) asked t are is =
+    let z : made + length (u ∷ ts) ≡ made + 1 + length ts = omega arith in
+    (are.0, lines_push rule (made + 1) qs ts asked t are.1 (subst (λ m. IsLine rule m asked t) z is))
+
+settled-lines : (rule : Rule) (space : Space) (p : Process) (a : Account) (qs : List Request) → AreLines rule 0 qs a.trace →
+    AreLines rule 0 (qs ++ asked_for rule (length a.trace) p) (settled rule space p a).account.trace
+settled-lines rule space (ends way st) a qs are = subst (λ l. AreLines rule 0 l a.trace) (sym (append-nil qs)) are
+settled-lines rule space (stops stop st) a qs are = subst (λ l. AreLines rule 0 l a.trace) (sym (append-nil qs)) are
+settled-lines rule space (asks t cut go) a qs are =
+    told (answer_to rule (next_number a) t) refl (λ w e.
+    let grown = recorded space (next_number a) t w a in
+    let longer : length grown.trace ≡ length a.trace + 1 = length-append a.trace (line_of (next_number a) t w ∷ []) in
+    subst (λ l. AreLines rule 0 l (settled rule space (go (next_number a) w) grown).account.trace) (append_assoc qs (t ∷ []) (asked_for rule (next_number a) (go (next_number a) w)))
+    (subst (λ m. AreLines rule 0 ((qs ++ t ∷ []) ++ asked_for rule m (go (next_number a) w)) (settled rule space (go (next_number a) w) grown).account.trace) longer
+    (settled-lines rule space (go (next_number a) w) grown (qs ++ t ∷ [])
+    (lines_push rule 0 qs a.trace t (line_of (next_number a) t w) are
+    (subst (λ m. IsLine rule m t (line_of (next_number a) t w)) (sym (zero_add (length a.trace))) (line-is rule (length a.trace) t w e))))))
+  where
+    told : (o : Option Answer) → answer_to rule (next_number a) t ≡ o →
+        ((w : Answer) → answer_to rule (next_number a) t ≡ Some w →
+        AreLines rule 0 (qs ++ t ∷ asked_for rule (next_number a) (go (next_number a) w)) (settled rule space (go (next_number a) w) (recorded space (next_number a) t w a)).account.trace) →
+        AreLines rule 0 (qs ++ asked_before o t (λ w. asked_for rule (next_number a) (go (next_number a) w)))
+        (on_answer o (record { end = stopped (is_cut Ceiling); state = cut; account = a })
+        (λ w. settled rule space (go (next_number a) w) (recorded space (next_number a) t w a))).account.trace
+    told None e h = subst (λ l. AreLines rule 0 l a.trace) (sym (append-nil qs)) are
+    told (Some w) e h = h w e
+settled-lines rule space (notes q p) a qs are = by q (λ q. settled-lines rule space p (noted space q a) qs)
+  where
+    by : (q : Query) →
+        ((q : Query) → AreLines rule 0 qs (noted space q a).trace →
+        AreLines rule 0 (qs ++ asked_for rule (length (noted space q a).trace) p) (settled rule space p (noted space q a)).account.trace) →
+        AreLines rule 0 (qs ++ asked_for rule (length a.trace) p) (settled rule space p (noted space q a)).account.trace
+    by (heap_note count total) h = h (heap_note count total) are
+    by (available_note row) h = h (available_note row) are
+    by (compress_note top) h = h (compress_note top) are
+
+-- of whole runs
+pub run-lines : (script : Script) (budget : ℕ) (shape : Shape) (rule : Rule) →
+    AreLines rule 0 (asked_for rule 0 (process script budget)) (run script rule budget shape).trace
+run-lines script budget shape rule = settled-lines rule (space_of rule shape) (process script budget) (before (space_of rule shape)) [] tt
+
+-- without a limit no line is refused
+pub unlimited_refuses_none : (made : ℕ) (asked : Request) (t : Attempt) → IsLine Unlimited made asked t → t.answer ≢ Refused
+unlimited_refuses_none made asked t is e = let limit = (is.refused e).1 in cc
+
+-- and with one none that is granted ends past it
+pub limit_grants_within : (limit made : ℕ) (asked : Request) (t : Attempt) → IsLine (Limit limit) made asked t → t.answer ≡ Granted → end_of_attempt t ≤ limit
+limit_grants_within limit made asked t is e = by (nat_lt limit (end_of_attempt t)) refl (is.granted e).0
+  where
+    by : (b : Bool) → nat_lt limit (end_of_attempt t) ≡ b → cond b (Some Refused) None ≡ None → end_of_attempt t ≤ limit
+    by true c f = cc
+    by false c f = ltb-false _ _ c
+
+highest_end-within : (rule : Rule) (made : ℕ) (qs : List Request) (ts : List Attempt) → AreLines rule made qs ts → highest_end ts ≤ CEILING
+highest_end-within rule made [] [] are = omega arith
+highest_end-within rule made [] (t ∷ ts) are = absurd are
+highest_end-within rule made (q ∷ qs) [] are = absurd are
+highest_end-within rule made (q ∷ qs) (t ∷ ts) are =
+    let rest = highest_end-within rule (made + 1) qs ts are.1 in
+    let first = by t.answer refl in omega arith
+  where
+    by : (w : Answer) → t.answer ≡ w → granted_end t w ≤ CEILING
+    by Granted e = (are.0.granted e).1
+    by Simulated e = omega arith
+    by Refused e = omega arith
+
+-- no script needs more than the ceiling
+pub required-within : (script : Script) (budget : ℕ) (shape : Shape) → required script budget shape ≤ CEILING
+required-within script budget shape = highest_end-within Unlimited 0 _ _ (run-lines script budget shape Unlimited)
+
+-- each line by its index
+pub line_at : (rule : Rule) (made : ℕ) (qs : List Request) (ts : List Attempt) (k : ℕ) (t : Attempt) → AreLines rule made qs ts → slice_get ts k ≡ Some t →
+    (asked : Request) × (slice_get qs k ≡ Some asked) × IsLine rule (made + k) asked t
+line_at rule made [] [] k t are e = cc
+line_at rule made [] (u ∷ ts) k t are e = absurd are
+line_at rule made (q ∷ qs) [] k t are e = absurd are
+line_at rule made (q ∷ qs) (u ∷ ts) zero t are e =
+    let same : u ≡ t = cc in
+    let z : made ≡ made + 0 = omega arith in
+    (q, refl, subst (λ m. IsLine rule m q t) z (subst (IsLine rule made q) same are.0))
+line_at rule made (q ∷ qs) (u ∷ ts) (suc k) t are e =
+    let there = line_at rule (made + 1) qs ts k t are.1 e in
+    let z : made + 1 + k ≡ made + suc k = omega arith in
+    (there.0, there.1, subst (λ m. IsLine rule m there.0 t) z there.2)
+
+pub run-numbered : (script : Script) (budget : ℕ) (shape : Shape) (rule : Rule) (k : ℕ) (t : Attempt) → slice_get (run script rule budget shape).trace k ≡ Some t →
+    t.number ≡ k + 1
+run-numbered script budget shape rule k t there = let line = line_at rule 0 _ _ k t (run-lines script budget shape rule) there in let numbered = line.2.number in omega arith

@@ -1,0 +1,8 @@
+use Rattle.wb_model.proofs.TraceLemmas.{run-lines, run-numbered}
+use Rattle.wb_model.proofs.laws.lines_are_answered.Goals as goal
+
+pub returns-clause-lines : goal.returns-clause-lines
+returns-clause-lines c = run-lines
+
+pub returns-clause-numbered : goal.returns-clause-numbered
+returns-clause-numbered c = run-numbered

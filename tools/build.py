@@ -1,0 +1,109 @@
+#!/usr/bin/env python3
+"""Proves and builds the program, those crates at the same time that don't stand on one another.
+
+`rt` builds the libraries of a program one after another. This takes the same steps by the module behind `rt`, and then
+calls `rt run`, which builds whatever is missing. `RT_JOBS` says how many processors to use, in the place of all."""
+
+import importlib.util
+import os
+import shutil
+import subprocess
+import sys
+import tempfile
+from concurrent.futures import FIRST_COMPLETED, Future, ThreadPoolExecutor, wait
+from pathlib import Path
+from types import ModuleType
+from typing import Any
+
+ROOT = Path(__file__).resolve().parent.parent
+PROGRAM = ROOT / "crates" / "workbench"
+
+# What a process of the prover takes, in bytes.
+MEMORY = 2_000_000_000
+
+# The most crates that are built at once.
+AT_ONCE = 3
+
+
+def kit() -> ModuleType:
+    """The module behind `rt`."""
+    command = shutil.which("rt")
+    if command is None:
+        sys.exit("the toolchain's command rt is not on the path")
+    sys.dont_write_bytecode = True
+    spec = importlib.util.spec_from_file_location("rtlib", Path(command).resolve().parent / "rtlib.py")
+    module = importlib.util.module_from_spec(spec)
+    spec.loader.exec_module(module)
+    return module
+
+
+class Libraries:
+    """The libraries below the program, lowest first. What a crate can be asked is the kit's."""
+
+    def __init__(self, rtlib: ModuleType, processors: int) -> None:
+        self.rtlib, self.processors = rtlib, processors
+        self.crates = rtlib.Crate(str(PROGRAM), str(ROOT), {}).below()
+
+    def jobs(self, processes: int, crates: int) -> int:
+        """How many processes a crate gets, of these at most: as many as there is memory for, if each crate gets that many."""
+        return next((it for it in range(processes, 1, -1) if self.rtlib.fits(it * crates * MEMORY)), 1)
+
+    def build_one(self, crate: Any, jobs: int) -> bool:
+        """Builds a library, prints what the prover says, and tells whether it is proved."""
+        os.makedirs(f"{crate.folder}/out", exist_ok=True)
+        with tempfile.TemporaryFile("w+", errors="replace") as crate.out:
+            status = crate.build_rlib(["--jobs", str(jobs)], anew=False)
+            crate.out.seek(0)
+            print(f"== {crate.name}\n{crate.out.read()}", end="", flush=True)
+        return status == 0
+
+    def build_all(self) -> bool:
+        """Builds each library once those are built that it uses. A crate beside others leaves them a processor."""
+        waiting, built = list(self.crates), []
+        running: dict[Future[bool], Any] = {}
+        lanes = min(AT_ONCE, self.processors)
+        with ThreadPoolExecutor(lanes) as pool:
+            while waiting or running:
+                ready = [it for it in waiting if all(below in built for below in it.deps)][: lanes - len(running)]
+                is_alone = len(ready) + len(running) == 1
+                jobs = self.jobs(self.processors, 1) if is_alone else self.jobs(self.processors - 1, lanes)
+                for crate in ready:
+                    waiting.remove(crate)
+                    running[pool.submit(self.build_one, crate, jobs)] = crate
+                for done in wait(running, return_when=FIRST_COMPLETED).done:
+                    built.append(running.pop(done))
+                    if not done.result():
+                        return False
+        return True
+
+    def build(self) -> bool:
+        """Builds the libraries while no other `rt` works on them, and tells whether all are proved."""
+        # as rt does it, before any thread starts: what runs ends with this process
+        self.rtlib.guarded()
+        held = self.rtlib.lock(self.crates)
+        try:
+            return self.build_all()
+        finally:
+            for it in held:
+                os.close(it)
+
+
+def main() -> int:
+    """Builds the libraries, and then the program."""
+    given = os.environ.get("RT_JOBS", "")
+    processors = max(1, int(given)) if given.isdigit() else len(os.sched_getaffinity(0))
+    flags = []
+    try:
+        libraries = Libraries(kit(), processors)
+        if not libraries.build():
+            return 1
+        flags = ["--jobs", str(libraries.jobs(processors, 1))]
+    except (AttributeError, TypeError) as error:
+        print(f"this kit's module behind rt is another, so that crates are built one after another: {error}", flush=True)
+    # rt builds a program as it runs it: an empty script is refused, so that the status says nothing of the build
+    subprocess.run(["rt", "run", *flags, "--", "run", os.devnull], cwd=PROGRAM)
+    return 0
+
+
+if __name__ == "__main__":
+    sys.exit(main())
