@@ -96,7 +96,7 @@ is_printable literals locals (Number z) = is_number locals (Constant z)
 is_printable literals locals (Name (meant.Number index)) = is_variable locals index
 is_printable literals locals operand = is_legible literals locals operand
 
--- an operand is of its letter, and what it names is there, among so many literals and these locals
+-- an operand is of its letter, and what it names is there, among these locals and a number of literals
 abbrev pub operand_fits : ℕ → List Local → Letter → Operand Meant → Bool
 operand_fits literals locals letter.Declared (Name (meant.Declared index)) = true
 operand_fits literals locals letter.Declared _ = false

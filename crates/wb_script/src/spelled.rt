@@ -119,7 +119,7 @@ fn quoted(literals: usize, index: usize) -> Option<Readable>
     }
 }
 
-/// The text that an operand spells and that can be read, over so many literals and these locals.
+/// The text that an operand spells and that can be read, over these locals and that number of literals.
 pub(crate) fn readable_of(
     literals: usize,
     locals: &[Local],

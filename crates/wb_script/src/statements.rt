@@ -171,7 +171,8 @@ fn add(locals: &[Local], operands: &[Operand<Meant>]) -> Option<Statement>
     }
 }
 
-/// The statement of a line, over so many literals and these locals; none where its operands don't fit.
+/// The statement of a line, over these locals and that number of literals; none where its operands
+/// don't fit.
 pub(crate) fn statement_of(
     literals: usize,
     locals: &[Local],
