@@ -77,7 +77,8 @@ class Trial:
         for crate in {*crates, *lower}:
             above = [it for it in {*crates, *lower} if crate in self.repository.below(it)]
             rank = sum(self.repository.size(it) for it in [crate, *above])
-            steps.append(Step(self.repository.below(crate), crate, rank, partial(self.begin, crate, crate in lower, crate in crates)))
+            begin = partial(self.begin, crate, crate in lower, crate in crates)
+            steps.append(Step(self.repository.below(crate), crate, rank, begin))
         return steps
 
     def begin(self, crate: str, is_lower: bool, is_tried: bool, jobs: int) -> list[Step]:

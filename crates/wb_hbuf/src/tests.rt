@@ -42,7 +42,8 @@ fn granted(heap: &mut DebugHeap, n: u32) -> Result<Ptr, NoMemory>
 /// The same, with the first units of a literal.
 fn filled(heap: &mut DebugHeap, n: u32, letters: &Chars, count: u32) -> Result<Ptr, NoMemory>
     requires { n ≤ MOST_UNITS }
-    ensures { IfOk result (λ ptr. IsTextAt ptr heap.new) }
+    ensures text { IfOk result (λ ptr. IsTextAt ptr heap.new) }
+    ensures sound { IfOk result (λ _. IsSoundDebug heap.new) }
 {
     let ptr = granted(heap, n)?;
     match edit(heap, ptr, Edit::Copy, Source::Literal(letters, 0, count)) {

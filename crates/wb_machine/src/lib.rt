@@ -16,6 +16,8 @@ mod tell;
 mod tests;
 mod text_cells;
 mod text_operands;
+#[cfg(test)]
+mod text_tests;
 mod texts;
 mod views;
 mod windows;

@@ -27,7 +27,7 @@ cleanup-read slots ws items is =
     ap (items_in (length items)) (sym (take-append-drop n ws) ∙ ap (λ vs. vs ++ drop n ws) is.words)
     ∙ items-read items (drop n ws) is.are_items
 
--- so many slots spell one list of items at most
+-- words spell one list of items of a length at most
 pub same-items : (slots : ℕ) (ws : List ℕ) (a b : List Item) → length a ≡ length b → IsCleanup slots ws a → IsCleanup slots ws b → a ≡ b
 same-items slots ws a b n x y =
     same_Some a b (sym (cleanup-read slots ws a x) ∙ ap (λ k. items_in k ws) n ∙ cleanup-read slots ws b y)

@@ -24,14 +24,14 @@ IsItem (Free p) = Unit {0}
 IsItem (Delete p) = Unit {0}
 IsItem (Call p operation) = operation < 2 ^ 16
 
--- the words spell these items in the first of so many slots; the other slots may hold anything
+-- the words are this number of slots, of which the first spell these items; the others may hold anything
 pub record IsCleanup (slots : ℕ) (ws : List ℕ) (items : List Item) : Type 0 where
   pub words : take (4 * length items) ws ≡ items_words items
   pub room : length ws ≡ 4 * slots
   pub fits : length items ≤ slots
   pub are_items : All IsItem items
 
--- the pointer names the cleanup stack's cell, with these items in so many slots
+-- the pointer names the cleanup stack's cell, with these items in this number of slots
 pub record IsCleanupAt (p : Ptr) (slots : ℕ) (items : List Item) (d : Debug) : Type 0 where
   pub cell : Cell (List ℕ)
   pub found : cell_at p d.heap.row ≡ Some cell
@@ -51,7 +51,7 @@ abbrev pub item_before : Option Item → Option (List Item) → Option (List Ite
 item_before None rest = None
 item_before (Some item) rest = option_map (λ items. item ∷ items) rest
 
--- the items in the first so many slots; none where one of these spells no item
+-- the items in a number of slots from the first on; none where one of these spells no item
 abbrev pub items_in : ℕ → List ℕ → Option (List Item)
 items_in zero ws = Some []
 items_in (suc n) (what ∷ place ∷ number ∷ operation ∷ ws) =

@@ -12,7 +12,7 @@ abbrev pub pointer_words : List Ptr → List ℕ
 pointer_words [] = []
 pointer_words (p ∷ ps) = p.place ∷ p.number ∷ pointer_words ps
 
--- the words of an object: the index of its class, 0, its fields, and zeros up to so many words
+-- the words of an object: the index of its class, 0, its fields, and zeros up to a number of words
 abbrev pub object_words : ℕ → ℕ → List Ptr → List ℕ
 object_words n class fields = exactly n (class ∷ 0 ∷ pointer_words fields)
 
@@ -21,7 +21,7 @@ pub record IsObject (class : ℕ) (ws : List ℕ) (fields : List Ptr) : Type 0 w
   pub words : ws ≡ object_words (length ws) class fields
   pub fits : 2 + 2 * length fields ≤ length ws
 
--- the pointer names an object of the class, which has so many fields
+-- the pointer names an object of the class, which has this number of fields
 pub record IsObjectAt (p : Ptr) (class count : ℕ) (d : Debug) : Type 0 where
   pub cell : Cell (List ℕ)
   pub found : cell_at p d.heap.row ≡ Some cell

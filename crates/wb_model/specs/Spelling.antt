@@ -62,7 +62,7 @@ abbrev pub halves : List ℕ → List ℕ
 halves [] = []
 halves (w ∷ ws) = w % 2 ^ 16 ∷ w / 2 ^ 16 ∷ halves ws
 
--- the fields that the words of an object read as, where its class has so many
+-- the fields that the words of an object read as, where its class has a number of them
 abbrev pub fields_in : ℕ → List ℕ → List Ptr
 fields_in count ws = take count (pointers (drop 2 ws))
 
