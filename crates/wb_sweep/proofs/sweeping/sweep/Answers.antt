@@ -1,0 +1,24 @@
+use Rattle.std.proofs.Common.{◌≡◌, sym, ap, ◌∙◌, subst, arith, length}
+use Rattle.wb_model.specs.declared.heap.Rule.TheVariants.{Number}
+use Rattle.wb_model.specs.Sweeps.{run_at}
+use Rattle.wb_model.proofs.TraceLemmas.{run-numbered}
+use Rattle.wb_model.proofs.SweepLemmas.{all_fine}
+use Rattle.wb_sweep.specs.Sweeping.{IsNumbered}
+use Rattle.wb_sweep.proofs.sweeping.sweep.Goals as goal
+
+pub attempts_in-attempts-requires : goal.attempts_in-attempts-requires
+attempts_in-attempts-requires c =
+    let e = c.as_slice.ensures ∙ ap (λ r. r.trace) c.in_ok-first.ensures.ran in
+    subst IsNumbered (sym e) (run-numbered c.args.script.now c.args.budget c.args.shape (Number 0))
+
+pub returns-clause-swept : goal.returns-clause-swept
+returns-clause-swept c =
+    let script = c.args.script.now in
+    let traced = c.as_slice.ensures ∙ ap (λ r. r.trace) c.in_ok-first.ensures.ran in
+    let attempts : c.attempts_in-attempts.result ≡ length (run_at script c.args.budget c.args.shape 0).trace = c.attempts_in-attempts.ensures ∙ ap length traced in
+    record {
+      attempts = attempts;
+      found = tt;
+      none = λ e. all_fine script c.args.budget c.args.shape
+          (λ smaller lt. c.loop-earlier.invariant smaller (omega (arith, lt, attempts, c.loop-earlier-test.false)));
+    }
