@@ -2,7 +2,8 @@
 """Worked cases of the workbench as theorems about the definitions.
 
 A case is the files STEM.oom (the script), STEM.args (the program's arguments,
-one a line), STEM.stdout and STEM.status, where STEM ends in `.run` or `.size`.
+one a line), STEM.stdout and STEM.status, where STEM ends in `.run`, `.size`,
+`.sweep` or `.check`.
 Where the arguments name a file, that is the script; such names start at the top
 of the repository.
 Each accepted script becomes a tree of `wb_model/src/script.rt`, each report the
@@ -379,8 +380,8 @@ class Case:
 def case_at(path: Path, most_steps: int) -> Case | str:
     """The case of a script's file, or why it is left out."""
     given, told, status = (path.with_suffix(ending) for ending in (".args", ".stdout", ".status"))
-    if path.stem.split(".")[-1] not in ("run", "size"):
-        return "no run and no size"
+    if path.stem.split(".")[-1] not in ("run", "size", "sweep", "check"):
+        return "no report"
     if not told.exists():
         return "its whole output isn't given"
     if status.read_text().strip() not in ("0", "1", "3"):
@@ -393,19 +394,49 @@ def case_at(path: Path, most_steps: int) -> Case | str:
     return Case(script.read_bytes().decode(), a, report)
 
 
+def size_claims(script: str, given: str, report: list[str]) -> list[str]:
+    """What a size text says of a script under a budget and a shape."""
+    if report[0].startswith("cut "):
+        return [f"(run {script} R.Unlimited {given}).outcome ≡ {apply('Cut', report[0].split(' ')[2].capitalize())}"]
+    required = report[0].removeprefix("required ")
+    return [f"required {script} {given} ≡ {required}", f"rises {script} {given} ≡ {rises_term(report)}"]
+
+
+def sweep_claims(script: str, given: str, report: list[str]) -> list[str]:
+    """What a sweep text says of a script under a budget and a shape."""
+    found = f"least_bad_or_cut {script} {given}"
+    if report[0].startswith("cut "):
+        _, number, why = report[0].split(" ")
+        return [f"{found} ≡ Some {number}", f"(run_at {script} {given} {number}).outcome ≡ {apply('Cut', why.capitalize())}"]
+    attempts = [f"length (run_at {script} {given} 0).trace ≡ {report[0].removeprefix('attempts ')}"]
+    number = report[1].removeprefix("number ")
+    if number == "none":
+        return [*attempts, f"{found} ≡ None"]
+    return [*attempts, f"{found} ≡ Some {number}", f"run_at {script} {given} {number} ≡ {run_term(report[2:])}"]
+
+
+def check_claims(script: str, given: str, report: list[str]) -> list[str]:
+    """What a check text says: a size text, and a sweep text where the size wasn't cut."""
+    swept = next((at for at, line in enumerate(report) if at > 0 and line.split(" ")[0] in ("attempts", "cut")), len(report))
+    return size_claims(script, given, report[:swept]) + (sweep_claims(script, given, report[swept:]) if swept < len(report) else [])
+
+
+def run_claims(script: str, rule: str, given: str, report: list[str]) -> list[str]:
+    """What a run text says of a script under a rule, a budget and a shape."""
+    return [f"{apply('run', script, rule)} {given} ≡ {run_term(report)}"]
+
+
 def theorem(name: str, case: Case) -> str:
-    """A case as antt text: its script, its claim and the proof."""
-    a, report = case.arguments, case.report
-    script, proof = "script_" + name, "refl"
+    """A case as antt text: its script, its claims and their proof."""
+    a, script = case.arguments, "script_" + name
     given = f"{a.budget} (shaped {a.min} {a.step})"
     if a.task == "run":
-        claim = f"{apply('run', script, rule_of(a))} {given} ≡ {run_term(report)}"
-    elif report[0].startswith("cut "):
-        claim = f"(run {script} R.Unlimited {given}).outcome ≡ {apply('Cut', report[0].split(' ')[2].capitalize())}"
+        claims = run_claims(script, rule_of(a), given, case.report)
     else:
-        required = report[0].removeprefix("required ")
-        claim = f"(required {script} {given} ≡ {required}) × (rises {script} {given} ≡ {rises_term(report)})"
-        proof = "(refl, refl)"
+        claims = {"size": size_claims, "sweep": sweep_claims, "check": check_claims}[a.task](script, given, case.report)
+    claim, proof = claims[0], "refl"
+    if len(claims) > 1:
+        claim, proof = " × ".join(f"({claim})" for claim in claims), f"({', '.join(['refl'] * len(claims))})"
     return (
         f"abbrev {script} : Script\n{script} = {Reader(case.script).script()}\n\n"
         f"{name} : {claim}\nunfolding everything\n{name} = {proof}\n"
@@ -452,9 +483,9 @@ def head(crate: Path) -> str:
     shut = COMPUTED_THROUGH.format(declared=specs + ".declared").split()
     for file in (crate / "specs" / f"{stem}.antt" for stem in COMPUTED_IN):
         shut += [f"{specs}.{file.stem}.{name}" for name in re.findall(r"^unfoldable pub (\S+)", file.read_text(), re.M)]
-    uses = ["Rattle.std.specs.Prelude.{◌≡◌, refl, ℕ, pos, negsuc, List, [], ◌∷◌, Some, None, map}"]
+    uses = ["Rattle.std.specs.Prelude.{◌≡◌, refl, ℕ, pos, negsuc, List, [], ◌∷◌, length, Some, None, map}"]
     uses += [f"{specs}.declared.{use.strip()}" for use in DECLARED.split(";")]
-    uses += [f"{specs}.Run.{{run, required, rises}}", "Rattle.std.specs.Fmt.{digits}"]
+    uses += [f"{specs}.Run.{{run, required, rises}}", f"{specs}.Sweeps.{{run_at, least_bad_or_cut}}", "Rattle.std.specs.Fmt.{digits}"]
     lines = ["-- Worked cases, each by computing: the definitions give what the files of cases/ say. Written by tools/cases_to_theorems.py;",
              "-- edit nothing here.", *(f"use {use}" for use in uses)]
     lines += ["", "-- what a run computes through", "unfoldable everything : Unit {0}"]
@@ -482,7 +513,7 @@ def without_unused(text: str) -> str:
 def main() -> int:
     """Reads the arguments, and writes the file."""
     parser = argparse.ArgumentParser(
-        description="Write worked cases of single runs and sizes as theorems about the definitions, proved by computing.",
+        description="Write worked cases as theorems about the definitions, proved by computing.",
         epilog="Put the result into the crate's folder proofs/, with its line in proofs/Lib.antt, and check the crate.",
     )
     parser.add_argument("crate", type=Path, help="the folder of the crate that holds the definitions")

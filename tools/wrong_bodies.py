@@ -22,6 +22,7 @@ import tempfile
 from collections.abc import Callable
 from concurrent.futures import FIRST_COMPLETED, Future, ThreadPoolExecutor, wait
 from dataclasses import dataclass
+from functools import partial
 from pathlib import Path
 from threading import Lock
 
@@ -29,18 +30,19 @@ from wrong_body_checks import Repository, Verdict, check, copy_room
 from wrong_body_edits import MUST_FAIL, WRONG_BODIES, Edit, apply, read_edits, rounds_of
 
 ROOT = Path(__file__).resolve().parent.parent
-# what a check of the largest crate takes, in bytes, with some to spare
-MEMORY = 4 << 30
+# what a check of a large crate takes, in bytes, with some to spare
+MEMORY = 3 << 30
 
 
 @dataclass
 class Step:
-    """A piece of the work: what must be built before, how soon it should begin, and what it does with so many processors,
-    which gives what it built and the steps that follow."""
+    """A piece of the work: the crates that must be built before and the one that it builds, if any; how soon it should
+    begin; and what it does with so many processors, which gives the steps that follow."""
 
     waits: list[str]
+    builds: str
     rank: int
-    work: Callable[[int], tuple[str, list["Step"]]]
+    work: Callable[[int], list["Step"]]
 
 
 class Trial:
@@ -75,11 +77,10 @@ class Trial:
         for crate in {*crates, *lower}:
             above = [it for it in {*crates, *lower} if crate in self.repository.below(it)]
             rank = sum(self.repository.size(it) for it in [crate, *above])
-            run = lambda jobs, it=crate: self.begin(it, it in lower, it in crates, jobs)
-            steps.append(Step(self.repository.below(crate), rank, run))
+            steps.append(Step(self.repository.below(crate), crate, rank, partial(self.begin, crate, crate in lower, crate in crates)))
         return steps
 
-    def begin(self, crate: str, is_lower: bool, is_tried: bool, jobs: int) -> tuple[str, list[Step]]:
+    def begin(self, crate: str, is_lower: bool, is_tried: bool, jobs: int) -> list[Step]:
         """Builds a crate as it is, where others stand on it, and gives the rounds of its edits."""
         room = self.room()
         self.repository.make_room(crate, room, self.built)
@@ -88,7 +89,7 @@ class Trial:
             verdict = check(room, crate, "check", jobs)
         self.built[crate] = room
         if not is_tried:
-            return crate, []
+            return []
         edits, bad = read_edits(self.repository.root / "crates" / crate, self.kinds)
         for label, why in bad.items():
             self.tell(label, f"BAD EDIT: {why}")
@@ -101,12 +102,12 @@ class Trial:
                 self.tell(edit.label, f"BAD EDIT: a check of the crate names no function {edit.function}")
             else:
                 good.append(edit)
-        return crate, [self.round(crate, it) for it in rounds_of(good)]
+        return [self.round(crate, it) for it in rounds_of(good)]
 
     def round(self, crate: str, edits: list[Edit]) -> Step:
         """A step that judges some edits by one check."""
         rank = self.repository.size(crate) * (10 + len(edits))
-        return Step([crate], rank, lambda jobs: ("", self.judge(crate, edits, jobs)))
+        return Step([crate], "", rank, partial(self.judge, crate, edits))
 
     def judge(self, crate: str, edits: list[Edit], jobs: int) -> list[Step]:
         """Checks a crate with these edits, tells what came of each, and gives the rounds for those that are left open."""
@@ -149,29 +150,29 @@ class Trial:
 def run_steps(steps: list[Step], lanes: int) -> None:
     """Runs steps side by side, one a processor, each once what it waits for is built, and those of the highest rank first."""
     built: set[str] = set()
-    running: dict[Future[tuple[str, list[Step]]], int] = {}
+    running: dict[Future[list[Step]], tuple[Step, int]] = {}
     with ThreadPoolExecutor(lanes) as pool:
         while steps or running:
             steps.sort(key=lambda it: -it.rank)
             ready = [it for it in steps if built.issuperset(it.waits)]
-            idle = lanes - sum(running.values())
+            idle = lanes - sum(jobs for _, jobs in running.values())
             for at, step in enumerate(ready[:idle]):
                 # processors that no other step could use speed this one up
                 jobs = min(4, max(1, idle // (len(ready) - at)))
-                running[pool.submit(step.work, jobs)] = jobs
+                running[pool.submit(step.work, jobs)] = step, jobs
                 steps.remove(step)
                 idle -= jobs
             for it in wait(running, return_when=FIRST_COMPLETED).done:
-                del running[it]
-                name, more = it.result()
-                built.add(name)
-                steps += more
+                step, _ = running.pop(it)
+                steps += it.result()
+                built.add(step.builds)
 
 
 def lanes_here() -> int:
     """How many checks the processors and the free memory can hold."""
-    free = 1024 * int(next(it for it in Path("/proc/meminfo").read_text().splitlines() if it.startswith("MemAvailable:")).split()[1])
-    return max(1, min(len(os.sched_getaffinity(0)), free // MEMORY))
+    lines = Path("/proc/meminfo").read_text(encoding="utf-8").splitlines()
+    kibibytes = next(int(it.split()[1]) for it in lines if it.startswith("MemAvailable:"))
+    return max(1, min(len(os.sched_getaffinity(0)), kibibytes * 1024 // MEMORY))
 
 
 def main() -> int:

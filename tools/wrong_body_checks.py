@@ -11,7 +11,7 @@ PARTS = ("src", "specs", "proofs")
 KEPT = Path("out/incremental")
 BUILT = Path("out/rlib")
 
-STATUS = re.compile(r"(?:fn|impl|struct|enum) (\S+): (proved|no proof|not proved)(?:: |; |$)(.*)")
+STATUS = re.compile(r"fn (\S+): (proved|no proof|not proved)(?:: |; |$)(.*)")
 CALLS = re.compile(r"(?:; )?it calls (.*), which (?:is|are) not proved$")
 GOAL = re.compile(r"note: (?:\./)?src/\S+: it is not proved that ")
 PROOF_FILE = re.compile(r"((?:\./)?proofs/(\S+)/[A-Za-z]+\.antt:\d+):\d+: error: (.*)")

@@ -26,7 +26,7 @@ pub struct Filled {
 }
 
 impl Filled {
-    /// So many live cells, listed in order of place.
+    /// Live cells, listed in order of place.
     pub fn new(alloc: Global, count: u32, cells: &mut Vec<Ptr>) -> Result<Filled, AllocError> {
         let Ok(heap) = Heap::new(alloc, CEILING, SHAPE) else {
             return Err(AllocError);

@@ -66,7 +66,7 @@ linked_words words before next = if nat_eq before NO_PLACE then words else slice
 abbrev pub linked_first : ℕ → ℕ → ℕ → ℕ
 linked_first first before next = if nat_eq before NO_PLACE then next else first
 
--- the free cell that follows so many bytes of a free cell
+-- the free cell that follows a number of bytes of a free cell
 abbrev pub next_past : List ℕ → ℕ → ℕ → ℕ
 next_past words place bytes =
     if nat_eq (slice_index words (place / 16 * 4) - bytes) 0 then slice_index words (place / 16 * 4 + 2) else place + bytes

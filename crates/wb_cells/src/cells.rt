@@ -22,7 +22,7 @@ use wb_model::memory::NoMemory;
 ///
 /// A free cell lies between two live ones, or before the first; the words link the free cells in order of place. No two
 /// free cells touch. One bit for each place of 16 bytes says whether a live cell begins there, so that no payload can
-/// pass for a header. Source: this project's profile.
+/// pass for a header.
 #[derive(Drop)]
 pub struct Cells {
     words: Chunk,
@@ -56,7 +56,7 @@ impl Cells {
         }
     }
 
-    /// Holds so many bytes at least; the cells stay as they are. Where memory is refused, nothing changes.
+    /// Holds at least `bytes` bytes; the cells stay as they are. Where memory is refused, nothing changes.
     pub fn reserve(&mut self, bytes: u32) -> Result<(), NoMemory>
         requires rounded { bytes % 16 ≡ 0 }
         requires within { bytes ≤ CEILING }

@@ -88,8 +88,8 @@ pub fn link(words: &mut Chunk, first: u32, before: u32, next: u32) -> u32
     first
 }
 
-/// Parts a free cell after so many bytes: what is left is a free cell of its own, or nothing. Answers the free cell
-/// that follows these bytes.
+/// Parts a free cell after its first `bytes` bytes: what is left is a free cell of its own, or nothing. Answers the
+/// free cell that follows these bytes.
 pub fn split(words: &mut Chunk, place: u32, bytes: u32) -> u32
     requires rounded { bytes % 16 ≡ 0 }
     requires within { IsWithin words.old place }

@@ -69,7 +69,7 @@ pub fn write_header(words: &mut Chunk, place: u32, bytes: u32, state: u32, link:
     words.set_word(at + 3, number);
 }
 
-/// Appends words that are 0, up to so many words. Where memory is refused, the words are as they were.
+/// Appends words that are 0 until there are `count`. Where memory is refused, the words are as they were.
 pub fn grow_to(words: &mut Chunk, count: u32) -> Result<(), AllocError>
     requires { count ≤ 4194304 }
     ensures grown { OnOk result (words.new ≡ words.old ++ replicate (count - length words.old) 0) }

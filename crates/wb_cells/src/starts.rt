@@ -44,7 +44,8 @@ impl Starts {
         32 * self.words.words()
     }
 
-    /// Appends bits that are off, up to so many bits, in steps of 32. Where memory is refused, the bits are as they were.
+    /// Appends bits that are off, in steps of 32, until there are at least `count`. Where memory is refused, the bits
+    /// are as they were.
     pub fn grow_to(&mut self, count: u32) -> Result<(), AllocError>
         requires { count ≤ 1048576 }
         ensures grown { OnOk result (self.new ≡ self.old ++ replicate (32 * ((count + 31) / 32) - length self.old) false) }

@@ -9,7 +9,7 @@ abbrev pub words_of : Option (Region Global) → List ℕ
 words_of None = []
 words_of (Some r) = r.words
 
--- a region has room for so many words, and its block goes back to this allocator; without one there is no room
+-- a region has room for a number of words, and its block goes back to this allocator; without one there is no room
 abbrev pub HasRoom : Option (Region Global) → ℕ → Global → Type 0
 HasRoom None capacity alloc = capacity ≡ 0
 HasRoom (Some r) capacity alloc = (r.capacity ≡ capacity) × (r.alloc ≡ alloc)

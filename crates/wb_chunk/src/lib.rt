@@ -18,7 +18,7 @@ mod region;
 #[cfg(test)]
 mod tests;
 
-/// The most words that a chunk can have: 16,777,216 bytes, the ceiling of a simulated heap in this project's profile.
+/// The most words that a chunk can have: 16,777,216 bytes, the ceiling of a simulated heap.
 pub const MOST_WORDS: u32 = 4_194_304;
 
 /// A list of words, which grows at its end and never shrinks. Contracts see it as that list; each word is below 2^32,

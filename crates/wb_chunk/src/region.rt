@@ -31,7 +31,7 @@ impl<A: Allocator> Model for Region<A> {
 impl<A: Allocator> Region<A> {
     ghost use Rattle.wb_chunk.specs.Lending.{lends_words};
 
-    /// A block with room for so many words, none of which is written.
+    /// A block with room for `capacity` words, none of which is written.
     pub(crate) fn allocate(alloc: &A, capacity: u32) -> Result<Region<A>, AllocError>
         ensures { IfOk result (λ r. (r.words ≡ []) × (r.capacity ≡ capacity) × (r.alloc ≡ alloc.now)) }
     {

@@ -6,7 +6,7 @@ use Rattle.wb_model.specs.LimitedHeap.{next_live_of}
 use Rattle.wb_model.specs.Row.{end_of, IsSpacedFrom, top_from}
 use Rattle.wb_model.proofs.Onward.{onward, onward_zero, onward_none, IsNextCell}
 
--- so many were found below a place, and the lowest of them
+-- a number of cells were found below a place, and the lowest of them
 pub record IsCounted (test : Header → Bool) (row : List Header) (from found place : ℕ) : Type 0 where
   pub seen : List Header
   pub split : seen ++ filter test (onward from row) ≡ filter test row

@@ -29,7 +29,7 @@ use wb_rheap::heap::Heap;
 ///
 /// An attempt to get a cell has a number, from 1 on, also where it is refused; a granted cell bears it. Its place is
 /// chosen first. Then the script's own setting is asked, which counts the attempt; then the rule; then the ceiling.
-/// Each attempt that the ceiling doesn't cut adds its line to the trace. Source: this project's profile.
+/// Each attempt that the ceiling doesn't cut adds its line to the trace.
 #[derive(Drop)]
 pub struct DebugHeap {
     alloc: Global,
@@ -58,7 +58,6 @@ impl DebugHeap {
     /// A heap with no cell, before the first attempt.
     ///
     /// The rule's limit is in bytes. `BadShape` exactly where no heap may have the shape, and else `NoMemory` at worst.
-    /// Source: this project's profile.
     pub fn new(alloc: Global, rule: Rule, shape: Shape) -> Result<DebugHeap, DebugFault>
         ensures ok { IfOk result (λ heap. heap ≡ first_debug rule shape) }
         ensures shape { (result ≡ Err DebugFault.BadShape) ↔ (is_shape shape ≡ false) }
@@ -81,21 +80,21 @@ impl DebugHeap {
 
     /// The live cells but the cleanup stack's, by place: what has leaked, once a run is over.
     ///
-    /// `NoMemory` where there is no room for the list. Source: this project's profile.
+    /// `NoMemory` where there is no room for the list.
     pub fn leaks(&self) -> Result<Leaks, NoMemory>
         ensures { IfOk result (λ leaks. leaks ≡ leaks_of_heap self.now) }
     {
         marks::leaks(self.alloc, &self.heap)
     }
 
-    /// How many attempts were made. Source: this project's profile.
+    /// How many attempts were made.
     pub fn attempts(&self) -> u32
         ensures { result ≡ length self.now.trace }
     {
         self.trace.len() as u32
     }
 
-    /// The attempts that were made, in order. Source: this project's profile.
+    /// The attempts that were made, in order.
     pub fn trace(&self) -> &Trace
         ensures { result.now ≡ self.now.trace }
     {
@@ -120,7 +119,7 @@ impl DebugHeap {
 
 /// Attempts to get a cell, and releases.
 impl DebugHeap {
-    /// An attempt to get a cell for so many bytes, with zeros for its payload.
+    /// An attempt to get a cell for `bytes` bytes, with zeros for its payload.
     ///
     /// `Denied` where the setting or the rule refuses it, which counts it. `Ceiling` where neither does and the cell
     /// would end past the ceiling: nothing is counted, and the heap is as it was; so it is on `NoMemory`. Source:
@@ -150,7 +149,7 @@ impl DebugHeap {
         Ok(gave)
     }
 
-    /// Gives the cell that the pointer names another length, for so many bytes.
+    /// Gives the cell that the pointer names another length, for `bytes` bytes.
     ///
     /// A cell length that isn't longer is no attempt: it answers `Granted` with the pointer, the tail is free, and what
     /// stood there is dropped. A longer one is an attempt, and is answered as `attempt_alloc` does. Its place is the
@@ -233,7 +232,7 @@ impl DebugHeap {
     }
 }
 
-/// What an attempt gives that the heap was asked to grant. Where the workbench's own memory was wanting, it is no attempt:
+/// What an attempt gives that the heap was asked to grant. Where the workbench's own memory ran out, it is no attempt:
 /// its line, the trace's last, is taken back.
 fn granted_or_undone(granted: Result<Ptr, HeapFault>, trace: &mut Trace) -> Result<Gave, NoMemory>
     ensures granted { IfOk result (λ gave. IsOkAnd granted (λ ptr. gave ≡ Gave.Granted ptr)) }
@@ -261,10 +260,11 @@ impl DebugHeap {
         self.level += 1;
     }
 
-    /// Closes the innermost mark, where so many live cells are of its level: they take the level below.
+    /// Closes the innermost mark, where `n` live cells are of its level: they take the level below.
     ///
-    /// `Panic::NO_OPEN_MARK` where no mark is open, and else what `check` refuses; the heap is then as it was. Source: Symbian OS
-    /// v9 SDK reference, `__UHEAP_MARKEND` and `__UHEAP_MARKENDC`, and this project's profile for the levels.
+    /// `Panic::NO_OPEN_MARK` where no mark is open, and else what `check` refuses; the heap is then as it was. Source:
+    /// Symbian OS v9 SDK reference, `__UHEAP_MARKEND` and `__UHEAP_MARKENDC`, and this project's profile for the
+    /// levels.
     pub fn mark_end(&mut self, n: u32) -> Result<(), Panic>
         ensures refused { IfErr result (λ panic. mark_end_refusal self.old.heap n ≡ Some panic) }
         ensures fine { OnOk result (mark_end_refusal self.old.heap n ≡ None) }
@@ -282,7 +282,7 @@ impl DebugHeap {
         Ok(())
     }
 
-    /// Expects so many live cells of the current level.
+    /// Expects `n` live cells of the current level.
     ///
     /// Where they are fewer or more, `Alloc` names the place of the lowest, or 0 where there is none. Source: Symbian OS
     /// v9 SDK reference, `__UHEAP_CHECK`, and this project's profile for the cell that is named.
@@ -293,7 +293,7 @@ impl DebugHeap {
         marks::expect(&self.heap, Levels::One(self.level), n)
     }
 
-    /// Expects so many live cells of all levels. It refuses as `check` does. Source: Symbian OS v9 SDK reference,
+    /// Expects `n` live cells of all levels. It refuses as `check` does. Source: Symbian OS v9 SDK reference,
     /// `__UHEAP_CHECKALL`, and this project's profile for the cell that is named.
     pub fn check_all(&self, n: u32) -> Result<(), Panic>
         ensures refused { IfErr result (λ panic. check_all_refusal self.now n ≡ Some panic) }
@@ -368,7 +368,7 @@ impl DebugHeap {
 /// Headers, and the words of payloads. Words and their halves are counted from 0; the half 2k is the low half of word k.
 impl DebugHeap {
     /// The header of the cell that the pointer names, or `None` exactly where it names no live cell. Its payload has a
-    /// word for each four bytes of its usable length. Source: this project's profile.
+    /// word for each four bytes of its usable length.
     pub fn header(&self, ptr: Ptr) -> Option<Header>
         ensures header { result ≡ option_map (λ c. c.head) (cell_at ptr self.now.heap.row) }
         ensures live { IfSome result (IsLiveIn self.now) }
@@ -378,7 +378,7 @@ impl DebugHeap {
         self.heap.header(ptr)
     }
 
-    /// A word of a payload. Source: this project's profile.
+    /// A word of a payload.
     pub fn payload(&self, ptr: Ptr, i: u32) -> u32
         requires { i < length (payload_of ptr self.now.heap.row) }
         ensures { result ≡ slice_index (payload_of ptr self.now.heap.row) i }
@@ -386,7 +386,7 @@ impl DebugHeap {
         self.heap.payload(ptr, i)
     }
 
-    /// Changes a word of a payload, and nothing else. Source: this project's profile.
+    /// Changes a word of a payload, and nothing else.
     pub fn set_payload(&mut self, ptr: Ptr, i: u32, v: u32)
         requires { i < length (payload_of ptr self.old.heap.row) }
         ensures changed { self.new ≡ debug_changed self.old ptr (slice_set (payload_of ptr self.old.heap.row) i v) }
@@ -395,7 +395,7 @@ impl DebugHeap {
         self.heap.set_payload(ptr, i, v);
     }
 
-    /// A half of a payload's words. Source: this project's profile.
+    /// A half of a payload's words.
     pub fn payload_half(&self, ptr: Ptr, i: u32) -> u16
         requires { i < 2 * length (payload_of ptr self.now.heap.row) }
         ensures { result ≡ half_of (payload_of ptr self.now.heap.row) i }
@@ -403,7 +403,7 @@ impl DebugHeap {
         self.heap.payload_half(ptr, i)
     }
 
-    /// Changes a half of a payload's words, and nothing else. Source: this project's profile.
+    /// Changes a half of a payload's words, and nothing else.
     pub fn set_payload_half(&mut self, ptr: Ptr, i: u32, v: u16)
         requires { i < 2 * length (payload_of ptr self.old.heap.row) }
         ensures changed { self.new ≡ debug_changed self.old ptr (with_half (payload_of ptr self.old.heap.row) i v) }
@@ -412,8 +412,7 @@ impl DebugHeap {
         self.heap.set_payload_half(ptr, i, v);
     }
 
-    /// Copies the first `n` words of one cell's payload to the front of another's, or of its own. Source: this
-    /// project's profile.
+    /// Copies the first `n` words of one cell's payload to the front of another's, or of its own.
     pub fn copy_payload(&mut self, from: Ptr, to: Ptr, n: u32)
         requires from_live { IsSome (cell_at from self.old.heap.row) }
         requires to_live { IsSome (cell_at to self.old.heap.row) }

@@ -61,7 +61,7 @@ fn count(heap: &Heap, levels: Levels) -> (u32, u32)
     (found, place)
 }
 
-/// Expects so many cells to be counted.
+/// Expects `n` cells to be counted.
 pub fn expect(heap: &Heap, levels: Levels, n: u32) -> Result<(), Panic>
     ensures refused { IfErr result (λ panic. checked (filter (is_counted levels) (headers heap.now.row)) n ≡ Some panic) }
     ensures fine { OnOk result (checked (filter (is_counted levels) (headers heap.now.row)) n ≡ None) }

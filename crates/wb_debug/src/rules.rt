@@ -44,7 +44,7 @@ pub fn limit_under(rule: Rule) -> u32
     }
 }
 
-/// The length of the cell for so many bytes.
+/// The length of the cell for a request of `bytes` bytes.
 pub fn cell_length(bytes: u32) -> u32
     requires { bytes ≤ CEILING }
     ensures exact { result ≡ cell_length bytes }

@@ -9,7 +9,7 @@ ghost use Rattle.wb_model.specs.Rules.{is_due, after_attempt};
 pub enum Setting {
     /// No attempt fails.
     Never,
-    /// The one that is so many attempts ahead, 1 being the next.
+    /// The one that is this many attempts ahead, 1 being the next.
     Next(u32),
     /// Every attempt whose number since the setting is a multiple of the first; the second is how many attempts ahead the
     /// next of them is.

@@ -105,7 +105,7 @@ impl Worked {
         }
     }
 
-    /// Copies so many words, where both payloads have them.
+    /// Copies `n` words, where both payloads have them.
     fn copy(&mut self, from: Ptr, to: Ptr, n: u32) -> bool {
         match (self.heap.header(from), self.heap.header(to)) {
             (Some(source), Some(target))

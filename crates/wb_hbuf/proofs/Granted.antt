@@ -90,7 +90,7 @@ pub made-empty : {E : Type 0} (d new : Debug) (bytes : ℕ) (r : Result Gave E) 
 made-empty d new bytes (Ok gave) some given made sound = alloc-text d new bytes gave some given made sound
 made-empty d new bytes (Err e) some given made sound = tt
 
--- a reallocation for so many units keeps the text, granted or not
+-- a reallocation for a number of units keeps the text, granted or not
 module _ (p : Ptr) (d new : Debug) (is : IsTextAt p d) (n : ℕ) (fits : length (text_in is.cell.content) ≤ n) (sound : IsSoundDebug new) where
   abbrev t : List ℕ
   t = text_in is.cell.content

@@ -144,7 +144,7 @@ get_or-filled n t k past = by (cases_lt k n)
 pub get_or-part : (base : List ℕ) (from count i : ℕ) → i < count → get_or (units_of_part base from count) i 0 ≡ get_or base (from + i) 0
 get_or-part base from count i lt = get_or-exactly count (drop from base) i lt ∙ get_or-drop from base i 0
 
--- the units once a text of so many was cut or grew: what stands past it is zero
+-- the units once a text was cut or grew to a number of them: what stands past it is zero
 pub settled : (n len : ℕ) (t all : List ℕ) → length t ≡ n → n ≤ length all → len ≤ length all → take n all ≡ t →
     ((k : ℕ) → n + (len - n) ≤ k → get_or all k 0 ≡ 0) → put n (replicate (len - n) 0) all ≡ exactly (length all) t
 settled n len t all same fits within front behind =

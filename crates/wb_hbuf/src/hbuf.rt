@@ -20,7 +20,7 @@ use wb_model::memory::NoMemory;
 use wb_model::printed_line::Line;
 use wb_text::buf::Buf;
 
-/// An attempt to get a cell for an empty text that may have so many units.
+/// An attempt to get a cell for an empty text that may have `n` units.
 ///
 /// `Denied` and `Ceiling` are the heap's answers. `NoMemory` leaves the heap as it was. Source: Symbian OS v9 SDK
 /// reference, HBufC::New, and this project's profile for the length of the cell.
@@ -36,7 +36,7 @@ pub fn make(heap: &mut DebugHeap, n: u32) -> Result<Gave, NoMemory>
     heap.attempt_alloc(4 + 2 * n, Kind::Text)
 }
 
-/// Gives a text another maximum: a reallocation of its cell for so many units, which keeps the text.
+/// Gives a text another maximum: a reallocation of its cell for `n` units, which keeps the text.
 ///
 /// Its length may not pass them. `Denied` and `Ceiling` are the heap's answers, and leave the cell as it was.
 /// `NoMemory` leaves the heap as it was, and doesn't come where the cell gets no longer. Source: Symbian OS v9 SDK
@@ -95,9 +95,9 @@ fn measure(heap: &DebugHeap, ptr: Ptr) -> Measured
 
 /// Changes the text in a cell by the units of a source, which count as they stood before.
 ///
-/// `Panic::POSITION_OUT_OF_BOUNDS` where an insertion's position is past the end, then `Panic::TOO_LONG` where the text would be longer than its
-/// maximum. A refusal leaves the heap as it was. Other cells stay. Source: Symbian OS v9 SDK reference, 16-bit
-/// descriptors.
+/// `Panic::POSITION_OUT_OF_BOUNDS` where an insertion's position is past the end, then `Panic::TOO_LONG` where the text
+/// would be longer than its maximum. A refusal leaves the heap as it was. Other cells stay. Source: Symbian OS v9 SDK
+/// reference, 16-bit descriptors.
 pub fn edit(heap: &mut DebugHeap, ptr: Ptr, change: Edit, source: Source) -> Result<(), Panic>
     requires text { IsTextAt ptr heap.old }
     requires source { IsSource heap.old source }
@@ -169,10 +169,10 @@ fn insert(heap: &mut DebugHeap, ptr: Ptr, at: u32, source: Source) -> Result<(),
     Ok(())
 }
 
-/// Takes so many units from a position on out of the text in a cell, or all from there where there are fewer.
+/// Takes `count` units from a position on out of the text in a cell, or all from there where there are fewer.
 ///
-/// `Panic::POSITION_OUT_OF_BOUNDS` where the position is past the end, and then the heap is as it was. Units past the new end are zero. Other
-/// cells stay. Source: Symbian OS v9 SDK reference, 16-bit descriptors.
+/// `Panic::POSITION_OUT_OF_BOUNDS` where the position is past the end, and then the heap is as it was. Units past the
+/// new end are zero. Other cells stay. Source: Symbian OS v9 SDK reference, 16-bit descriptors.
 pub fn delete(heap: &mut DebugHeap, ptr: Ptr, position: u32, count: u32) -> Result<(), Panic>
     requires { IsTextAt ptr heap.old }
     ensures answer { result ≡ answer_of (delete_text (text_at ptr heap.old) position count) }
@@ -199,8 +199,8 @@ pub fn delete(heap: &mut DebugHeap, ptr: Ptr, position: u32, count: u32) -> Resu
 
 /// Gives the text in a cell another length: units past it become zero, and a longer text gains zeros.
 ///
-/// `Panic::TOO_LONG` where the length is above the maximum, and then the heap is as it was. Other cells stay. Source: Symbian OS
-/// v9 SDK reference, 16-bit descriptors.
+/// `Panic::TOO_LONG` where the length is above the maximum, and then the heap is as it was. Other cells stay. Source:
+/// Symbian OS v9 SDK reference, 16-bit descriptors.
 pub fn set_length(heap: &mut DebugHeap, ptr: Ptr, n: u32) -> Result<(), Panic>
     requires { IsTextAt ptr heap.old }
     ensures answer { result ≡ answer_of (set_length_text (max_at ptr heap.old) (text_at ptr heap.old) n) }
@@ -219,8 +219,9 @@ pub fn set_length(heap: &mut DebugHeap, ptr: Ptr, n: u32) -> Result<(), Panic>
 /// Changes a buffer by the units of a source, which count as they stood before. The heap is where the source's cell
 /// stands.
 ///
-/// `Panic::POSITION_OUT_OF_BOUNDS` where an insertion's position is past the end, then `Panic::TOO_LONG` where the text would be longer than its
-/// maximum. A refusal leaves the buffer as it was. Source: Symbian OS v9 SDK reference, 16-bit descriptors.
+/// `Panic::POSITION_OUT_OF_BOUNDS` where an insertion's position is past the end, then `Panic::TOO_LONG` where the text
+/// would be longer than its maximum. A refusal leaves the buffer as it was. Source: Symbian OS v9 SDK reference, 16-bit
+/// descriptors.
 pub fn edit_buf(heap: &DebugHeap, buf: &mut Buf, change: Edit, source: Source) -> Result<(), Panic>
     requires source { IsSource heap.now source }
     requires suits { SuitsEdit change source }
@@ -270,8 +271,7 @@ fn printed_unit(unit: u16) -> u8
     }
 }
 
-/// The line that a source prints: its first 80 units, each that isn't a printable ASCII character as a dot. Source: this
-/// project's profile.
+/// The line that a source prints: its first 80 units, each that isn't a printable ASCII character as a dot.
 pub fn print_units(heap: &DebugHeap, source: Source) -> Line
     requires source { IsSource heap.now source }
     requires foreign { IsForeign source }

@@ -16,7 +16,7 @@ pub enum Edit {
 }
 
 /// What an edit reads: a part of a text, by the position of its first unit and the number of its units. Units past the
-/// text's end are zero. Source: this project's profile.
+/// text's end are zero.
 #[derive(Clone, Copy)]
 pub enum Source<'a> {
     /// Of a literal.

@@ -24,7 +24,7 @@ fn chars(alloc: Global, bytes: &[u8]) -> Result<Chars, AllocError> {
     Ok(Items::from_vec(bytes.to_vec(alloc)?))
 }
 
-/// An empty text that may have so many units.
+/// An empty text that may have `n` units.
 fn granted(heap: &mut DebugHeap, n: u32) -> Result<Ptr, NoMemory>
     requires { n ≤ MOST_UNITS }
     ensures { IfOk result (λ ptr. IsTextAt ptr heap.new) }
@@ -76,7 +76,7 @@ fn edit_from(
     edit(heap, ptr, change, Source::Cell(other, from, count))
 }
 
-/// The pointer to a text once its cell was reallocated for so many units, and the old one where that was refused.
+/// The pointer to a text once its cell was reallocated for `n` units, and the old one where that was refused.
 fn remade(heap: &mut DebugHeap, ptr: Ptr, n: u32) -> Result<Ptr, NoMemory>
     requires text { IsTextAt ptr heap.old }
     requires most { n ≤ MOST_UNITS }

@@ -29,7 +29,7 @@ pub fn write_units(heap: &mut DebugHeap, ptr: Ptr, at: u32, source: Source)
     }
 }
 
-/// Moves the units of the text from a position on up by so many places, the last one first.
+/// Moves the units of the text from a position on up by `gap` places, the last one first.
 pub fn open_gap(heap: &mut DebugHeap, ptr: Ptr, at: u32, gap: u32)
     requires units { HasUnits ptr heap.old }
     requires most { 2 * length (payload_of ptr heap.old.heap.row) < 2 ^ 32 }

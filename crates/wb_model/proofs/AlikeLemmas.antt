@@ -1,18 +1,17 @@
--- Two meanings of what stands inside that are alike from some number of steps on give alike meanings of statements.
-use Rattle.std.proofs.Common.{◌≡◌, ℕ, ℤ, zero, suc, ◌+◌, ◌<◌, ◌≤◌, Bool, true, false, List, [], ◌∷◌, refl, arith, ap, ◌∙◌, Option, Some, None, Result, Ok, Err}
+-- Two meanings of what stands inside that are alike, and show only states of which a lasting fact holds, give alike meanings
+-- of whatever a script does. Here stand the ways of going on; the statements are in `AlikeStatements`.
+use Rattle.std.proofs.Common.{◌≡◌, ℕ, ℤ, ◌-◌, ◌<◌, ◌≤◌, Bool, true, false, List, ◌∷◌, refl, ap, ◌∙◌, subst, Option, Some, None, Result, Ok, Err}
 use Rattle.std.proofs.Math.Path.{fun_ext}
 use Rattle.std.specs.Prelude.{nat_lt}
-use Rattle.std.proofs.lemmas.Bool.{ltb-true}
+use Rattle.std.proofs.lemmas.Bool.{ltb-true, ltb-false}
 use Rattle.wb_model.specs.declared.heap.Ptr.{Ptr}
 use Rattle.wb_model.specs.declared.heap.Item.{Item}
-use Rattle.wb_model.specs.declared.heap.Item.TheVariants as I
 use Rattle.wb_model.specs.declared.heap.Kind.{Kind}
+use Rattle.wb_model.specs.declared.heap.Kind.TheVariants as K
 use Rattle.wb_model.specs.declared.heap.Answer.{Answer}
 use Rattle.wb_model.specs.declared.heap.Panic.{Panic}
 use Rattle.wb_model.specs.declared.text.Base.{Base}
 use Rattle.wb_model.specs.declared.text.Base.TheVariants as B
-use Rattle.wb_model.specs.declared.script.Script.{Script}
-use Rattle.wb_model.specs.declared.script.Body.{Body}
 use Rattle.wb_model.specs.declared.script.Refusal.{Refusal}
 use Rattle.wb_model.specs.declared.script.Refusal.TheVariants.{GivesNull, Leaves}
 use Rattle.wb_model.specs.declared.script.Pointer.{Pointer}
@@ -22,391 +21,290 @@ use Rattle.wb_model.specs.declared.script.Writable.{Writable}
 use Rattle.wb_model.specs.declared.script.Writable.TheVariants.{OwnBuffer, InCell}
 use Rattle.wb_model.specs.declared.script.Readable.{Readable}
 use Rattle.wb_model.specs.declared.script.Readable.TheVariants.{Of, ViewOf, Quoted}
-use Rattle.wb_model.specs.declared.script.Condition.{Condition}
-use Rattle.wb_model.specs.declared.script.Condition.TheVariants.{IsNull, NotNull, Equal, Less}
-use Rattle.wb_model.specs.declared.script.Argument.{Argument}
-use Rattle.wb_model.specs.declared.script.Argument.TheVariants.{Passed, Given}
-use Rattle.wb_model.specs.declared.script.Statement.TheOpen.{Statement-F}
-use Rattle.wb_model.specs.declared.script.Statement.TheViews.{out-Statement}
-use Rattle.wb_model.specs.Row.{Cell, cell_at}
-use Rattle.wb_model.specs.Rules.{Request}
-use Rattle.wb_model.specs.Heap.{AfterAnswer}
+use Rattle.wb_model.specs.Row.{Cell, cell_at, cell_length, changed, without}
+use Rattle.wb_model.specs.Rules.{Request, Setting, is_due}
+use Rattle.wb_model.specs.Heap.{Heap, AfterAnswer, alloc_request, after_alloc, realloc_request, after_realloc, shortened, after_mark, after_mark_end}
+use Rattle.wb_model.specs.Throughout.{IsNoteOf, SuitsKind, HoldsItsKind}
 use Rattle.wb_model.specs.Texts.{Edited, Part}
-use Rattle.wb_model.specs.State.{Content, State, Value, Way, goes_on, returns, leaves, Process, ends, stops, asks, notes, and_then, on_plain_end, then_do, require, with_some, unless, set_heap}
-use Rattle.wb_model.specs.Operands.{with_cell, with_fields, with_pointer, set_pointer}
-use Rattle.wb_model.specs.Attempts.{attempt, allocate, reallocate, reallocate_longer, grow_if, push, after_growth}
-use Rattle.wb_model.specs.Reading.{Source, whole, part, with_writable, with_readable, with_base, with_units, with_room, with_text_cell, write, write_view}
-use Rattle.wb_model.specs.Statements.{new_object, alloc_raw, with_words, with_class, Piece, all, turns, destroy_items, destroy_object, Where, Meaning, Layer, given_to, released, release, is_null, realloc_of, realloc_raw, in_frame, plain, with_arguments, destroyed_object, destroyed_item, trapped, with_condition, leave_if, realloc_text, statement}
-use Rattle.wb_model.specs.Meaning.{begun, begun_if, piece, meaning_within}
-use Rattle.wb_model.specs.Keeping.{Ends}
+use Rattle.wb_model.specs.State.{Content, words, fields, units, none, State, Way, goes_on, returns, leaves, Process, ends, stops, asks, notes, and_then, on_plain_end, then_do, require, with_some, unless, set_heap}
+use Rattle.wb_model.specs.Operands.{raw_words_of, set_field, with_cell, with_fields, with_pointer, set_pointer, set_row}
+use Rattle.wb_model.specs.Attempts.{attempt, allocate, resized, reallocate, reallocate_longer, grow_if, push, after_growth}
+use Rattle.wb_model.specs.Reading.{Source, whole, part, set_units, with_writable, with_readable, with_base, with_units, with_room, with_text_cell, write, write_view}
+use Rattle.wb_model.specs.Statements.{with_words, with_class, Piece, Where, Meaning, given_to, released, release, is_null}
 
--- a process that is another, and ends only with steps of this kind
-module _ (Counts : ℕ → Type 0) where
-  abbrev pub Fine : State → Type 0
-  Fine st = Counts st.steps
+-- the heap with other cells
+abbrev pub with_cells : Heap Content → List (Cell Content) → Heap Content
+with_cells heap row = record heap { row = row }
 
-  abbrev pub Keeps : Process → Type 0
-  Keeps p = Ends Fine p
+-- A fact about the steps counted, and one about the heap beside the numbers that attempts got so far, the newest first. The
+-- second lasts whatever a script does to a heap.
+pub record Lasting : Type 1 where
+  pub Counts : ℕ → Type 0
+  pub Holds : List ℕ → Heap Content → Type 0
+  pub allocated : (ns : List ℕ) (heap : Heap Content) (bytes : ℕ) (kind : Kind) (fresh : Content) (n : ℕ) (answer : Answer) →
+      SuitsKind kind fresh → Holds ns heap → Holds (n ∷ ns) (after_alloc heap (alloc_request heap bytes) kind fresh n answer).heap
+  pub reallocated : (ns : List ℕ) (heap : Heap Content) (p : Ptr) (c : Cell Content) (bytes n : ℕ) (answer : Answer) → cell_at p heap.row ≡ Some c →
+      c.head.length < cell_length bytes → Holds ns heap →
+      Holds (n ∷ ns) (after_realloc heap (realloc_request heap c.head bytes) c.head (resized (cell_length bytes - 16) c.content) n answer).heap
+  pub cut_down : (ns : List ℕ) (heap : Heap Content) (p : Ptr) (c : Cell Content) (bytes : ℕ) → cell_at p heap.row ≡ Some c →
+      cell_length bytes ≤ c.head.length → Holds ns heap →
+      Holds ns (shortened heap c.head (cell_length bytes) (resized (cell_length bytes - 16) c.content))
+  pub freed : (ns : List ℕ) (heap : Heap Content) (p : Ptr) → Holds ns heap → Holds ns (with_cells heap (without p heap.row))
+  pub rewritten : (ns : List ℕ) (heap : Heap Content) (p : Ptr) (f : Content → Content) →
+      ((c : Cell Content) → cell_at p heap.row ≡ Some c → HoldsItsKind c → SuitsKind c.head.kind (f c.content)) → Holds ns heap →
+      Holds ns (with_cells heap (changed p f heap.row))
+  pub marked : (ns : List ℕ) (heap : Heap Content) → Holds ns heap → Holds ns (after_mark heap)
+  pub mark_ended : (ns : List ℕ) (heap : Heap Content) → Holds ns heap → Holds ns (after_mark_end heap)
+  pub set : (ns : List ℕ) (heap : Heap Content) (setting : Setting) → Holds ns heap → Holds ns (record heap { setting = setting })
 
-  abbrev pub Alike : Process → Process → Type 0
-  Alike p q = (p ≡ q) × Keeps p
+-- a fact about the states that a process shows, beside the numbers that attempts got before; each attempt tells whether the
+-- setting at the time refuses it
+abbrev pub Shows : (List ℕ → State → Type 0) → List ℕ → Process → Type 0
+Shows P ns (ends way st) = P ns st
+Shows P ns (stops stop st) = P ns st
+Shows P ns (asks t cut go) = P ns cut × (t.due ≡ is_due cut.heap.setting) × ((n : ℕ) (a : Answer) → Shows P (n ∷ ns) (go n a))
+Shows P ns (notes q p) = ((st : State) × P ns st × IsNoteOf st q) × Shows P ns p
 
-  and_then-same : (p : Process) (go go' : Way → State → Process) → Keeps p → ((w : Way) (st : State) → Fine st → Alike (go w st) (go' w st)) →
-      Alike (and_then p go) (and_then p go')
+-- content of the right kind stays so
+pub suits-set_field : (kind : Kind) (c : Content) (i : ℕ) (q : Ptr) → SuitsKind kind c → SuitsKind kind (set_field i q c)
+suits-set_field (K.Object class) (fields ps) i q is = tt
+suits-set_field kind (words ws) i q is = is
+suits-set_field kind (units us) i q is = is
+suits-set_field kind none i q is = is
+suits-set_field K.Raw (fields ps) i q is = absurd is
+suits-set_field K.Text (fields ps) i q is = absurd is
+suits-set_field K.Cleanup (fields ps) i q is = absurd is
+
+pub suits-set_units : (kind : Kind) (c : Content) (us : List ℕ) → SuitsKind kind c → SuitsKind kind (set_units us c)
+suits-set_units K.Text (units old) us is = tt
+suits-set_units kind (words ws) us is = is
+suits-set_units kind (fields ps) us is = is
+suits-set_units kind none us is = is
+suits-set_units K.Raw (units old) us is = absurd is
+suits-set_units (K.Object class) (units old) us is = absurd is
+suits-set_units K.Cleanup (units old) us is = absurd is
+
+suits-words : (kind : Kind) (c : Content) (ws us : List ℤ) → raw_words_of kind c ≡ Some ws → SuitsKind kind (words us)
+suits-words K.Raw (words old) ws us e = tt
+suits-words K.Raw (fields ps) ws us e = cc
+suits-words K.Raw (units old) ws us e = cc
+suits-words K.Raw none ws us e = cc
+suits-words (K.Object class) c ws us e = cc
+suits-words K.Text c ws us e = cc
+suits-words K.Cleanup c ws us e = cc
+
+-- a process that is another, and shows only states of which a fact holds
+module _ (L : Lasting) where
+  abbrev pub Fine : List ℕ → State → Type 0
+  Fine ns st = L.Counts st.steps × L.Holds ns st.heap
+
+  abbrev pub Keeps : List ℕ → Process → Type 0
+  Keeps ns p = Shows Fine ns p
+
+  abbrev pub Alike : List ℕ → Process → Process → Type 0
+  Alike ns p q = (p ≡ q) × Keeps ns p
+
+  and_then-same : (ns : List ℕ) (p : Process) (go go' : Way → State → Process) → Keeps ns p →
+      ((ns : List ℕ) (w : Way) (st : State) → Fine ns st → Alike ns (go w st) (go' w st)) → Alike ns (and_then p go) (and_then p go')
   unfolding and_then
-  and_then-same (ends way st) go go' k h = h way st k
-  and_then-same (stops stop st) go go' k h = (refl, k)
-  and_then-same (asks t cut answered) go go' k h = (
-    ap (asks t cut) (fun_ext (λ n. fun_ext (λ a. (and_then-same (answered n a) go go' (k.1 n a) h).0))),
-    (k.0, λ n a. (and_then-same (answered n a) go go' (k.1 n a) h).1),
+  and_then-same ns (ends way st) go go' k h = h ns way st k
+  and_then-same ns (stops stop st) go go' k h = (refl, k)
+  and_then-same ns (asks t cut answered) go go' k h = (
+    ap (asks t cut) (fun_ext (λ n. fun_ext (λ a. (and_then-same (n ∷ ns) (answered n a) go go' (k.2 n a) h).0))),
+    (k.0, k.1, λ n a. (and_then-same (n ∷ ns) (answered n a) go go' (k.2 n a) h).1),
   )
-  and_then-same (notes q p) go go' k h =
-      let ih = and_then-same p go go' k h in (ap (notes q) ih.0, ih.1)
+  and_then-same ns (notes q p) go go' k h =
+      let ih = and_then-same ns p go go' k.1 h in (ap (notes q) ih.0, (k.0, ih.1))
 
-  and_then-alike : (p q : Process) (go go' : Way → State → Process) → Alike p q → ((w : Way) (st : State) → Fine st → Alike (go w st) (go' w st)) →
-      Alike (and_then p go) (and_then q go')
-  and_then-alike p q go go' e h =
-      let same = and_then-same p go go' e.1 h in (same.0 ∙ ap (λ x. and_then x go') e.0, same.1)
+  pub and_then-alike : (ns : List ℕ) (p q : Process) (go go' : Way → State → Process) → Alike ns p q →
+      ((ns : List ℕ) (w : Way) (st : State) → Fine ns st → Alike ns (go w st) (go' w st)) → Alike ns (and_then p go) (and_then q go')
+  and_then-alike ns p q go go' e h =
+      let same = and_then-same ns p go go' e.1 h in (same.0 ∙ ap (λ x. and_then x go') e.0, same.1)
 
-  attempt-alike : (t : Request) (after : ℕ → Answer → AfterAnswer Content) (cut st : State) (go go' : Option Ptr → State → Process) → Fine cut → Fine st →
-      ((o : Option Ptr) (st : State) → Fine st → Alike (go o st) (go' o st)) → Alike (attempt t after cut st go) (attempt t after cut st go')
+  attempt-alike : {ns : List ℕ} (t : Request) (after : ℕ → Answer → AfterAnswer Content) (cut st : State) (go go' : Option Ptr → State → Process) →
+      Fine ns cut → t.due ≡ is_due cut.heap.setting → L.Counts st.steps → ((n : ℕ) (a : Answer) → L.Holds (n ∷ ns) (after n a).heap) →
+      ((ns : List ℕ) (o : Option Ptr) (st : State) → Fine ns st → Alike ns (go o st) (go' o st)) → Alike ns (attempt t after cut st go) (attempt t after cut st go')
   unfolding attempt
-  attempt-alike t after cut st go go' fc f k =
-      (ap (asks t cut) (fun_ext (λ n. fun_ext (λ a. (k (after n a).given (set_heap st (after n a).heap) f).0))), (fc, λ n a. (k _ _ f).1))
+  attempt-alike {ns = ns} t after cut st go go' fc due c h k = (
+    ap (asks t cut) (fun_ext (λ n. fun_ext (λ a. (k (n ∷ ns) (after n a).given (set_heap st (after n a).heap) (c, h n a)).0))),
+    (fc, due, λ n a. (k (n ∷ ns) (after n a).given (set_heap st (after n a).heap) (c, h n a)).1),
+  )
 
-  plain_end-alike : (w : Way) (st : State) (go go' : State → Process) → Fine st → ((st : State) → Fine st → Alike (go st) (go' st)) → Alike (on_plain_end w st go) (on_plain_end w st go')
+  pub plain_end-alike : {ns : List ℕ} (w : Way) (st : State) (go go' : State → Process) → Fine ns st →
+      ((st : State) → Fine ns st → Alike ns (go st) (go' st)) → Alike ns (on_plain_end w st go) (on_plain_end w st go')
   unfolding on_plain_end
   plain_end-alike goes_on st _ _ f h = h st f
   plain_end-alike (returns p) st _ _ f h = (refl, f)
   plain_end-alike (leaves code) st _ _ f h = (refl, f)
 
-  then_do-alike : (p q : Process) (go go' : State → Process) → Alike p q → ((st : State) → Fine st → Alike (go st) (go' st)) →
-      Alike (then_do p go) (then_do q go')
+  pub then_do-alike : (ns : List ℕ) (p q : Process) (go go' : State → Process) → Alike ns p q →
+      ((ns : List ℕ) (st : State) → Fine ns st → Alike ns (go st) (go' st)) → Alike ns (then_do p go) (then_do q go')
   unfolding then_do
-  then_do-alike p q _ _ k h = and_then-alike p q _ _ k (λ w st f. plain_end-alike w st _ _ f h)
+  then_do-alike ns p q _ _ k h = and_then-alike ns p q _ _ k (λ ns w st f. plain_end-alike w st _ _ f (h ns))
 
-  require-alike : (b : Bool) (panic : Panic) (st : State) (go go' : State → Process) → Fine st → Alike (go st) (go' st) → Alike (require b panic st go) (require b panic st go')
+  pub require-alike : {ns : List ℕ} (b : Bool) (panic : Panic) (st : State) (go go' : State → Process) → Fine ns st → Alike ns (go st) (go' st) →
+      Alike ns (require b panic st go) (require b panic st go')
   unfolding require
   require-alike true _ _ _ _ f h = h
   require-alike false _ _ _ _ f h = (refl, f)
 
-  with_some-alike : {A : Type 0} (o : Option A) (panic : Panic) (st : State) (go go' : A → Process) → Fine st → ((a : A) → Alike (go a) (go' a)) → Alike (with_some o panic st go) (with_some o panic st go')
+  pub with_some-alike : {ns : List ℕ} {A : Type 0} (o : Option A) (panic : Panic) (st : State) (go go' : A → Process) → Fine ns st →
+      ((a : A) → o ≡ Some a → Alike ns (go a) (go' a)) → Alike ns (with_some o panic st go) (with_some o panic st go')
   unfolding with_some
-  with_some-alike (Some a) _ _ _ _ f h = h a
+  with_some-alike (Some a) _ _ _ _ f h = h a refl
   with_some-alike None _ _ _ _ f h = (refl, f)
 
-  unless-alike : (o : Option Panic) (st : State) (go go' : State → Process) → Fine st → Alike (go st) (go' st) → Alike (unless o st go) (unless o st go')
+  pub unless-alike : {ns : List ℕ} (o : Option Panic) (st : State) (go go' : State → Process) → Fine ns st → Alike ns (go st) (go' st) →
+      Alike ns (unless o st go) (unless o st go')
   unfolding unless
   unless-alike (Some panic) _ _ _ f h = (refl, f)
   unless-alike None _ _ _ f h = h
 
-  with_cell-alike : (st : State) (p : Ptr) (go go' : Cell Content → Process) → Fine st → ((c : Cell Content) → Alike (go c) (go' c)) → Alike (with_cell st p go) (with_cell st p go')
+  pub with_cell-alike : {ns : List ℕ} (st : State) (p : Ptr) (go go' : Cell Content → Process) → Fine ns st →
+      ((c : Cell Content) → cell_at p st.heap.row ≡ Some c → Alike ns (go c) (go' c)) → Alike ns (with_cell st p go) (with_cell st p go')
   unfolding with_cell
   with_cell-alike _ _ _ _ f h = with_some-alike _ _ _ _ _ f h
 
-  with_pointer-alike : (st : State) (p : Pointer) (go go' : Ptr → Process) → Fine st → ((q : Ptr) → Alike (go q) (go' q)) → Alike (with_pointer st p go) (with_pointer st p go')
+  pub with_pointer-alike : {ns : List ℕ} (st : State) (p : Pointer) (go go' : Ptr → Process) → Fine ns st → ((q : Ptr) → Alike ns (go q) (go' q)) →
+      Alike ns (with_pointer st p go) (with_pointer st p go')
   unfolding with_pointer with_fields
   with_pointer-alike _ (Held h) _ _ f k = k _
-  with_pointer-alike _ (Field h class i) _ _ f k = with_cell-alike _ _ _ _ f (λ c. with_some-alike _ _ _ _ _ f (λ ps. k _))
+  with_pointer-alike _ (Field h class i) _ _ f k = with_cell-alike _ _ _ _ f (λ c e. with_some-alike _ _ _ _ _ f (λ ps e. k _))
 
-  given_to-alike : (p : Pointer) (r : Refusal) (o : Option Ptr) (st : State) → Fine st → Alike (given_to p r o st) (given_to p r o st)
+  -- a target that is written
+  pub set_pointer-fine : {ns : List ℕ} (p : Pointer) (st : State) (q : Ptr) → Fine ns st → Fine ns (set_pointer st p q)
+  set_pointer-fine (Held (H.Local i)) _ _ f = f
+  set_pointer-fine (Held H.This) _ _ f = f
+  set_pointer-fine {ns = ns} (Field h class i) st q f =
+      (f.0, L.rewritten ns st.heap _ (set_field i q) (λ c e is. suits-set_field c.head.kind c.content i q is) f.1)
+
+  -- words that are stored
+  pub stored-fine : {ns : List ℕ} (st : State) (q : Ptr) (c : Cell Content) (ws us : List ℤ) → cell_at q st.heap.row ≡ Some c →
+      raw_words_of c.head.kind c.content ≡ Some ws → Fine ns st → Fine ns (set_row st (changed q (λ _. words us) st.heap.row))
+  stored-fine {ns = ns} st q c ws us e w f =
+      (f.0, L.rewritten ns st.heap q (λ _. words us) (λ d found is. let same : c ≡ d = cc in subst (λ x. SuitsKind x.head.kind (words us)) same (suits-words c.head.kind c.content ws us w)) f.1)
+
+  pub given_to-alike : {ns : List ℕ} (p : Pointer) (r : Refusal) (o : Option Ptr) (st : State) → Fine ns st → Alike ns (given_to p r o st) (given_to p r o st)
   unfolding given_to
-  given_to-alike (Held (H.Local i)) r (Some q) st f = (refl, f)
-  given_to-alike (Held H.This) r (Some q) st f = (refl, f)
-  given_to-alike (Field h c i) r (Some q) st f = (refl, f)
-  given_to-alike (Held (H.Local i)) GivesNull None st f = (refl, f)
-  given_to-alike (Held H.This) GivesNull None st f = (refl, f)
-  given_to-alike (Field h c i) GivesNull None st f = (refl, f)
-  given_to-alike _ Leaves None st f = (refl, f)
+  given_to-alike p r (Some q) st f = (refl, set_pointer-fine p st q f)
+  given_to-alike p GivesNull None st f = (refl, set_pointer-fine p st _ f)
+  given_to-alike p Leaves None st f = (refl, f)
 
-  allocate-alike : (bytes : ℕ) (kind : Kind) (fresh : Content) (st : State) (go go' : Option Ptr → State → Process) → Fine st →
-      ((o : Option Ptr) (st : State) → Fine st → Alike (go o st) (go' o st)) → Alike (allocate bytes kind fresh st go) (allocate bytes kind fresh st go')
+  pub allocate-alike : {ns : List ℕ} (bytes : ℕ) (kind : Kind) (fresh : Content) (st : State) (go go' : Option Ptr → State → Process) → SuitsKind kind fresh → Fine ns st →
+      ((ns : List ℕ) (o : Option Ptr) (st : State) → Fine ns st → Alike ns (go o st) (go' o st)) → Alike ns (allocate bytes kind fresh st go) (allocate bytes kind fresh st go')
   unfolding allocate
-  allocate-alike _ _ _ _ _ _ f k = attempt-alike _ _ _ _ _ _ f f k
+  allocate-alike {ns = ns} bytes kind fresh st _ _ suits f k =
+      attempt-alike _ _ st st _ _ f refl f.0 (λ n a. L.allocated ns st.heap bytes kind fresh n a suits f.1) k
 
-  longer-alike : (b : Bool) (c : Cell Content) (bytes : ℕ) (cut st : State) (go go' : Option Ptr → State → Process) → Fine cut → Fine st →
-      ((o : Option Ptr) (st : State) → Fine st → Alike (go o st) (go' o st)) → Alike (reallocate_longer b c bytes cut st go) (reallocate_longer b c bytes cut st go')
+  longer-alike : {ns : List ℕ} (b : Bool) (p : Ptr) (c : Cell Content) (bytes : ℕ) (cut st : State) (go go' : Option Ptr → State → Process) →
+      nat_lt c.head.length (cell_length bytes) ≡ b → cell_at p st.heap.row ≡ Some c → st.heap ≡ cut.heap → Fine ns cut → Fine ns st →
+      ((ns : List ℕ) (o : Option Ptr) (st : State) → Fine ns st → Alike ns (go o st) (go' o st)) →
+      Alike ns (reallocate_longer b c bytes cut st go) (reallocate_longer b c bytes cut st go')
   unfolding reallocate_longer
-  longer-alike true _ _ _ _ _ _ fc f k = attempt-alike _ _ _ _ _ _ fc f k
-  longer-alike false _ _ _ _ _ _ fc f k = k _ _ f
+  longer-alike {ns = ns} true p c bytes cut st _ _ longer e same fc f k =
+      attempt-alike _ _ cut st _ _ fc (ap (λ h. is_due h.setting) same) f.0
+      (λ n a. L.reallocated ns st.heap p c bytes n a e (ltb-true c.head.length (cell_length bytes) longer) f.1) k
+  longer-alike {ns = ns} false p c bytes cut st _ _ shorter e same fc f k =
+      k ns _ _ (f.0, L.cut_down ns st.heap p c bytes e (ltb-false c.head.length (cell_length bytes) shorter) f.1)
 
-  reallocate-alike : (c : Cell Content) (bytes : ℕ) (cut st : State) (go go' : Option Ptr → State → Process) → Fine cut → Fine st →
-      ((o : Option Ptr) (st : State) → Fine st → Alike (go o st) (go' o st)) → Alike (reallocate c bytes cut st go) (reallocate c bytes cut st go')
+  pub reallocate-alike : {ns : List ℕ} (p : Ptr) (c : Cell Content) (bytes : ℕ) (cut st : State) (go go' : Option Ptr → State → Process) →
+      cell_at p st.heap.row ≡ Some c → st.heap ≡ cut.heap → Fine ns cut → Fine ns st →
+      ((ns : List ℕ) (o : Option Ptr) (st : State) → Fine ns st → Alike ns (go o st) (go' o st)) → Alike ns (reallocate c bytes cut st go) (reallocate c bytes cut st go')
   unfolding reallocate
-  reallocate-alike _ _ _ _ _ _ fc f k = longer-alike _ _ _ _ _ _ _ fc f k
+  reallocate-alike p c bytes cut st go go' e same fc f k = longer-alike _ p c bytes cut st go go' refl e same fc f k
 
-  grown-alike : (o : Option Ptr) (st : State) → Fine st → Alike (after_growth o st) (after_growth o st)
+  grown-alike : (ns : List ℕ) (o : Option Ptr) (st : State) → Fine ns st → Alike ns (after_growth o st) (after_growth o st)
   unfolding after_growth
-  grown-alike (Some p) st f = (refl, f)
-  grown-alike None st f = (refl, f)
+  grown-alike ns (Some p) st f = (refl, f)
+  grown-alike ns None st f = (refl, f)
 
-  grow-alike : (b : Bool) (before st : State) → Fine before → Fine st → Alike (grow_if b before st) (grow_if b before st)
+  grow-alike : {ns : List ℕ} (b : Bool) (before st : State) → st.heap ≡ before.heap → Fine ns before → Fine ns st → Alike ns (grow_if b before st) (grow_if b before st)
   unfolding grow_if
-  grow-alike true _ _ fb f = with_cell-alike _ _ _ _ f (λ c. reallocate-alike _ _ _ _ _ _ fb f grown-alike)
-  grow-alike false _ _ fb f = (refl, f)
+  grow-alike true before st same fb f = with_cell-alike _ _ _ _ f (λ c e. reallocate-alike st.cleanup c _ before st _ _ e same fb f grown-alike)
+  grow-alike false _ _ same fb f = (refl, f)
 
-  push-alike : (item : Item) (st : State) → Fine st → Alike (push item st) (push item st)
+  pub push-alike : {ns : List ℕ} (item : Item) (st : State) → Fine ns st → Alike ns (push item st) (push item st)
   unfolding push
-  push-alike _ _ f = grow-alike _ _ _ f f
+  push-alike _ _ f = grow-alike _ _ _ refl f f
 
-  with_writable-alike : (st : State) (d : Writable) (go go' : Base → Process) → Fine st → ((b : Base) → Alike (go b) (go' b)) → Alike (with_writable st d go) (with_writable st d go')
+  pub with_writable-alike : {ns : List ℕ} (st : State) (d : Writable) (go go' : Base → Process) → Fine ns st → ((b : Base) → Alike ns (go b) (go' b)) →
+      Alike ns (with_writable st d go) (with_writable st d go')
   unfolding with_writable
   with_writable-alike _ (OwnBuffer i) _ _ f k = k _
   with_writable-alike _ (InCell p) _ _ f k = with_pointer-alike _ _ _ _ f (λ q. k _)
 
-  with_readable-alike : (st : State) (t : Readable) (go go' : Source → Process) → Fine st → ((s : Source) → Alike (go s) (go' s)) → Alike (with_readable st t go) (with_readable st t go')
+  pub with_readable-alike : {ns : List ℕ} (st : State) (t : Readable) (go go' : Source → Process) → Fine ns st → ((s : Source) → Alike ns (go s) (go' s)) →
+      Alike ns (with_readable st t go) (with_readable st t go')
   unfolding with_readable
   with_readable-alike _ (Of d) _ _ f k = with_writable-alike _ _ _ _ f (λ b. k _)
   with_readable-alike _ (ViewOf i) _ _ f k = k _
   with_readable-alike _ (Quoted i) _ _ f k = k _
 
-  with_text_cell-alike : (st : State) (p : Ptr) (go go' : Cell Content → List ℕ → Process) → Fine st →
-      ((c : Cell Content) (us : List ℕ) → Alike (go c us) (go' c us)) → Alike (with_text_cell st p go) (with_text_cell st p go')
+  with_text_cell-alike : {ns : List ℕ} (st : State) (p : Ptr) (go go' : Cell Content → List ℕ → Process) → Fine ns st →
+      ((c : Cell Content) (us : List ℕ) → Alike ns (go c us) (go' c us)) → Alike ns (with_text_cell st p go) (with_text_cell st p go')
   unfolding with_text_cell
-  with_text_cell-alike _ _ _ _ f k = with_cell-alike _ _ _ _ f (λ c. with_some-alike _ _ _ _ _ f (λ us. k c us))
+  with_text_cell-alike _ _ _ _ f k = with_cell-alike _ _ _ _ f (λ c e. with_some-alike _ _ _ _ _ f (λ us e. k c us))
 
-  with_base-alike : (literals : List (List ℕ)) (st : State) (b : Base) (go go' : List ℕ → Process) → Fine st → ((us : List ℕ) → Alike (go us) (go' us)) → Alike (with_base literals st b go) (with_base literals st b go')
+  with_base-alike : {ns : List ℕ} (literals : List (List ℕ)) (st : State) (b : Base) (go go' : List ℕ → Process) → Fine ns st → ((us : List ℕ) → Alike ns (go us) (go' us)) →
+      Alike ns (with_base literals st b go) (with_base literals st b go')
   unfolding with_base
   with_base-alike _ _ B.Nothing _ _ f k = k _
   with_base-alike _ _ (B.Literal i) _ _ f k = k _
   with_base-alike _ _ (B.Local i) _ _ f k = k _
   with_base-alike _ _ (B.Cell p) _ _ f k = with_text_cell-alike _ _ _ _ f (λ c us. k us)
 
-  with_units-alike : (literals : List (List ℕ)) (st : State) (s : Source) (go go' : List ℕ → Process) → Fine st → ((us : List ℕ) → Alike (go us) (go' us)) → Alike (with_units literals st s go) (with_units literals st s go')
+  pub with_units-alike : {ns : List ℕ} (literals : List (List ℕ)) (st : State) (s : Source) (go go' : List ℕ → Process) → Fine ns st → ((us : List ℕ) → Alike ns (go us) (go' us)) →
+      Alike ns (with_units literals st s go) (with_units literals st s go')
   unfolding with_units
   with_units-alike _ _ (whole b) _ _ f k = with_base-alike _ _ _ _ _ f k
   with_units-alike _ _ (part v) _ _ f k = with_base-alike _ _ _ _ _ f (λ us. k _)
 
-  with_room-alike : (st : State) (b : Base) (go go' : ℕ → List ℕ → Process) → Fine st → ((max : ℕ) (us : List ℕ) → Alike (go max us) (go' max us)) → Alike (with_room st b go) (with_room st b go')
+  pub with_room-alike : {ns : List ℕ} (st : State) (b : Base) (go go' : ℕ → List ℕ → Process) → Fine ns st → ((max : ℕ) (us : List ℕ) → Alike ns (go max us) (go' max us)) →
+      Alike ns (with_room st b go) (with_room st b go')
   unfolding with_room
   with_room-alike _ (B.Local i) _ _ f k = k _ _
   with_room-alike _ (B.Cell p) _ _ f k = with_text_cell-alike _ _ _ _ f (λ c us. k _ us)
   with_room-alike _ B.Nothing _ _ f k = (refl, f)
   with_room-alike _ (B.Literal i) _ _ f k = (refl, f)
 
-  write-alike : (e : Edited) (st : State) (b : Base) (max : ℕ) → Fine st → Alike (write e st b max) (write e st b max)
+  pub write-alike : {ns : List ℕ} (e : Edited) (st : State) (b : Base) (max : ℕ) → Fine ns st → Alike ns (write e st b max) (write e st b max)
   unfolding write
   write-alike (Ok us) _ (B.Local i) _ f = (refl, f)
-  write-alike (Ok us) _ (B.Cell p) _ f = (refl, f)
+  write-alike {ns = ns} (Ok us) st (B.Cell p) _ f =
+      (refl, (f.0, L.rewritten ns st.heap p (set_units us) (λ c e is. suits-set_units c.head.kind c.content us is) f.1))
   write-alike (Ok us) _ B.Nothing _ f = (refl, f)
   write-alike (Ok us) _ (B.Literal i) _ f = (refl, f)
   write-alike (Err panic) _ _ _ f = (refl, f)
 
-  write_view-alike : (e : Result Part Panic) (st : State) (w : ℕ) (s : Source) → Fine st → Alike (write_view e st w s) (write_view e st w s)
+  pub write_view-alike : {ns : List ℕ} (e : Result Part Panic) (st : State) (w : ℕ) (s : Source) → Fine ns st → Alike ns (write_view e st w s) (write_view e st w s)
   unfolding write_view
   write_view-alike (Ok p) _ _ _ f = (refl, f)
   write_view-alike (Err panic) _ _ _ f = (refl, f)
 
-  released-alike : (o : Option (Cell Content)) (p : Ptr) (st : State) → Fine st → Alike (released o p st) (released o p st)
+  released-alike : {ns : List ℕ} (o : Option (Cell Content)) (p : Ptr) (st : State) → Fine ns st → Alike ns (released o p st) (released o p st)
   unfolding released
   released-alike None _ _ f = (refl, f)
-  released-alike (Some c) _ _ f = (refl, f)
+  released-alike {ns = ns} (Some c) p st f = (refl, (f.0, L.freed ns st.heap p f.1))
 
-  release-alike : (p : Ptr) (st : State) → Fine st → Alike (release p st) (release p st)
+  pub release-alike : {ns : List ℕ} (p : Ptr) (st : State) → Fine ns st → Alike ns (release p st) (release p st)
   unfolding release
-  release-alike p st f = by (is_null p)
+  release-alike {ns = ns} p st f = by (is_null p)
     where
-      by : (b : Bool) → Alike (elim b [ true ↦ ends goes_on st | false ↦ released (cell_at p st.heap.row) p st ]) (elim b [ true ↦ ends goes_on st | false ↦ released (cell_at p st.heap.row) p st ])
+      by : (b : Bool) → Alike ns (elim b [ true ↦ ends goes_on st | false ↦ released (cell_at p st.heap.row) p st ]) (elim b [ true ↦ ends goes_on st | false ↦ released (cell_at p st.heap.row) p st ])
       by true = (refl, f)
       by false = released-alike _ _ _ f
 
-  set_pointer-alike : (p : Pointer) (st : State) (q : Ptr) → Fine st → Fine (set_pointer st p q)
-  set_pointer-alike (Held (H.Local i)) _ _ f = f
-  set_pointer-alike (Held H.This) _ _ f = f
-  set_pointer-alike (Field h c i) _ _ f = f
-
-  abbrev pub AlikeAll : Meaning → Meaning → Type 0
-  AlikeAll rec rec' = (at : Where) (p : Piece) (st : State) → Fine st → Alike (rec at p st) (rec' at p st)
-
-  plain-alike : (go go' : Ptr → State → Process) (w : Way) (st : State) → Fine st → ((p : Ptr) (st : State) → Fine st → Alike (go p st) (go' p st)) → Alike (plain go w st) (plain go' w st)
-  unfolding plain
-  plain-alike _ _ goes_on st f k = k _ st f
-  plain-alike _ _ (returns p) st f k = k p st f
-  plain-alike _ _ (leaves code) st f k = (refl, f)
-
-  in_frame-alike : (rec rec' : Meaning) (at : Where) (this : Ptr) (given : List Value) (body : Body) (st : State) (go go' : Way → State → Process) → AlikeAll rec rec' → Fine st →
-      ((w : Way) (st : State) → Fine st → Alike (go w st) (go' w st)) → Alike (in_frame rec at this given body st go) (in_frame rec' at this given body st go')
-  unfolding in_frame
-  in_frame-alike _ rec' _ _ _ _ _ _ _ r f k = require-alike _ _ _ _ _ f (and_then-alike _ _ _ _ (r _ _ _ f) (λ w st f. k w _ f))
-
-  with_arguments-alike : (st : State) (go go' : List Value → Process) (args : List Argument) → Fine st → ((vs : List Value) → Alike (go vs) (go' vs)) → Alike (with_arguments st args go) (with_arguments st args go')
-  unfolding with_arguments
-  with_arguments-alike _ _ _ [] f k = k _
-  with_arguments-alike _ _ _ (Passed p ∷ rest) f k = with_pointer-alike _ _ _ _ f (λ q. with_arguments-alike _ _ _ rest f (λ vs. k _))
-  with_arguments-alike _ _ _ (Given v ∷ rest) f k = with_arguments-alike _ _ _ rest f (λ vs. k _)
-
-  destroyed_object-alike : (b : Bool) (rec rec' : Meaning) (at : Where) (p : Ptr) (st : State) → AlikeAll rec rec' → Fine st → Alike (destroyed_object b rec at p st) (destroyed_object b rec' at p st)
-  unfolding destroyed_object
-  destroyed_object-alike true _ rec' _ _ _ r f = (refl, f)
-  destroyed_object-alike false _ rec' _ _ _ r f = r _ _ _ f
-
-  destroyed_item-alike : (script : Script) (rec rec' : Meaning) (at : Where) (item : Item) (st : State) → AlikeAll rec rec' → Fine st → Alike (destroyed_item script rec at item st) (destroyed_item script rec' at item st)
-  unfolding destroyed_item
-  destroyed_item-alike _ _ rec' _ (I.Free p) _ r f = release-alike _ _ f
-  destroyed_item-alike _ _ rec' _ (I.Delete p) _ r f = destroyed_object-alike _ _ _ _ _ _ r f
-  destroyed_item-alike _ _ rec' _ (I.Call p op) _ r f = in_frame-alike _ _ _ _ _ _ _ _ _ r f (λ w st f. plain-alike _ _ w st f (λ _ st f. (refl, f)))
-
-  trapped-alike : (rec rec' : Meaning) (at : Where) (x entry : ℕ) (w : Way) (st : State) → AlikeAll rec rec' → Fine st → Alike (trapped rec at x entry w st) (trapped rec' at x entry w st)
-  unfolding trapped
-  trapped-alike _ rec' _ _ _ goes_on st r f = require-alike _ _ _ _ _ f (refl, f)
-  trapped-alike _ rec' _ _ _ (leaves code) st r f = then_do-alike _ _ _ _ (r _ _ _ f) (λ st f. (refl, f))
-  trapped-alike _ rec' _ _ _ (returns p) st r f = (refl, f)
-
-  with_condition-alike : (st : State) (c : Condition) (go go' : Bool → Process) → Fine st → ((b : Bool) → Alike (go b) (go' b)) → Alike (with_condition st c go) (with_condition st c go')
-  unfolding with_condition
-  with_condition-alike _ (IsNull p) _ _ f k = with_pointer-alike _ _ _ _ f (λ q. k _)
-  with_condition-alike _ (NotNull p) _ _ f k = with_pointer-alike _ _ _ _ f (λ q. k _)
-  with_condition-alike _ (Equal v w) _ _ f k = k _
-  with_condition-alike _ (Less v w) _ _ f k = k _
-
-  leave_if-alike : (b : Bool) (code : ℤ) (st : State) → Fine st → Alike (leave_if b code st) (leave_if b code st)
-  unfolding leave_if
-  leave_if-alike true _ _ f = (refl, f)
-  leave_if-alike false _ _ f = (refl, f)
-
-  alloc_raw-alike : (p : Pointer) (r : Refusal) (bytes : ℕ) (st : State) → Fine st → Alike (alloc_raw p r bytes st) (alloc_raw p r bytes st)
-  unfolding alloc_raw
-  alloc_raw-alike _ _ _ _ f = allocate-alike _ _ _ _ _ _ f (given_to-alike _ _)
-
-  realloc_of-alike : (b : Bool) (p : Pointer) (r : Refusal) (q : Ptr) (z : ℤ) (st : State) → Fine st → Alike (realloc_of b p r q z st) (realloc_of b p r q z st)
-  unfolding realloc_of realloc_raw
-  realloc_of-alike true _ _ _ _ _ f = with_some-alike _ _ _ _ _ f (λ n. alloc_raw-alike _ _ _ _ f)
-  realloc_of-alike false _ _ _ _ _ f = with_some-alike _ _ _ _ _ f (λ c. require-alike _ _ _ _ _ f (with_some-alike _ _ _ _ _ f (λ n. reallocate-alike _ _ _ _ _ _ f f (given_to-alike _ _))))
-
-  with_words-alike : (st : State) (p : Ptr) (go go' : Cell Content → List ℤ → Process) → Fine st → ((c : Cell Content) (ws : List ℤ) → Alike (go c ws) (go' c ws)) → Alike (with_words st p go) (with_words st p go')
+  pub with_words-alike : {ns : List ℕ} (st : State) (p : Ptr) (go go' : Cell Content → List ℤ → Process) → Fine ns st →
+      ((c : Cell Content) (ws : List ℤ) → cell_at p st.heap.row ≡ Some c → raw_words_of c.head.kind c.content ≡ Some ws → Alike ns (go c ws) (go' c ws)) →
+      Alike ns (with_words st p go) (with_words st p go')
   unfolding with_words
-  with_words-alike _ _ _ _ f k = with_cell-alike _ _ _ _ f (λ c. with_some-alike _ _ _ _ _ f (λ ws. k c ws))
+  with_words-alike _ _ _ _ f k = with_cell-alike _ _ _ _ f (λ c e. with_some-alike _ _ _ _ _ f (λ ws w. k c ws e w))
 
-  with_class-alike : (st : State) (p : Ptr) (go go' : ℕ → Process) → Fine st → ((n : ℕ) → Alike (go n) (go' n)) → Alike (with_class st p go) (with_class st p go')
+  pub with_class-alike : {ns : List ℕ} (st : State) (p : Ptr) (go go' : ℕ → Process) → Fine ns st → ((n : ℕ) → Alike ns (go n) (go' n)) →
+      Alike ns (with_class st p go) (with_class st p go')
   unfolding with_class
-  with_class-alike _ _ _ _ f k = with_cell-alike _ _ _ _ f (λ c. with_some-alike _ _ _ _ _ f k)
+  with_class-alike _ _ _ _ f k = with_cell-alike _ _ _ _ f (λ c e. with_some-alike _ _ _ _ _ f (λ n e. k n))
 
-  -- one clause for each statement
-  statement-alike : (script : Script) (rec rec' : Meaning) (at : Where) (s : Layer) (st : State) → AlikeAll rec rec' → Fine st → Alike (statement script rec at s st) (statement script rec' at s st)
-  unfolding statement new_object realloc_text
-  statement-alike script rec rec' at (Statement-F.Alloc p v r) st k f = with_pointer-alike _ _ _ _ f (λ _. with_some-alike _ _ _ _ _ f (λ n. alloc_raw-alike _ _ _ _ f))
-  statement-alike script rec rec' at (Statement-F.Realloc p q v r) st k f = with_pointer-alike _ _ _ _ f (λ _. with_pointer-alike _ _ _ _ f (λ old. realloc_of-alike _ _ _ _ _ _ f))
-  statement-alike script rec rec' at (Statement-F.Free p) st k f = with_pointer-alike _ _ _ _ f (λ q. release-alike _ _ f)
-  statement-alike script rec rec' at (Statement-F.AllocLen x p) st k f = with_pointer-alike _ _ _ _ f (λ q. with_some-alike _ _ _ _ _ f (λ c. (refl, f)))
-  statement-alike script rec rec' at (Statement-F.Store p i v) st k f = with_pointer-alike _ _ _ _ f (λ q. with_words-alike _ _ _ _ f (λ c ws. with_some-alike _ _ _ _ _ f (λ n. (refl, f))))
-  statement-alike script rec rec' at (Statement-F.Load x p i) st k f = with_pointer-alike _ _ _ _ f (λ q. with_words-alike _ _ _ _ f (λ c ws. with_some-alike _ _ _ _ _ f (λ n. (refl, f))))
-  statement-alike script rec rec' at (Statement-F.New p class r) st k f = with_pointer-alike _ _ _ _ f (λ _. allocate-alike _ _ _ _ _ _ f (given_to-alike _ _))
-  statement-alike script rec rec' at (Statement-F.Construct p) st k f =
-      with_pointer-alike _ _ _ _ f (λ q. with_class-alike _ _ _ _ f (λ n. in_frame-alike _ _ _ _ _ _ _ _ _ k f (λ w st f. plain-alike _ _ w st f (λ _ st f. (refl, f)))))
-  statement-alike script rec rec' at (Statement-F.Delete p) st k f = with_pointer-alike _ _ _ _ f (λ q. destroyed_object-alike _ _ _ _ _ _ k f)
-  statement-alike script rec rec' at (Statement-F.Set p q) st k f = with_pointer-alike _ _ _ _ f (λ _. with_pointer-alike _ _ _ _ f (λ to. (refl, set_pointer-alike p _ _ f)))
-  statement-alike script rec rec' at (Statement-F.SetNumber x v) st k f = (refl, f)
-  statement-alike script rec rec' at (Statement-F.SetNull p) st k f = with_pointer-alike _ _ _ _ f (λ _. (refl, set_pointer-alike p _ _ f))
-  statement-alike script rec rec' at (Statement-F.Add x v) st k f = require-alike _ _ _ _ _ f (refl, f)
-  statement-alike script rec rec' at (Statement-F.Push p) st k f = with_pointer-alike _ _ _ _ f (λ q. push-alike _ _ f)
-  statement-alike script rec rec' at (Statement-F.PushObject p) st k f = with_pointer-alike _ _ _ _ f (λ q. push-alike _ _ f)
-  statement-alike script rec rec' at (Statement-F.PushOperation p op) st k f = with_pointer-alike _ _ _ _ f (λ q. push-alike _ _ f)
-  statement-alike script rec rec' at (Statement-F.Pop v) st k f = with_some-alike _ _ _ _ _ f (λ n. require-alike _ _ _ _ _ f (refl, f))
-  statement-alike script rec rec' at (Statement-F.PopDestroy v) st k f = with_some-alike _ _ _ _ _ f (λ n. require-alike _ _ _ _ _ f (k _ _ _ f))
-  statement-alike script rec rec' at (Statement-F.PopCheck p) st k f =
-      with_pointer-alike _ _ _ _ f (λ q. require-alike _ _ _ _ _ f (with_some-alike _ _ _ _ _ f (λ item. require-alike _ _ _ _ _ f (refl, f))))
-  statement-alike script rec rec' at (Statement-F.Leave v) st k f = (refl, f)
-  statement-alike script rec rec' at (Statement-F.LeaveIfError v) st k f = leave_if-alike _ _ _ f
-  statement-alike script rec rec' at (Statement-F.LeaveIfNull p) st k f = with_pointer-alike _ _ _ _ f (λ q. leave_if-alike _ _ _ f)
-  statement-alike script rec rec' at (Statement-F.Call n args) st k f =
-      with_arguments-alike _ _ _ args f (λ vs. in_frame-alike _ _ _ _ _ _ _ _ _ k f (λ w st f. plain-alike _ _ w st f (λ _ st f. (refl, f))))
-  statement-alike script rec rec' at (Statement-F.CallTo x n args) st k f =
-      with_arguments-alike _ _ _ args f (λ vs. in_frame-alike _ _ _ _ _ _ _ _ _ k f (λ w st f. plain-alike _ _ w st f (λ p st f. (refl, f))))
-  statement-alike script rec rec' at Statement-F.Return st k f = (refl, f)
-  statement-alike script rec rec' at (Statement-F.ReturnPointer p) st k f = with_pointer-alike _ _ _ _ f (λ q. (refl, f))
-  statement-alike script rec rec' at Statement-F.Mark st k f = (refl, f)
-  statement-alike script rec rec' at (Statement-F.MarkEnd v) st k f = with_some-alike _ _ _ _ _ f (λ n. unless-alike _ _ _ _ f (refl, f))
-  statement-alike script rec rec' at (Statement-F.Check v) st k f = with_some-alike _ _ _ _ _ f (λ n. unless-alike _ _ _ _ f (refl, f))
-  statement-alike script rec rec' at (Statement-F.CheckAll v) st k f = with_some-alike _ _ _ _ _ f (λ n. unless-alike _ _ _ _ f (refl, f))
-  statement-alike script rec rec' at (Statement-F.FailNext v) st k f = with_some-alike _ _ _ _ _ f (λ n. (refl, f))
-  statement-alike script rec rec' at (Statement-F.FailEvery v) st k f = with_some-alike _ _ _ _ _ f (λ n. (refl, f))
-  statement-alike script rec rec' at Statement-F.FailNone st k f = (refl, f)
-  statement-alike script rec rec' at (Statement-F.NewText p v r) st k f = with_pointer-alike _ _ _ _ f (λ _. with_some-alike _ _ _ _ _ f (λ n. allocate-alike _ _ _ _ _ _ f (given_to-alike _ _)))
-  statement-alike script rec rec' at (Statement-F.ReallocText p q v) st k f =
-      with_pointer-alike _ _ _ _ f (λ _. with_pointer-alike _ _ _ _ f (λ old. with_cell-alike _ _ _ _ f (λ c. with_some-alike _ _ _ _ _ f (λ us.
-      with_some-alike _ _ _ _ _ f (λ n. require-alike _ _ _ _ _ f (reallocate-alike _ _ _ _ _ _ f f (given_to-alike _ _)))))))
-  statement-alike script rec rec' at (Statement-F.Copy d t) st k f =
-      with_writable-alike _ _ _ _ f (λ to. with_readable-alike _ _ _ _ f (λ from. with_room-alike _ _ _ _ f (λ max old. with_units-alike _ _ _ _ _ f (λ us. write-alike _ _ _ _ f))))
-  statement-alike script rec rec' at (Statement-F.Append d t) st k f =
-      with_writable-alike _ _ _ _ f (λ to. with_readable-alike _ _ _ _ f (λ from. with_room-alike _ _ _ _ f (λ max old. with_units-alike _ _ _ _ _ f (λ us. write-alike _ _ _ _ f))))
-  statement-alike script rec rec' at (Statement-F.Insert d v t) st k f =
-      with_writable-alike _ _ _ _ f (λ to. with_readable-alike _ _ _ _ f (λ from. with_room-alike _ _ _ _ f (λ max old. with_units-alike _ _ _ _ _ f (λ us.
-      with_some-alike _ _ _ _ _ f (λ n. require-alike _ _ _ _ _ f (write-alike _ _ _ _ f))))))
-  statement-alike script rec rec' at (Statement-F.DeleteText d v w) st k f =
-      with_writable-alike _ _ _ _ f (λ to. with_room-alike _ _ _ _ f (λ max old. with_some-alike _ _ _ _ _ f (λ n. with_some-alike _ _ _ _ _ f (λ m. write-alike _ _ _ _ f))))
-  statement-alike script rec rec' at (Statement-F.SetLength d v) st k f =
-      with_writable-alike _ _ _ _ f (λ to. with_room-alike _ _ _ _ f (λ max old. with_some-alike _ _ _ _ _ f (λ n. write-alike _ _ _ _ f)))
-  statement-alike script rec rec' at (Statement-F.Left w t v) st k f =
-      with_readable-alike _ _ _ _ f (λ from. with_units-alike _ _ _ _ _ f (λ us. with_some-alike _ _ _ _ _ f (λ n. write_view-alike _ _ _ _ f)))
-  statement-alike script rec rec' at (Statement-F.Right w t v) st k f =
-      with_readable-alike _ _ _ _ f (λ from. with_units-alike _ _ _ _ _ f (λ us. with_some-alike _ _ _ _ _ f (λ n. write_view-alike _ _ _ _ f)))
-  statement-alike script rec rec' at (Statement-F.Mid w t v u) st k f =
-      with_readable-alike _ _ _ _ f (λ from. with_units-alike _ _ _ _ _ f (λ us. with_some-alike _ _ _ _ _ f (λ n. with_some-alike _ _ _ _ _ f (λ m. write_view-alike _ _ _ _ f))))
-  statement-alike script rec rec' at (Statement-F.GetLength x t) st k f = with_readable-alike _ _ _ _ f (λ from. with_units-alike _ _ _ _ _ f (λ us. (refl, f)))
-  statement-alike script rec rec' at (Statement-F.GetMaximum x d) st k f = with_writable-alike _ _ _ _ f (λ to. with_room-alike _ _ _ _ f (λ max us. (refl, f)))
-  statement-alike script rec rec' at (Statement-F.PrintText t) st k f = with_readable-alike _ _ _ _ f (λ from. with_units-alike _ _ _ _ _ f (λ us. (refl, f)))
-  statement-alike script rec rec' at (Statement-F.PrintNumber v) st k f = (refl, f)
-  statement-alike script rec rec' at Statement-F.NoteHeap st k f = (refl, f)
-  statement-alike script rec rec' at Statement-F.NoteAvailable st k f = (refl, f)
-  statement-alike script rec rec' at Statement-F.NoteCompress st k f = (refl, f)
-  statement-alike script rec rec' at (Statement-F.If cond first) st k f = with_condition-alike _ _ _ _ f (λ b. k _ _ _ f)
-  statement-alike script rec rec' at (Statement-F.IfElse cond first other) st k f = with_condition-alike _ _ _ _ f (λ b. k _ _ _ f)
-  statement-alike script rec rec' at (Statement-F.Repeat v body) st k f = with_some-alike _ _ _ _ _ f (λ n. k _ _ _ f)
-  statement-alike script rec rec' at (Statement-F.Trap x body) st k f = and_then-alike _ _ _ _ (k _ _ _ f) (λ w st f. trapped-alike _ _ _ _ _ w st k f)
-
--- so many steps at least, and no more than the budget
-abbrev pub Between : ℕ → ℕ → ℕ → Type 0
-Between low budget n = (low ≤ n) × (n ≤ budget)
-
-pub ends_weaker : (low higher budget : ℕ) → low ≤ higher → (p : Process) → Keeps (Between higher budget) p → Keeps (Between low budget) p
-ends_weaker low higher budget le (ends way st) k = (omega (arith, le, k.0), k.1)
-ends_weaker low higher budget le (stops stop st) k = (omega (arith, le, k.0), k.1)
-ends_weaker low higher budget le (asks t cut go) k =
-    ((omega (arith, le, k.0.0), k.0.1), λ n a. ends_weaker low higher budget le (go n a) (k.1 n a))
-ends_weaker low higher budget le (notes q p) k = ends_weaker low higher budget le p k
-
-begun-alike : (budget : ℕ) (st : State) (go go' : State → Process) → st.steps ≤ budget →
-    ((st' : State) → Between (st.steps + 1) budget st'.steps → Alike (Between (st.steps + 1) budget) (go st') (go' st')) →
-    Alike (Between st.steps budget) (begun budget st go) (begun budget st go')
-unfolding begun begun_if
-begun-alike budget st go go' f k = by (nat_lt st.steps budget) refl
-  where
-    by : (b : Bool) → nat_lt st.steps budget ≡ b → Alike (Between st.steps budget) (begun_if b st go) (begun_if b st go')
-    by true e =
-        let le = ltb-true _ _ e in
-        let is = k (record st { steps = st.steps + 1 }) (omega arith, omega (arith, le)) in
-        (is.0, ends_weaker st.steps (st.steps + 1) budget (omega arith) (go (record st { steps = st.steps + 1 })) is.1)
-    by false e = (refl, (omega arith, f))
-
-pub piece-alike : (script : Script) (budget : ℕ) (rec rec' : Meaning) (at : Where) (p : Piece) (st : State) → st.steps ≤ budget →
-    AlikeAll (Between (st.steps + 1) budget) rec rec' → Alike (Between st.steps budget) (piece script budget rec at p st) (piece script budget rec' at p st)
-unfolding piece
-piece-alike script budget rec rec' at (all []) st f k = (refl, (omega arith, f))
-piece-alike script budget rec rec' at (all (s ∷ rest)) st f k =
-    let B = Between (st.steps + 1) budget in
-    begun-alike budget st _ _ f (λ st g. then_do-alike B _ _ _ _ (statement-alike B script rec rec' at (out-Statement s) st k g) (λ st g. k _ _ st g))
-piece-alike script budget rec rec' at (turns zero body) st f k = (refl, (omega arith, f))
-piece-alike script budget rec rec' at (turns (suc n) body) st f k =
-    let B = Between (st.steps + 1) budget in begun-alike budget st _ _ f (λ st g. then_do-alike B _ _ _ _ (k _ _ st g) (λ st g. k _ _ st g))
-piece-alike script budget rec rec' at (destroy_items zero) st f k = (refl, (omega arith, f))
-piece-alike script budget rec rec' at (destroy_items (suc n)) st f k =
-    let B = Between (st.steps + 1) budget in
-    begun-alike budget st _ _ f (λ st g. with_some-alike B _ _ _ _ _ g (λ item.
-    then_do-alike B _ _ _ _ (destroyed_item-alike B script rec rec' at item _ k g) (λ st g. k _ _ st g)))
-piece-alike script budget rec rec' at (destroy_object p) st f k =
-    let B = Between (st.steps + 1) budget in
-    begun-alike budget st _ _ f (λ st g. with_class-alike B _ _ _ _ g (λ n.
-    in_frame-alike B _ _ _ _ _ _ _ _ _ k g (λ w st g. plain-alike B _ _ w st g (λ _ st g. release-alike B _ _ g))))
-
--- past the budget the bound doesn't matter, and no run counts more steps than its budget
-pub meaning_within-alike : (script : Script) (budget n m : ℕ) (at : Where) (p : Piece) (st : State) → st.steps ≤ budget →
-    budget < n + st.steps → budget < m + st.steps →
-    Alike (Between st.steps budget) (meaning_within script budget n at p st) (meaning_within script budget m at p st)
-unfolding meaning_within
-meaning_within-alike script budget zero m at p st f l r = absurd (omega (arith, f, l))
-meaning_within-alike script budget (suc n) zero at p st f l r = absurd (omega (arith, f, r))
-meaning_within-alike script budget (suc n) (suc m) at p st f l r =
-    piece-alike script budget (meaning_within script budget n) (meaning_within script budget m) at p st f
-    (λ at p st' g.
-    let is = meaning_within-alike script budget n m at p st' g.1 (omega (arith, g.0, l)) (omega (arith, g.0, r)) in
-    (is.0, ends_weaker (st.steps + 1) st'.steps budget g.0 (meaning_within script budget n at p st') is.1))
+  -- two meanings of what stands inside
+  abbrev pub AlikeAll : Meaning → Meaning → Type 0
+  AlikeAll rec rec' = (ns : List ℕ) (at : Where) (p : Piece) (st : State) → Fine ns st → Alike ns (rec at p st) (rec' at p st)

@@ -39,7 +39,7 @@ IsSoundHeap-replaced heap p c committed held placed aligned long numbered free n
     }
 
 -- no other cell has its number
-others-numbered : (p : Ptr) (hs : List Header) (h : Header) → AllPairs (λ f g. f.number ≢ g.number) hs → find (is_at p) hs ≡ Some h →
+pub others-numbered : (p : Ptr) (hs : List Header) (h : Header) → AllPairs (λ f g. f.number ≢ g.number) hs → find (is_at p) hs ≡ Some h →
     All (λ g. g.number ≢ h.number) (filter (λ g. not (is_at p g)) hs)
 others-numbered p [] h apart e = cc
 others-numbered p (g ∷ gs) h apart e =

@@ -1,8 +1,8 @@
 -- Where a rule refuses at least what another does, but nothing that is granted in the other's run, its run is the same; so are
 -- the runs under the numbers past the last attempt.
-use Rattle.std.proofs.Common.{◌≡◌, ◌≢◌, inl, inr, ℕ, suc, ◌+◌, ◌<◌, ◌≤◌, arith, Bool, true, false, List, [], ◌∷◌, ◌++◌, length, refl, sym, ◌∙◌, ap, subst, Option, Some, None, is_some, IsSome, cond}
+use Rattle.std.proofs.Common.{◌≡◌, ◌≢◌, inl, inr, ℕ, suc, ◌+◌, ◌<◌, ◌≤◌, arith, Bool, true, false, List, [], ◌∷◌, ◌++◌, length, refl, sym, ◌∙◌, ap, Option, Some, None, is_some, IsSome, cond}
 use Rattle.std.specs.Prelude.{nat_eq, nat_lt, slice_get}
-use Rattle.std.proofs.lemmas.Bool.{eqb-true, eq-eqb, ne_eqb, lt-ltb, le-ltb}
+use Rattle.std.proofs.lemmas.Bool.{ne_eqb, lt-ltb, le-ltb}
 use Rattle.std.proofs.lemmas.Option.{slice_get_within}
 use Rattle.wb_model.specs.declared.limits.TheConstants.{CEILING}
 use Rattle.wb_model.specs.declared.heap.Rule.{Rule}

@@ -29,7 +29,7 @@ next_due (suc (suc k)) (suc n) = next_due (suc k) n ∙ same_test (suc k) (n + 1
 small_mod : (m k : ℕ) → 1 ≤ m → m < k → nat_eq (m % k) 0 ≡ false
 small_mod m k low high = ne_eqb (m % k) 0 (λ e. omega (arith, low, mod-eq_of_lt high, e))
 
--- with so many left until the next that is refused
+-- with a number of attempts left until the next that is refused
 each_due_from : (k left n : ℕ) → 1 ≤ left → left ≤ k → is_due (after_attempts n (each k left)) ≡ nat_eq ((n + 1 + (k - left)) % k) 0
 each_due_from k zero n low high = absurd (omega (arith, low))
 each_due_from k (suc zero) zero low high =

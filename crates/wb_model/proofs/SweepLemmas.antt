@@ -1,6 +1,6 @@
 -- The least number whose run is bad or cut stands among those up to the last attempt of the run without failure.
 use Rattle.std.proofs.Common.{◌≡◌, ◌≢◌, inl, inr, ℕ, zero, suc, ◌+◌, ◌<◌, ◌≤◌, arith, Bool, true, false, length, refl, sym, ◌∙◌, ap, subst, Option, Some, None, cond}
-use Rattle.std.specs.Prelude.{not, ◌&&◌, ◌↔◌}
+use Rattle.std.specs.Prelude.{not, ◌↔◌}
 use Rattle.std.proofs.lemmas.Bool.{cases_lt, and_right}
 use Rattle.wb_model.specs.declared.heap.Shape.{Shape}
 use Rattle.wb_model.specs.declared.run.RunResult.{RunResult}

@@ -1,5 +1,5 @@
 -- Each line of a run's trace is that of an attempt which the run asked for, answered by the script's own setting or the rule.
-use Rattle.std.proofs.Common.{◌≡◌, ◌≢◌, ℕ, zero, suc, ◌+◌, ◌<◌, ◌≤◌, ◌⊎◌, inl, inr, arith, Bool, true, false, List, [], ◌∷◌, ◌++◌, length, length-append, append-nil, append_assoc, refl, sym, ◌∙◌, ap, subst, Option, Some, None, cond}
+use Rattle.std.proofs.Common.{◌≡◌, ◌≢◌, ℕ, zero, suc, ◌+◌, ◌<◌, ◌≤◌, inl, inr, arith, Bool, true, false, List, [], ◌∷◌, ◌++◌, length, length-append, append-nil, append_assoc, refl, sym, ◌∙◌, ap, subst, Option, Some, None, cond}
 use Rattle.std.specs.Prelude.{nat_eq, nat_lt, slice_get}
 use Rattle.std.proofs.lemmas.Bool.{eqb-true, ltb-true, ltb-false}
 use Rattle.wb_model.specs.declared.limits.TheConstants.{CEILING}
@@ -15,8 +15,9 @@ use Rattle.wb_model.specs.Rules.{refusal_of, unless_refused, answer_to, Request}
 use Rattle.wb_model.specs.State.{is_cut, Query, heap_note, available_note, compress_note, Process, ends, stops, asks, notes}
 use Rattle.wb_model.specs.Space.{Space, space_of}
 use Rattle.wb_model.specs.Account.{stopped, Account, settled, on_answer, recorded, noted, next_number}
+use Rattle.wb_model.specs.Debug.{trace_line}
 use Rattle.wb_model.specs.Run.{process, before, run, granted_end, highest_end, required}
-use Rattle.wb_model.specs.Traces.{asked_before, asked_for, refusal_by, end_of_attempt, IsLine, AreLines}
+use Rattle.wb_model.specs.Traces.{asked_before, asked_for, end_of_attempt, IsLine, AreLines}
 
 -- what a rule refuses, by the answer
 record IsRefusal (rule : Rule) (number end : ℕ) (w : Answer) : Type 0 where
@@ -37,11 +38,7 @@ refusal-is (Number n) number end w e = by (nat_eq n number) refl e
     by true t f = record { granted = λ g. cc; refused = λ r. cc; simulated = λ s. ap Number (eqb-true _ _ t) }
     by false t f = cc
 
--- the line of an answer
-abbrev line_of : ℕ → Request → Answer → Attempt
-line_of number asked w = record { number = number; length = asked.length; place = asked.place; answer = w }
-
-line-is : (rule : Rule) (made : ℕ) (asked : Request) (w : Answer) → answer_to rule (made + 1) asked ≡ Some w → IsLine rule made asked (line_of (made + 1) asked w)
+line-is : (rule : Rule) (made : ℕ) (asked : Request) (w : Answer) → answer_to rule (made + 1) asked ≡ Some w → IsLine rule made asked (trace_line (made + 1) asked w)
 line-is rule made asked w = due asked.due refl
   where
     end : ℕ
@@ -51,7 +48,7 @@ line-is rule made asked w = due asked.due refl
     open_to true c e = cc
     open_to false c e = (cc, ltb-false _ _ c)
 
-    left : (o : Option Answer) → refusal_of rule (made + 1) end ≡ o → asked.due ≡ false → unless_refused o end ≡ Some w → IsLine rule made asked (line_of (made + 1) asked w)
+    left : (o : Option Answer) → refusal_of rule (made + 1) end ≡ o → asked.due ≡ false → unless_refused o end ≡ Some w → IsLine rule made asked (trace_line (made + 1) asked w)
     left (Some v) f undue e =
         let same : v ≡ w = cc in
         let is = refusal-is rule (made + 1) end w (f ∙ ap Some same) in
@@ -61,7 +58,7 @@ line-is rule made asked w = due asked.due refl
         let granted : w ≡ Granted = is.0 in
         record { number = refl; length = refl; place = refl; granted = λ g. (f, is.1); refused = λ r. cc; simulated = λ s. cc; due = λ d. cc }
 
-    due : (b : Bool) → asked.due ≡ b → cond b (Some Simulated) (unless_refused (refusal_of rule (made + 1) end) end) ≡ Some w → IsLine rule made asked (line_of (made + 1) asked w)
+    due : (b : Bool) → asked.due ≡ b → cond b (Some Simulated) (unless_refused (refusal_of rule (made + 1) end) end) ≡ Some w → IsLine rule made asked (trace_line (made + 1) asked w)
     due true d e =
         let simulated : w ≡ Simulated = cc in
         record { number = refl; length = refl; place = refl; granted = λ g. cc; refused = λ r. cc; simulated = λ s. inl d; due = λ _. simulated }
@@ -87,12 +84,12 @@ settled-lines rule space (stops stop st) a qs are = subst (λ l. AreLines rule 0
 settled-lines rule space (asks t cut go) a qs are =
     told (answer_to rule (next_number a) t) refl (λ w e.
     let grown = recorded space (next_number a) t w a in
-    let longer : length grown.trace ≡ length a.trace + 1 = length-append a.trace (line_of (next_number a) t w ∷ []) in
+    let longer : length grown.trace ≡ length a.trace + 1 = length-append a.trace (trace_line (next_number a) t w ∷ []) in
     subst (λ l. AreLines rule 0 l (settled rule space (go (next_number a) w) grown).account.trace) (append_assoc qs (t ∷ []) (asked_for rule (next_number a) (go (next_number a) w)))
     (subst (λ m. AreLines rule 0 ((qs ++ t ∷ []) ++ asked_for rule m (go (next_number a) w)) (settled rule space (go (next_number a) w) grown).account.trace) longer
     (settled-lines rule space (go (next_number a) w) grown (qs ++ t ∷ [])
-    (lines_push rule 0 qs a.trace t (line_of (next_number a) t w) are
-    (subst (λ m. IsLine rule m t (line_of (next_number a) t w)) (sym (zero_add (length a.trace))) (line-is rule (length a.trace) t w e))))))
+    (lines_push rule 0 qs a.trace t (trace_line (next_number a) t w) are
+    (subst (λ m. IsLine rule m t (trace_line (next_number a) t w)) (sym (zero_add (length a.trace))) (line-is rule (length a.trace) t w e))))))
   where
     told : (o : Option Answer) → answer_to rule (next_number a) t ≡ o →
         ((w : Answer) → answer_to rule (next_number a) t ≡ Some w →

@@ -1,6 +1,6 @@
 -- Worked cases, each by computing: the definitions give what the files of cases/ say. Written by tools/cases_to_theorems.py;
 -- edit nothing here.
-use Rattle.std.specs.Prelude.{◌≡◌, refl, ℕ, pos, negsuc, List, [], ◌∷◌, Some, None, map}
+use Rattle.std.specs.Prelude.{◌≡◌, refl, ℕ, pos, negsuc, List, [], ◌∷◌, length, Some, None, map}
 use Rattle.wb_model.specs.declared.heap.Rule.TheVariants as R
 use Rattle.wb_model.specs.declared.heap.Panic.TheVariants as P
 use Rattle.wb_model.specs.declared.script.Holder.TheVariants as H
@@ -19,13 +19,14 @@ use Rattle.wb_model.specs.declared.script.Pointer.TheVariants.{Held, Field}
 use Rattle.wb_model.specs.declared.script.Number.TheVariants.{Constant, Variable}
 use Rattle.wb_model.specs.declared.script.Writable.TheVariants.{OwnBuffer, InCell}
 use Rattle.wb_model.specs.declared.script.Readable.TheVariants.{Of, ViewOf, Quoted}
-use Rattle.wb_model.specs.declared.script.Condition.TheVariants.{IsNull}
-use Rattle.wb_model.specs.declared.script.Argument.TheVariants.{Given}
+use Rattle.wb_model.specs.declared.script.Condition.TheVariants.{IsNull, NotNull, Equal, Less}
+use Rattle.wb_model.specs.declared.script.Argument.TheVariants.{Passed, Given}
 use Rattle.wb_model.specs.declared.script.Refusal.TheVariants.{GivesNull, Leaves}
 use Rattle.wb_model.specs.declared.script.Statement.{Statement}
 use Rattle.wb_model.specs.declared.script.Statement.TheOpen.{Statement-F}
 use Rattle.wb_model.specs.declared.script.Statement.TheViews.{out-Statement, roll-Statement}
 use Rattle.wb_model.specs.Run.{run, required, rises}
+use Rattle.wb_model.specs.Sweeps.{run_at, least_bad_or_cut}
 use Rattle.std.specs.Fmt.{digits}
 
 -- what a run computes through
@@ -685,12 +686,75 @@ words_of_a_shrunk_cell_are_gone_run : run script_words_of_a_shrunk_cell_are_gone
 unfolding everything
 words_of_a_shrunk_cell_are_gone_run = refl
 
+abbrev script_callee_appends_to_a_text_that_it_was_passed_run : Script
+script_callee_appends_to_a_text_that_it_was_passed_run = record { classes = []; procedures = (record { parameters = (Par.OfPointer None) ∷ []; body = record { locals = []; statements = rolled ((Statement-F.Append (InCell (Held (H.Local 0))) (Quoted 0)) ∷ (Statement-F.Append (InCell (Held (H.Local 0))) (Of (InCell (Held (H.Local 0))))) ∷ []) } }) ∷ (record { parameters = []; body = record { locals = (OfPointer None) ∷ OfNumber ∷ []; statements = rolled ((Statement-F.NewText (Held (H.Local 0)) (Constant (pos 6)) Leaves) ∷ (Statement-F.Call 0 ((Passed (Held (H.Local 0))) ∷ [])) ∷ (Statement-F.GetLength 1 (Of (InCell (Held (H.Local 0))))) ∷ (Statement-F.PrintNumber (Variable 1)) ∷ (Statement-F.PrintText (Of (InCell (Held (H.Local 0))))) ∷ (Statement-F.Free (Held (H.Local 0))) ∷ []) } }) ∷ []; operations = []; literals = (97 ∷ 98 ∷ []) ∷ []; main = 1 }
+
+callee_appends_to_a_text_that_it_was_passed_run : run script_callee_appends_to_a_text_that_it_was_passed_run R.Unlimited 10000 (shaped 4096 4096) ≡ record { outcome = Ended None []; trace = (line 1 144 0 Granted) ∷ (line 2 32 144 Granted) ∷ []; lines = (52 ∷ []) ∷ (97 ∷ 98 ∷ 97 ∷ 98 ∷ []) ∷ []; notes = []; steps = 8 }
+unfolding everything
+callee_appends_to_a_text_that_it_was_passed_run = refl
+
+abbrev script_callee_frees_what_it_was_passed_run : Script
+script_callee_frees_what_it_was_passed_run = record { classes = []; procedures = (record { parameters = (Par.OfPointer None) ∷ []; body = record { locals = []; statements = rolled ((Statement-F.Free (Held (H.Local 0))) ∷ (Statement-F.SetNull (Held (H.Local 0))) ∷ []) } }) ∷ (record { parameters = []; body = record { locals = (OfPointer None) ∷ OfNumber ∷ []; statements = rolled ((Statement-F.Alloc (Held (H.Local 0)) (Constant (pos 8)) Leaves) ∷ (Statement-F.Call 0 ((Passed (Held (H.Local 0))) ∷ [])) ∷ (Statement-F.If (NotNull (Held (H.Local 0))) (rolled ((Statement-F.PrintText (Quoted 0)) ∷ []))) ∷ (Statement-F.Load 1 (Held (H.Local 0)) (Constant (pos 0))) ∷ []) } }) ∷ []; operations = []; literals = (107 ∷ 101 ∷ 112 ∷ 116 ∷ []) ∷ []; main = 1 }
+
+callee_frees_what_it_was_passed_run : run script_callee_frees_what_it_was_passed_run R.Unlimited 10000 (shaped 4096 4096) ≡ record { outcome = Panicked (P.Workbench 1); trace = (line 1 144 0 Granted) ∷ (line 2 32 144 Granted) ∷ []; lines = (107 ∷ 101 ∷ 112 ∷ 116 ∷ []) ∷ []; notes = []; steps = 7 }
+unfolding everything
+callee_frees_what_it_was_passed_run = refl
+
+abbrev script_callee_pops_an_item_of_its_caller_run : Script
+script_callee_pops_an_item_of_its_caller_run = record { classes = []; procedures = (record { parameters = []; body = record { locals = []; statements = rolled ((Statement-F.Pop (Constant (pos 1))) ∷ []) } }) ∷ (record { parameters = []; body = record { locals = (OfPointer None) ∷ []; statements = rolled ((Statement-F.Push (Held (H.Local 0))) ∷ (Statement-F.Call 0 []) ∷ []) } }) ∷ []; operations = []; literals = []; main = 1 }
+
+callee_pops_an_item_of_its_caller_run : run script_callee_pops_an_item_of_its_caller_run R.Unlimited 10000 (shaped 4096 4096) ≡ record { outcome = Ended None []; trace = (line 1 144 0 Granted) ∷ []; lines = []; notes = []; steps = 3 }
+unfolding everything
+callee_pops_an_item_of_its_caller_run = refl
+
+abbrev script_callee_writes_into_what_it_was_passed_run : Script
+script_callee_writes_into_what_it_was_passed_run = record { classes = []; procedures = (record { parameters = (Par.OfPointer None) ∷ Par.OfNumber ∷ []; body = record { locals = []; statements = rolled ((Statement-F.Store (Held (H.Local 0)) (Constant (pos 0)) (Variable 1)) ∷ (Statement-F.Add 1 (Constant (pos 1))) ∷ (Statement-F.Store (Held (H.Local 0)) (Constant (pos 1)) (Variable 1)) ∷ (Statement-F.SetNull (Held (H.Local 0))) ∷ []) } }) ∷ (record { parameters = []; body = record { locals = (OfPointer None) ∷ OfNumber ∷ []; statements = rolled ((Statement-F.Alloc (Held (H.Local 0)) (Constant (pos 8)) Leaves) ∷ (Statement-F.SetNumber 1 (Constant (pos 41))) ∷ (Statement-F.Call 0 ((Passed (Held (H.Local 0))) ∷ (Given (Variable 1)) ∷ [])) ∷ (Statement-F.PrintNumber (Variable 1)) ∷ (Statement-F.Load 1 (Held (H.Local 0)) (Constant (pos 0))) ∷ (Statement-F.PrintNumber (Variable 1)) ∷ (Statement-F.Load 1 (Held (H.Local 0)) (Constant (pos 1))) ∷ (Statement-F.PrintNumber (Variable 1)) ∷ (Statement-F.Free (Held (H.Local 0))) ∷ []) } }) ∷ []; operations = []; literals = []; main = 1 }
+
+callee_writes_into_what_it_was_passed_run : run script_callee_writes_into_what_it_was_passed_run R.Unlimited 10000 (shaped 4096 4096) ≡ record { outcome = Ended None []; trace = (line 1 144 0 Granted) ∷ (line 2 32 144 Granted) ∷ []; lines = (52 ∷ 49 ∷ []) ∷ (52 ∷ 49 ∷ []) ∷ (52 ∷ 50 ∷ []) ∷ []; notes = []; steps = 13 }
+unfolding everything
+callee_writes_into_what_it_was_passed_run = refl
+
+abbrev script_null_leaves_with_no_memory_run : Script
+script_null_leaves_with_no_memory_run = record { classes = []; procedures = (record { parameters = []; body = record { locals = (OfPointer None) ∷ OfNumber ∷ []; statements = rolled ((Statement-F.Alloc (Held (H.Local 0)) (Constant (pos 0)) GivesNull) ∷ (Statement-F.LeaveIfNull (Held (H.Local 0))) ∷ (Statement-F.PrintText (Quoted 0)) ∷ (Statement-F.Free (Held (H.Local 0))) ∷ (Statement-F.SetNull (Held (H.Local 0))) ∷ (Statement-F.Trap 1 (rolled ((Statement-F.LeaveIfNull (Held (H.Local 0))) ∷ (Statement-F.PrintText (Quoted 1)) ∷ []))) ∷ (Statement-F.PrintNumber (Variable 1)) ∷ (Statement-F.LeaveIfNull (Held (H.Local 0))) ∷ (Statement-F.PrintText (Quoted 2)) ∷ []) } }) ∷ []; operations = []; literals = (116 ∷ 104 ∷ 101 ∷ 114 ∷ 101 ∷ []) ∷ (110 ∷ 101 ∷ 118 ∷ 101 ∷ 114 ∷ []) ∷ (110 ∷ 101 ∷ 118 ∷ 101 ∷ 114 ∷ []) ∷ []; main = 0 }
+
+null_leaves_with_no_memory_run : run script_null_leaves_with_no_memory_run R.Unlimited 10000 (shaped 4096 4096) ≡ record { outcome = Ended (Some (negsuc 3)) []; trace = (line 1 144 0 Granted) ∷ (line 2 16 144 Granted) ∷ []; lines = (116 ∷ 104 ∷ 101 ∷ 114 ∷ 101 ∷ []) ∷ (45 ∷ 52 ∷ []) ∷ []; notes = []; steps = 9 }
+unfolding everything
+null_leaves_with_no_memory_run = refl
+
+abbrev script_return_ends_main_run : Script
+script_return_ends_main_run = record { classes = []; procedures = (record { parameters = []; body = record { locals = []; statements = rolled ((Statement-F.PrintText (Quoted 0)) ∷ Statement-F.Return ∷ (Statement-F.PrintText (Quoted 1)) ∷ []) } }) ∷ []; operations = []; literals = (111 ∷ 110 ∷ 101 ∷ []) ∷ (116 ∷ 119 ∷ 111 ∷ []) ∷ []; main = 0 }
+
+return_ends_main_run : run script_return_ends_main_run R.Unlimited 10000 (shaped 4096 4096) ≡ record { outcome = Ended None []; trace = (line 1 144 0 Granted) ∷ []; lines = (111 ∷ 110 ∷ 101 ∷ []) ∷ []; notes = []; steps = 2 }
+unfolding everything
+return_ends_main_run = refl
+
+abbrev script_return_ends_the_body_at_once_run : Script
+script_return_ends_the_body_at_once_run = record { classes = []; procedures = (record { parameters = (Par.OfPointer None) ∷ Par.OfNumber ∷ []; body = record { locals = []; statements = rolled ((Statement-F.If (Less (Variable 1) (Constant (pos 1))) (rolled (Statement-F.Return ∷ []))) ∷ (Statement-F.PrintNumber (Variable 1)) ∷ (Statement-F.Free (Held (H.Local 0))) ∷ []) } }) ∷ (record { parameters = Par.OfNumber ∷ []; body = record { locals = (OfPointer None) ∷ []; statements = rolled ((Statement-F.If (Equal (Variable 0) (Constant (pos 0))) (rolled (Statement-F.Return ∷ []))) ∷ (Statement-F.Alloc (Held (H.Local 1)) (Variable 0) Leaves) ∷ (Statement-F.ReturnPointer (Held (H.Local 1))) ∷ []) } }) ∷ (record { parameters = []; body = record { locals = (OfPointer None) ∷ (OfPointer None) ∷ []; statements = rolled ((Statement-F.CallTo 0 1 ((Given (Constant (pos 20))) ∷ [])) ∷ (Statement-F.CallTo 1 1 ((Given (Constant (pos 0))) ∷ [])) ∷ (Statement-F.If (NotNull (Held (H.Local 1))) (rolled ((Statement-F.PrintText (Quoted 0)) ∷ []))) ∷ (Statement-F.Call 0 ((Passed (Held (H.Local 0))) ∷ (Given (Constant (pos 0))) ∷ [])) ∷ (Statement-F.Call 0 ((Passed (Held (H.Local 0))) ∷ (Given (Constant (pos 7))) ∷ [])) ∷ []) } }) ∷ []; operations = []; literals = (110 ∷ 101 ∷ 118 ∷ 101 ∷ 114 ∷ []) ∷ []; main = 2 }
+
+return_ends_the_body_at_once_run : run script_return_ends_the_body_at_once_run R.Unlimited 10000 (shaped 4096 4096) ≡ record { outcome = Ended None []; trace = (line 1 144 0 Granted) ∷ (line 2 48 144 Granted) ∷ []; lines = (55 ∷ []) ∷ []; notes = []; steps = 15 }
+unfolding everything
+return_ends_the_body_at_once_run = refl
+
+abbrev script_return_from_main_with_an_item_run : Script
+script_return_from_main_with_an_item_run = record { classes = []; procedures = (record { parameters = []; body = record { locals = (OfPointer None) ∷ []; statements = rolled ((Statement-F.Push (Held (H.Local 0))) ∷ Statement-F.Return ∷ []) } }) ∷ []; operations = []; literals = []; main = 0 }
+
+return_from_main_with_an_item_run : run script_return_from_main_with_an_item_run R.Unlimited 10000 (shaped 4096 4096) ≡ record { outcome = Panicked (P.Workbench 5); trace = (line 1 144 0 Granted) ∷ []; lines = []; notes = []; steps = 2 }
+unfolding everything
+return_from_main_with_an_item_run = refl
+
 abbrev script_empty_main_json_run : Script
 script_empty_main_json_run = record { classes = []; procedures = (record { parameters = []; body = record { locals = []; statements = [] } }) ∷ []; operations = []; literals = []; main = 0 }
 
 empty_main_json_run : run script_empty_main_json_run R.Unlimited 10000 (shaped 4096 4096) ≡ record { outcome = Ended None []; trace = (line 1 144 0 Granted) ∷ []; lines = []; notes = []; steps = 0 }
 unfolding everything
 empty_main_json_run = refl
+
+abbrev script_field_is_passed_run : Script
+script_field_is_passed_run = record { classes = (record { extra = 0; fields = None ∷ []; construct = None; destroy = None }) ∷ []; procedures = (record { parameters = (Par.OfPointer None) ∷ []; body = record { locals = []; statements = rolled ((Statement-F.Store (Held (H.Local 0)) (Constant (pos 0)) (Constant (pos 9))) ∷ (Statement-F.Free (Held (H.Local 0))) ∷ []) } }) ∷ (record { parameters = []; body = record { locals = (OfPointer (Some 0)) ∷ []; statements = rolled ((Statement-F.New (Held (H.Local 0)) 0 Leaves) ∷ (Statement-F.Alloc (Field (H.Local 0) 0 0) (Constant (pos 4)) GivesNull) ∷ (Statement-F.Call 0 ((Passed (Field (H.Local 0) 0 0)) ∷ [])) ∷ (Statement-F.Delete (Held (H.Local 0))) ∷ []) } }) ∷ []; operations = []; literals = []; main = 1 }
+
+field_is_passed_run : run script_field_is_passed_run R.Unlimited 10000 (shaped 4096 4096) ≡ record { outcome = Ended None []; trace = (line 1 144 0 Granted) ∷ (line 2 32 144 Granted) ∷ (line 3 32 176 Granted) ∷ []; lines = []; notes = []; steps = 7 }
+unfolding everything
+field_is_passed_run = refl
 
 abbrev script_leave_runs_a_cleanup_operation_run : Script
 script_leave_runs_a_cleanup_operation_run = record { classes = []; procedures = (record { parameters = []; body = record { locals = (OfPointer None) ∷ OfNumber ∷ []; statements = rolled ((Statement-F.Alloc (Held (H.Local 0)) (Constant (pos 4)) Leaves) ∷ (Statement-F.PushOperation (Held (H.Local 0)) 0) ∷ (Statement-F.Trap 1 (rolled ((Statement-F.Leave (Constant (negsuc 6))) ∷ []))) ∷ (Statement-F.PrintNumber (Variable 1)) ∷ (Statement-F.LeaveIfError (Variable 1)) ∷ []) } }) ∷ []; operations = (record { locals = []; statements = rolled ((Statement-F.PrintText (Quoted 0)) ∷ (Statement-F.Free (Held (H.Local 0))) ∷ []) }) ∷ []; literals = (111 ∷ 112 ∷ []) ∷ []; main = 0 }
@@ -748,6 +812,13 @@ pushed_object_made_and_deleted_run : run script_pushed_object_made_and_deleted_r
 unfolding everything
 pushed_object_made_and_deleted_run = refl
 
+abbrev script_return_ends_a_construct_body_run : Script
+script_return_ends_a_construct_body_run = record { classes = (record { extra = 4; fields = []; construct = Some (record { locals = []; statements = rolled ((Statement-F.PrintText (Quoted 0)) ∷ Statement-F.Return ∷ (Statement-F.PrintText (Quoted 1)) ∷ []) }); destroy = None }) ∷ []; procedures = (record { parameters = []; body = record { locals = (OfPointer (Some 0)) ∷ []; statements = rolled ((Statement-F.New (Held (H.Local 0)) 0 Leaves) ∷ (Statement-F.Construct (Held (H.Local 0))) ∷ (Statement-F.Delete (Held (H.Local 0))) ∷ []) } }) ∷ []; operations = []; literals = (111 ∷ 110 ∷ 101 ∷ []) ∷ (116 ∷ 119 ∷ 111 ∷ []) ∷ []; main = 0 }
+
+return_ends_a_construct_body_run : run script_return_ends_a_construct_body_run R.Unlimited 10000 (shaped 4096 4096) ≡ record { outcome = Ended None []; trace = (line 1 144 0 Granted) ∷ (line 2 32 144 Granted) ∷ []; lines = (111 ∷ 110 ∷ 101 ∷ []) ∷ []; notes = []; steps = 6 }
+unfolding everything
+return_ends_a_construct_body_run = refl
+
 abbrev script_unpushed_object_leaks_when_construction_fails_run : Script
 script_unpushed_object_leaks_when_construction_fails_run = record { classes = (record { extra = 16; fields = None ∷ []; construct = Some (record { locals = []; statements = rolled ((Statement-F.NewText (Field H.This 0 0) (Constant (pos 4)) Leaves) ∷ []) }); destroy = Some (record { locals = []; statements = rolled ((Statement-F.Free (Field H.This 0 0)) ∷ []) }) }) ∷ []; procedures = (record { parameters = []; body = record { locals = (OfPointer (Some 0)) ∷ []; statements = rolled ((Statement-F.New (Held (H.Local 0)) 0 Leaves) ∷ (Statement-F.Construct (Held (H.Local 0))) ∷ (Statement-F.Delete (Held (H.Local 0))) ∷ []) } }) ∷ []; operations = []; literals = []; main = 0 }
 
@@ -797,12 +868,40 @@ pop_below_the_trap_run : run script_pop_below_the_trap_run R.Unlimited 10000 (sh
 unfolding everything
 pop_below_the_trap_run = refl
 
+abbrev script_pop_expects_a_new_cell_at_an_old_place_run : Script
+script_pop_expects_a_new_cell_at_an_old_place_run = record { classes = []; procedures = (record { parameters = []; body = record { locals = (OfPointer None) ∷ (OfPointer None) ∷ []; statements = rolled ((Statement-F.Alloc (Held (H.Local 0)) (Constant (pos 16)) Leaves) ∷ (Statement-F.Push (Held (H.Local 0))) ∷ (Statement-F.Free (Held (H.Local 0))) ∷ (Statement-F.Alloc (Held (H.Local 1)) (Constant (pos 16)) Leaves) ∷ (Statement-F.PopCheck (Held (H.Local 1))) ∷ []) } }) ∷ []; operations = []; literals = []; main = 0 }
+
+pop_expects_a_new_cell_at_an_old_place_run : run script_pop_expects_a_new_cell_at_an_old_place_run R.Unlimited 10000 (shaped 4096 4096) ≡ record { outcome = Panicked (P.Workbench 4); trace = (line 1 144 0 Granted) ∷ (line 2 32 144 Granted) ∷ (line 3 32 144 Granted) ∷ []; lines = []; notes = []; steps = 5 }
+unfolding everything
+pop_expects_a_new_cell_at_an_old_place_run = refl
+
+abbrev script_pop_expects_an_item_below_the_trap_run : Script
+script_pop_expects_an_item_below_the_trap_run = record { classes = []; procedures = (record { parameters = []; body = record { locals = (OfPointer None) ∷ OfNumber ∷ []; statements = rolled ((Statement-F.Push (Held (H.Local 0))) ∷ (Statement-F.Trap 1 (rolled ((Statement-F.PopCheck (Held (H.Local 0))) ∷ []))) ∷ []) } }) ∷ []; operations = []; literals = []; main = 0 }
+
+pop_expects_an_item_below_the_trap_run : run script_pop_expects_an_item_below_the_trap_run R.Unlimited 10000 (shaped 4096 4096) ≡ record { outcome = Panicked (P.Workbench 3); trace = (line 1 144 0 Granted) ∷ []; lines = []; notes = []; steps = 3 }
+unfolding everything
+pop_expects_an_item_below_the_trap_run = refl
+
+abbrev script_pop_expects_an_item_of_an_empty_stack_run : Script
+script_pop_expects_an_item_of_an_empty_stack_run = record { classes = []; procedures = (record { parameters = []; body = record { locals = (OfPointer None) ∷ []; statements = rolled ((Statement-F.PopCheck (Held (H.Local 0))) ∷ []) } }) ∷ []; operations = []; literals = []; main = 0 }
+
+pop_expects_an_item_of_an_empty_stack_run : run script_pop_expects_an_item_of_an_empty_stack_run R.Unlimited 10000 (shaped 4096 4096) ≡ record { outcome = Panicked (P.Workbench 3); trace = (line 1 144 0 Granted) ∷ []; lines = []; notes = []; steps = 1 }
+unfolding everything
+pop_expects_an_item_of_an_empty_stack_run = refl
+
 abbrev script_pop_expects_another_item_run : Script
 script_pop_expects_another_item_run = record { classes = []; procedures = (record { parameters = []; body = record { locals = (OfPointer None) ∷ (OfPointer None) ∷ []; statements = rolled ((Statement-F.Alloc (Held (H.Local 0)) (Constant (pos 16)) Leaves) ∷ (Statement-F.Push (Held (H.Local 1))) ∷ (Statement-F.PopCheck (Held (H.Local 0))) ∷ []) } }) ∷ []; operations = []; literals = []; main = 0 }
 
 pop_expects_another_item_run : run script_pop_expects_another_item_run R.Unlimited 10000 (shaped 4096 4096) ≡ record { outcome = Panicked (P.Workbench 4); trace = (line 1 144 0 Granted) ∷ (line 2 32 144 Granted) ∷ []; lines = []; notes = []; steps = 3 }
 unfolding everything
 pop_expects_another_item_run = refl
+
+abbrev script_pop_expects_the_item_below_the_top_run : Script
+script_pop_expects_the_item_below_the_top_run = record { classes = []; procedures = (record { parameters = []; body = record { locals = (OfPointer None) ∷ (OfPointer None) ∷ []; statements = rolled ((Statement-F.Alloc (Held (H.Local 0)) (Constant (pos 16)) Leaves) ∷ (Statement-F.Alloc (Held (H.Local 1)) (Constant (pos 16)) Leaves) ∷ (Statement-F.Push (Held (H.Local 0))) ∷ (Statement-F.Push (Held (H.Local 1))) ∷ (Statement-F.PopCheck (Held (H.Local 1))) ∷ (Statement-F.Push (Held (H.Local 1))) ∷ (Statement-F.PopCheck (Held (H.Local 0))) ∷ []) } }) ∷ []; operations = []; literals = []; main = 0 }
+
+pop_expects_the_item_below_the_top_run : run script_pop_expects_the_item_below_the_top_run R.Unlimited 10000 (shaped 4096 4096) ≡ record { outcome = Panicked (P.Workbench 4); trace = (line 1 144 0 Granted) ∷ (line 2 32 144 Granted) ∷ (line 3 32 176 Granted) ∷ []; lines = []; notes = []; steps = 7 }
+unfolding everything
+pop_expects_the_item_below_the_top_run = refl
 
 abbrev script_procedure_returns_a_pushed_cell_run : Script
 script_procedure_returns_a_pushed_cell_run = record { classes = []; procedures = (record { parameters = Par.OfNumber ∷ []; body = record { locals = (OfPointer None) ∷ []; statements = rolled ((Statement-F.Alloc (Held (H.Local 1)) (Variable 0) Leaves) ∷ (Statement-F.Push (Held (H.Local 1))) ∷ (Statement-F.ReturnPointer (Held (H.Local 1))) ∷ []) } }) ∷ (record { parameters = []; body = record { locals = (OfPointer None) ∷ []; statements = rolled ((Statement-F.CallTo 0 0 ((Given (Constant (pos 40))) ∷ [])) ∷ (Statement-F.PopDestroy (Constant (pos 1))) ∷ []) } }) ∷ []; operations = []; literals = []; main = 1 }
@@ -817,6 +916,34 @@ script_push_that_cannot_grow_keeps_its_item_run = record { classes = []; procedu
 push_that_cannot_grow_keeps_its_item_run : run script_push_that_cannot_grow_keeps_its_item_run (R.Number 10) 10000 (shaped 4096 4096) ≡ record { outcome = Ended (Some (negsuc 3)) []; trace = (line 1 144 0 Granted) ∷ (line 2 32 144 Granted) ∷ (line 3 32 176 Granted) ∷ (line 4 32 208 Granted) ∷ (line 5 32 240 Granted) ∷ (line 6 32 272 Granted) ∷ (line 7 32 304 Granted) ∷ (line 8 32 336 Granted) ∷ (line 9 32 368 Granted) ∷ (line 10 208 400 Simulated) ∷ []; lines = []; notes = []; steps = 33 }
 unfolding everything
 push_that_cannot_grow_keeps_its_item_run = refl
+
+abbrev script_too_many_items_to_destroy_destroys_none_run : Script
+script_too_many_items_to_destroy_destroys_none_run = record { classes = []; procedures = (record { parameters = []; body = record { locals = (OfPointer None) ∷ (OfPointer None) ∷ OfNumber ∷ []; statements = rolled ((Statement-F.Alloc (Held (H.Local 0)) (Constant (pos 16)) Leaves) ∷ (Statement-F.Push (Held (H.Local 0))) ∷ (Statement-F.Trap 2 (rolled ((Statement-F.Alloc (Held (H.Local 1)) (Constant (pos 16)) Leaves) ∷ (Statement-F.Push (Held (H.Local 1))) ∷ (Statement-F.PopDestroy (Constant (pos 2))) ∷ []))) ∷ []) } }) ∷ []; operations = []; literals = []; main = 0 }
+
+too_many_items_to_destroy_destroys_none_run : run script_too_many_items_to_destroy_destroys_none_run R.Unlimited 10000 (shaped 4096 4096) ≡ record { outcome = Panicked (P.Workbench 3); trace = (line 1 144 0 Granted) ∷ (line 2 32 144 Granted) ∷ (line 3 32 176 Granted) ∷ []; lines = []; notes = []; steps = 6 }
+unfolding everything
+too_many_items_to_destroy_destroys_none_run = refl
+
+abbrev script_freed_pointer_is_not_null_run : Script
+script_freed_pointer_is_not_null_run = record { classes = []; procedures = (record { parameters = []; body = record { locals = (OfPointer None) ∷ []; statements = rolled ((Statement-F.If (NotNull (Held (H.Local 0))) (rolled ((Statement-F.PrintText (Quoted 0)) ∷ []))) ∷ (Statement-F.Alloc (Held (H.Local 0)) (Constant (pos 5)) GivesNull) ∷ (Statement-F.IfElse (NotNull (Held (H.Local 0))) (rolled ((Statement-F.PrintText (Quoted 1)) ∷ [])) (rolled ((Statement-F.PrintText (Quoted 2)) ∷ []))) ∷ (Statement-F.Free (Held (H.Local 0))) ∷ (Statement-F.If (NotNull (Held (H.Local 0))) (rolled ((Statement-F.PrintText (Quoted 3)) ∷ []))) ∷ (Statement-F.SetNull (Held (H.Local 0))) ∷ (Statement-F.IfElse (NotNull (Held (H.Local 0))) (rolled ((Statement-F.PrintText (Quoted 4)) ∷ [])) (rolled ((Statement-F.PrintText (Quoted 5)) ∷ []))) ∷ []) } }) ∷ []; operations = []; literals = (110 ∷ 101 ∷ 118 ∷ 101 ∷ 114 ∷ []) ∷ (115 ∷ 111 ∷ 109 ∷ 101 ∷ []) ∷ (110 ∷ 101 ∷ 118 ∷ 101 ∷ 114 ∷ []) ∷ (115 ∷ 116 ∷ 105 ∷ 108 ∷ 108 ∷ []) ∷ (110 ∷ 101 ∷ 118 ∷ 101 ∷ 114 ∷ []) ∷ (110 ∷ 117 ∷ 108 ∷ 108 ∷ []) ∷ []; main = 0 }
+
+freed_pointer_is_not_null_run : run script_freed_pointer_is_not_null_run R.Unlimited 10000 (shaped 4096 4096) ≡ record { outcome = Ended None []; trace = (line 1 144 0 Granted) ∷ (line 2 32 144 Granted) ∷ []; lines = (115 ∷ 111 ∷ 109 ∷ 101 ∷ []) ∷ (115 ∷ 116 ∷ 105 ∷ 108 ∷ 108 ∷ []) ∷ (110 ∷ 117 ∷ 108 ∷ 108 ∷ []) ∷ []; notes = []; steps = 10 }
+unfolding everything
+freed_pointer_is_not_null_run = refl
+
+abbrev script_if_without_else_leaves_its_turn_out_run : Script
+script_if_without_else_leaves_its_turn_out_run = record { classes = []; procedures = (record { parameters = []; body = record { locals = OfNumber ∷ []; statements = rolled ((Statement-F.Repeat (Constant (pos 3)) (rolled ((Statement-F.Add 0 (Constant (pos 1))) ∷ (Statement-F.If (Equal (Variable 0) (Constant (pos 2))) (rolled ((Statement-F.PrintNumber (Variable 0)) ∷ []))) ∷ []))) ∷ []) } }) ∷ []; operations = []; literals = []; main = 0 }
+
+if_without_else_leaves_its_turn_out_run : run script_if_without_else_leaves_its_turn_out_run R.Unlimited 10000 (shaped 4096 4096) ≡ record { outcome = Ended None []; trace = (line 1 144 0 Granted) ∷ []; lines = (50 ∷ []) ∷ []; notes = []; steps = 11 }
+unfolding everything
+if_without_else_leaves_its_turn_out_run = refl
+
+abbrev script_numbers_are_compared_run : Script
+script_numbers_are_compared_run = record { classes = []; procedures = (record { parameters = []; body = record { locals = OfNumber ∷ OfNumber ∷ []; statements = rolled ((Statement-F.SetNumber 0 (Constant (pos 3))) ∷ (Statement-F.SetNumber 1 (Constant (negsuc 2))) ∷ (Statement-F.If (Less (Variable 1) (Variable 0)) (rolled ((Statement-F.PrintText (Quoted 0)) ∷ []))) ∷ (Statement-F.If (Less (Variable 0) (Variable 0)) (rolled ((Statement-F.PrintText (Quoted 1)) ∷ []))) ∷ (Statement-F.IfElse (Equal (Variable 0) (Constant (pos 3))) (rolled ((Statement-F.PrintText (Quoted 2)) ∷ [])) (rolled ((Statement-F.PrintText (Quoted 3)) ∷ []))) ∷ (Statement-F.IfElse (Equal (Variable 0) (Variable 1)) (rolled ((Statement-F.PrintText (Quoted 4)) ∷ [])) (rolled ((Statement-F.PrintText (Quoted 5)) ∷ []))) ∷ []) } }) ∷ []; operations = []; literals = (108 ∷ 101 ∷ 115 ∷ 115 ∷ []) ∷ (110 ∷ 101 ∷ 118 ∷ 101 ∷ 114 ∷ []) ∷ (101 ∷ 113 ∷ 117 ∷ 97 ∷ 108 ∷ []) ∷ (110 ∷ 101 ∷ 118 ∷ 101 ∷ 114 ∷ []) ∷ (110 ∷ 101 ∷ 118 ∷ 101 ∷ 114 ∷ []) ∷ (111 ∷ 116 ∷ 104 ∷ 101 ∷ 114 ∷ []) ∷ []; main = 0 }
+
+numbers_are_compared_run : run script_numbers_are_compared_run R.Unlimited 10000 (shaped 4096 4096) ≡ record { outcome = Ended None []; trace = (line 1 144 0 Granted) ∷ []; lines = (108 ∷ 101 ∷ 115 ∷ 115 ∷ []) ∷ (101 ∷ 113 ∷ 117 ∷ 97 ∷ 108 ∷ []) ∷ (111 ∷ 116 ∷ 104 ∷ 101 ∷ 114 ∷ []) ∷ []; notes = []; steps = 9 }
+unfolding everything
+numbers_are_compared_run = refl
 
 abbrev script_budget_ends_before_the_frames_do_run : Script
 script_budget_ends_before_the_frames_do_run = record { classes = []; procedures = (record { parameters = []; body = record { locals = []; statements = rolled ((Statement-F.Call 0 []) ∷ []) } }) ∷ (record { parameters = []; body = record { locals = []; statements = rolled ((Statement-F.Call 0 []) ∷ []) } }) ∷ []; operations = []; literals = []; main = 1 }
@@ -930,6 +1057,27 @@ view_past_text_from_leaving_allocation_run : run script_view_past_text_from_leav
 unfolding everything
 view_past_text_from_leaving_allocation_run = refl
 
+abbrev script_missing_mark_is_told_before_the_count_run : Script
+script_missing_mark_is_told_before_the_count_run = record { classes = []; procedures = (record { parameters = []; body = record { locals = (OfPointer None) ∷ []; statements = rolled ((Statement-F.Alloc (Held (H.Local 0)) (Constant (pos 1)) GivesNull) ∷ (Statement-F.MarkEnd (Constant (pos 5))) ∷ []) } }) ∷ []; operations = []; literals = []; main = 0 }
+
+missing_mark_is_told_before_the_count_run : run script_missing_mark_is_told_before_the_count_run R.Unlimited 10000 (shaped 4096 4096) ≡ record { outcome = Panicked (P.Workbench 6); trace = (line 1 144 0 Granted) ∷ (line 2 32 144 Granted) ∷ []; lines = []; notes = []; steps = 2 }
+unfolding everything
+missing_mark_is_told_before_the_count_run = refl
+
+abbrev script_negative_count_is_told_before_a_missing_mark_run : Script
+script_negative_count_is_told_before_a_missing_mark_run = record { classes = []; procedures = (record { parameters = []; body = record { locals = []; statements = rolled ((Statement-F.MarkEnd (Constant (negsuc 0))) ∷ []) } }) ∷ []; operations = []; literals = []; main = 0 }
+
+negative_count_is_told_before_a_missing_mark_run : run script_negative_count_is_told_before_a_missing_mark_run R.Unlimited 10000 (shaped 4096 4096) ≡ record { outcome = Panicked (P.Workbench 9); trace = (line 1 144 0 Granted) ∷ []; lines = []; notes = []; steps = 1 }
+unfolding everything
+negative_count_is_told_before_a_missing_mark_run = refl
+
+abbrev script_one_mark_end_more_than_marks_run : Script
+script_one_mark_end_more_than_marks_run = record { classes = []; procedures = (record { parameters = []; body = record { locals = []; statements = rolled (Statement-F.Mark ∷ Statement-F.Mark ∷ (Statement-F.MarkEnd (Constant (pos 0))) ∷ (Statement-F.MarkEnd (Constant (pos 0))) ∷ (Statement-F.MarkEnd (Constant (pos 0))) ∷ []) } }) ∷ []; operations = []; literals = []; main = 0 }
+
+one_mark_end_more_than_marks_run : run script_one_mark_end_more_than_marks_run R.Unlimited 10000 (shaped 4096 4096) ≡ record { outcome = Panicked (P.Workbench 6); trace = (line 1 144 0 Granted) ∷ []; lines = []; notes = []; steps = 5 }
+unfolding everything
+one_mark_end_more_than_marks_run = refl
+
 abbrev script_items_left_at_the_plain_end_of_a_trap_run : Script
 script_items_left_at_the_plain_end_of_a_trap_run = record { classes = []; procedures = (record { parameters = []; body = record { locals = (OfPointer None) ∷ OfNumber ∷ []; statements = rolled ((Statement-F.Alloc (Held (H.Local 0)) (Constant (pos 10)) GivesNull) ∷ (Statement-F.Trap 1 (rolled ((Statement-F.Push (Held (H.Local 0))) ∷ []))) ∷ (Statement-F.PrintNumber (Constant (pos 1))) ∷ []) } }) ∷ []; operations = []; literals = []; main = 0 }
 
@@ -1034,6 +1182,153 @@ script_top_cell_grows_in_place_size = record { classes = []; procedures = (recor
 top_cell_grows_in_place_size : (required script_top_cell_grows_in_place_size 10000 (shaped 4096 4096) ≡ 272) × (rises script_top_cell_grows_in_place_size 10000 (shaped 4096 4096) ≡ (rise 1 144) ∷ (rise 2 208) ∷ (rise 3 240) ∷ (rise 4 272) ∷ [])
 unfolding everything
 top_cell_grows_in_place_size = (refl, refl)
+
+abbrev script_eighth_push_grows_the_cleanup_cell_check : Script
+script_eighth_push_grows_the_cleanup_cell_check = record { classes = []; procedures = (record { parameters = []; body = record { locals = (OfPointer None) ∷ []; statements = rolled ((Statement-F.Repeat (Constant (pos 8)) (rolled ((Statement-F.Alloc (Held (H.Local 0)) (Constant (pos 16)) Leaves) ∷ (Statement-F.Push (Held (H.Local 0))) ∷ []))) ∷ (Statement-F.PopDestroy (Constant (pos 8))) ∷ []) } }) ∷ []; operations = []; literals = []; main = 0 }
+
+eighth_push_grows_the_cleanup_cell_check : (required script_eighth_push_grows_the_cleanup_cell_check 10000 (shaped 4096 4096) ≡ 608) × (rises script_eighth_push_grows_the_cleanup_cell_check 10000 (shaped 4096 4096) ≡ (rise 1 144) ∷ (rise 2 176) ∷ (rise 3 208) ∷ (rise 4 240) ∷ (rise 5 272) ∷ (rise 6 304) ∷ (rise 7 336) ∷ (rise 8 368) ∷ (rise 9 400) ∷ (rise 10 608) ∷ []) × (length (run_at script_eighth_push_grows_the_cleanup_cell_check 10000 (shaped 4096 4096) 0).trace ≡ 10) × (least_bad_or_cut script_eighth_push_grows_the_cleanup_cell_check 10000 (shaped 4096 4096) ≡ None)
+unfolding everything
+eighth_push_grows_the_cleanup_cell_check = (refl, refl, refl, refl)
+
+abbrev script_eighth_push_grows_the_cleanup_cell_sweep : Script
+script_eighth_push_grows_the_cleanup_cell_sweep = record { classes = []; procedures = (record { parameters = []; body = record { locals = (OfPointer None) ∷ []; statements = rolled ((Statement-F.Repeat (Constant (pos 8)) (rolled ((Statement-F.Alloc (Held (H.Local 0)) (Constant (pos 16)) Leaves) ∷ (Statement-F.Push (Held (H.Local 0))) ∷ []))) ∷ (Statement-F.PopDestroy (Constant (pos 8))) ∷ []) } }) ∷ []; operations = []; literals = []; main = 0 }
+
+eighth_push_grows_the_cleanup_cell_sweep : (length (run_at script_eighth_push_grows_the_cleanup_cell_sweep 10000 (shaped 4096 4096) 0).trace ≡ 10) × (least_bad_or_cut script_eighth_push_grows_the_cleanup_cell_sweep 10000 (shaped 4096 4096) ≡ None)
+unfolding everything
+eighth_push_grows_the_cleanup_cell_sweep = (refl, refl)
+
+abbrev script_empty_main_json_check : Script
+script_empty_main_json_check = record { classes = []; procedures = (record { parameters = []; body = record { locals = []; statements = [] } }) ∷ []; operations = []; literals = []; main = 0 }
+
+empty_main_json_check : (required script_empty_main_json_check 10000 (shaped 4096 4096) ≡ 144) × (rises script_empty_main_json_check 10000 (shaped 4096 4096) ≡ (rise 1 144) ∷ []) × (length (run_at script_empty_main_json_check 10000 (shaped 4096 4096) 0).trace ≡ 1) × (least_bad_or_cut script_empty_main_json_check 10000 (shaped 4096 4096) ≡ None)
+unfolding everything
+empty_main_json_check = (refl, refl, refl, refl)
+
+abbrev script_empty_main_check : Script
+script_empty_main_check = record { classes = []; procedures = (record { parameters = []; body = record { locals = []; statements = [] } }) ∷ []; operations = []; literals = []; main = 0 }
+
+empty_main_check : (required script_empty_main_check 10000 (shaped 4096 4096) ≡ 144) × (rises script_empty_main_check 10000 (shaped 4096 4096) ≡ (rise 1 144) ∷ []) × (length (run_at script_empty_main_check 10000 (shaped 4096 4096) 0).trace ≡ 1) × (least_bad_or_cut script_empty_main_check 10000 (shaped 4096 4096) ≡ None)
+unfolding everything
+empty_main_check = (refl, refl, refl, refl)
+
+abbrev script_failure_that_outruns_the_budget_json_check : Script
+script_failure_that_outruns_the_budget_json_check = record { classes = []; procedures = (record { parameters = []; body = record { locals = (OfPointer None) ∷ []; statements = rolled ((Statement-F.Alloc (Held (H.Local 0)) (Constant (pos 16)) GivesNull) ∷ (Statement-F.If (IsNull (Held (H.Local 0))) (rolled ((Statement-F.Repeat (Constant (pos 20000)) []) ∷ []))) ∷ (Statement-F.Free (Held (H.Local 0))) ∷ []) } }) ∷ []; operations = []; literals = []; main = 0 }
+
+failure_that_outruns_the_budget_json_check : (required script_failure_that_outruns_the_budget_json_check 10000 (shaped 4096 4096) ≡ 176) × (rises script_failure_that_outruns_the_budget_json_check 10000 (shaped 4096 4096) ≡ (rise 1 144) ∷ (rise 2 176) ∷ []) × (least_bad_or_cut script_failure_that_outruns_the_budget_json_check 10000 (shaped 4096 4096) ≡ Some 2) × ((run_at script_failure_that_outruns_the_budget_json_check 10000 (shaped 4096 4096) 2).outcome ≡ Cut Budget)
+unfolding everything
+failure_that_outruns_the_budget_json_check = (refl, refl, refl, refl)
+
+abbrev script_failure_that_outruns_the_budget_check : Script
+script_failure_that_outruns_the_budget_check = record { classes = []; procedures = (record { parameters = []; body = record { locals = (OfPointer None) ∷ []; statements = rolled ((Statement-F.Alloc (Held (H.Local 0)) (Constant (pos 16)) GivesNull) ∷ (Statement-F.If (IsNull (Held (H.Local 0))) (rolled ((Statement-F.Repeat (Constant (pos 20000)) []) ∷ []))) ∷ (Statement-F.Free (Held (H.Local 0))) ∷ []) } }) ∷ []; operations = []; literals = []; main = 0 }
+
+failure_that_outruns_the_budget_check : (required script_failure_that_outruns_the_budget_check 10000 (shaped 4096 4096) ≡ 176) × (rises script_failure_that_outruns_the_budget_check 10000 (shaped 4096 4096) ≡ (rise 1 144) ∷ (rise 2 176) ∷ []) × (least_bad_or_cut script_failure_that_outruns_the_budget_check 10000 (shaped 4096 4096) ≡ Some 2) × ((run_at script_failure_that_outruns_the_budget_check 10000 (shaped 4096 4096) 2).outcome ≡ Cut Budget)
+unfolding everything
+failure_that_outruns_the_budget_check = (refl, refl, refl, refl)
+
+abbrev script_failure_that_outruns_the_budget_sweep : Script
+script_failure_that_outruns_the_budget_sweep = record { classes = []; procedures = (record { parameters = []; body = record { locals = (OfPointer None) ∷ []; statements = rolled ((Statement-F.Alloc (Held (H.Local 0)) (Constant (pos 16)) GivesNull) ∷ (Statement-F.If (IsNull (Held (H.Local 0))) (rolled ((Statement-F.Repeat (Constant (pos 20000)) []) ∷ []))) ∷ (Statement-F.Free (Held (H.Local 0))) ∷ []) } }) ∷ []; operations = []; literals = []; main = 0 }
+
+failure_that_outruns_the_budget_sweep : (least_bad_or_cut script_failure_that_outruns_the_budget_sweep 10000 (shaped 4096 4096) ≡ Some 2) × ((run_at script_failure_that_outruns_the_budget_sweep 10000 (shaped 4096 4096) 2).outcome ≡ Cut Budget)
+unfolding everything
+failure_that_outruns_the_budget_sweep = (refl, refl)
+
+abbrev script_first_fit_reuses_hole_check : Script
+script_first_fit_reuses_hole_check = record { classes = []; procedures = (record { parameters = []; body = record { locals = (OfPointer None) ∷ (OfPointer None) ∷ (OfPointer None) ∷ []; statements = rolled ((Statement-F.Alloc (Held (H.Local 0)) (Constant (pos 10)) GivesNull) ∷ (Statement-F.Alloc (Held (H.Local 1)) (Constant (pos 100)) GivesNull) ∷ (Statement-F.Free (Held (H.Local 0))) ∷ (Statement-F.Alloc (Held (H.Local 2)) (Constant (pos 16)) GivesNull) ∷ (Statement-F.Free (Held (H.Local 1))) ∷ (Statement-F.Free (Held (H.Local 2))) ∷ []) } }) ∷ []; operations = []; literals = []; main = 0 }
+
+first_fit_reuses_hole_check : (required script_first_fit_reuses_hole_check 10000 (shaped 4096 4096) ≡ 304) × (rises script_first_fit_reuses_hole_check 10000 (shaped 4096 4096) ≡ (rise 1 144) ∷ (rise 2 176) ∷ (rise 3 304) ∷ []) × (length (run_at script_first_fit_reuses_hole_check 10000 (shaped 4096 4096) 0).trace ≡ 4) × (least_bad_or_cut script_first_fit_reuses_hole_check 10000 (shaped 4096 4096) ≡ None)
+unfolding everything
+first_fit_reuses_hole_check = (refl, refl, refl, refl)
+
+abbrev script_leak_that_needs_two_failures_sweep : Script
+script_leak_that_needs_two_failures_sweep = record { classes = []; procedures = (record { parameters = []; body = record { locals = (OfPointer None) ∷ (OfPointer None) ∷ (OfPointer None) ∷ []; statements = rolled ((Statement-F.Alloc (Held (H.Local 0)) (Constant (pos 16)) GivesNull) ∷ (Statement-F.Alloc (Held (H.Local 1)) (Constant (pos 16)) GivesNull) ∷ (Statement-F.Alloc (Held (H.Local 2)) (Constant (pos 16)) GivesNull) ∷ (Statement-F.If (IsNull (Held (H.Local 0))) (rolled ((Statement-F.If (IsNull (Held (H.Local 2))) (rolled ((Statement-F.Leave (Constant (negsuc 3))) ∷ []))) ∷ []))) ∷ (Statement-F.Free (Held (H.Local 0))) ∷ (Statement-F.Free (Held (H.Local 1))) ∷ (Statement-F.Free (Held (H.Local 2))) ∷ []) } }) ∷ []; operations = []; literals = []; main = 0 }
+
+leak_that_needs_two_failures_sweep : (length (run_at script_leak_that_needs_two_failures_sweep 10000 (shaped 4096 4096) 0).trace ≡ 4) × (least_bad_or_cut script_leak_that_needs_two_failures_sweep 10000 (shaped 4096 4096) ≡ None)
+unfolding everything
+leak_that_needs_two_failures_sweep = (refl, refl)
+
+abbrev script_leak_without_any_failure_json_sweep : Script
+script_leak_without_any_failure_json_sweep = record { classes = []; procedures = (record { parameters = []; body = record { locals = (OfPointer None) ∷ []; statements = rolled ((Statement-F.Alloc (Held (H.Local 0)) (Constant (pos 16)) GivesNull) ∷ []) } }) ∷ []; operations = []; literals = []; main = 0 }
+
+leak_without_any_failure_json_sweep : (length (run_at script_leak_without_any_failure_json_sweep 10000 (shaped 4096 4096) 0).trace ≡ 2) × (least_bad_or_cut script_leak_without_any_failure_json_sweep 10000 (shaped 4096 4096) ≡ Some 0) × (run_at script_leak_without_any_failure_json_sweep 10000 (shaped 4096 4096) 0 ≡ record { outcome = Ended None ((record { number = 2; length = 32; place = 144 }) ∷ []); trace = (line 1 144 0 Granted) ∷ (line 2 32 144 Granted) ∷ []; lines = []; notes = []; steps = 1 })
+unfolding everything
+leak_without_any_failure_json_sweep = (refl, refl, refl)
+
+abbrev script_leak_without_any_failure_sweep : Script
+script_leak_without_any_failure_sweep = record { classes = []; procedures = (record { parameters = []; body = record { locals = (OfPointer None) ∷ []; statements = rolled ((Statement-F.Alloc (Held (H.Local 0)) (Constant (pos 16)) GivesNull) ∷ []) } }) ∷ []; operations = []; literals = []; main = 0 }
+
+leak_without_any_failure_sweep : (length (run_at script_leak_without_any_failure_sweep 10000 (shaped 4096 4096) 0).trace ≡ 2) × (least_bad_or_cut script_leak_without_any_failure_sweep 10000 (shaped 4096 4096) ≡ Some 0) × (run_at script_leak_without_any_failure_sweep 10000 (shaped 4096 4096) 0 ≡ record { outcome = Ended None ((record { number = 2; length = 32; place = 144 }) ∷ []); trace = (line 1 144 0 Granted) ∷ (line 2 32 144 Granted) ∷ []; lines = []; notes = []; steps = 1 })
+unfolding everything
+leak_without_any_failure_sweep = (refl, refl, refl)
+
+abbrev script_marks_never_count_the_cleanup_cell_check : Script
+script_marks_never_count_the_cleanup_cell_check = record { classes = []; procedures = (record { parameters = []; body = record { locals = (OfPointer None) ∷ []; statements = rolled (Statement-F.Mark ∷ (Statement-F.Repeat (Constant (pos 8)) (rolled ((Statement-F.Push (Held (H.Local 0))) ∷ []))) ∷ (Statement-F.Pop (Constant (pos 8))) ∷ (Statement-F.MarkEnd (Constant (pos 0))) ∷ []) } }) ∷ []; operations = []; literals = []; main = 0 }
+
+marks_never_count_the_cleanup_cell_check : (required script_marks_never_count_the_cleanup_cell_check 10000 (shaped 4096 4096) ≡ 208) × (rises script_marks_never_count_the_cleanup_cell_check 10000 (shaped 4096 4096) ≡ (rise 1 144) ∷ (rise 2 208) ∷ []) × (length (run_at script_marks_never_count_the_cleanup_cell_check 10000 (shaped 4096 4096) 0).trace ≡ 2) × (least_bad_or_cut script_marks_never_count_the_cleanup_cell_check 10000 (shaped 4096 4096) ≡ None)
+unfolding everything
+marks_never_count_the_cleanup_cell_check = (refl, refl, refl, refl)
+
+abbrev script_panic_without_any_failure_sweep : Script
+script_panic_without_any_failure_sweep = record { classes = []; procedures = (record { parameters = []; body = record { locals = (OfPointer None) ∷ (OfPointer None) ∷ []; statements = rolled ((Statement-F.Alloc (Held (H.Local 0)) (Constant (pos 16)) GivesNull) ∷ (Statement-F.Free (Held (H.Local 0))) ∷ (Statement-F.Alloc (Held (H.Local 1)) (Constant (pos 16)) GivesNull) ∷ (Statement-F.Free (Held (H.Local 0))) ∷ []) } }) ∷ []; operations = []; literals = []; main = 0 }
+
+panic_without_any_failure_sweep : (length (run_at script_panic_without_any_failure_sweep 10000 (shaped 4096 4096) 0).trace ≡ 3) × (least_bad_or_cut script_panic_without_any_failure_sweep 10000 (shaped 4096 4096) ≡ Some 0) × (run_at script_panic_without_any_failure_sweep 10000 (shaped 4096 4096) 0 ≡ record { outcome = Panicked (P.User 42); trace = (line 1 144 0 Granted) ∷ (line 2 32 144 Granted) ∷ (line 3 32 144 Granted) ∷ []; lines = []; notes = []; steps = 4 })
+unfolding everything
+panic_without_any_failure_sweep = (refl, refl, refl)
+
+abbrev script_procedure_returns_a_pushed_cell_check : Script
+script_procedure_returns_a_pushed_cell_check = record { classes = []; procedures = (record { parameters = Par.OfNumber ∷ []; body = record { locals = (OfPointer None) ∷ []; statements = rolled ((Statement-F.Alloc (Held (H.Local 1)) (Variable 0) Leaves) ∷ (Statement-F.Push (Held (H.Local 1))) ∷ (Statement-F.ReturnPointer (Held (H.Local 1))) ∷ []) } }) ∷ (record { parameters = []; body = record { locals = (OfPointer None) ∷ []; statements = rolled ((Statement-F.CallTo 0 0 ((Given (Constant (pos 40))) ∷ [])) ∷ (Statement-F.PopDestroy (Constant (pos 1))) ∷ []) } }) ∷ []; operations = []; literals = []; main = 1 }
+
+procedure_returns_a_pushed_cell_check : (required script_procedure_returns_a_pushed_cell_check 10000 (shaped 4096 4096) ≡ 208) × (rises script_procedure_returns_a_pushed_cell_check 10000 (shaped 4096 4096) ≡ (rise 1 144) ∷ (rise 2 208) ∷ []) × (length (run_at script_procedure_returns_a_pushed_cell_check 10000 (shaped 4096 4096) 0).trace ≡ 2) × (least_bad_or_cut script_procedure_returns_a_pushed_cell_check 10000 (shaped 4096 4096) ≡ None)
+unfolding everything
+procedure_returns_a_pushed_cell_check = (refl, refl, refl, refl)
+
+abbrev script_pushed_object_survives_every_failure_sweep : Script
+script_pushed_object_survives_every_failure_sweep = record { classes = (record { extra = 16; fields = None ∷ []; construct = Some (record { locals = []; statements = rolled ((Statement-F.NewText (Field H.This 0 0) (Constant (pos 4)) Leaves) ∷ []) }); destroy = Some (record { locals = []; statements = rolled ((Statement-F.Free (Field H.This 0 0)) ∷ []) }) }) ∷ []; procedures = (record { parameters = []; body = record { locals = (OfPointer (Some 0)) ∷ []; statements = rolled ((Statement-F.New (Held (H.Local 0)) 0 Leaves) ∷ (Statement-F.PushObject (Held (H.Local 0))) ∷ (Statement-F.Construct (Held (H.Local 0))) ∷ (Statement-F.Pop (Constant (pos 1))) ∷ (Statement-F.Delete (Held (H.Local 0))) ∷ []) } }) ∷ []; operations = []; literals = []; main = 0 }
+
+pushed_object_survives_every_failure_sweep : (length (run_at script_pushed_object_survives_every_failure_sweep 10000 (shaped 4096 4096) 0).trace ≡ 3) × (least_bad_or_cut script_pushed_object_survives_every_failure_sweep 10000 (shaped 4096 4096) ≡ None)
+unfolding everything
+pushed_object_survives_every_failure_sweep = (refl, refl)
+
+abbrev script_retry_that_fails_again_sweep : Script
+script_retry_that_fails_again_sweep = record { classes = []; procedures = (record { parameters = []; body = record { locals = (OfPointer None) ∷ (OfPointer None) ∷ []; statements = rolled ((Statement-F.Alloc (Held (H.Local 1)) (Constant (pos 16)) GivesNull) ∷ (Statement-F.Alloc (Held (H.Local 0)) (Constant (pos 16)) GivesNull) ∷ (Statement-F.If (IsNull (Held (H.Local 0))) (rolled ((Statement-F.Alloc (Held (H.Local 0)) (Constant (pos 16)) GivesNull) ∷ (Statement-F.If (IsNull (Held (H.Local 0))) (rolled ((Statement-F.Leave (Constant (negsuc 3))) ∷ []))) ∷ []))) ∷ (Statement-F.Free (Held (H.Local 0))) ∷ (Statement-F.Free (Held (H.Local 1))) ∷ []) } }) ∷ []; operations = []; literals = []; main = 0 }
+
+retry_that_fails_again_sweep : (length (run_at script_retry_that_fails_again_sweep 10000 (shaped 4096 4096) 0).trace ≡ 3) × (least_bad_or_cut script_retry_that_fails_again_sweep 10000 (shaped 4096 4096) ≡ None)
+unfolding everything
+retry_that_fails_again_sweep = (refl, refl)
+
+abbrev script_top_cell_grows_in_place_check : Script
+script_top_cell_grows_in_place_check = record { classes = []; procedures = (record { parameters = []; body = record { locals = (OfPointer None) ∷ (OfPointer None) ∷ (OfPointer None) ∷ []; statements = rolled ((Statement-F.Alloc (Held (H.Local 0)) (Constant (pos 48)) GivesNull) ∷ (Statement-F.Alloc (Held (H.Local 1)) (Constant (pos 16)) GivesNull) ∷ (Statement-F.Free (Held (H.Local 0))) ∷ (Statement-F.Realloc (Held (H.Local 2)) (Held (H.Local 1)) (Constant (pos 48)) GivesNull) ∷ (Statement-F.IfElse (IsNull (Held (H.Local 2))) (rolled ((Statement-F.Free (Held (H.Local 1))) ∷ [])) (rolled ((Statement-F.Free (Held (H.Local 2))) ∷ []))) ∷ []) } }) ∷ []; operations = []; literals = []; main = 0 }
+
+top_cell_grows_in_place_check : (required script_top_cell_grows_in_place_check 10000 (shaped 4096 4096) ≡ 272) × (rises script_top_cell_grows_in_place_check 10000 (shaped 4096 4096) ≡ (rise 1 144) ∷ (rise 2 208) ∷ (rise 3 240) ∷ (rise 4 272) ∷ []) × (length (run_at script_top_cell_grows_in_place_check 10000 (shaped 4096 4096) 0).trace ≡ 4) × (least_bad_or_cut script_top_cell_grows_in_place_check 10000 (shaped 4096 4096) ≡ None)
+unfolding everything
+top_cell_grows_in_place_check = (refl, refl, refl, refl)
+
+abbrev script_unpushed_object_leaks_when_construction_fails_check : Script
+script_unpushed_object_leaks_when_construction_fails_check = record { classes = (record { extra = 16; fields = None ∷ []; construct = Some (record { locals = []; statements = rolled ((Statement-F.NewText (Field H.This 0 0) (Constant (pos 4)) Leaves) ∷ []) }); destroy = Some (record { locals = []; statements = rolled ((Statement-F.Free (Field H.This 0 0)) ∷ []) }) }) ∷ []; procedures = (record { parameters = []; body = record { locals = (OfPointer (Some 0)) ∷ []; statements = rolled ((Statement-F.New (Held (H.Local 0)) 0 Leaves) ∷ (Statement-F.Construct (Held (H.Local 0))) ∷ (Statement-F.Delete (Held (H.Local 0))) ∷ []) } }) ∷ []; operations = []; literals = []; main = 0 }
+
+unpushed_object_leaks_when_construction_fails_check : (required script_unpushed_object_leaks_when_construction_fails_check 10000 (shaped 4096 4096) ≡ 224) × (rises script_unpushed_object_leaks_when_construction_fails_check 10000 (shaped 4096 4096) ≡ (rise 1 144) ∷ (rise 2 192) ∷ (rise 3 224) ∷ []) × (length (run_at script_unpushed_object_leaks_when_construction_fails_check 10000 (shaped 4096 4096) 0).trace ≡ 3) × (least_bad_or_cut script_unpushed_object_leaks_when_construction_fails_check 10000 (shaped 4096 4096) ≡ Some 3) × (run_at script_unpushed_object_leaks_when_construction_fails_check 10000 (shaped 4096 4096) 3 ≡ record { outcome = Ended (Some (negsuc 3)) ((record { number = 2; length = 48; place = 144 }) ∷ []); trace = (line 1 144 0 Granted) ∷ (line 2 48 144 Granted) ∷ (line 3 32 192 Simulated) ∷ []; lines = []; notes = []; steps = 3 })
+unfolding everything
+unpushed_object_leaks_when_construction_fails_check = (refl, refl, refl, refl, refl)
+
+abbrev script_unpushed_object_leaks_when_construction_fails_sweep : Script
+script_unpushed_object_leaks_when_construction_fails_sweep = record { classes = (record { extra = 16; fields = None ∷ []; construct = Some (record { locals = []; statements = rolled ((Statement-F.NewText (Field H.This 0 0) (Constant (pos 4)) Leaves) ∷ []) }); destroy = Some (record { locals = []; statements = rolled ((Statement-F.Free (Field H.This 0 0)) ∷ []) }) }) ∷ []; procedures = (record { parameters = []; body = record { locals = (OfPointer (Some 0)) ∷ []; statements = rolled ((Statement-F.New (Held (H.Local 0)) 0 Leaves) ∷ (Statement-F.Construct (Held (H.Local 0))) ∷ (Statement-F.Delete (Held (H.Local 0))) ∷ []) } }) ∷ []; operations = []; literals = []; main = 0 }
+
+unpushed_object_leaks_when_construction_fails_sweep : (length (run_at script_unpushed_object_leaks_when_construction_fails_sweep 10000 (shaped 4096 4096) 0).trace ≡ 3) × (least_bad_or_cut script_unpushed_object_leaks_when_construction_fails_sweep 10000 (shaped 4096 4096) ≡ Some 3) × (run_at script_unpushed_object_leaks_when_construction_fails_sweep 10000 (shaped 4096 4096) 3 ≡ record { outcome = Ended (Some (negsuc 3)) ((record { number = 2; length = 48; place = 144 }) ∷ []); trace = (line 1 144 0 Granted) ∷ (line 2 48 144 Granted) ∷ (line 3 32 192 Simulated) ∷ []; lines = []; notes = []; steps = 3 })
+unfolding everything
+unpushed_object_leaks_when_construction_fails_sweep = (refl, refl, refl)
+
+abbrev script_shortened_text_still_needs_its_units_run : Script
+script_shortened_text_still_needs_its_units_run = record { classes = []; procedures = (record { parameters = []; body = record { locals = (OfPointer None) ∷ []; statements = rolled ((Statement-F.NewText (Held (H.Local 0)) (Constant (pos 3)) Leaves) ∷ (Statement-F.Copy (InCell (Held (H.Local 0))) (Quoted 0)) ∷ (Statement-F.SetLength (InCell (Held (H.Local 0))) (Constant (pos 1))) ∷ (Statement-F.ReallocText (Held (H.Local 0)) (Held (H.Local 0)) (Constant (pos 1))) ∷ (Statement-F.PrintText (Of (InCell (Held (H.Local 0))))) ∷ (Statement-F.ReallocText (Held (H.Local 0)) (Held (H.Local 0)) (Constant (pos 0))) ∷ []) } }) ∷ []; operations = []; literals = (97 ∷ 98 ∷ 99 ∷ []) ∷ []; main = 0 }
+
+shortened_text_still_needs_its_units_run : run script_shortened_text_still_needs_its_units_run R.Unlimited 10000 (shaped 4096 4096) ≡ record { outcome = Panicked (P.Workbench 8); trace = (line 1 144 0 Granted) ∷ (line 2 32 144 Granted) ∷ []; lines = (97 ∷ []) ∷ []; notes = []; steps = 6 }
+unfolding everything
+shortened_text_still_needs_its_units_run = refl
+
+abbrev script_text_cell_is_made_as_long_as_its_text_run : Script
+script_text_cell_is_made_as_long_as_its_text_run = record { classes = []; procedures = (record { parameters = []; body = record { locals = (OfPointer None) ∷ []; statements = rolled ((Statement-F.NewText (Held (H.Local 0)) (Constant (pos 6)) Leaves) ∷ (Statement-F.Copy (InCell (Held (H.Local 0))) (Quoted 0)) ∷ (Statement-F.ReallocText (Held (H.Local 0)) (Held (H.Local 0)) (Constant (pos 3))) ∷ (Statement-F.PrintText (Of (InCell (Held (H.Local 0))))) ∷ (Statement-F.ReallocText (Held (H.Local 0)) (Held (H.Local 0)) (Constant (pos 2))) ∷ []) } }) ∷ []; operations = []; literals = (97 ∷ 98 ∷ 99 ∷ []) ∷ []; main = 0 }
+
+text_cell_is_made_as_long_as_its_text_run : run script_text_cell_is_made_as_long_as_its_text_run R.Unlimited 10000 (shaped 4096 4096) ≡ record { outcome = Panicked (P.Workbench 8); trace = (line 1 144 0 Granted) ∷ (line 2 32 144 Granted) ∷ []; lines = (97 ∷ 98 ∷ 99 ∷ []) ∷ []; notes = []; steps = 5 }
+unfolding everything
+text_cell_is_made_as_long_as_its_text_run = refl
 
 abbrev script_committed_length_notes_run : Script
 script_committed_length_notes_run = record { classes = []; procedures = (record { parameters = []; body = record { locals = (OfPointer None) ∷ []; statements = rolled ((Statement-F.Alloc (Held (H.Local 0)) (Constant (pos 200)) GivesNull) ∷ Statement-F.NoteAvailable ∷ Statement-F.NoteHeap ∷ (Statement-F.Free (Held (H.Local 0))) ∷ Statement-F.NoteAvailable ∷ Statement-F.NoteCompress ∷ Statement-F.NoteHeap ∷ []) } }) ∷ []; operations = []; literals = []; main = 0 }

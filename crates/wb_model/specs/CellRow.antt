@@ -45,7 +45,7 @@ abbrev pub room_behind : Ptr → List Header → Option ℕ
 room_behind p (h ∷ g ∷ hs) = if is_at p h then Some (g.place - end_of h) else room_behind p (g ∷ hs)
 room_behind p _ = None
 
--- the header is the pointer's own, or of a cell that meets none of so many bytes from the pointer's place on
+-- the header is the pointer's own, or of a cell that meets none of a number of bytes from the pointer's place on
 abbrev pub Clears : Ptr → ℕ → Header → Type 0
 Clears p to h = (is_at p h ≡ true) ⊎ Misses p.place to h
 
@@ -62,7 +62,7 @@ pub record IsSoundCells (cells : CellRow) : Type 0 where
   pub rounded : cells.held % 16 ≡ 0
   pub bounded : cells.held ≤ CEILING
 
--- free bytes begin at the place, right at the end of a cell or at 0, and there are so many of them at least
+-- free bytes begin at the place, right at the end of a cell or at 0, and there are at least as many as asked for
 pub record IsGap (row : List Header) (place length : ℕ) : Type 0 where
   pub begins : (place ≡ 0) ⊎ Any (λ h. end_of h ≡ place) row
   pub free : IsFree row place length

@@ -83,7 +83,7 @@ made_by d t after (Some answer) = record {
 abbrev pub answer_in : Debug → Request → Option Answer
 answer_in d t = answer_to d.rule (number_of_next d) t
 
--- Attempt: a cell for so many bytes, whose words are zeros
+-- Attempt: a cell for a number of bytes, whose words are zeros
 abbrev pub alloc_made : Debug → ℕ → Kind → Made
 alloc_made d bytes kind =
     let t = alloc_request d.heap bytes in made_by d t (after_alloc d.heap t kind (zero_words t.length)) (answer_in d t)
@@ -101,7 +101,7 @@ shorter_made d c bytes = record {
   gave = Granted (pointer_to c.head);
 }
 
--- Reallocation of a cell to so many bytes
+-- Reallocation of a cell to a number of bytes
 abbrev pub realloc_made : Debug → Cell (List ℕ) → ℕ → Made
 realloc_made d c bytes = if nat_lt c.head.length (cell_length bytes) then longer_made d c bytes else shorter_made d c bytes
 

@@ -98,7 +98,7 @@ abbrev pub lowest : List Header → ℕ
 lowest [] = 0
 lowest (h ∷ hs) = h.place
 
--- what a check refuses that expects so many of these cells
+-- what a check refuses that expects a number of these cells
 abbrev pub checked : List Header → ℕ → Option Panic
 checked cells n = if nat_eq (length cells) n then None else Some (Alloc (lowest cells))
 

@@ -6,7 +6,7 @@ pub mod Debug
 pub mod Forms
 pub mod Grammar
 pub mod Heap
-pub mod Keeping
+pub mod Throughout
 pub mod Keys
 pub mod Kinds
 pub mod LimitedHeap
@@ -33,6 +33,6 @@ pub mod Trees
 pub mod Words
 pub mod Writing
 pub mod formers
-pub mod Limits
+pub mod Sizes
 pub mod Sweeps
 pub mod Traces

@@ -25,14 +25,14 @@ piece script budget rec at (turns (suc n) body) st =
     begun budget st (λ st. then_do (rec at (all body) st) (rec at (turns n body)))
 piece script budget rec at (destroy_items zero) st = done st
 piece script budget rec at (destroy_items (suc n)) st =
-    -- so many items are there, so that this WORKBENCH 3 is never met
+    -- that many items are there, so that this WORKBENCH 3 is never met
     begun budget st (λ st. with_some (newest st.items) POP_BELOW_TRAP st (λ item.
     then_do (destroyed_item script rec at item (drop_newest 1 st)) (rec at (destroy_items n))))
 piece script budget rec at (destroy_object p) st =
     begun budget st (λ st. with_class st p (λ class.
     in_frame rec at p [] (unwrap_or (class_at script class).destroy no_body) st (plain (λ _ st. release p st))))
 
--- at most so many pieces inside one another; with one more than the budget that bound is never met, since each takes a step
+-- at most a number of pieces inside one another; with one more than the budget that bound is never met, since each takes a step
 unfoldable pub meaning_within : Script → ℕ → ℕ → Meaning
 meaning_within script budget zero at p st = stops (is_cut Budget) st
 meaning_within script budget (suc n) at p st = piece script budget (meaning_within script budget n) at p st

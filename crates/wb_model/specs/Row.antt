@@ -79,7 +79,7 @@ pub record IsLeastPlace (row : List Header) (length place : ℕ) : Type 0 where
   pub free : IsFree row place length
   pub least : (q : ℕ) → q % 16 ≡ 0 → IsFree row q length → place ≤ q
 
--- the length of the cell for a request of so many bytes: a header of 16, and the bytes in steps of 16
+-- the length of the cell for a request of a number of bytes: a header of 16, and the bytes in steps of 16
 abbrev pub cell_length : ℕ → ℕ
 cell_length bytes = 16 + 16 * ((bytes + 15) / 16)
 

@@ -31,7 +31,7 @@ count_down zero = never
 count_down (suc zero) = never
 count_down (suc (suc k)) = next (suc k)
 
--- a setting for every k-th attempt, with so many left until the next, one attempt later
+-- a setting for every k-th attempt, with a number of attempts left until the next, one attempt later
 abbrev pub turn_round : ℕ → ℕ → Setting
 turn_round k zero = each k k
 turn_round k (suc zero) = each k k
@@ -43,7 +43,7 @@ after_attempt never = never
 after_attempt (next k) = count_down k
 after_attempt (each k left) = turn_round k left
 
--- the setting once it has counted so many attempts
+-- the setting once it has counted a number of attempts
 abbrev pub after_attempts : ℕ → Setting → Setting
 after_attempts zero s = s
 after_attempts (suc n) s = after_attempts n (after_attempt s)

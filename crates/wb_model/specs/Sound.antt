@@ -74,7 +74,7 @@ is_readable literals locals (Of w) = is_writable locals w
 is_readable literals locals (ViewOf i) = is_view locals i
 is_readable literals locals (Quoted i) = nat_lt i literals
 
--- a statement, over so many literals and these locals
+-- a statement, over these locals and a number of literals
 abbrev pub is_statement : ℕ → List Local → Statement-F Statement → Bool
 is_statement literals locals (Statement-F.Alloc p v GivesNull) = is_pointer locals p && is_number locals v
 is_statement literals locals (Statement-F.Realloc p q v GivesNull) = is_pointer locals p && (is_pointer locals q && is_number locals v)

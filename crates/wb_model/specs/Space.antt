@@ -55,7 +55,7 @@ abbrev pub longest : List ℕ → ℕ
 longest [] = 0
 longest (n ∷ ns) = max n (longest ns)
 
--- so many bytes from a place on lie below a length, and no cell meets them
+-- a number of bytes from a place on lie below a length, and no cell meets them
 pub record IsFreeBelow (row : List Header) (committed place length : ℕ) : Type 0 where
   pub within : place + length ≤ committed
   pub free : IsFree row place length

@@ -29,7 +29,7 @@ abbrev pub with_cell_if : Bool → Cell (List ℕ) → List (Cell (List ℕ)) �
 with_cell_if true c cs = cs
 with_cell_if false c cs = c ∷ cs
 
--- at most so many headers, from a place on, with the words from there on
+-- at most a number of headers, from a place on, with the words from there on
 abbrev pub spelled_from : ℕ → ℕ → ℕ → List ℕ → List (Cell (List ℕ))
 spelled_from zero top place ws = []
 spelled_from (suc n) top place ws =
@@ -69,7 +69,7 @@ slots _ = []
 abbrev pub SpellItems : List ℕ → List Item → Type 0
 SpellItems ws items = take (length items) (slots ws) ≡ map Some items
 
--- a cell's content, where a class has so many fields
+-- a cell's content, where a class has a number of fields
 abbrev pub read_as : (ℕ → ℕ) → Kind → List ℕ → Content
 read_as count Raw ws = words (map signed ws)
 read_as count (Object class) ws = fields (take (count class) (pointers (drop 2 ws)))

@@ -33,7 +33,7 @@ use Rattle.wb_model.specs.Operands.{number_of, within, not_negative, with_cell, 
 use Rattle.wb_model.specs.Attempts.{allocate, reallocate, push}
 use Rattle.wb_model.specs.Reading.{base_of, with_writable, with_readable, with_units, with_room, write, write_view, is_same_base, is_same_pointer, printed}
 
--- what is still to do: statements, turns of a loop, the destruction of so many items or of an object that isn't null
+-- what is still to do: statements, turns of a loop, the destruction of a number of items or of an object that isn't null
 pub data Piece : Type 0 where
   all : List Statement → Piece
   turns : ℕ → List Statement → Piece
@@ -68,7 +68,7 @@ given_to target Leaves None st = ends (leaves KERR_NO_MEMORY) st
 abbrev pub is_null : Ptr → Bool
 is_null p = nat_eq p.number 0
 
--- what a new Raw cell for so many bytes holds
+-- what a new Raw cell for a number of bytes holds
 abbrev pub fresh_words : ℕ → Content
 fresh_words bytes = words (replicate (4 * ((bytes + 15) / 16)) (pos 0))
 
@@ -106,7 +106,7 @@ realloc_of false target refusal old asked st = realloc_raw target refusal old as
 unfoldable pub with_words : State → Ptr → (Cell Content → List ℤ → Process) → Process
 with_words st p go = with_cell st p (λ c. with_some (raw_words_of c.head.kind c.content) WRONG_KIND st (go c))
 
--- an index of a payload of so many usable bytes, in words
+-- an index of a payload with a number of usable bytes, in words
 abbrev pub index_in : ℕ → ℤ → Option ℕ
 index_in usable (pos i) = if nat_lt i (usable / 4) then Some i else None
 index_in usable (negsuc i) = None
@@ -166,7 +166,7 @@ newest items = slice_get items (length items - 1)
 abbrev pub drop_newest : ℕ → State → State
 drop_newest n st = record st { items = take (length st.items - n) st.items }
 
--- so many items stand above the entry of the innermost TRAP
+-- at least a number of items stand above the entry of the innermost TRAP
 abbrev pub has_above : Where → State → ℕ → Bool
 has_above at st n = nat_le (at.floor + n) (length st.items)
 

@@ -17,11 +17,11 @@ joined (a ∷ b ∷ us) = (a + b * 2 ^ 16) ∷ joined us
 joined (a ∷ []) = a ∷ []
 joined [] = []
 
--- so many words have room for so many units behind the length
+-- a number of words have room for a number of units behind the length
 abbrev pub room_in : ℕ → ℕ
 room_in n = 2 * (n - 1)
 
--- the words of a text, filled up with zero units to so many words
+-- the words of a text, filled up with zero units to a number of words
 abbrev pub text_words : ℕ → List ℕ → List ℕ
 text_words n t = length t ∷ joined (exactly (room_in n) t)
 

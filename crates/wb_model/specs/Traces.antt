@@ -26,7 +26,7 @@ abbrev pub asked_before : Option Answer → Request → (Answer → List Request
 asked_before None t rest = []
 asked_before (Some answer) t rest = t ∷ rest answer
 
--- the attempts that a process asks for under a rule, in order, once so many were made
+-- the attempts that a process asks for under a rule, in order, once a number of them were made
 abbrev pub asked_for : Rule → ℕ → Process → List Request
 asked_for rule made (ends way st) = []
 asked_for rule made (stops stop st) = []
@@ -41,7 +41,7 @@ TellsSettings (stops stop st) = Unit {0}
 TellsSettings (asks t cut go) = (t.due ≡ is_due cut.heap.setting) × ((number : ℕ) (answer : Answer) → TellsSettings (go number answer))
 TellsSettings (notes q p) = TellsSettings p
 
--- the line of an attempt that was asked for, once so many were made
+-- the line of an attempt that was asked for, once a number of them were made
 pub record IsLine (rule : Rule) (made : ℕ) (asked : Request) (t : Attempt) : Type 0 where
   pub number : t.number ≡ made + 1
   pub length : t.length ≡ asked.length
@@ -55,7 +55,7 @@ pub record IsLine (rule : Rule) (made : ℕ) (asked : Request) (t : Attempt) : T
   -- and what the setting refuses isn't answered otherwise
   pub due : asked.due ≡ true → t.answer ≡ Simulated
 
--- the lines of attempts that were asked for, once so many were made
+-- the lines of attempts that were asked for, once a number of them were made
 abbrev pub AreLines : Rule → ℕ → List Request → List Attempt → Type 0
 AreLines rule made [] [] = Unit {0}
 AreLines rule made [] (t ∷ ts) = ⊥

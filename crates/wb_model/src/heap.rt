@@ -73,7 +73,7 @@ pub struct Attempt {
     pub answer: Answer,
 }
 
-/// What an attempt gives to who made it.
+/// What an attempt gives to its caller.
 #[derive(Clone, Copy, Debug, PartialEq, Eq)]
 pub enum Gave {
     Granted(Ptr),

@@ -1,23 +1,25 @@
 //! Laws of the definitions. Each is the contract of a function that does nothing, so that the gate proves it.
 
-ghost use Rattle.std.specs.Prelude.{◌≡◌, ◌≢◌, ℕ, ◌+◌, ◌%◌, ◌<◌, ◌≤◌, ◌↔◌, List, Some, None, nat_eq, length, take, drop, slice_get, slice_index};
+ghost use Rattle.std.specs.Prelude.{◌≡◌, ◌≢◌, ℕ, ℤ, ◌+◌, ◌%◌, ◌<◌, ◌≤◌, ◌↔◌, List, Option, Some, None, nat_eq, length, take, drop, slice_get, slice_index};
 ghost use Rattle.wb_model.specs.Agreement.{Agrees, RefusesAtLeast, RefusesNoGrant, IsSameRun, IsSameButNotes};
-ghost use Rattle.wb_model.specs.Limits.{first_refused, IsTable};
+ghost use Rattle.wb_model.specs.Sizes.{first_refused, NoneIsRefused, IsFirstRefused, IsGreatestEnd, IsTable};
+ghost use Rattle.wb_model.specs.Throughout.{Throughout, AreCellsAfter, AreLeaksAfter};
 ghost use Rattle.wb_model.specs.Rest.{Unfolds};
 ghost use Rattle.wb_model.specs.Row.{IsSpacedFrom, IsLeastPlace, place_of, top_of};
 ghost use Rattle.wb_model.specs.Rules.{next, each, is_due, after_attempts};
-ghost use Rattle.wb_model.specs.Run.{process, run, required, rises, refused_at};
+ghost use Rattle.wb_model.specs.Run.{process, run, highest_end, required, rises, refused_at};
 ghost use Rattle.wb_model.specs.Space.{AreFreeRuns, free_runs};
 ghost use Rattle.wb_model.specs.Sweeps.{run_at, AreAllFine, IsLeastUnfine, least_bad_or_cut};
 ghost use Rattle.wb_model.specs.Texts.{units_of_part};
-ghost use Rattle.wb_model.specs.Traces.{asked_for, AreLines};
+ghost use Rattle.wb_model.specs.Traces.{asked_for, AreLines, TellsSettings};
 ghost use Rattle.wb_model.specs.declared.limits.TheConstants.{CEILING};
 ghost use Rattle.wb_model.specs.declared.heap.Attempt.{Attempt};
 ghost use Rattle.wb_model.specs.declared.heap.Header.{Header};
 ghost use Rattle.wb_model.specs.declared.heap.Rule.{Rule};
 ghost use Rattle.wb_model.specs.declared.heap.Rule.TheVariants.{Unlimited, Limit, Number};
 ghost use Rattle.wb_model.specs.declared.heap.Shape.{Shape};
-ghost use Rattle.wb_model.specs.declared.run.Outcome.TheVariants.{Cut};
+ghost use Rattle.wb_model.specs.declared.run.Leak.{Leak};
+ghost use Rattle.wb_model.specs.declared.run.Outcome.TheVariants.{Ended, Cut};
 ghost use Rattle.wb_model.specs.declared.run.Why.TheVariants.{Ceiling};
 ghost use Rattle.wb_model.specs.declared.script.Script.{Script};
 
@@ -39,8 +41,8 @@ pub fn free_runs_are()
     ensures { (row : List Header) (committed : ℕ) → IsSpacedFrom 0 row → top_of row ≤ committed → AreFreeRuns row committed (free_runs 0 row committed) }
 {}
 
-/// What a part of a text reads as: so many units, each of them the base's at its place, or zero past the base's end. A part
-/// of a part reads as that stretch of it, whatever the base holds.
+/// What a part of a text reads as: as many units as it is long, each of them the base's at its place, or zero past the
+/// base's end. A part of a part reads as that stretch of it, whatever the base holds.
 pub fn parts_are_read()
     ensures long { (base : List ℕ) (from count : ℕ) → length (units_of_part base from count) ≡ count }
     ensures units { (base : List ℕ) (from count k : ℕ) → k < count → slice_index (units_of_part base from count) k ≡ slice_index base (from + k) }
@@ -61,6 +63,15 @@ pub fn lines_are_answered()
         AreLines r 0 (asked_for r 0 (process script budget)) (run script r budget shape).trace }
     ensures numbered { (script : Script) (budget : ℕ) (shape : Shape) (r : Rule) (k : ℕ) (t : Attempt) →
         slice_get (run script r budget shape).trace k ≡ Some t → t.number ≡ k + 1 }
+    ensures settings { (script : Script) (budget : ℕ) → TellsSettings (process script budget) }
+{}
+
+/// What is measured of a trace, in words: the number of the first line that the heap's limit refused, and none where no line
+/// is; and the greatest end of a granted line.
+pub fn traces_are_measured()
+    ensures refused { (trace : List Attempt) (number : ℕ) → (first_refused trace ≡ Some number) ↔ IsFirstRefused trace number }
+    ensures none { (trace : List Attempt) → (first_refused trace ≡ None) ↔ NoneIsRefused trace }
+    ensures end { (trace : List Attempt) → IsGreatestEnd trace (highest_end trace) }
 {}
 
 /// What a heap of each length refuses first, where the ceiling doesn't cut the run without a limit: the attempt that the
@@ -94,6 +105,15 @@ pub fn sweeps_end()
     ensures some { (script : Script) (budget : ℕ) (shape : Shape) (number : ℕ) →
         (least_bad_or_cut script budget shape ≡ Some number) ↔ IsLeastUnfine (run_at script budget shape) number }
     ensures none { (script : Script) (budget : ℕ) (shape : Shape) → (least_bad_or_cut script budget shape ≡ None) ↔ AreAllFine (run_at script budget shape) }
+{}
+
+/// The live cells that a run of any script passes through are a row, whatever its attempts are answered: they ascend without
+/// meeting, at multiples of 16, and have different numbers, each that of an attempt made before. Each cell holds what its kind
+/// holds. So the leaks that a run tells are cells of a row.
+pub fn cells_stay_a_row()
+    ensures throughout { (script : Script) (budget : ℕ) → Throughout (λ made st. AreCellsAfter made st.heap.row) 0 (process script budget) }
+    ensures leaks { (script : Script) (budget : ℕ) (shape : Shape) (r : Rule) (left : Option ℤ) (leaks : List Leak) →
+        (run script r budget shape).outcome ≡ Ended left leaks → AreLeaksAfter (length (run script r budget shape).trace) leaks }
 {}
 
 /// The meaning of a piece is its first step, and then the meaning of what that leaves.

@@ -1,4 +1,4 @@
-//! Want of memory of the workbench itself, which is never a refusal of the simulated heap.
+//! The error of a workbench that ran out of memory itself. It is never a refusal of the simulated heap.
 
 use std::alloc::AllocError;
 

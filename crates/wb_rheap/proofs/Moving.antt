@@ -19,7 +19,7 @@ live-cell p row some = by (cell_at p row) refl some
 abbrev pub zeros : Header → Cell (List ℕ)
 zeros moved = record { head = moved; content = zero_words moved.length }
 
--- the row once so many words were copied
+-- the row once a number of words were copied
 abbrev pub copied-over : Ptr → Ptr → ℕ → List (Cell (List ℕ)) → List (Cell (List ℕ))
 copied-over p q n row = with_payload q (take n (payload_of p row) ++ drop n (payload_of q row)) row
 

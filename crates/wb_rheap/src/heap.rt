@@ -18,9 +18,9 @@ use wb_model::limits::CEILING;
 
 /// A simulated heap: live cells with their payloads, and a limit that none of them passes.
 ///
-/// Places, lengths, the limit and the committed length are bytes from the start of the chunk. The committed
-/// length is the least under the shape at first, grows with the cells and falls by `compress` alone. Memory is held for
-/// the greatest committed length so far. A payload is zeroed when its cell is granted. Source: this project's profile.
+/// Places, lengths, the limit and the committed length are bytes from the start of the chunk. The committed length is
+/// the least under the shape at first, grows with the cells and falls by `compress` alone. Memory is held for the
+/// greatest committed length so far. A payload is zeroed when its cell is granted.
 #[derive(Drop)]
 pub struct Heap {
     cells: Cells,
@@ -48,8 +48,8 @@ impl Model for Heap {
 impl Heap {
     /// A heap with no cell, with the least committed length, for which it takes memory.
     ///
-    /// The limit is in bytes, and need be no multiple of 16. `BadShape` where no heap may have the shape, and
-    /// else `NoMemory` at worst, and not even that where the length is 0. Source: this project's profile.
+    /// The limit is in bytes, and need be no multiple of 16. `BadShape` where no heap may have the shape, and else
+    /// `NoMemory` at worst, and not even that where the length is 0.
     pub fn new(alloc: Global, limit: u32, shape: Shape) -> Result<Heap, HeapFault>
         requires { limit ≤ CEILING }
         ensures ok { IfOk result (λ heap. heap ≡ empty_heap limit shape) }
@@ -76,9 +76,8 @@ impl Heap {
 
     /// The place where a cell of this length goes: the lowest one from which on no live cell meets its bytes.
     ///
-    /// The length is the cell length in bytes, header included. The limit isn't asked: what lies above the
-    /// last cell counts as free without end, and the place plus any cell length stays below 2^32. Source:
-    /// this project's profile.
+    /// The length is the cell length in bytes, header included. The limit isn't asked: what lies above the last cell
+    /// counts as free without end, and the place plus any cell length stays below 2^32.
     pub fn place_for(&self, length: u32) -> u32
         requires { IsCellLength length }
         ensures place { result ≡ place_in self.now length }
@@ -91,10 +90,10 @@ impl Heap {
 
     /// Grants a cell at the place that `place_for` gives, with zeros for its payload.
     ///
-    /// The length is the cell length in bytes, the number that of the attempt, from 1 on, and the level that
-    /// of the heap marks. `TooShort` exactly where the cell would end past the limit, and else `NoMemory` at
-    /// worst, and not even that where the new committed length is within `held`. A refusal leaves the heap as it was.
-    /// Source: Symbian OS v9 SDK reference, RHeap, for a grant that is refused, and this project's profile.
+    /// The length is the cell length in bytes, the number that of the attempt, from 1 on, and the level that of the
+    /// heap marks. `TooShort` exactly where the cell would end past the limit, and else `NoMemory` at worst, and not
+    /// even that where the new committed length is within `held`. A refusal leaves the heap as it was. Source: Symbian
+    /// OS v9 SDK reference, RHeap, for a grant that is refused.
     pub fn alloc(
         &mut self,
         length: u32,
@@ -163,7 +162,7 @@ impl Heap {
     }
 
     /// The header of the cell that the pointer names, or `None` exactly where it names no live cell. Its payload has a
-    /// word for each four bytes of its usable length. Source: this project's profile.
+    /// word for each four bytes of its usable length.
     pub fn header(&self, ptr: Ptr) -> Option<Header>
         ensures header { result ≡ option_map (λ c. c.head) (cell_at ptr self.now.row) }
         ensures live { IfSome result (IsLiveBelow self.now.limit) }
@@ -175,8 +174,7 @@ impl Heap {
 
     /// The first live cell that begins at this place, in bytes, or above it, or `None` where there is none.
     ///
-    /// From place 0 on, and then from the end of each cell that came, this gives every live cell in order of
-    /// place. Source: this project's profile.
+    /// From place 0 on, and then from the end of each cell that came, this gives every live cell in order of place.
     pub fn next_live(&self, from: u32) -> Option<Header>
         ensures first { result ≡ next_live_of from (headers self.now.row) }
         ensures live { IfSome result (IsLiveBelow self.now.limit) }
@@ -231,14 +229,14 @@ impl Heap {
         self.alloc_size().0
     }
 
-    /// The committed length, in bytes. Source: this project's profile.
+    /// The committed length, in bytes.
     pub fn committed(&self) -> u32
         ensures { result ≡ self.now.committed }
     {
         self.committed
     }
 
-    /// The greatest committed length so far, in bytes, for which memory is held. Source: this project's profile.
+    /// The greatest committed length so far, in bytes, for which memory is held.
     pub fn held(&self) -> u32
         ensures { result ≡ self.now.held }
     {
@@ -252,7 +250,7 @@ impl Heap {
     /// is the last; else the one that `place_for` gives while the cell is still there.
     ///
     /// The length is the cell length in bytes, header included. The limit isn't asked, and the place plus any cell
-    /// length stays below 2^32. Source: this project's profile.
+    /// length stays below 2^32.
     pub fn place_for_realloc(&self, ptr: Ptr, length: u32) -> u32
         requires live { IsSome (cell_at ptr self.now.row) }
         requires length { IsCellLength length }
@@ -284,7 +282,7 @@ impl Heap {
         }
     }
 
-    /// Whether a live cell can be so long where it stands.
+    /// Whether a live cell can have this length where it stands.
     fn fits(&self, cell: Header, length: u32) -> bool
         requires live { option_map (λ c. c.head) (cell_at (pointer_to cell) self.now.row) ≡ Some cell }
         requires longer { cell.length < length }
@@ -309,10 +307,11 @@ impl Heap {
     /// with zeros behind it, and so are kind and level. It keeps its number where it stays, and takes the new one where
     /// it moves: the old pointer is stale then.
     ///
-    /// `BadCell` exactly where the pointer names no live cell; `TooShort` exactly where a longer cell would end past the
-    /// limit, and then no lower place is tried; else `NoMemory` at worst, and not even that where the new committed
-    /// length is within `held`. A refusal leaves the heap as it was. Source: Symbian OS v9 SDK reference, RHeap, for contents that are kept and
-    /// for a refusal that leaves the old cell, and this project's profile for places and numbers.
+    /// `BadCell` exactly where the pointer names no live cell; `TooShort` exactly where a longer cell would end past
+    /// the limit, and then no lower place is tried; else `NoMemory` at worst, and not even that where the new committed
+    /// length is within `held`. A refusal leaves the heap as it was. Source: Symbian OS v9 SDK reference, RHeap, for
+    /// contents that are kept and for a refusal that leaves the old cell, and this project's profile for places and
+    /// numbers.
     pub fn realloc(&mut self, ptr: Ptr, length: u32, number: u32) -> Result<Ptr, HeapFault>
         requires length { IsCellLength length }
         requires numbered { 1 ≤ number }
@@ -403,8 +402,7 @@ impl Heap {
         }
     }
 
-    /// Puts the cell that the pointer names under another level of heap marks, and changes nothing else. Source: this
-    /// project's profile.
+    /// Puts the cell that the pointer names under another level of heap marks, and changes nothing else.
     pub fn set_level(&mut self, ptr: Ptr, level: u32)
         requires { IsSome (cell_at ptr self.old.row) }
         ensures leveled { self.new ≡ heap_leveled self.old ptr level }
@@ -416,7 +414,7 @@ impl Heap {
 
 /// The words of payloads. Words and their halves are counted from 0; the half 2k is the low half of word k.
 impl Heap {
-    /// A word of a payload. Source: this project's profile.
+    /// A word of a payload.
     pub fn payload(&self, ptr: Ptr, i: u32) -> u32
         requires { i < length (payload_of ptr self.now.row) }
         ensures { result ≡ slice_index (payload_of ptr self.now.row) i }
@@ -424,7 +422,7 @@ impl Heap {
         self.cells.payload(ptr, i)
     }
 
-    /// Changes a word of a payload, and nothing else. Source: this project's profile.
+    /// Changes a word of a payload, and nothing else.
     pub fn set_payload(&mut self, ptr: Ptr, i: u32, v: u32)
         requires { i < length (payload_of ptr self.old.row) }
         ensures changed { self.new ≡ heap_changed self.old ptr (slice_set (payload_of ptr self.old.row) i v) }
@@ -433,7 +431,7 @@ impl Heap {
         self.cells.set_payload(ptr, i, v);
     }
 
-    /// A half of a payload's words. Source: this project's profile.
+    /// A half of a payload's words.
     pub fn payload_half(&self, ptr: Ptr, i: u32) -> u16
         requires { i < 2 * length (payload_of ptr self.now.row) }
         ensures { result ≡ half_of (payload_of ptr self.now.row) i }
@@ -441,7 +439,7 @@ impl Heap {
         self.cells.payload_half(ptr, i)
     }
 
-    /// Changes a half of a payload's words, and nothing else. Source: this project's profile.
+    /// Changes a half of a payload's words, and nothing else.
     pub fn set_payload_half(&mut self, ptr: Ptr, i: u32, v: u16)
         requires { i < 2 * length (payload_of ptr self.old.row) }
         ensures changed { self.new ≡ heap_changed self.old ptr (with_half (payload_of ptr self.old.row) i v) }
@@ -450,8 +448,7 @@ impl Heap {
         self.cells.set_payload_half(ptr, i, v);
     }
 
-    /// Copies the first `n` words of one cell's payload to the front of another's, or of its own. Source: this
-    /// project's profile.
+    /// Copies the first `n` words of one cell's payload to the front of another's, or of its own.
     pub fn copy_payload(&mut self, from: Ptr, to: Ptr, n: u32)
         requires from_live { IsSome (cell_at from self.old.row) }
         requires to_live { IsSome (cell_at to self.old.row) }

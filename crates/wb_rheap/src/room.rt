@@ -10,7 +10,7 @@ use wb_model::heap::Shape;
 use wb_model::limits::CEILING;
 use wb_model::memory::NoMemory;
 
-/// Holds so many bytes at least, and takes no memory where they are held.
+/// Holds at least `bytes` bytes, and takes no memory where they are held.
 pub fn hold(cells: &mut Cells, bytes: u32) -> Result<(), NoMemory>
     requires rounded { bytes % 16 ≡ 0 }
     requires within { bytes ≤ CEILING }

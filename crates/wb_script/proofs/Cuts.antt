@@ -4,7 +4,7 @@ use Rattle.std.specs.List.{flat_map}
 use Rattle.wb_model.specs.Lines.{Separator, onto_first, quoted_after, ends_line, ends_word, pieces_from, lines_of, unless_empty, words_of}
 use Rattle.wb_model.specs.Names.{Text}
 
--- none of the texts has more bytes than so many
+-- none of the texts has more than a number of bytes
 abbrev pub AreWithin : ℕ → List Text → Type 0
 AreWithin n [] = Unit {0}
 AreWithin n (text ∷ texts) = (length text ≤ n) × AreWithin n texts

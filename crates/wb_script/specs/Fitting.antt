@@ -1,4 +1,4 @@
--- Which operands fit their lines, among so many literals and these locals, and what they spell.
+-- Which operands fit their lines, among these locals and a number of literals, and what they spell.
 use Rattle.std.specs.Prelude.{◌≡◌, ℕ, pos, List, [], ◌∷◌, Bool, true, false, ◌&&◌, ◌||◌, if◌then◌else◌, nat_lt, Option, Some, IsTrue, MatchOption, slice_get}
 use Rattle.wb_model.specs.declared.script_lines.Key.{Key}
 use Rattle.wb_model.specs.declared.script_lines.Key.TheVariants as key
@@ -51,7 +51,7 @@ spells_printed literals locals (Number z) = is_number locals (Constant z)
 spells_printed literals locals (Name (meant.Number index)) = is_variable locals index
 spells_printed literals locals operand = spells_readable literals locals operand
 
--- an operand is of its letter, and what it names is there, among so many literals and these locals
+-- an operand is of its letter, and what it names is there, among these locals and a number of literals
 abbrev pub operand_fits : ℕ → List Local → Letter → Operand Meant → Bool
 operand_fits literals locals letter.Declared (Name (meant.Declared index)) = true
 operand_fits literals locals letter.Declared _ = false

@@ -266,7 +266,7 @@ fn add_line(
     }
 }
 
-/// The procedures of a script with so many literals, from all its lines.
+/// The procedures of a script with that number of literals, from all its lines.
 pub(crate) fn procedures_of(
     alloc: Global,
     literals: u32,

@@ -96,7 +96,8 @@ impl Buf {
 
     /// Puts a text in front of the unit at a position, or at the end where the position is the length.
     ///
-    /// `Panic::POSITION_OUT_OF_BOUNDS` where the position is past the end, then `Panic::TOO_LONG` where the whole is longer than the maximum.
+    /// `Panic::POSITION_OUT_OF_BOUNDS` where the position is past the end, then `Panic::TOO_LONG` where the whole is
+    /// longer than the maximum.
     pub fn insert<U: Units>(&mut self, position: u32, source: &U) -> Result<(), Panic>
         requires { U.can_read source.now }
         ensures text { self.new ≡ edited self.old (insert_text self.old.max self.old.units position (U.units source.now)) }
@@ -113,7 +114,7 @@ impl Buf {
         Ok(())
     }
 
-    /// Takes out so many units from a position on, or all from there where there are fewer.
+    /// Takes out `count` units from a position on, or all from there where there are fewer.
     ///
     /// `Panic::POSITION_OUT_OF_BOUNDS` where the position is past the end.
     pub fn delete(&mut self, position: u32, count: u32) -> Result<(), Panic>
@@ -183,7 +184,7 @@ fn put_in<U: Units>(units: &mut ArrayVec<u16, 256>, at: usize, source: &U)
     move_back(units.as_mut_slice(), at, len);
 }
 
-/// Takes out so many units from a place on.
+/// Takes out `count` units from a place on.
 fn take_out(units: &mut ArrayVec<u16, 256>, at: usize, count: usize)
     requires { at + count ≤ length units.old.items }
     ensures { units.new.items ≡ take at units.old.items ++ drop (at + count) units.old.items }

@@ -15,7 +15,7 @@ abbrev pub is_want_of_memory : ErrorKind → Bool
 is_want_of_memory OutOfMemory = true
 is_want_of_memory _ = false
 
--- clap's own want of memory is the workbench's, and every other error is a fault of the words
+-- where clap's own memory ran out, so did the workbench's; every other error is a fault of the words
 abbrev pub fault_of_error : Error → CommandFault
 fault_of_error e = if is_want_of_memory (kind_of e) then NoMemory else Usage e
 
@@ -31,7 +31,7 @@ pub record IsMisshapen (words : List Text) : Type 0 where
   pub misshapen : is_sixteenfold command.shape ≡ false
 
 -- the fault is one that clap's meaning finds in the words; where it finds none, of the rules that they spell, and then of
--- the shape; want of memory says nothing of them
+-- the shape; memory that ran out says nothing of them
 abbrev pub IsFaultOf : List Text → CommandFault → Type 0
 IsFaultOf words (Usage e) = (kind_of e ≢ OutOfMemory) × IsAmong (kind_of e) (fault_of command_line words)
 IsFaultOf words Both = IsDoubled words

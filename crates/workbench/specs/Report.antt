@@ -108,7 +108,7 @@ no_memory = line (codes "no memory")
 abbrev pub read_fault : List ℕ
 read_fault = line (codes "read fault")
 
--- why a script was refused: the number of its fault, and its line where it has one. Want of memory refuses no script.
+-- why a script was refused: the number of its fault, and its line where it has one. Memory that ran out refuses no script.
 abbrev pub fault_line : ScriptFault → List ℕ
 fault_line TooLong = refused 1
 fault_line (NotAscii at) = refused_at 2 at

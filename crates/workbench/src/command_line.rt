@@ -20,17 +20,17 @@ use std::convert::AsStr;
 use wb_model::heap::{Rule, Shape};
 use wb_model::limits::CEILING;
 
-/// The greatest number of steps of a run that names none. Source: this project's profile.
+/// The greatest number of steps of a run that names none.
 const DEFAULT_BUDGET: u32 = 10_000;
-/// The heap's minimum length and step, in bytes, of a run that names none. Source: this project's profile.
+/// The heap's minimum length and step, in bytes, of a run that names none.
 const DEFAULT_SHAPE: Shape = Shape {
     min: 4096,
     step: 4096,
 };
 
-/// The granule of a heap's lengths, in bytes. Source: this project's profile.
+/// The granule of a heap's lengths, in bytes.
 const GRANULE: u32 = 16;
-/// The greatest minimum length and step of a heap, in bytes. Source: this project's profile.
+/// The greatest minimum length and step of a heap, in bytes.
 const MOST_OF_SHAPE: u32 = 1_048_576;
 
 const LIMIT_HELP: &str = "Refuses what would make the heap longer than L bytes, from 0 to 16777216";
@@ -106,7 +106,7 @@ fn shape_in(run: &ArgMatches) -> Result<Shape, CommandFault>
     }
 }
 
-/// The script's file, where they name one. The only error is want of memory.
+/// The script's file, where they name one. The only error is that memory ran out.
 fn file_in(alloc: Global, run: &ArgMatches) -> Result<Option<FileName>, AllocError>
     ensures { IfOk result (λ file. file ≡ first_of (codes "file") (rows_of (found_of run.now))) }
 {

@@ -20,7 +20,7 @@ impl Model for FileName {
 }
 
 impl FileName {
-    /// A name of its own with the bytes of `text`. The only error is want of memory.
+    /// A name of its own with the bytes of `text`. The only error is that memory ran out.
     pub fn copy_of(alloc: Global, text: &str) -> Result<FileName, AllocError>
         ensures { IfOk result (λ name. name ≡ text.now) }
     {

@@ -24,7 +24,7 @@ pub struct Report {
 }
 
 /// The report of a command for the bytes of a script: the text of its run, or the one line that says why the
-/// bytes are no script. The only error is want of memory.
+/// bytes are no script. The only error is that memory ran out.
 pub fn report_on(alloc: Global, command: &Command, bytes: &[u8]) -> Result<Report, NoMemory>
     requires { IsTrue (is_answerable command.now) }
     ensures { IfOk result (λ r. IsReport command.now bytes.now r.text.items r.status) }
@@ -98,7 +98,7 @@ fn put_fault(text: &mut Vec<u8>, fault: ScriptFault) -> Result<(), NoMemory>
         ScriptFault::MayLeave { line } => put_refused_at(text, 7, line),
         ScriptFault::NoMain => put_refused(text, 8),
         ScriptFault::TooMany { line } => put_refused_at(text, 9, line),
-        // Want of memory says nothing of the bytes.
+        // That memory ran out says nothing of the bytes.
         ScriptFault::NoMemory => unreachable!(),
     }
 }

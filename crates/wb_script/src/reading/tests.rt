@@ -53,7 +53,7 @@ fn too_many(line: u32) -> Option<ScriptFault> {
     Some(ScriptFault::TooMany { line })
 }
 
-/// The text, so many times.
+/// The text, `count` times.
 fn repeated(alloc: Global, text: &[u8], count: usize) -> Result<Vec<u8>, AllocError> {
     let mut bytes = Vec::new(alloc);
     for _ in 0..count {

@@ -1,3 +1,4 @@
+use Rattle.wb_model.proofs.ThroughoutLemmas.{process-tells}
 use Rattle.wb_model.proofs.TraceLemmas.{run-lines, run-numbered}
 use Rattle.wb_model.proofs.laws.lines_are_answered.Goals as goal
 
@@ -6,3 +7,6 @@ returns-clause-lines c = run-lines
 
 pub returns-clause-numbered : goal.returns-clause-numbered
 returns-clause-numbered c = run-numbered
+
+pub returns-clause-settings : goal.returns-clause-settings
+returns-clause-settings c = process-tells

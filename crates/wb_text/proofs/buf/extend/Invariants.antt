@@ -1,4 +1,4 @@
--- So far so many units of the source were appended.
+-- So far a number of units of the source were appended.
 use Rattle.std.proofs.Common.{◌≡◌, ◌++◌, take}
 use Rattle.wb_model.specs.Texts.{AreUnits}
 use Rattle.wb_text.proofs.buf.extend.Given as goal

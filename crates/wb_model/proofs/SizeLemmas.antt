@@ -15,7 +15,7 @@ use Rattle.wb_model.specs.declared.script.Script.{Script}
 use Rattle.wb_model.specs.Run.{run, granted_end, end_of_line, highest_end, required, rises_above, rises, first_rise_above, refused_at}
 use Rattle.wb_model.specs.Agreement.{RefusesAtLeast, RefusesNoGrant, IsSameButNotes, PartsAt}
 use Rattle.wb_model.specs.Rules.{Request}
-use Rattle.wb_model.specs.Limits.{refused_or_later, first_refused, IsTable}
+use Rattle.wb_model.specs.Sizes.{refused_or_later, first_refused, IsTable}
 use Rattle.wb_model.specs.Traces.{IsLine, AreLines, end_of_attempt}
 use Rattle.wb_model.proofs.AgreementLemmas.{rules_agree-law}
 use Rattle.wb_model.proofs.SameRuns.{same_run}

@@ -1,0 +1,266 @@
+-- What a script does to its heap keeps the cells a row, numbered by the attempts so far, each with what its kind holds.
+use Rattle.std.proofs.Common.{◌≡◌, ◌≢◌, ℕ, suc, ◌+◌, ◌-◌, ◌%◌, ◌≤◌, Bool, true, false, not, cond, List, [], ◌∷◌, length, filter, find, All, AllPairs, Some, refl, sym, subst, arith}
+use Rattle.std.specs.Prelude.{◌&&◌, nat_eq}
+use Rattle.std.proofs.lemmas.List.Elements.{All-cons, All-nil, All-filter}
+use Rattle.std.proofs.lemmas.List.Kept.{AllPairs-cons}
+use Rattle.wb_model.specs.declared.heap.Ptr.{Ptr}
+use Rattle.wb_model.specs.declared.heap.Header.{Header}
+use Rattle.wb_model.specs.declared.heap.Kind.{Kind}
+use Rattle.wb_model.specs.declared.heap.Kind.TheVariants as K
+use Rattle.wb_model.specs.declared.heap.Answer.{Answer}
+use Rattle.wb_model.specs.declared.heap.Answer.TheVariants.{Granted, Simulated, Refused}
+use Rattle.wb_model.specs.Row.{Cell, headers, end_of, pointer_to, is_at, cell_at, cell_length, inserted, without, changed, place_of, IsSpacedFrom, IsRow, IsFree}
+use Rattle.wb_model.specs.Heap.{Heap, alloc_request, after_alloc, realloc_request, after_realloc, shortened, fits_in_place, lower, lowered, is_cleanup}
+use Rattle.wb_model.specs.Throughout.{SuitsKind, HoldsItsKind, AreCellsAfter}
+use Rattle.wb_model.specs.State.{Content, words, fields, units, none}
+use Rattle.wb_model.specs.Attempts.{resized}
+use Rattle.wb_model.proofs.Places.{place_of-least}
+use Rattle.wb_model.proofs.Rows.{headers-without, headers-changed, IsRow-filter, IsRow-inserted, All-inserted, All-placed}
+use Rattle.wb_model.proofs.Reallocations.{pointer-at, found-from, found-all, found-head, fits-words, fits-free, fits-shorter, free-filter}
+use Rattle.wb_model.proofs.ReallocatedHeaps.{others-numbered}
+use Rattle.wb_model.proofs.AlikeLemmas.{Lasting}
+
+-- more attempts were made
+later : (made more : ℕ) (cells : List (Cell Content)) → made ≤ more → AreCellsAfter made cells → AreCellsAfter more cells
+later made more cells le is = record { row = is.row; made_before = λ k d lt. omega (arith, le, is.made_before k d lt); kinds = is.kinds }
+
+-- the cell that a pointer names
+found-cell : (P : Cell Content → Type 0) (p : Ptr) (cells : List (Cell Content)) (c : Cell Content) → All P cells → cell_at p cells ≡ Some c → P c
+found-cell P p [] c all e = cc
+found-cell P p (d ∷ ds) c all e = by (is_at p d.head) e (found-cell P p ds c (λ k x lt. all (suc k) x (omega arith)))
+  where
+    by : (b : Bool) → cond b (Some d) (cell_at p ds) ≡ Some c → (cell_at p ds ≡ Some c → P c) → P c
+    by true found rest = let same : d ≡ c = cc in subst P same (all 0 d (omega arith))
+    by false found rest = rest found
+
+-- resized content is of the same kind
+suits-resized : (kind : Kind) (c : Content) (usable : ℕ) → SuitsKind kind c → SuitsKind kind (resized usable c)
+suits-resized K.Raw (words ws) usable is = tt
+suits-resized (K.Object class) (words ws) usable is = absurd is
+suits-resized K.Text (words ws) usable is = absurd is
+suits-resized K.Cleanup (words ws) usable is = absurd is
+suits-resized kind (fields ps) usable is = is
+suits-resized kind (units us) usable is = is
+suits-resized kind none usable is = is
+
+-- the content of the cell that a pointer names is changed to fit
+kinds-changed : (p : Ptr) (f : Content → Content) (cells : List (Cell Content)) →
+    ((c : Cell Content) → cell_at p cells ≡ Some c → HoldsItsKind c → SuitsKind c.head.kind (f c.content)) → All HoldsItsKind cells → All HoldsItsKind (changed p f cells)
+kinds-changed p f [] suits all = All-nil HoldsItsKind
+kinds-changed p f (d ∷ ds) suits all =
+    by (is_at p d.head) suits (λ h. kinds-changed p f ds h (λ k x lt. all (suc k) x (omega arith)))
+  where
+    by : (b : Bool) → ((c : Cell Content) → cond b (Some d) (cell_at p ds) ≡ Some c → HoldsItsKind c → SuitsKind c.head.kind (f c.content)) →
+        (((c : Cell Content) → cell_at p ds ≡ Some c → HoldsItsKind c → SuitsKind c.head.kind (f c.content)) → All HoldsItsKind (changed p f ds)) →
+        All HoldsItsKind (cond b (record d { content = f d.content } ∷ ds) (d ∷ changed p f ds))
+    by true h rest = All-cons HoldsItsKind (record d { content = f d.content }) ds (h d refl (all 0 d (omega arith))) (λ k x lt. all (suc k) x (omega arith))
+    by false h rest = All-cons HoldsItsKind d (changed p f ds) (all 0 d (omega arith)) (rest h)
+
+-- a cell of another level is the same otherwise
+lower-is : (P : Header → Type 0) (level : ℕ) (h : Header) → P h → P (record h { level = level - 1 }) → P (lower level h)
+lower-is P level h here there = by (nat_eq h.level level && not (is_cleanup h.kind))
+  where
+    by : (b : Bool) → P (cond b (record h { level = level - 1 }) h)
+    by true = there
+    by false = here
+
+All-lowered : (P : Header → Type 0) (level : ℕ) (cells : List (Cell Content)) → ((h : Header) (l : ℕ) → P h → P (record h { level = l })) →
+    All P (headers cells) → All P (headers (lowered level cells))
+All-lowered P level [] blind all = All-nil P
+All-lowered P level (c ∷ cs) blind all =
+    All-cons P (lower level c.head) (headers (lowered level cs))
+    (lower-is P level c.head (all 0 c.head (omega arith)) (blind c.head (level - 1) (all 0 c.head (omega arith))))
+    (All-lowered P level cs blind (λ k x lt. all (suc k) x (omega arith)))
+
+kinds-lowered : (level : ℕ) (cells : List (Cell Content)) → All HoldsItsKind cells → All HoldsItsKind (lowered level cells)
+kinds-lowered level [] all = All-nil HoldsItsKind
+kinds-lowered level (c ∷ cs) all =
+    All-cons HoldsItsKind (record c { head = lower level c.head }) (lowered level cs)
+    (lower-is (λ h. SuitsKind h.kind c.content) level c.head (all 0 c (omega arith)) (all 0 c (omega arith)))
+    (kinds-lowered level cs (λ k x lt. all (suc k) x (omega arith)))
+
+spaced-lowered : (level : ℕ) (cells : List (Cell Content)) (at : ℕ) → IsSpacedFrom at (headers cells) → IsSpacedFrom at (headers (lowered level cells))
+spaced-lowered level [] at s = tt
+spaced-lowered level (c ∷ cs) at s =
+    let rest = spaced-lowered level cs (end_of c.head) s.5 in
+    let is : IsSpacedFrom at (c.head ∷ headers (lowered level cs)) = (s.0, s.1, s.2, s.3, s.4, rest) in
+    lower-is (λ h. IsSpacedFrom at (h ∷ headers (lowered level cs))) level c.head is is
+
+numbered-lowered : (level : ℕ) (cells : List (Cell Content)) → AllPairs (λ g h. g.number ≢ h.number) (headers cells) →
+    AllPairs (λ g h. g.number ≢ h.number) (headers (lowered level cells))
+numbered-lowered level [] apart = apart
+numbered-lowered level (c ∷ cs) apart =
+    AllPairs-cons (λ g h. g.number ≢ h.number) (lower level c.head) (headers (lowered level cs))
+    (lower-is (λ g. All (λ h. g.number ≢ h.number) (headers (lowered level cs))) level c.head first first)
+    (numbered-lowered level cs (λ i j x lt end. apart (suc i) (suc j) x (omega arith) (omega arith)))
+  where
+    first : All (λ h. c.head.number ≢ h.number) (headers (lowered level cs))
+    first = All-lowered (λ h. c.head.number ≢ h.number) level cs (λ h l other. other) (λ k x lt. apart 0 (suc k) x (omega arith) (omega arith))
+
+-- the cell with another place, length and number, and what it held
+abbrev resized_to : Cell Content → ℕ → ℕ → ℕ → Cell Content
+resized_to c place to number =
+    record { head = record c.head { place = place; length = to; number = number }; content = resized (to - 16) c.content }
+
+pub one_more : (n : ℕ) (ns : List ℕ) → n ≡ length ns + 1 → n ≡ length (n ∷ ns)
+one_more n ns e = omega (arith, e)
+
+-- a new cell
+module _ (made : ℕ) (heap : Heap Content) (is : AreCellsAfter made heap.row) where
+  pub allocated : (bytes : ℕ) (kind : Kind) (fresh : Content) (n : ℕ) (answer : Answer) → SuitsKind kind fresh → n ≡ made + 1 →
+      AreCellsAfter n (after_alloc heap (alloc_request heap bytes) kind fresh n answer).heap.row
+  allocated bytes kind fresh n Simulated suits next = later made n heap.row (omega (arith, next)) is
+  allocated bytes kind fresh n Refused suits next = later made n heap.row (omega (arith, next)) is
+  allocated bytes kind fresh n Granted suits next =
+      let length = cell_length bytes in
+      let place = place_of-least (headers heap.row) length (omega arith) is.row.spaced in
+      let cell : Cell Content =
+      record { head = record { place = place_of (headers heap.row) length; length = length; kind = kind; level = heap.level; number = n }; content = fresh } in
+      record {
+        row = IsRow-inserted cell heap.row place.aligned (omega arith) (omega arith) (omega (arith, next)) place.free
+            (λ k d lt e. omega (arith, next, e, is.made_before k d lt)) is.row;
+        made_before = All-inserted (λ h. h.number ≤ n) cell heap.row (omega arith) (λ k d lt. omega (arith, next, is.made_before k d lt));
+        kinds = All-placed HoldsItsKind cell heap.row suits is.kinds;
+      }
+
+  -- another cell in the place of one
+  replaced : (c new : Cell Content) (more : ℕ) → made ≤ more → cell_at (pointer_to c.head) heap.row ≡ Some c → new.head.place % 16 ≡ 0 → new.head.length % 16 ≡ 0 →
+      16 ≤ new.head.length → 1 ≤ new.head.number → IsFree (filter (λ h. not (is_at (pointer_to c.head) h)) (headers heap.row)) new.head.place new.head.length →
+      All (λ h. h.number ≢ new.head.number) (filter (λ h. not (is_at (pointer_to c.head) h)) (headers heap.row)) → new.head.number ≤ more → HoldsItsKind new →
+      AreCellsAfter more (inserted new (without (pointer_to c.head) heap.row))
+  replaced c new more le e placed aligned long numbered free apart within suits =
+      let p = pointer_to c.head in
+      let others = sym (headers-without p heap.row) in
+      record {
+        row = IsRow-inserted new (without p heap.row) placed aligned long numbered (subst (λ hs. IsFree hs new.head.place new.head.length) others free)
+            (subst (All (λ h. h.number ≢ new.head.number)) others apart) (subst IsRow others (IsRow-filter _ (headers heap.row) is.row));
+        made_before = All-inserted (λ h. h.number ≤ more) new (without p heap.row) within
+            (subst (All (λ h. h.number ≤ more)) others (All-filter _ (λ h. h.number ≤ more) (headers heap.row) (λ k d lt. omega (arith, le, is.made_before k d lt))));
+        kinds = All-placed HoldsItsKind new (without p heap.row) suits (All-filter _ HoldsItsKind heap.row is.kinds);
+      }
+
+  -- a pointer that names a cell is its own
+  own : (p : Ptr) (c : Cell Content) → cell_at p heap.row ≡ Some c → cell_at (pointer_to c.head) heap.row ≡ Some c
+  own p c e =
+      let there = found-from p (headers heap.row) 0 c.head is.row.spaced (found-head p heap.row c e) in
+      subst (λ q. cell_at q heap.row ≡ Some c) (sym (pointer-at p c.head there.named)) e
+
+  -- the cell with another place, length or number, among the others
+  changed_to : (p : Ptr) (c : Cell Content) (place to number more : ℕ) → made ≤ more → cell_at p heap.row ≡ Some c → place % 16 ≡ 0 → to % 16 ≡ 0 → 16 ≤ to →
+      IsFree (filter (λ h. not (is_at (pointer_to c.head) h)) (headers heap.row)) place to → 1 ≤ number → number ≤ more →
+      All (λ h. h.number ≢ number) (filter (λ h. not (is_at (pointer_to c.head) h)) (headers heap.row)) →
+      AreCellsAfter more (inserted (resized_to c place to number) (without (pointer_to c.head) heap.row))
+  changed_to p c place to number more le e placed aligned long free numbered within apart =
+      replaced c (resized_to c place to number) more le (own p c e) placed aligned long numbered free apart within
+      (suits-resized c.head.kind c.content (to - 16) (found-cell HoldsItsKind p heap.row c is.kinds e))
+
+  found-own : (p : Ptr) (c : Cell Content) → cell_at p heap.row ≡ Some c → find (is_at (pointer_to c.head)) (headers heap.row) ≡ Some c.head
+  found-own p c e = found-head (pointer_to c.head) heap.row c (own p c e)
+
+  -- its own number, which no other has, is one of an attempt that was made
+  own_number : (p : Ptr) (c : Cell Content) → cell_at p heap.row ≡ Some c → (1 ≤ c.head.number) × (c.head.number ≤ made)
+  own_number p c e =
+      let there = found-from (pointer_to c.head) (headers heap.row) 0 c.head is.row.spaced (found-own p c e) in
+      (there.numbered, found-all (λ h. h.number ≤ made) (pointer_to c.head) (headers heap.row) c.head is.made_before (found-own p c e))
+
+  -- a place that was chosen for a longer cell
+  moved_to : (p : Ptr) (c : Cell Content) (place to n : ℕ) → n ≡ made + 1 → cell_at p heap.row ≡ Some c → place % 16 ≡ 0 → to % 16 ≡ 0 → 16 ≤ to →
+      IsFree (filter (λ h. not (is_at (pointer_to c.head) h)) (headers heap.row)) place to →
+      AreCellsAfter n (inserted (resized_to c place to (cond (nat_eq place c.head.place) c.head.number n)) (without (pointer_to c.head) heap.row))
+  moved_to p c place to n next e placed aligned long free = by (nat_eq place c.head.place)
+    where
+      by : (b : Bool) → AreCellsAfter n (inserted (resized_to c place to (cond b c.head.number n)) (without (pointer_to c.head) heap.row))
+      by true =
+          let number = own_number p c e in
+          changed_to p c place to c.head.number n (omega (arith, next)) e placed aligned long free number.0 (omega (arith, next, number.1))
+          (others-numbered (pointer_to c.head) (headers heap.row) c.head is.row.numbered (found-own p c e))
+      by false =
+          changed_to p c place to n n (omega (arith, next)) e placed aligned long free (omega (arith, next)) (omega arith)
+          (All-filter _ (λ h. h.number ≢ n) (headers heap.row) (λ k d lt same. omega (arith, next, same, is.made_before k d lt)))
+
+  pub reallocated : (p : Ptr) (c : Cell Content) (bytes n : ℕ) (answer : Answer) → cell_at p heap.row ≡ Some c → n ≡ made + 1 →
+      AreCellsAfter n (after_realloc heap (realloc_request heap c.head bytes) c.head (resized (cell_length bytes - 16) c.content) n answer).heap.row
+  reallocated p c bytes n Simulated e next = later made n heap.row (omega (arith, next)) is
+  reallocated p c bytes n Refused e next = later made n heap.row (omega (arith, next)) is
+  reallocated p c bytes n Granted e next = by (fits_in_place (headers heap.row) c.head to) refl
+    where
+      to : ℕ
+      to = cell_length bytes
+
+      q : Ptr
+      q = pointer_to c.head
+
+      by : (b : Bool) → fits_in_place (headers heap.row) c.head to ≡ b →
+          AreCellsAfter n
+          (inserted
+          (resized_to c (cond b c.head.place (place_of (headers heap.row) to)) to
+          (cond (nat_eq (cond b c.head.place (place_of (headers heap.row) to)) c.head.place) c.head.number n)) (without q heap.row))
+      by true fits =
+          let there = found-from q (headers heap.row) 0 c.head is.row.spaced (found-own p c e) in
+          moved_to p c c.head.place to n next e there.placed (omega arith) (omega arith)
+          (fits-free q to (headers heap.row) (fits-words (headers heap.row) c.head to fits))
+      by false full =
+          let place = place_of-least (headers heap.row) to (omega arith) is.row.spaced in
+          moved_to p c (place_of (headers heap.row) to) to n next e place.aligned (omega arith) (omega arith)
+          (free-filter (λ h. not (is_at q h)) (headers heap.row) (place_of (headers heap.row) to) to place.free)
+
+  pub cut_down : (p : Ptr) (c : Cell Content) (bytes : ℕ) → cell_at p heap.row ≡ Some c → cell_length bytes ≤ c.head.length →
+      AreCellsAfter made (shortened heap c.head (cell_length bytes) (resized (cell_length bytes - 16) c.content)).row
+  cut_down p c bytes e shorter =
+      let q = pointer_to c.head in
+      let there = found-from q (headers heap.row) 0 c.head is.row.spaced (found-own p c e) in
+      let number = own_number p c e in
+      let fits = fits-words (headers heap.row) c.head (cell_length bytes) (fits-shorter q (headers heap.row) 0 c.head (cell_length bytes) is.row.spaced (found-own p c e) shorter) in
+      changed_to p c c.head.place (cell_length bytes) c.head.number made (omega arith) e there.placed (omega arith) (omega arith)
+      (fits-free q (cell_length bytes) (headers heap.row) fits) number.0 number.1
+      (others-numbered q (headers heap.row) c.head is.row.numbered (found-own p c e))
+
+  pub freed : (p : Ptr) → AreCellsAfter made (without p heap.row)
+  freed p =
+      let others = sym (headers-without p heap.row) in
+      record {
+        row = subst IsRow others (IsRow-filter _ (headers heap.row) is.row);
+        made_before = subst (All (λ h. h.number ≤ made)) others (All-filter _ (λ h. h.number ≤ made) (headers heap.row) is.made_before);
+        kinds = All-filter _ HoldsItsKind heap.row is.kinds;
+      }
+
+  pub rewritten : (p : Ptr) (f : Content → Content) →
+      ((c : Cell Content) → cell_at p heap.row ≡ Some c → HoldsItsKind c → SuitsKind c.head.kind (f c.content)) → AreCellsAfter made (changed p f heap.row)
+  rewritten p f suits =
+      let same = sym (headers-changed p f heap.row) in
+      record {
+        row = subst IsRow same is.row;
+        made_before = subst (All (λ h. h.number ≤ made)) same is.made_before;
+        kinds = kinds-changed p f heap.row suits is.kinds;
+      }
+
+  pub mark_ended : (level : ℕ) → AreCellsAfter made (lowered level heap.row)
+  mark_ended level = record {
+    row = record { spaced = spaced-lowered level heap.row 0 is.row.spaced; numbered = numbered-lowered level heap.row is.row.numbered };
+    made_before = All-lowered (λ h. h.number ≤ made) level heap.row (λ h l le. le) is.made_before;
+    kinds = kinds-lowered level heap.row is.kinds;
+  }
+
+-- the numbers that attempts got, the newest first, count from 1
+abbrev pub AreCounted : List ℕ → Type 0
+AreCounted [] = Unit {0}
+AreCounted (n ∷ ns) = (n ≡ length ns + 1) × AreCounted ns
+
+-- that lasts
+abbrev pub cells : Lasting
+cells = record {
+  Counts = λ _. Unit {0};
+  Holds = λ ns heap. AreCounted ns → AreCellsAfter (length ns) heap.row;
+  allocated = λ ns heap bytes kind fresh n answer suits h counted.
+      subst (λ m. AreCellsAfter m (after_alloc heap (alloc_request heap bytes) kind fresh n answer).heap.row) (one_more n ns counted.0)
+      (allocated (length ns) heap (h counted.1) bytes kind fresh n answer suits counted.0);
+  reallocated = λ ns heap p c bytes n answer e longer h counted.
+      subst (λ m. AreCellsAfter m (after_realloc heap (realloc_request heap c.head bytes) c.head (resized (cell_length bytes - 16) c.content) n answer).heap.row)
+      (one_more n ns counted.0) (reallocated (length ns) heap (h counted.1) p c bytes n answer e counted.0);
+  cut_down = λ ns heap p c bytes e shorter h counted. cut_down (length ns) heap (h counted) p c bytes e shorter;
+  freed = λ ns heap p h counted. freed (length ns) heap (h counted) p;
+  rewritten = λ ns heap p f suits h counted. rewritten (length ns) heap (h counted) p f suits;
+  marked = λ ns heap h. h;
+  mark_ended = λ ns heap h counted. mark_ended (length ns) heap (h counted) heap.level;
+  set = λ ns heap setting h. h;
+}
