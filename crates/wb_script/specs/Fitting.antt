@@ -1,4 +1,4 @@
--- Which operands fit their lines, among so many literals and these locals, and what they spell.
+-- Which operands fit their lines, among these locals and a number of literals, and what they spell.
 use Rattle.std.specs.Prelude.{◌≡◌, ℕ, pos, List, [], ◌∷◌, Bool, true, false, ◌&&◌, ◌||◌, if◌then◌else◌, nat_lt, Option, Some, IsTrue, MatchOption, slice_get}
 use Rattle.wb_model.specs.declared.script_lines.Key.{Key}
 use Rattle.wb_model.specs.declared.script_lines.Key.TheVariants as key

@@ -10,7 +10,8 @@ use wb_model::limits::NINE_DIGITS;
 use wb_model::script::{Holder, Local, Number, Pointer, Readable, Writable};
 use wb_model::script_lines::{Meant, Operand};
 
-/// What the operands of a body's lines are found among: the locals of the body, and so many literals of the script.
+/// What the operands of a body's lines are found among: the locals of the body, and the literals of the script, of
+/// which only the number matters.
 #[derive(Clone, Copy)]
 pub(crate) struct Scope<'a> {
     pub literals: u32,
