@@ -12,10 +12,10 @@ use wb_machine::run;
 use wb_model::heap::{Answer, Rule, Shape};
 use wb_model::items::Items;
 use wb_model::run::{RunResult, Why};
-use wb_model::size::Rise;
 use wb_model::script::{
     Body, Holder, Local, Number, Pointer, Procedure, Refusal, Script, Statement,
 };
+use wb_model::size::Rise;
 
 const SHAPE: Shape = Shape {
     min: 4096,

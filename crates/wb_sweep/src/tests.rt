@@ -86,7 +86,12 @@ fn null_that_is_read_is_found(rt: HostRuntime) -> Result<(), Fail> {
     assert_eq!(rt; sweep.attempts, 3);
     let found = sweep.found.ok_or("none")?;
     assert_eq!(rt; found.number, 3);
-    assert!(rt; matches!(found.result.outcome, Outcome::Panicked(Panic::NULL_OR_STALE)));
+    assert!(rt;
+        matches!(
+            found.result.outcome,
+            Outcome::Panicked(Panic::NULL_OR_STALE)
+        )
+    );
     Ok(())
 }
 
