@@ -7,7 +7,7 @@ use Rattle.wb_model.specs.declared.heap.Answer.TheVariants.{Granted, Simulated, 
 use Rattle.wb_model.specs.declared.heap.Attempt.{Attempt}
 use Rattle.wb_model.specs.Run.{granted_end, end_of_line, highest_end}
 use Rattle.wb_model.specs.Traces.{end_of_attempt}
-use Rattle.wb_model.specs.Sizes.{refused_or_later, first_refused, NoneIsRefused, IsFirstRefused, IsEndOfGrant, IsGreatestEnd}
+use Rattle.wb_model.specs.Sizes.{refused_or_later, first_refusal, NoneIsRefused, IsFirstRefused, IsEndOfGrant, IsGreatestEnd}
 
 -- one line more at the front
 later_refused : (t : Attempt) (ts : List Attempt) (number : ℕ) → t.answer ≢ Refused → IsFirstRefused ts number → IsFirstRefused (t ∷ ts) number
@@ -17,11 +17,11 @@ later_refused t ts number unrefused is = record { at = suc is.at; line = is.line
     before zero u lt e = λ refused. let same : t ≡ u = cc in unrefused (ap (λ x. x.answer) same ∙ refused)
     before (suc k) u lt e = is.first k u (omega (arith, lt)) e
 
-told_refused : (ts : List Attempt) (number : ℕ) → first_refused ts ≡ Some number → IsFirstRefused ts number
+told_refused : (ts : List Attempt) (number : ℕ) → first_refusal ts ≡ Some number → IsFirstRefused ts number
 told_refused [] number e = cc
 told_refused (t ∷ ts) number e = by t.answer refl e (told_refused ts number)
   where
-    by : (w : Answer) → t.answer ≡ w → refused_or_later t w (first_refused ts) ≡ Some number → (first_refused ts ≡ Some number → IsFirstRefused ts number) → IsFirstRefused (t ∷ ts) number
+    by : (w : Answer) → t.answer ≡ w → refused_or_later t w (first_refusal ts) ≡ Some number → (first_refusal ts ≡ Some number → IsFirstRefused ts number) → IsFirstRefused (t ∷ ts) number
     by Refused f g rest = record { at = 0; line = t; there = refl; numbered = cc; refused = f; first = λ k u lt. absurd (omega (arith, lt)) }
     by Granted f g rest = later_refused t ts number (λ r. cc) (rest g)
     by Simulated f g rest = later_refused t ts number (λ r. cc) (rest g)
@@ -37,35 +37,35 @@ passed t later unrefused = by t.answer refl
 
 -- by the index of the line
 refused_told : (ts : List Attempt) (number at : ℕ) (line : Attempt) → slice_get ts at ≡ Some line → line.number ≡ number → line.answer ≡ Refused →
-    ((k : ℕ) (t : Attempt) → k < at → slice_get ts k ≡ Some t → t.answer ≢ Refused) → first_refused ts ≡ Some number
+    ((k : ℕ) (t : Attempt) → k < at → slice_get ts k ≡ Some t → t.answer ≢ Refused) → first_refusal ts ≡ Some number
 refused_told [] number at line there numbered refused first = cc
 refused_told (t ∷ ts) number zero line there numbered refused first =
     let same : t ≡ line = cc in
-    ap (λ w. refused_or_later t w (first_refused ts)) (ap (λ x. x.answer) same ∙ refused) ∙ ap Some (ap (λ x. x.number) same ∙ numbered)
+    ap (λ w. refused_or_later t w (first_refusal ts)) (ap (λ x. x.answer) same ∙ refused) ∙ ap Some (ap (λ x. x.number) same ∙ numbered)
 refused_told (t ∷ ts) number (suc at) line there numbered refused first =
-    passed t (first_refused ts) (first 0 t (omega arith) refl)
+    passed t (first_refusal ts) (first 0 t (omega arith) refl)
     ∙ refused_told ts number at line there numbered refused (λ k u lt. first (suc k) u (omega (arith, lt)))
 
-pub first_refused-some : (ts : List Attempt) (number : ℕ) → (first_refused ts ≡ Some number) ↔ IsFirstRefused ts number
+pub first_refused-some : (ts : List Attempt) (number : ℕ) → (first_refusal ts ≡ Some number) ↔ IsFirstRefused ts number
 first_refused-some ts number = (told_refused ts number, λ is. refused_told ts number is.at is.line is.there is.numbered is.refused is.first)
 
-some_refused : (ts : List Attempt) (k : ℕ) (t : Attempt) → slice_get ts k ≡ Some t → t.answer ≡ Refused → first_refused ts ≢ None
+some_refused : (ts : List Attempt) (k : ℕ) (t : Attempt) → slice_get ts k ≡ Some t → t.answer ≡ Refused → first_refusal ts ≢ None
 some_refused [] k t there refused e = cc
 some_refused (u ∷ ts) zero t there refused e =
     let same : u ≡ t = cc in
-    let told = sym (ap (λ w. refused_or_later u w (first_refused ts)) (ap (λ x. x.answer) same ∙ refused)) ∙ e in cc
+    let told = sym (ap (λ w. refused_or_later u w (first_refusal ts)) (ap (λ x. x.answer) same ∙ refused)) ∙ e in cc
 some_refused (u ∷ ts) (suc k) t there refused e = by u.answer e (some_refused ts k t there refused)
   where
-    by : (w : Answer) → refused_or_later u w (first_refused ts) ≡ None → first_refused ts ≢ None → ⊥
+    by : (w : Answer) → refused_or_later u w (first_refusal ts) ≡ None → first_refusal ts ≢ None → ⊥
     by Refused f rest = cc
     by Granted f rest = rest f
     by Simulated f rest = rest f
 
-told_none : (ts : List Attempt) → NoneIsRefused ts → first_refused ts ≡ None
+told_none : (ts : List Attempt) → NoneIsRefused ts → first_refusal ts ≡ None
 told_none [] none = refl
-told_none (t ∷ ts) none = passed t (first_refused ts) (none 0 t refl) ∙ told_none ts (λ k u there. none (suc k) u there)
+told_none (t ∷ ts) none = passed t (first_refusal ts) (none 0 t refl) ∙ told_none ts (λ k u there. none (suc k) u there)
 
-pub first_refused-none : (ts : List Attempt) → (first_refused ts ≡ None) ↔ NoneIsRefused ts
+pub first_refused-none : (ts : List Attempt) → (first_refusal ts ≡ None) ↔ NoneIsRefused ts
 first_refused-none ts = (λ e k t there refused. some_refused ts k t there refused e, told_none ts)
 
 -- one line more at the front

@@ -15,8 +15,8 @@ use Rattle.wb_model.specs.declared.script.Script.{Script}
 use Rattle.wb_model.specs.Run.{run, granted_end, end_of_line, highest_end, required, rises_above, rises, first_rise_above, refused_at}
 use Rattle.wb_model.specs.Agreement.{RefusesAtLeast, RefusesNoGrant, IsSameButNotes, PartsAt}
 use Rattle.wb_model.specs.Rules.{Request}
-use Rattle.wb_model.specs.Sizes.{refused_or_later, first_refused, IsTable}
-use Rattle.wb_model.specs.Traces.{IsLine, AreLines, end_of_attempt}
+use Rattle.wb_model.specs.Sizes.{refused_or_later, first_refusal, IsTable}
+use Rattle.wb_model.specs.Traces.{IsLine, AreAnsweredLines, end_of_attempt}
 use Rattle.wb_model.proofs.AgreementLemmas.{rules_agree-law}
 use Rattle.wb_model.proofs.SameRuns.{same_run}
 use Rattle.wb_model.proofs.TraceLemmas.{run-lines, unlimited_refuses_none, limit_grants_within}
@@ -36,7 +36,7 @@ EachLine P [] = Unit {0}
 EachLine P (t ∷ ts) = P t × EachLine P ts
 
 each_line : (P : Attempt → Type 0) (rule : Rule) (made : ℕ) (qs : List Request) (ts : List Attempt) →
-    ((n : ℕ) (asked : Request) (t : Attempt) → IsLine rule n asked t → P t) → AreLines rule made qs ts → EachLine P ts
+    ((n : ℕ) (asked : Request) (t : Attempt) → IsLine rule n asked t → P t) → AreAnsweredLines rule made qs ts → EachLine P ts
 each_line P rule made [] [] h are = tt
 each_line P rule made [] (t ∷ ts) h are = absurd are
 each_line P rule made (q ∷ qs) [] h are = absurd are
@@ -59,15 +59,15 @@ module _ (l : ℕ) where
       by Simulated f = e ∙ sym (cond-false _ (Some t.number) later' (le-ltb l 0 (omega arith)))
       by Refused f = absurd (unrefused f)
 
-  shared : (ts us vs : List Attempt) → EachLine IsUnrefused (ts ++ us) → EachLine (IsGrantedWithin l) (ts ++ vs) → first_refused vs ≡ first_above l us →
-      first_refused (ts ++ vs) ≡ first_above l (ts ++ us)
+  shared : (ts us vs : List Attempt) → EachLine IsUnrefused (ts ++ us) → EachLine (IsGrantedWithin l) (ts ++ vs) → first_refusal vs ≡ first_above l us →
+      first_refusal (ts ++ vs) ≡ first_above l (ts ++ us)
   shared [] us vs a b e = e
   shared (t ∷ ts) us vs a b e = skips t _ _ a.0 b.0 (shared ts us vs a.1 b.1 e)
 
   -- the attempt at which they part
-  parted : (x y : List Attempt) → EachLine IsUnrefused x → EachLine (IsGrantedWithin l) y → PartsAt Unlimited (Limit l) x y → first_refused y ≡ first_above l x
+  parted : (x y : List Attempt) → EachLine IsUnrefused x → EachLine (IsGrantedWithin l) y → PartsAt Unlimited (Limit l) x y → first_refusal y ≡ first_above l x
   parted x y a b p =
-      ap first_refused p.is_other
+      ap first_refusal p.is_other
       ∙ shared p.before (p.one ∷ p.after_one) (p.other ∷ p.after_other) (subst (EachLine IsUnrefused) p.is_one a) (subst (EachLine (IsGrantedWithin l)) p.is_other b) here
       ∙ sym (ap (first_above l) p.is_one)
     where
@@ -82,23 +82,23 @@ module _ (l : ℕ) where
       granted false e = cc
 
       above : (b : Bool) → nat_lt l end ≡ b → cond b (Some Refused) None ≡ Some p.other.answer → p.one.answer ≡ Granted →
-          refused_or_later p.other p.other.answer (first_refused p.after_other) ≡ cond (nat_lt l (end_of_line p.one)) (Some p.one.number) (first_above l p.after_one)
+          refused_or_later p.other p.other.answer (first_refusal p.after_other) ≡ cond (nat_lt l (end_of_line p.one)) (Some p.one.number) (first_above l p.after_one)
       above false c e g = cc
       above true c e g =
           let refused : p.other.answer ≡ Refused = cc in
-          ap (λ w. refused_or_later p.other w (first_refused p.after_other)) refused
+          ap (λ w. refused_or_later p.other w (first_refusal p.after_other)) refused
           ∙ ap Some p.number
           ∙ sym (cond-true (nat_lt l end) (Some p.one.number) (first_above l p.after_one) c)
           ∙ sym (ap (λ w. cond (nat_lt l (granted_end p.one w)) (Some p.one.number) (first_above l p.after_one)) g)
 
-      here : first_refused (p.other ∷ p.after_other) ≡ first_above l (p.one ∷ p.after_one)
+      here : first_refusal (p.other ∷ p.after_other) ≡ first_above l (p.one ∷ p.after_one)
       here = above (nat_lt l end) refl (sym (ap (λ e. cond (nat_lt l e) (Some Refused) None) same_end) ∙ p.refused) (granted (nat_lt CEILING end) p.answered)
 
   -- or they don't part
-  same : (x y : List Attempt) → EachLine IsUnrefused x → EachLine (IsGrantedWithin l) y → y ≡ x → first_refused y ≡ first_above l x
+  same : (x y : List Attempt) → EachLine IsUnrefused x → EachLine (IsGrantedWithin l) y → y ≡ x → first_refusal y ≡ first_above l x
   same x y a b e =
       let nil = append-nil x in
-      ap first_refused (e ∙ sym nil)
+      ap first_refusal (e ∙ sym nil)
       ∙ shared x [] [] (subst (EachLine IsUnrefused) (sym nil) a) (subst (EachLine (IsGrantedWithin l)) (e ∙ sym nil) b) refl
       ∙ ap (first_above l) nil
 
@@ -124,13 +124,13 @@ rises_tell l m (t ∷ ts) le = by (nat_lt m end) refl (λ k le. rises_tell l k t
 
 -- the first attempt that a limit refuses is the one that the rises name
 pub limit_refuses_first : (script : Script) (budget : ℕ) (shape : Shape) (l : ℕ) → (run script Unlimited budget shape).outcome ≢ Cut Ceiling →
-    first_refused (run script (Limit l) budget shape).trace ≡ refused_at script budget shape l
+    first_refusal (run script (Limit l) budget shape).trace ≡ refused_at script budget shape l
 limit_refuses_first script budget shape l uncut =
     let x = run script Unlimited budget shape in
     let y = run script (Limit l) budget shape in
     let a = each_line IsUnrefused Unlimited 0 _ x.trace unlimited_refuses_none (run-lines script budget shape Unlimited) in
     let b = each_line (IsGrantedWithin l) (Limit l) 0 _ y.trace (limit_grants_within l) (run-lines script budget shape (Limit l)) in
-    let first : first_refused y.trace ≡ first_above l x.trace =
+    let first : first_refusal y.trace ≡ first_above l x.trace =
     elim (rules_agree-law script budget shape Unlimited (Limit l) (unlimited_least (Limit l)) uncut) [
       | inl is ↦ same l x.trace y.trace a b is.but_notes.trace
       | inr part ↦ parted l x.trace y.trace a b part
@@ -164,10 +164,10 @@ has_table f m (t ∷ ts) is = by (nat_lt m end) refl is (λ k. has_table f k ts)
         subst (λ r. IsTable f r m (rises_above m ts)) same (rest m is)
 
 pub limits_have_table : (script : Script) (budget : ℕ) (shape : Shape) → (run script Unlimited budget shape).outcome ≢ Cut Ceiling →
-    IsTable (λ l. first_refused (run script (Limit l) budget shape).trace) (required script budget shape) 0 (rises script budget shape)
+    IsTable (λ l. first_refusal (run script (Limit l) budget shape).trace) (required script budget shape) 0 (rises script budget shape)
 limits_have_table script budget shape uncut =
     let ts = (run script Unlimited budget shape).trace in
-    let f : ℕ → Option ℕ = λ l. first_refused (run script (Limit l) budget shape).trace in
+    let f : ℕ → Option ℕ = λ l. first_refusal (run script (Limit l) budget shape).trace in
     let same : max 0 (highest_end ts) ≡ highest_end ts = omega arith in
     subst (λ r. IsTable f r 0 (rises_above 0 ts)) same (has_table f 0 ts (λ l le. limit_refuses_first script budget shape l uncut))
 

@@ -17,7 +17,7 @@ use Rattle.wb_model.specs.Space.{Space, space_of}
 use Rattle.wb_model.specs.Account.{stopped, Account, settled, on_answer, recorded, noted, next_number}
 use Rattle.wb_model.specs.Debug.{trace_line}
 use Rattle.wb_model.specs.Run.{process, before, run, granted_end, highest_end, required}
-use Rattle.wb_model.specs.Traces.{asked_before, asked_for, end_of_attempt, IsLine, AreLines}
+use Rattle.wb_model.specs.Traces.{asked_before, asked_for, end_of_attempt, IsLine, AreAnsweredLines}
 
 -- what a rule refuses, by the answer
 record IsRefusal (rule : Rule) (number end : ℕ) (w : Answer) : Type 0 where
@@ -68,8 +68,8 @@ zero_add : (n : ℕ) → 0 + n ≡ n
 zero_add n = omega arith
 
 -- one more line
-lines_push : (rule : Rule) (made : ℕ) (qs : List Request) (ts : List Attempt) (asked : Request) (t : Attempt) → AreLines rule made qs ts →
-    IsLine rule (made + length ts) asked t → AreLines rule made (qs ++ asked ∷ []) (ts ++ t ∷ [])
+lines_push : (rule : Rule) (made : ℕ) (qs : List Request) (ts : List Attempt) (asked : Request) (t : Attempt) → AreAnsweredLines rule made qs ts →
+    IsLine rule (made + length ts) asked t → AreAnsweredLines rule made (qs ++ asked ∷ []) (ts ++ t ∷ [])
 lines_push rule made [] [] asked t are is = let z : made + 0 ≡ made = omega arith in (subst (λ m. IsLine rule m asked t) z is, tt)
 lines_push rule made [] (u ∷ ts) asked t are is = absurd are
 lines_push rule made (q ∷ qs) [] asked t are is = absurd are
@@ -77,41 +77,41 @@ lines_push rule made (q ∷ qs) (u ∷ ts) asked t are is =
     let z : made + length (u ∷ ts) ≡ made + 1 + length ts = omega arith in
     (are.0, lines_push rule (made + 1) qs ts asked t are.1 (subst (λ m. IsLine rule m asked t) z is))
 
-settled-lines : (rule : Rule) (space : Space) (p : Process) (a : Account) (qs : List Request) → AreLines rule 0 qs a.trace →
-    AreLines rule 0 (qs ++ asked_for rule (length a.trace) p) (settled rule space p a).account.trace
-settled-lines rule space (ends way st) a qs are = subst (λ l. AreLines rule 0 l a.trace) (sym (append-nil qs)) are
-settled-lines rule space (stops stop st) a qs are = subst (λ l. AreLines rule 0 l a.trace) (sym (append-nil qs)) are
+settled-lines : (rule : Rule) (space : Space) (p : Process) (a : Account) (qs : List Request) → AreAnsweredLines rule 0 qs a.trace →
+    AreAnsweredLines rule 0 (qs ++ asked_for rule (length a.trace) p) (settled rule space p a).account.trace
+settled-lines rule space (ends way st) a qs are = subst (λ l. AreAnsweredLines rule 0 l a.trace) (sym (append-nil qs)) are
+settled-lines rule space (stops stop st) a qs are = subst (λ l. AreAnsweredLines rule 0 l a.trace) (sym (append-nil qs)) are
 settled-lines rule space (asks t cut go) a qs are =
     told (answer_to rule (next_number a) t) refl (λ w e.
     let grown = recorded space (next_number a) t w a in
     let longer : length grown.trace ≡ length a.trace + 1 = length-append a.trace (trace_line (next_number a) t w ∷ []) in
-    subst (λ l. AreLines rule 0 l (settled rule space (go (next_number a) w) grown).account.trace) (append_assoc qs (t ∷ []) (asked_for rule (next_number a) (go (next_number a) w)))
-    (subst (λ m. AreLines rule 0 ((qs ++ t ∷ []) ++ asked_for rule m (go (next_number a) w)) (settled rule space (go (next_number a) w) grown).account.trace) longer
+    subst (λ l. AreAnsweredLines rule 0 l (settled rule space (go (next_number a) w) grown).account.trace) (append_assoc qs (t ∷ []) (asked_for rule (next_number a) (go (next_number a) w)))
+    (subst (λ m. AreAnsweredLines rule 0 ((qs ++ t ∷ []) ++ asked_for rule m (go (next_number a) w)) (settled rule space (go (next_number a) w) grown).account.trace) longer
     (settled-lines rule space (go (next_number a) w) grown (qs ++ t ∷ [])
     (lines_push rule 0 qs a.trace t (trace_line (next_number a) t w) are
     (subst (λ m. IsLine rule m t (trace_line (next_number a) t w)) (sym (zero_add (length a.trace))) (line-is rule (length a.trace) t w e))))))
   where
     told : (o : Option Answer) → answer_to rule (next_number a) t ≡ o →
         ((w : Answer) → answer_to rule (next_number a) t ≡ Some w →
-        AreLines rule 0 (qs ++ t ∷ asked_for rule (next_number a) (go (next_number a) w)) (settled rule space (go (next_number a) w) (recorded space (next_number a) t w a)).account.trace) →
-        AreLines rule 0 (qs ++ asked_before o t (λ w. asked_for rule (next_number a) (go (next_number a) w)))
+        AreAnsweredLines rule 0 (qs ++ t ∷ asked_for rule (next_number a) (go (next_number a) w)) (settled rule space (go (next_number a) w) (recorded space (next_number a) t w a)).account.trace) →
+        AreAnsweredLines rule 0 (qs ++ asked_before o t (λ w. asked_for rule (next_number a) (go (next_number a) w)))
         (on_answer o (record { end = stopped (is_cut Ceiling); state = cut; account = a })
         (λ w. settled rule space (go (next_number a) w) (recorded space (next_number a) t w a))).account.trace
-    told None e h = subst (λ l. AreLines rule 0 l a.trace) (sym (append-nil qs)) are
+    told None e h = subst (λ l. AreAnsweredLines rule 0 l a.trace) (sym (append-nil qs)) are
     told (Some w) e h = h w e
 settled-lines rule space (notes q p) a qs are = by q (λ q. settled-lines rule space p (noted space q a) qs)
   where
     by : (q : Query) →
-        ((q : Query) → AreLines rule 0 qs (noted space q a).trace →
-        AreLines rule 0 (qs ++ asked_for rule (length (noted space q a).trace) p) (settled rule space p (noted space q a)).account.trace) →
-        AreLines rule 0 (qs ++ asked_for rule (length a.trace) p) (settled rule space p (noted space q a)).account.trace
+        ((q : Query) → AreAnsweredLines rule 0 qs (noted space q a).trace →
+        AreAnsweredLines rule 0 (qs ++ asked_for rule (length (noted space q a).trace) p) (settled rule space p (noted space q a)).account.trace) →
+        AreAnsweredLines rule 0 (qs ++ asked_for rule (length a.trace) p) (settled rule space p (noted space q a)).account.trace
     by (heap_note count total) h = h (heap_note count total) are
     by (available_note row) h = h (available_note row) are
     by (compress_note top) h = h (compress_note top) are
 
 -- of whole runs
 pub run-lines : (script : Script) (budget : ℕ) (shape : Shape) (rule : Rule) →
-    AreLines rule 0 (asked_for rule 0 (process script budget)) (run script rule budget shape).trace
+    AreAnsweredLines rule 0 (asked_for rule 0 (process script budget)) (run script rule budget shape).trace
 run-lines script budget shape rule = settled-lines rule (space_of rule shape) (process script budget) (before (space_of rule shape)) [] tt
 
 -- without a limit no line is refused
@@ -126,7 +126,7 @@ limit_grants_within limit made asked t is e = by (nat_lt limit (end_of_attempt t
     by true c f = cc
     by false c f = ltb-false _ _ c
 
-highest_end-within : (rule : Rule) (made : ℕ) (qs : List Request) (ts : List Attempt) → AreLines rule made qs ts → highest_end ts ≤ CEILING
+highest_end-within : (rule : Rule) (made : ℕ) (qs : List Request) (ts : List Attempt) → AreAnsweredLines rule made qs ts → highest_end ts ≤ CEILING
 highest_end-within rule made [] [] are = omega arith
 highest_end-within rule made [] (t ∷ ts) are = absurd are
 highest_end-within rule made (q ∷ qs) [] are = absurd are
@@ -144,7 +144,7 @@ pub required-within : (script : Script) (budget : ℕ) (shape : Shape) → requi
 required-within script budget shape = highest_end-within Unlimited 0 _ _ (run-lines script budget shape Unlimited)
 
 -- each line by its index
-pub line_at : (rule : Rule) (made : ℕ) (qs : List Request) (ts : List Attempt) (k : ℕ) (t : Attempt) → AreLines rule made qs ts → slice_get ts k ≡ Some t →
+pub line_at : (rule : Rule) (made : ℕ) (qs : List Request) (ts : List Attempt) (k : ℕ) (t : Attempt) → AreAnsweredLines rule made qs ts → slice_get ts k ≡ Some t →
     (asked : Request) × (slice_get qs k ≡ Some asked) × IsLine rule (made + k) asked t
 line_at rule made [] [] k t are e = cc
 line_at rule made [] (u ∷ ts) k t are e = absurd are

@@ -36,13 +36,13 @@ abbrev pub main_of : List (Form Text) → Option ℕ
 main_of forms = first_declaration_of (known_of forms).procedures (codes "main")
 
 -- not too long, and of lines alone
-pub record IsText (bytes : List ℕ) : Type 0 where
+pub record IsPlainText (bytes : List ℕ) : Type 0 where
   pub short : is_too_long bytes ≡ false
   pub printable : first_foreign_line bytes ≡ None
 
 -- a text whose lines are those of a script, whatever their names
 pub record IsWellFormed (bytes : List ℕ) : Type 0 where
-  pub text : IsText bytes
+  pub text : IsPlainText bytes
   pub grammar : AreLines (lines_of bytes)
 
 -- the names of lines are declared, each once, and their operands are of the right kinds
@@ -83,7 +83,7 @@ IsLinesFault forms _ = ⊥
 abbrev pub IsFaultOf : List ℕ → ScriptFault → Type 0
 IsFaultOf bytes TooLong = is_too_long bytes ≡ true
 IsFaultOf bytes (NotAscii n) = (is_too_long bytes ≡ false) × (first_foreign_line bytes ≡ Some n)
-IsFaultOf bytes (Grammar n) = IsText bytes × IsGrammarLine (lines_of bytes) n
+IsFaultOf bytes (Grammar n) = IsPlainText bytes × IsGrammarLine (lines_of bytes) n
 IsFaultOf bytes (MayLeave n) = ⊥
 IsFaultOf bytes NoMemory = ⊥
 IsFaultOf bytes fault = IsWellFormed bytes × IsLinesFault (forms_of (lines_of bytes)) fault

@@ -15,9 +15,9 @@ refused_or_later t Refused later = Some t.number
 refused_or_later t _ later = later
 
 -- the number of the first line that the heap's limit refused; none where no line is
-abbrev pub first_refused : List Attempt → Option ℕ
-first_refused [] = None
-first_refused (t ∷ ts) = refused_or_later t t.answer (first_refused ts)
+abbrev pub first_refusal : List Attempt → Option ℕ
+first_refusal [] = None
+first_refusal (t ∷ ts) = refused_or_later t t.answer (first_refusal ts)
 
 abbrev pub NoneIsRefused : List Attempt → Type 0
 NoneIsRefused trace = (k : ℕ) (t : Attempt) → slice_get trace k ≡ Some t → t.answer ≢ Refused
@@ -54,7 +54,7 @@ IsTable refused_by required from (r ∷ rs) =
 
 -- the first attempt that a heap of a length refuses as it runs a script, whatever follows it; none where it refuses none
 abbrev pub refused_first : Script → ℕ → Shape → ℕ → Option ℕ
-refused_first script budget shape length = first_refused (run script (Limit length) budget shape).trace
+refused_first script budget shape length = first_refusal (run script (Limit length) budget shape).trace
 
 -- The length of heap that a script needs, and its table of rises: at that length and every greater one the run meets no
 -- refusal of the heap, at every smaller one it meets one, and the first attempt refused is the one that the table names.

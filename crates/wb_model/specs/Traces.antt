@@ -56,8 +56,8 @@ pub record IsLine (rule : Rule) (made : ℕ) (asked : Request) (t : Attempt) : T
   pub due : asked.due ≡ true → t.answer ≡ Simulated
 
 -- the lines of attempts that were asked for, once a number of them were made
-abbrev pub AreLines : Rule → ℕ → List Request → List Attempt → Type 0
-AreLines rule made [] [] = Unit {0}
-AreLines rule made [] (t ∷ ts) = ⊥
-AreLines rule made (asked ∷ rest) [] = ⊥
-AreLines rule made (asked ∷ rest) (t ∷ ts) = IsLine rule made asked t × AreLines rule (made + 1) rest ts
+abbrev pub AreAnsweredLines : Rule → ℕ → List Request → List Attempt → Type 0
+AreAnsweredLines rule made [] [] = Unit {0}
+AreAnsweredLines rule made [] (t ∷ ts) = ⊥
+AreAnsweredLines rule made (asked ∷ rest) [] = ⊥
+AreAnsweredLines rule made (asked ∷ rest) (t ∷ ts) = IsLine rule made asked t × AreAnsweredLines rule (made + 1) rest ts

@@ -2,7 +2,7 @@
 
 ghost use Rattle.std.specs.Prelude.{◌≡◌, ◌≢◌, ℕ, ℤ, ◌+◌, ◌%◌, ◌<◌, ◌≤◌, ◌↔◌, List, Option, Some, None, nat_eq, length, take, drop, slice_get, slice_index};
 ghost use Rattle.wb_model.specs.Agreement.{Agrees, RefusesAtLeast, RefusesNoGrant, IsSameRun, IsSameButNotes};
-ghost use Rattle.wb_model.specs.Sizes.{first_refused, NoneIsRefused, IsFirstRefused, IsGreatestEnd, IsTable};
+ghost use Rattle.wb_model.specs.Sizes.{first_refusal, NoneIsRefused, IsFirstRefused, IsGreatestEnd, IsTable};
 ghost use Rattle.wb_model.specs.Throughout.{Throughout, AreCellsAfter, AreLeaksAfter};
 ghost use Rattle.wb_model.specs.Rest.{Unfolds};
 ghost use Rattle.wb_model.specs.Row.{IsSpacedFrom, IsLeastPlace, place_of, top_of};
@@ -11,7 +11,7 @@ ghost use Rattle.wb_model.specs.Run.{process, run, highest_end, required, rises,
 ghost use Rattle.wb_model.specs.Space.{AreFreeRuns, free_runs};
 ghost use Rattle.wb_model.specs.Sweeps.{run_at, AreAllFine, IsLeastUnfine, least_bad_or_cut};
 ghost use Rattle.wb_model.specs.Texts.{units_of_part};
-ghost use Rattle.wb_model.specs.Traces.{asked_for, AreLines, TellsSettings};
+ghost use Rattle.wb_model.specs.Traces.{asked_for, AreAnsweredLines, TellsSettings};
 ghost use Rattle.wb_model.specs.declared.limits.TheConstants.{CEILING};
 ghost use Rattle.wb_model.specs.declared.heap.Attempt.{Attempt};
 ghost use Rattle.wb_model.specs.declared.heap.Header.{Header};
@@ -60,7 +60,7 @@ pub fn rules_agree()
 /// the rule is; a simulated one is refused by the script's own setting, or named by the rule.
 pub fn lines_are_answered()
     ensures lines { (script : Script) (budget : ℕ) (shape : Shape) (r : Rule) →
-        AreLines r 0 (asked_for r 0 (process script budget)) (run script r budget shape).trace }
+        AreAnsweredLines r 0 (asked_for r 0 (process script budget)) (run script r budget shape).trace }
     ensures numbered { (script : Script) (budget : ℕ) (shape : Shape) (r : Rule) (k : ℕ) (t : Attempt) →
         slice_get (run script r budget shape).trace k ≡ Some t → t.number ≡ k + 1 }
     ensures settings { (script : Script) (budget : ℕ) → TellsSettings (process script budget) }
@@ -69,8 +69,8 @@ pub fn lines_are_answered()
 /// What is measured of a trace, in words: the number of the first line that the heap's limit refused, and none where no line
 /// is; and the greatest end of a granted line.
 pub fn traces_are_measured()
-    ensures refused { (trace : List Attempt) (number : ℕ) → (first_refused trace ≡ Some number) ↔ IsFirstRefused trace number }
-    ensures none { (trace : List Attempt) → (first_refused trace ≡ None) ↔ NoneIsRefused trace }
+    ensures refused { (trace : List Attempt) (number : ℕ) → (first_refusal trace ≡ Some number) ↔ IsFirstRefused trace number }
+    ensures none { (trace : List Attempt) → (first_refusal trace ≡ None) ↔ NoneIsRefused trace }
     ensures end { (trace : List Attempt) → IsGreatestEnd trace (highest_end trace) }
 {}
 
@@ -79,11 +79,11 @@ pub fn traces_are_measured()
 /// required length on the run is the one without a limit, but for notes.
 pub fn limits_refuse()
     ensures first { (script : Script) (budget : ℕ) (shape : Shape) (length : ℕ) → (run script Unlimited budget shape).outcome ≢ Cut Ceiling →
-        first_refused (run script (Limit length) budget shape).trace ≡ refused_at script budget shape length }
+        first_refusal (run script (Limit length) budget shape).trace ≡ refused_at script budget shape length }
     ensures none { (script : Script) (budget : ℕ) (shape : Shape) (length : ℕ) →
         (refused_at script budget shape length ≡ None) ↔ (required script budget shape ≤ length) }
     ensures table { (script : Script) (budget : ℕ) (shape : Shape) → (run script Unlimited budget shape).outcome ≢ Cut Ceiling →
-        IsTable (λ length. first_refused (run script (Limit length) budget shape).trace) (required script budget shape) 0 (rises script budget shape) }
+        IsTable (λ length. first_refusal (run script (Limit length) budget shape).trace) (required script budget shape) 0 (rises script budget shape) }
     ensures enough { (script : Script) (budget : ℕ) (shape : Shape) (length : ℕ) → (run script Unlimited budget shape).outcome ≢ Cut Ceiling →
         required script budget shape ≤ length → IsSameButNotes (run script Unlimited budget shape) (run script (Limit length) budget shape) }
     ensures within { (script : Script) (budget : ℕ) (shape : Shape) → required script budget shape ≤ CEILING }

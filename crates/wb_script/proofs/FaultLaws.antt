@@ -10,7 +10,7 @@ use Rattle.wb_model.specs.Forms.{forms_of}
 use Rattle.wb_model.specs.Kinds.{has_wrong_kind}
 use Rattle.wb_model.specs.Lines.{lines_of, first_foreign_line, is_too_long}
 use Rattle.wb_model.specs.Names.{Text, first_refused, uses_unknown, declares_again, passes_limit}
-use Rattle.wb_model.specs.Scripts.{AreLines, AreFirstLines, IsGrammarLine, IsText, IsWellFormed, IsTreeOf, IsScriptOf, IsLinesFault, IsFaultOf, main_of, line_of}
+use Rattle.wb_model.specs.Scripts.{AreLines, AreFirstLines, IsGrammarLine, IsPlainText, IsWellFormed, IsTreeOf, IsScriptOf, IsLinesFault, IsFaultOf, main_of, line_of}
 
 take_fewer : {X : Type 0} (n m : ℕ) (xs : List X) → n ≤ m → take n (take m xs) ≡ take n xs
 take_fewer zero m xs le = refl
@@ -90,7 +90,7 @@ no_lines_fault forms script tree = rw (tree.named.known, tree.named.once, tree.n
 data Finds (bytes : List ℕ) : ScriptFault → Type 0 where
   long : is_too_long bytes ≡ true → Finds bytes TooLong
   foreign : {n : ℕ} → is_too_long bytes ≡ false → first_foreign_line bytes ≡ Some n → Finds bytes (NotAscii n)
-  grammar : {n : ℕ} → IsText bytes → IsGrammarLine (lines_of bytes) n → Finds bytes (Grammar n)
+  grammar : {n : ℕ} → IsPlainText bytes → IsGrammarLine (lines_of bytes) n → Finds bytes (Grammar n)
   names : {fault : ScriptFault} → IsWellFormed bytes → lines_fault (forms_of (lines_of bytes)) ≡ Some fault → Finds bytes fault
 
 finds : (bytes : List ℕ) (fault : ScriptFault) → IsFaultOf bytes fault → Finds bytes fault

@@ -12,7 +12,7 @@ use Rattle.wb_model.specs.Grammar.{IsGrammatical, IsFirstMisfit}
 use Rattle.wb_model.specs.Keys.{keys}
 use Rattle.wb_model.specs.Lines.{lines_of, is_too_long, ends_line, pieces_from, onto_first, quoted_after}
 use Rattle.wb_model.specs.Names.{Text}
-use Rattle.wb_model.specs.Scripts.{IsGrammarLine, IsText, IsFaultOf}
+use Rattle.wb_model.specs.Scripts.{IsGrammarLine, IsPlainText, IsFaultOf}
 use Rattle.wb_script.specs.Reads.{roles_of, IsFormsFault}
 use Rattle.wb_script.proofs.Foreign.{at_most}
 
@@ -51,7 +51,7 @@ grammar_line lines k misfit = record {
   unfinished = λ e. misfit.unfinished (omega (arith, roles-length lines));
 }
 
-fault_of_lines : (bytes : List ℕ) (fault : ScriptFault) → IsText bytes → IsFormsFault (forms_of (lines_of bytes)) fault → IsFaultOf bytes fault
+fault_of_lines : (bytes : List ℕ) (fault : ScriptFault) → IsPlainText bytes → IsFormsFault (forms_of (lines_of bytes)) fault → IsFaultOf bytes fault
 fault_of_lines bytes (Grammar n) text (k, e, misfit) = (text, subst (IsGrammarLine (lines_of bytes)) (sym e) (grammar_line (lines_of bytes) k misfit))
 fault_of_lines bytes (UnknownName n) text (grammar, fault) = (record { text = text; grammar = grammar }, fault)
 fault_of_lines bytes (DoubleName n) text (grammar, fault) = (record { text = text; grammar = grammar }, fault)
@@ -80,7 +80,7 @@ few_pieces (byte ∷ bytes) quoted = go (nat_eq byte 10) (few_pieces bytes false
 pub few_lines : (bytes : List ℕ) → is_too_long bytes ≡ false → length (lines_of bytes) ≤ 65536
 few_lines bytes short = let few = few_pieces bytes false in let bound = at_most bytes short in omega arith
 
-pub faults_of_lines : {E : Type 0} (bytes : List ℕ) (forms : List (Form Text)) (r : Result (Result Script ScriptFault) E) → forms ≡ forms_of (lines_of bytes) → IsText bytes → IfOk r (λ answer. IfErr answer (IsFormsFault forms)) → IfOk r (λ answer. IfErr answer (IsFaultOf bytes))
+pub faults_of_lines : {E : Type 0} (bytes : List ℕ) (forms : List (Form Text)) (r : Result (Result Script ScriptFault) E) → forms ≡ forms_of (lines_of bytes) → IsPlainText bytes → IfOk r (λ answer. IfErr answer (IsFormsFault forms)) → IfOk r (λ answer. IfErr answer (IsFaultOf bytes))
 faults_of_lines bytes forms (Ok (Ok script)) is text told = told
 faults_of_lines bytes forms (Ok (Err fault)) is text told = fault_of_lines bytes fault text (subst (λ l. IsFormsFault l fault) is told)
 faults_of_lines bytes forms (Err error) is text told = told

@@ -7,7 +7,7 @@ ghost use Rattle.std.specs.Prelude.{◌≡◌, ◌≢◌, ◌≤◌, ◌+◌, le
 ghost use Rattle.wb_model.specs.Forms.{role_of_form};
 ghost use Rattle.wb_model.specs.Grammar.{IsGrammatical, IsFirstMisfit};
 ghost use Rattle.wb_model.specs.Names.{first_refused, known_of};
-ghost use Rattle.wb_model.specs.Scripts.{IsText, IsScriptOf, IsFaultOf, IsTreeOf, IsLinesFault, line_of};
+ghost use Rattle.wb_model.specs.Scripts.{IsPlainText, IsScriptOf, IsFaultOf, IsTreeOf, IsLinesFault, line_of};
 ghost use Rattle.wb_model.specs.Sound.{is_script};
 ghost use Rattle.wb_script.specs.Lent.{lent_texts, lent_forms};
 ghost use Rattle.wb_script.specs.Checks.{known_in, test_of};
@@ -164,7 +164,7 @@ fn read_forms(
 
 /// The script that a text spells, or the first fault of its lines.
 fn read_text(alloc: Global, bytes: &[u8]) -> Result<Result<Script, ScriptFault>, AllocError>
-    requires { IsText bytes.now }
+    requires { IsPlainText bytes.now }
     ensures script { IfOk result (λ answer. IfOk answer (IsScriptOf bytes.now)) }
     ensures sound { IfOk result (λ answer. IfOk answer (λ s. IsTrue (is_script s))) }
     ensures fault { IfOk result (λ answer. IfErr answer (IsFaultOf bytes.now)) }
@@ -184,7 +184,7 @@ pub fn read(alloc: Global, bytes: &[u8]) -> Result<Script, ScriptFault>
     ensures script { IfOk result (IsScriptOf bytes.now) }
     ensures sound { IfOk result (λ s. IsTrue (is_script s)) }
     ensures fault { IfErr result (λ fault. fault ≢ ScriptFault.NoMemory → IsFaultOf bytes.now fault) }
-    ensures memory { IfErr result (λ fault. fault ≡ ScriptFault.NoMemory → IsText bytes.now) }
+    ensures memory { IfErr result (λ fault. fault ≡ ScriptFault.NoMemory → IsPlainText bytes.now) }
 {
     if is_too_long(bytes) {
         return Err(ScriptFault::TooLong);

@@ -19,6 +19,7 @@ use Rattle.clap.specs.declared.parser.matches.ArgMatches.TheViews.{out-ArgMatche
 use Rattle.clap.proofs.CallerReads.{signed_reads}
 use Rattle.clap.proofs.ValueTestLemmas.{accepts-Accepts}
 use Rattle.clap.proofs.WalkLemmas.{one_text-rows}
+use Rattle.wb_model.specs.declared.limits.TheConstants.{CEILING, LARGEST_MINIMUM, SMALLEST_STEP, LARGEST_STEP}
 use Rattle.wb_model.specs.declared.heap.Shape.{Shape}
 use Rattle.workbench.specs.Command.{is_sixteenfold}
 use Rattle.workbench.specs.CommandLine.{command_line, run_level}
@@ -111,17 +112,17 @@ module _ (E : Type 0) (G : List ℕ → Result ℕ E → Type 0) (parses : (u : 
   OptionRead id low high = (f : Found) (r : Option ℕ) → RowsPass run_level.rules (rows_of f)
       → (one_text f id ≡ None → r ≡ None) → ((t : Text) → one_text f id ≡ Some t → ReadsOne G t r) → IsNumberOf id (rows_of f) low high r
 
-  pub limit_is : OptionRead (codes "limit") 0 16777216
-  limit_is f r passed = number_is run_level.rules (codes "limit") limit_rule 0 16777216 f r refl (omega arith) only_limit passed
+  pub limit_is : OptionRead (codes "limit") 0 CEILING
+  limit_is f r passed = number_is run_level.rules (codes "limit") limit_rule 0 CEILING f r refl (omega arith) only_limit passed
 
-  pub fail_is : OptionRead (codes "fail") 0 16777216
-  fail_is f r passed = number_is run_level.rules (codes "fail") fail_rule 0 16777216 f r refl (omega arith) only_fail passed
+  pub fail_is : OptionRead (codes "fail") 0 CEILING
+  fail_is f r passed = number_is run_level.rules (codes "fail") fail_rule 0 CEILING f r refl (omega arith) only_fail passed
 
-  pub min_is : OptionRead (codes "min") 0 1048576
-  min_is f r passed = number_is run_level.rules (codes "min") min_rule 0 1048576 f r refl (omega arith) only_min passed
+  pub min_is : OptionRead (codes "min") 0 LARGEST_MINIMUM
+  min_is f r passed = number_is run_level.rules (codes "min") min_rule 0 LARGEST_MINIMUM f r refl (omega arith) only_min passed
 
-  pub step_is : OptionRead (codes "step") 16 1048576
-  step_is f r passed = number_is run_level.rules (codes "step") step_rule 16 1048576 f r refl (omega arith) only_step passed
+  pub step_is : OptionRead (codes "step") SMALLEST_STEP LARGEST_STEP
+  step_is f r passed = number_is run_level.rules (codes "step") step_rule SMALLEST_STEP LARGEST_STEP f r refl (omega arith) only_step passed
 
 -- the number of an option, or the default, in its range
 pub record IsGivenOr (id : Text) (rows : List Row) (low high default n : ℕ) : Type 0 where
