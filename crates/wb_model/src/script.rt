@@ -6,14 +6,14 @@ use crate::items::Items;
 pub type Chars = Items<u8>;
 
 /// A variable that holds a pointer: a local by its index, or `self`.
-#[derive(Clone, Copy, Debug, PartialEq, Eq)]
+#[derive(Clone, Copy)]
 pub enum Holder {
     Local(u8),
     This,
 }
 
 /// A pointer operand.
-#[derive(Clone, Copy, Debug, PartialEq, Eq)]
+#[derive(Clone, Copy)]
 pub enum Pointer {
     Held(Holder),
     /// The field with this index of an object: what holds the object, and the class that it is declared with.
@@ -21,21 +21,21 @@ pub enum Pointer {
 }
 
 /// A number operand: itself, or a local.
-#[derive(Clone, Copy, Debug, PartialEq, Eq)]
+#[derive(Clone, Copy)]
 pub enum Number {
     Constant(i32),
     Variable(u8),
 }
 
 /// A text that can be changed: a TBuf, or an HBufC by a pointer to its cell.
-#[derive(Clone, Copy, Debug, PartialEq, Eq)]
+#[derive(Clone, Copy)]
 pub enum Writable {
     OwnBuffer(u8),
     InCell(Pointer),
 }
 
 /// A text that can be read: one that can be changed, a view, or a literal by its index.
-#[derive(Clone, Copy, Debug, PartialEq, Eq)]
+#[derive(Clone, Copy)]
 pub enum Readable {
     Of(Writable),
     ViewOf(u8),
@@ -43,7 +43,7 @@ pub enum Readable {
 }
 
 /// What an `if` asks.
-#[derive(Clone, Copy, Debug, PartialEq, Eq)]
+#[derive(Clone, Copy)]
 pub enum Condition {
     IsNull(Pointer),
     NotNull(Pointer),
@@ -52,14 +52,14 @@ pub enum Condition {
 }
 
 /// An argument of a call.
-#[derive(Clone, Copy, Debug, PartialEq, Eq)]
+#[derive(Clone, Copy)]
 pub enum Argument {
     Passed(Pointer),
     Given(Number),
 }
 
 /// What an allocation does where it is refused.
-#[derive(Clone, Copy, Debug, PartialEq, Eq)]
+#[derive(Clone, Copy)]
 pub enum Refusal {
     GivesNull,
     Leaves,
@@ -126,7 +126,7 @@ pub enum Statement {
 }
 
 /// How a local begins.
-#[derive(Clone, Copy, Debug, PartialEq, Eq)]
+#[derive(Clone, Copy)]
 pub enum Local {
     /// Null, of this class.
     OfPointer(Option<u16>),
@@ -145,7 +145,7 @@ pub struct Body {
 }
 
 /// A parameter of a procedure.
-#[derive(Clone, Copy, Debug, PartialEq, Eq)]
+#[derive(Clone, Copy)]
 pub enum Parameter {
     /// A pointer, with its class where it has one.
     OfPointer(Option<u16>),

@@ -4,7 +4,7 @@
 use crate::items::Items;
 
 /// The word that begins a line.
-#[derive(Clone, Copy, Debug, PartialEq, Eq)]
+#[derive(Clone, Copy)]
 pub enum Key {
     Proc,
     Ptr,
@@ -47,7 +47,7 @@ pub enum Key {
 }
 
 /// What a word behind the key may be.
-#[derive(Clone, Copy, Debug, PartialEq, Eq)]
+#[derive(Clone, Copy)]
 pub enum Letter {
     /// A name that the line declares.
     Declared,
@@ -74,7 +74,7 @@ pub enum Letter {
 }
 
 /// What a local holds.
-#[derive(Clone, Copy, Debug, PartialEq, Eq)]
+#[derive(Clone, Copy)]
 pub enum Kind {
     Pointer,
     Number,
@@ -84,7 +84,7 @@ pub enum Kind {
 }
 
 /// A word behind the key. `N` is a name or the text of a literal: the bytes, or what they stand for.
-#[derive(Clone, Copy, Debug)]
+#[derive(Clone, Copy)]
 pub enum Operand<N> {
     Name(N),
     Number(i32),
@@ -94,7 +94,7 @@ pub enum Operand<N> {
 
 /// What a name or a literal stands for. Locals count from 0 in their body, procedures and literals in the
 /// script.
-#[derive(Clone, Copy, Debug)]
+#[derive(Clone, Copy)]
 pub enum Meant {
     /// The next one of the procedures, or of the locals of the body: the line declares it.
     Declared(usize),
@@ -112,7 +112,7 @@ pub enum Meant {
 }
 
 /// What a line says.
-#[derive(Debug, Drop)]
+#[derive(Drop)]
 pub enum Form<N> {
     /// Nothing: it is blank, or a comment.
     Skip,
@@ -122,7 +122,7 @@ pub enum Form<N> {
 }
 
 /// What a line is to the grammar of blocks, whatever else it says.
-#[derive(Clone, Copy, Debug, PartialEq, Eq)]
+#[derive(Clone, Copy)]
 pub enum Role {
     Skip,
     Unknown,

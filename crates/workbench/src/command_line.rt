@@ -1,6 +1,6 @@
 //! How the words of a command line are read: `workbench run [--limit L | --fail N] [--min M] [--step G]
 //! [FILE]`. Nothing is opened or run here.
-ghost use Rattle.std.specs.Prelude.{◌≡◌, ◌≤◌, All, IfErr, IfOk, IsTrue, List, OnErr, OnOk, codes, false, map, true};
+ghost use Rattle.std.specs.Prelude.{◌≡◌, ◌≤◌, All, IfErr, IfOk, IsTrue, List, OnErr, OnOk, codes, false, map, pos, true};
 ghost use Rattle.std.specs.Str.{IsUtf8};
 ghost use Rattle.clap.specs.Words.{Text, app_of, first_of, found_of, rows_of, rule_of, takes, with_rule};
 ghost use Rattle.clap.specs.declared.builder.command.Command.TheViews.{out-Command as fields_of};
@@ -14,6 +14,7 @@ ghost use Rattle.workbench.specs.WordByWord.{AreRead};
 
 use crate::command::{Command, CommandFault, Task};
 use crate::file_name::FileName;
+use clap::builder::ValueParser;
 use clap::{Arg, ArgMatches, value_parser};
 use std::alloc::{AllocError, Global};
 use std::convert::AsStr;
@@ -184,10 +185,14 @@ fn number<'a>(alloc: Global, name: &'a str, value: &'a str, least: u32, most: u3
     ensures rule { rule_of result ≡ number_option name.entry.now least most }
     ensures own { result.global ≡ false }
 {
-    Arg::new(alloc, name)
-        .long(name)
-        .value_name(value)
-        .value_parser(value_parser!(u32).range(i64::from(least)..=i64::from(most)))
+    Arg::new(alloc, name).long(name).value_name(value).value_parser(between(least, most))
+}
+
+/// What takes the decimal numbers of a range.
+fn between<'a>(least: u32, most: u32) -> ValueParser<'a>
+    ensures { result ≡ ValueParser.Signed (pos least) (pos most) }
+{
+    value_parser!(u32).range(i64::from(least)..=i64::from(most))
 }
 
 /// Law: which words the command line takes, and what they spell, word by word. After the program's name and
