@@ -6,3 +6,10 @@ pub mod measure;
 pub mod sizing;
 #[cfg(test)]
 mod tests;
+
+pub use fault::SizeFault;
+pub use measure::size;
+pub use sizing::{Rises, Sizing};
+pub use wb_model::heap::Shape;
+pub use wb_model::script::Script;
+pub use wb_model::size::Rise;

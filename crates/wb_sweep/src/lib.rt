@@ -6,3 +6,10 @@ pub mod found;
 pub mod sweeping;
 #[cfg(test)]
 mod tests;
+
+pub use fault::SweepFault;
+pub use found::{Found, Sweep};
+pub use sweeping::sweep;
+pub use wb_model::heap::Shape;
+pub use wb_model::run::RunResult;
+pub use wb_model::script::Script;

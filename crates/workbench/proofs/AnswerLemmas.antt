@@ -11,8 +11,10 @@ use Rattle.workbench.specs.declared.command.Command.{Command}
 use Rattle.workbench.specs.declared.command.Task.{Task}
 use Rattle.workbench.specs.declared.command.Task.TheVariants as T
 use Rattle.workbench.specs.Answer.{IsAnswer, IsAnyMessage, IsMessage, IsPartWritten, IsReported, IsReportWritten, IsSaid}
-use Rattle.workbench.specs.Report.{IsReport, no_memory, outcome_status, task_status}
+use Rattle.workbench.specs.Report.{IsReport, IsTaskReport, no_memory}
+use Rattle.workbench.specs.RunText.{outcome_status}
 use Rattle.workbench.specs.Streams.{AppendsFirst}
+use Rattle.workbench.specs.TwoNumbers.{IsCheckReport, IsSizeReport, IsSweepReport}
 
 -- ---- a report's status is at most 3
 
@@ -23,11 +25,27 @@ outcome_status_le (Panicked panic) = lit≤ tt
 outcome_status_le NoCleanup = lit≤ tt
 outcome_status_le (Cut why) = lit≤ tt
 
-task_status_le : (task : Task) (budget : ℕ) (shape : Shape) (script : Script) → task_status task budget shape script ≤ 3
-task_status_le (T.Run rule) budget shape script = outcome_status_le (run script rule budget shape).outcome
+size_status_le : (script : Script) (budget : ℕ) (shape : Shape) (text : List ℕ) (status : ℕ) → IsSizeReport script budget shape text status → status ≤ 3
+size_status_le script budget shape text status (inl r) = omega (arith, r.1)
+size_status_le script budget shape text status (inr r) = omega (arith, r.1)
+
+sweep_status_le : (script : Script) (budget : ℕ) (shape : Shape) (text : List ℕ) (status : ℕ) → IsSweepReport script budget shape text status → status ≤ 3
+sweep_status_le script budget shape text status (inl r) = omega (arith, r.1)
+sweep_status_le script budget shape text status (inr (inl r)) = omega (arith, r.1)
+sweep_status_le script budget shape text status (inr (inr r)) = omega (arith, r.1)
+
+check_status_le : (script : Script) (budget : ℕ) (shape : Shape) (text : List ℕ) (status : ℕ) → IsCheckReport script budget shape text status → status ≤ 3
+check_status_le script budget shape text status (inl r) = sweep_status_le script budget shape r.second status r.swept
+check_status_le script budget shape text status (inr r) = omega (arith, r.1)
+
+task_status_le : (task : Task) (script : Script) (budget : ℕ) (shape : Shape) (text : List ℕ) (status : ℕ) → IsTaskReport task script budget shape text status → status ≤ 3
+task_status_le (T.Run rule) script budget shape text status r = subst (λ n. n ≤ 3) (sym r.1) (outcome_status_le (run script rule budget shape).outcome)
+task_status_le T.Size script budget shape text status r = size_status_le script budget shape text status r
+task_status_le T.Sweep script budget shape text status r = sweep_status_le script budget shape text status r
+task_status_le T.Check script budget shape text status r = check_status_le script budget shape text status r
 
 report_status_le : (command : Command) (bytes text : List ℕ) (status : ℕ) → IsReport command bytes text status → status ≤ 3
-report_status_le command bytes text status (inl r) = omega (arith, task_status_le command.task command.budget command.shape r.script, r.status_is)
+report_status_le command bytes text status (inl r) = task_status_le command.task r.script command.budget command.shape text status r.told
 report_status_le command bytes text status (inr r) = omega (arith, r.status_is)
 
 -- ---- the answer, where a read and a write failed or did not

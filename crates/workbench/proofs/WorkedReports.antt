@@ -8,7 +8,8 @@ use Rattle.wb_model.specs.declared.run.Note.TheVariants.{Heap, Available, Compre
 use Rattle.wb_model.specs.declared.run.Outcome.TheVariants.{Ended, Panicked, NoCleanup, Cut}
 use Rattle.wb_model.specs.declared.run.RunResult.{RunResult}
 use Rattle.wb_model.specs.declared.run.Why.TheVariants.{Budget, Ceiling}
-use Rattle.workbench.specs.Report.{run_text, run_status, outcome_text, outcome_status, fault_line}
+use Rattle.workbench.specs.Report.{fault_line}
+use Rattle.workbench.specs.RunText.{run_text, run_status, outcome_text, outcome_status}
 
 -- a cell that is never freed
 abbrev forgotten_cell : RunResult

@@ -5,6 +5,8 @@ pub mod Fault
 pub mod Passed
 pub mod Program
 pub mod Report
+pub mod RunText
 pub mod Spelled
 pub mod Streams
+pub mod TwoNumbers
 pub mod WordByWord

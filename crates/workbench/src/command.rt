@@ -13,8 +13,14 @@ use wb_model::heap::{Rule, Shape};
 /// What is to be done with the script.
 #[derive(Clone, Copy, Debug, PartialEq, Eq)]
 pub enum Task {
-    /// One run under this rule, and its report.
+    /// One run under this rule.
     Run(Rule),
+    /// The length of heap that the script needs, and what each shorter one refuses first.
+    Size,
+    /// The least number of an attempt whose simulated failure leaks or panics, and the run in which it does.
+    Sweep,
+    /// `Size`, and then `Sweep`.
+    Check,
 }
 
 /// A command: what is to be done, and with what.

@@ -4,14 +4,17 @@
 #![tactic(auto)]
 
 mod answer;
+mod appended;
 mod command;
 mod command_line;
 mod file_name;
 mod host;
+mod numbers_text;
 mod program;
 mod report;
 mod run_text;
 mod streams;
+mod tasks;
 
 use program::program;
 use std::process::ExitCode;

@@ -1,20 +1,17 @@
 //! What a command comes to on the bytes that were read: the whole text, and the exit status. Nothing is read
-//! or written here.
+//! or written here. What its task comes to on a script stands in `tasks`.
 
 ghost use Rattle.std.specs.Prelude.{◌≡◌, ◌≢◌, ◌++◌, OnOk, IfOk, IsTrue};
-ghost use Rattle.wb_model.specs.Sound.{is_script};
 ghost use Rattle.workbench.specs.Command.{is_answerable};
-ghost use Rattle.workbench.specs.Report.{IsReport, task_text, task_status, fault_line, refused, refused_at, outcome_status};
+ghost use Rattle.workbench.specs.Report.{IsReport, fault_line, refused, refused_at};
 
-use crate::command::{Command, Task};
-use crate::run_text::put_run;
+use crate::appended::appended;
+use crate::command::Command;
+use crate::tasks::carried_out;
 use std::alloc::Global;
 use std::io::Write;
-use wb_machine::machine::{self, RunFault};
 use wb_model::fault::ScriptFault;
 use wb_model::memory::NoMemory;
-use wb_model::run::Outcome;
-use wb_model::script::Script;
 
 /// A text that is ready to be written, and the exit status that goes with it.
 #[derive(Debug, Drop)]
@@ -33,43 +30,6 @@ pub fn report_on(alloc: Global, command: &Command, bytes: &[u8]) -> Result<Repor
         Ok(script) => carried_out(alloc, command, &script),
         Err(ScriptFault::NoMemory) => Err(NoMemory),
         Err(fault) => refusal(alloc, fault),
-    }
-}
-
-/// What the command's task comes to on a script.
-fn carried_out(alloc: Global, command: &Command, script: &Script) -> Result<Report, NoMemory>
-    requires ranges { IsTrue (is_answerable command.now) }
-    requires sound { IsTrue (is_script script.now) }
-    ensures text { IfOk result (λ r. r.text.items ≡
-        task_text command.now.task command.now.budget command.now.shape script.now) }
-    ensures status { IfOk result (λ r. r.status ≡
-        task_status command.now.task command.now.budget command.now.shape script.now) }
-{
-    let Task::Run(rule) = command.task;
-    match machine::run(alloc, script, rule, command.budget, command.shape) {
-        Ok(run) => {
-            let mut text = Vec::new(alloc);
-            put_run(&mut text, &run)?;
-            Ok(Report {
-                text,
-                status: status_of(&run.outcome),
-            })
-        }
-        // The command's shape is one that a heap may have.
-        Err(RunFault::BadShape) => unreachable!(),
-        Err(RunFault::NoMemory) => Err(NoMemory),
-    }
-}
-
-/// With which status a run is reported: 1 where it found something, 3 where it didn't come to its end.
-fn status_of(outcome: &Outcome) -> u8
-    ensures { result ≡ outcome_status outcome.now }
-{
-    match outcome {
-        Outcome::Ended { left: _, leaks } => u8::from(leaks.len() > 0),
-        Outcome::Panicked(_) => 1,
-        Outcome::NoCleanup => 0,
-        Outcome::Cut(_) => 3,
     }
 }
 
@@ -106,11 +66,11 @@ fn put_fault(text: &mut Vec<u8>, fault: ScriptFault) -> Result<(), NoMemory>
 fn put_refused(text: &mut Vec<u8>, fault: u8) -> Result<(), NoMemory>
     ensures { OnOk result (text.new.items ≡ text.old.items ++ refused fault) }
 {
-    writeln!(text, "refused {fault}").map_err(|_| NoMemory)
+    appended(writeln!(text, "refused {fault}"))
 }
 
 fn put_refused_at(text: &mut Vec<u8>, fault: u8, line: u32) -> Result<(), NoMemory>
     ensures { OnOk result (text.new.items ≡ text.old.items ++ refused_at fault line) }
 {
-    writeln!(text, "refused {fault} line {line}").map_err(|_| NoMemory)
+    appended(writeln!(text, "refused {fault} line {line}"))
 }

@@ -3,8 +3,9 @@
 
 ghost use Rattle.std.specs.Prelude.{◌≡◌, ◌++◌, OnOk};
 ghost use Rattle.std.specs.List.{flat_map};
-ghost use Rattle.workbench.specs.Report.{print_line, note_line, attempt_line, leak_line, leaks_text, end_line, panic_line, cut_line, outcome_text, run_text};
+ghost use Rattle.workbench.specs.RunText.{print_line, note_line, attempt_line, leak_line, leaks_text, end_line, panic_line, cut_line, outcome_text, run_text};
 
+use crate::appended::appended;
 use std::io::Write;
 use wb_model::heap::{Answer, Attempt, Panic};
 use wb_model::memory::NoMemory;
@@ -19,7 +20,7 @@ pub fn put_run(text: &mut Vec<u8>, run: &RunResult) -> Result<(), NoMemory>
     put_trace(text, &run.trace)?;
     put_outcome(text, &run.outcome)?;
     let steps = run.steps;
-    writeln!(text, "steps {steps}").map_err(|_| NoMemory)
+    appended(writeln!(text, "steps {steps}"))
 }
 
 fn put_lines(text: &mut Vec<u8>, lines: &Lines) -> Result<(), NoMemory>
@@ -59,7 +60,7 @@ fn put_note(text: &mut Vec<u8>, note: Note) -> Result<(), NoMemory>
         Note::Available(total, longest) => writeln!(text, "note available {total} {longest}"),
         Note::Compress(reclaimed) => writeln!(text, "note compress {reclaimed}"),
     };
-    put.map_err(|_| NoMemory)
+    appended(put)
 }
 
 fn put_trace(text: &mut Vec<u8>, trace: &Trace) -> Result<(), NoMemory>
@@ -100,7 +101,7 @@ fn put_attempt(text: &mut Vec<u8>, attempt: Attempt) -> Result<(), NoMemory>
             )
         }
     };
-    put.map_err(|_| NoMemory)
+    appended(put)
 }
 
 fn put_outcome(text: &mut Vec<u8>, outcome: &Outcome) -> Result<(), NoMemory>
@@ -112,7 +113,7 @@ fn put_outcome(text: &mut Vec<u8>, outcome: &Outcome) -> Result<(), NoMemory>
             put_leaks(text, leaks)
         }
         Outcome::Panicked(panic) => put_panic(text, *panic),
-        Outcome::NoCleanup => writeln!(text, "nocleanup").map_err(|_| NoMemory),
+        Outcome::NoCleanup => appended(writeln!(text, "nocleanup")),
         Outcome::Cut(why) => put_cut(text, *why),
     }
 }
@@ -124,14 +125,14 @@ fn put_end(text: &mut Vec<u8>, left: Option<i32>) -> Result<(), NoMemory>
         None => writeln!(text, "ended"),
         Some(code) => writeln!(text, "left {code}"),
     };
-    put.map_err(|_| NoMemory)
+    appended(put)
 }
 
 fn put_leaks(text: &mut Vec<u8>, leaks: &Leaks) -> Result<(), NoMemory>
     ensures { OnOk result (text.new.items ≡ text.old.items ++ leaks_text leaks.now) }
 {
     let count = leaks.len();
-    writeln!(text, "leaks {count}").map_err(|_| NoMemory)?;
+    appended(writeln!(text, "leaks {count}"))?;
     for leak in leaks.as_slice() {
         put_leak(text, *leak)?;
     }
@@ -146,25 +147,23 @@ fn put_leak(text: &mut Vec<u8>, leak: Leak) -> Result<(), NoMemory>
         length,
         place,
     } = leak;
-    writeln!(text, "leak {number} length {length} place {place}").map_err(|_| NoMemory)
+    appended(writeln!(text, "leak {number} length {length} place {place}"))
 }
 
 fn put_panic(text: &mut Vec<u8>, panic: Panic) -> Result<(), NoMemory>
     ensures { OnOk result (text.new.items ≡ text.old.items ++ panic_line panic) }
 {
     match panic {
-        Panic::User(number) => writeln!(text, "panic USER {number}").map_err(|_| NoMemory),
+        Panic::User(number) => appended(writeln!(text, "panic USER {number}")),
         Panic::Alloc(place) => put_failed_check(text, place),
-        Panic::Workbench(number) => {
-            writeln!(text, "panic WORKBENCH {number}").map_err(|_| NoMemory)
-        }
+        Panic::Workbench(number) => { appended(writeln!(text, "panic WORKBENCH {number}")) }
     }
 }
 
 fn put_failed_check(text: &mut Vec<u8>, place: u32) -> Result<(), NoMemory>
     ensures { OnOk result (text.new.items ≡ text.old.items ++ panic_line (Panic.Alloc place)) }
 {
-    writeln!(text, "panic ALLOC {place:08x}").map_err(|_| NoMemory)
+    appended(writeln!(text, "panic ALLOC {place:08x}"))
 }
 
 fn put_cut(text: &mut Vec<u8>, why: Why) -> Result<(), NoMemory>
@@ -174,7 +173,7 @@ fn put_cut(text: &mut Vec<u8>, why: Why) -> Result<(), NoMemory>
         Why::Budget => writeln!(text, "cut budget"),
         Why::Ceiling => writeln!(text, "cut ceiling"),
     };
-    put.map_err(|_| NoMemory)
+    appended(put)
 }
 
 #[cfg(test)]

@@ -1,6 +1,6 @@
 -- Proof: put_failed_check. A number that is padded to eight digits is its eight digits.
 use Rattle.std.proofs.Common.{rules, ◌≡◌, ◌++◌, OnOk, codes}
-use Rattle.workbench.specs.Report.{eight_digits}
+use Rattle.workbench.specs.RunText.{eight_digits}
 use Rattle.workbench.proofs.Hexadecimal.{eight_digits_styled}
 use Rattle.workbench.proofs.run_text.put_failed_check.Goals as goal
 

@@ -1,7 +1,7 @@
 -- Proof: put_lines. The lines of the items so far have been appended.
 use Rattle.std.proofs.Common.{◌≡◌, ◌++◌, take}
 use Rattle.std.specs.List.{flat_map}
-use Rattle.workbench.specs.Report.{print_line}
+use Rattle.workbench.specs.RunText.{print_line}
 use Rattle.workbench.proofs.run_text.put_lines.Given as goal
 
 abbrev pub invariant-loop-line : goal.invariant-loop-line

@@ -1,0 +1,117 @@
+-- What `size`, `sweep` and `check` print, and what that means of runs: how long the heap must be, which attempt each shorter
+-- heap refuses first, and the least number of an attempt whose simulated failure leaks or panics.
+use Rattle.std.specs.Prelude.{◌≡◌, ◌≢◌, ◌⊎◌, ℕ, List, [], ◌∷◌, ◌++◌, codes, length}
+use Rattle.std.specs.Fmt.{decimal}
+use Rattle.std.specs.Option.{option_map_or}
+use Rattle.wb_model.specs.declared.heap.Rule.TheVariants.{Unlimited}
+use Rattle.wb_model.specs.declared.heap.Shape.{Shape}
+use Rattle.wb_model.specs.declared.run.Outcome.TheVariants.{Cut}
+use Rattle.wb_model.specs.declared.run.RunResult.{RunResult}
+use Rattle.wb_model.specs.declared.run.Why.{Why}
+use Rattle.wb_model.specs.declared.run.Why.TheVariants.{Budget, Ceiling}
+use Rattle.wb_model.specs.declared.script.Script.{Script}
+use Rattle.wb_model.specs.declared.size.Rise.{Rise}
+use Rattle.wb_model.specs.Run.{run}
+use Rattle.wb_model.specs.Sizes.{IsHeapLength}
+use Rattle.wb_model.specs.Sweeps.{run_at, AreAllFine, IsLeastBad, IsLeastCut}
+use Rattle.wb_sweep.specs.declared.found.Sweep.{Sweep}
+use Rattle.workbench.specs.RunText.{line, run_text}
+
+-- ---- how long the heap must be
+
+-- lengths from one on, up to the next line's, are refused this attempt first
+abbrev pub refuses_line : ℕ → ℕ → List ℕ
+refuses_line from number = line (codes "from " ++ decimal from ++ codes " refuses " ++ decimal number)
+
+-- a table of rises, from a length on: each line begins where the one before ends, at its top
+abbrev pub table_text : ℕ → List Rise → List ℕ
+table_text from [] = []
+table_text from (rise ∷ rises) = refuses_line from rise.number ++ table_text rise.top rises
+
+abbrev pub size_text : ℕ → List Rise → List ℕ
+size_text required rises = line (codes "required " ++ decimal required) ++ table_text 0 rises ++ line (codes "enough from " ++ decimal required)
+
+-- the run under this number was cut
+abbrev pub cut_at_line : ℕ → Why → List ℕ
+cut_at_line number Budget = line (codes "cut " ++ decimal number ++ codes " budget")
+cut_at_line number Ceiling = line (codes "cut " ++ decimal number ++ codes " ceiling")
+
+-- The length is told. It is the least at which the run meets no refusal of the heap, and for each smaller one the line of the
+-- table whose range holds it names the first attempt that the heap refuses (`IsHeapLength`). The run without a limit isn't cut.
+pub record IsSized (script : Script) (budget : ℕ) (shape : Shape) (text : List ℕ) : Type 0 where
+  pub required : ℕ
+  pub rises : List Rise
+  pub uncut : (why : Why) → (run script Unlimited budget shape).outcome ≢ Cut why
+  pub needed : IsHeapLength script budget shape required rises
+  pub text_is : text ≡ size_text required rises
+
+-- no length is told: the run without a limit is cut
+pub record IsUnsized (script : Script) (budget : ℕ) (shape : Shape) (text : List ℕ) : Type 0 where
+  pub why : Why
+  pub cut : (run script Unlimited budget shape).outcome ≡ Cut why
+  pub text_is : text ≡ cut_at_line 0 why
+
+-- the report of `size`
+abbrev pub IsSizeReport : Script → ℕ → Shape → List ℕ → ℕ → Type 0
+IsSizeReport script budget shape text status =
+    (IsSized script budget shape text × (status ≡ 0)) ⊎ (IsUnsized script budget shape text × (status ≡ 3))
+
+-- ---- which failing attempt shows a leak or a panic
+
+abbrev pub attempts_line : ℕ → List ℕ
+attempts_line attempts = line (codes "attempts " ++ decimal attempts)
+
+-- how many attempts the run without failure makes
+abbrev pub attempts_of : Script → ℕ → Shape → ℕ
+attempts_of script budget shape = length (run_at script budget shape 0).trace
+
+abbrev pub found_text : ℕ → RunResult → List ℕ
+found_text number result = line (codes "number " ++ decimal number) ++ run_text result
+
+abbrev pub none_line : List ℕ
+none_line = line (codes "number none")
+
+-- what a sweep found, as it is printed
+abbrev pub sweep_text : Sweep → List ℕ
+sweep_text sweep = attempts_line sweep.attempts ++ option_map_or (λ found. found_text found.number found.result) sweep.found none_line
+
+-- A number is told, and the run in which its attempt fails. It is the least whose simulated failure leaks or panics; no
+-- smaller number's run is cut (`IsLeastBad`).
+pub record IsFailing (script : Script) (budget : ℕ) (shape : Shape) (text : List ℕ) : Type 0 where
+  pub number : ℕ
+  pub result : RunResult
+  pub least : IsLeastBad script budget shape number result
+  pub text_is : text ≡ attempts_line (attempts_of script budget shape) ++ found_text number result
+
+-- no number's failure leaks or panics, of all numbers from 0 on, and no such run is cut
+pub record IsNeverFailing (script : Script) (budget : ℕ) (shape : Shape) (text : List ℕ) : Type 0 where
+  pub fine : AreAllFine (run_at script budget shape)
+  pub text_is : text ≡ attempts_line (attempts_of script budget shape) ++ none_line
+
+-- no answer is told: a number's run is cut, and no smaller number's run leaks, panics or is cut (`IsLeastCut`)
+pub record IsUnswept (script : Script) (budget : ℕ) (shape : Shape) (text : List ℕ) : Type 0 where
+  pub number : ℕ
+  pub why : Why
+  pub least : IsLeastCut script budget shape number why
+  pub text_is : text ≡ cut_at_line number why
+
+-- the report of `sweep`
+abbrev pub IsSweepReport : Script → ℕ → Shape → List ℕ → ℕ → Type 0
+IsSweepReport script budget shape text status =
+    (IsFailing script budget shape text × (status ≡ 1))
+    ⊎ ((IsNeverFailing script budget shape text × (status ≡ 0)) ⊎ (IsUnswept script budget shape text × (status ≡ 3)))
+
+-- ---- both
+
+-- the length, and then the number or that there is none
+pub record IsBoth (script : Script) (budget : ℕ) (shape : Shape) (text : List ℕ) (status : ℕ) : Type 0 where
+  pub first : List ℕ
+  pub second : List ℕ
+  pub sized : IsSized script budget shape first
+  pub swept : IsSweepReport script budget shape second status
+  pub text_is : text ≡ first ++ second
+
+-- the report of `check`; where no length is told, nothing else is
+abbrev pub IsCheckReport : Script → ℕ → Shape → List ℕ → ℕ → Type 0
+IsCheckReport script budget shape text status =
+    IsBoth script budget shape text status ⊎ (IsUnsized script budget shape text × (status ≡ 3))

@@ -1,0 +1,70 @@
+//! The text of the two numbers, line by line: how long the heap must be, and which attempt's failure shows a fault. What
+//! a line says is said here alone.
+
+ghost use Rattle.std.specs.Prelude.{◌≡◌, ◌++◌, OnOk};
+ghost use Rattle.workbench.specs.TwoNumbers.{cut_at_line, refuses_line, size_text, sweep_text, table_text};
+
+use crate::appended::appended;
+use crate::run_text::put_run;
+use std::io::Write;
+use wb_model::memory::NoMemory;
+use wb_model::run::Why;
+use wb_model::size::Rise;
+use wb_size::Sizing;
+use wb_sweep::Sweep;
+
+/// Appends the required length and the table of what shorter heaps refuse first.
+pub fn put_sizing(text: &mut Vec<u8>, sizing: &Sizing) -> Result<(), NoMemory>
+    ensures { OnOk result (text.new.items ≡ text.old.items ++ size_text sizing.now.required sizing.now.rises) }
+{
+    let required = sizing.required;
+    appended(writeln!(text, "required {required}"))?;
+    put_table(text, sizing.rises.as_slice())?;
+    appended(writeln!(text, "enough from {required}"))
+}
+
+/// Appends a line for each rise, from the top of the one before on.
+fn put_table(text: &mut Vec<u8>, rises: &[Rise]) -> Result<(), NoMemory>
+    ensures { OnOk result (text.new.items ≡ text.old.items ++ table_text 0 rises.now) }
+{
+    let mut from = 0;
+    for rise in rises {
+        put_refuses(text, from, rise.number)?;
+        from = rise.top;
+    }
+    Ok(())
+}
+
+fn put_refuses(text: &mut Vec<u8>, from: u32, number: u32) -> Result<(), NoMemory>
+    ensures { OnOk result (text.new.items ≡ text.old.items ++ refuses_line from number) }
+{
+    appended(writeln!(text, "from {from} refuses {number}"))
+}
+
+/// Appends how many attempts the run without failure makes, and the number that was found with its run, or that there
+/// is none.
+pub fn put_sweep(text: &mut Vec<u8>, sweep: &Sweep) -> Result<(), NoMemory>
+    ensures { OnOk result (text.new.items ≡ text.old.items ++ sweep_text sweep.now) }
+{
+    let attempts = sweep.attempts;
+    appended(writeln!(text, "attempts {attempts}"))?;
+    match &sweep.found {
+        Some(found) => {
+            let number = found.number;
+            appended(writeln!(text, "number {number}"))?;
+            put_run(text, &found.result)
+        }
+        None => appended(writeln!(text, "number none")),
+    }
+}
+
+/// Appends the line of a run that was cut, under the number of its failing attempt.
+pub fn put_cut_at(text: &mut Vec<u8>, number: u32, why: Why) -> Result<(), NoMemory>
+    ensures { OnOk result (text.new.items ≡ text.old.items ++ cut_at_line number why) }
+{
+    let put = match why {
+        Why::Budget => writeln!(text, "cut {number} budget"),
+        Why::Ceiling => writeln!(text, "cut {number} ceiling"),
+    };
+    appended(put)
+}

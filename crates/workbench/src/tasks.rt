@@ -1,0 +1,164 @@
+//! What each task comes to on a script: the text, and the exit status. Nothing is read or written here.
+
+ghost use Rattle.std.specs.Prelude.{◌≡◌, ◌≤◌, IfOk, IsTrue};
+ghost use Rattle.wb_model.specs.Run.{run};
+ghost use Rattle.wb_model.specs.Sound.{is_script};
+ghost use Rattle.wb_model.specs.Space.{is_shape};
+ghost use Rattle.workbench.specs.Command.{is_answerable};
+ghost use Rattle.workbench.specs.Report.{IsTaskReport};
+ghost use Rattle.workbench.specs.RunText.{outcome_status, run_text, run_status};
+ghost use Rattle.workbench.specs.TwoNumbers.{IsSizeReport, IsSweepReport, IsCheckReport};
+
+use crate::command::{Command, Task};
+use crate::numbers_text::{put_cut_at, put_sizing, put_sweep};
+use crate::report::Report;
+use crate::run_text::put_run;
+use std::alloc::Global;
+use wb_machine::RunFault;
+use wb_model::heap::{Rule, Shape};
+use wb_model::limits::LARGEST_BUDGET;
+use wb_model::memory::NoMemory;
+use wb_model::run::Outcome;
+use wb_model::script::Script;
+use wb_size::{SizeFault, size};
+use wb_sweep::{SweepFault, sweep};
+
+/// The exit status where nothing was found.
+const NOTHING_FOUND: u8 = 0;
+
+/// The exit status where a leak or a panic was found.
+const FOUND: u8 = 1;
+
+/// The exit status where a run was cut.
+const CUT: u8 = 3;
+
+/// What the command's task comes to on a script. The only error is that memory ran out.
+pub fn carried_out(alloc: Global, command: &Command, script: &Script) -> Result<Report, NoMemory>
+    requires ranges { IsTrue (is_answerable command.now) }
+    requires sound { IsTrue (is_script script.now) }
+    ensures { IfOk result (λ r. IsTaskReport command.now.task script.now command.now.budget command.now.shape
+        r.text.items r.status) }
+{
+    let (budget, shape) = (command.budget, command.shape);
+    match command.task {
+        Task::Run(rule) => ran(alloc, script, rule, budget, shape),
+        Task::Size => sized(alloc, script, budget, shape),
+        Task::Sweep => swept(alloc, script, budget, shape),
+        Task::Check => checked(alloc, script, budget, shape),
+    }
+}
+
+/// One run, and its text.
+fn ran(
+    alloc: Global,
+    script: &Script,
+    rule: Rule,
+    budget: u32,
+    shape: Shape,
+) -> Result<Report, NoMemory>
+    requires script { IsTrue (is_script script.now) }
+    requires least { 1 ≤ budget }
+    requires greatest { budget ≤ LARGEST_BUDGET }
+    requires shape { IsTrue (is_shape shape) }
+    ensures text { IfOk result (λ r. r.text.items ≡ run_text (run script.now rule budget shape)) }
+    ensures status { IfOk result (λ r. r.status ≡ run_status (run script.now rule budget shape)) }
+{
+    match wb_machine::run(alloc, script, rule, budget, shape) {
+        Ok(run) => {
+            let mut text = Vec::new(alloc);
+            put_run(&mut text, &run)?;
+            Ok(Report {
+                text,
+                status: status_of(&run.outcome),
+            })
+        }
+        // The command's shape is one that a heap may have.
+        Err(RunFault::BadShape) => unreachable!(),
+        Err(RunFault::NoMemory) => Err(NoMemory),
+    }
+}
+
+/// With which status a run is reported: 1 where it found something, 3 where it didn't come to its end.
+fn status_of(outcome: &Outcome) -> u8
+    ensures { result ≡ outcome_status outcome.now }
+{
+    match outcome {
+        Outcome::Ended { left: _, leaks } => u8::from(leaks.len() > 0),
+        Outcome::Panicked(_) => FOUND,
+        Outcome::NoCleanup => NOTHING_FOUND,
+        Outcome::Cut(_) => CUT,
+    }
+}
+
+/// How long the heap must be, or the line of a run that was cut.
+fn sized(alloc: Global, script: &Script, budget: u32, shape: Shape) -> Result<Report, NoMemory>
+    requires script { IsTrue (is_script script.now) }
+    requires least { 1 ≤ budget }
+    requires greatest { budget ≤ LARGEST_BUDGET }
+    requires shape { IsTrue (is_shape shape) }
+    ensures { IfOk result (λ r. IsSizeReport script.now budget shape r.text.items r.status) }
+{
+    let mut text = Vec::new(alloc);
+    match size(alloc, script, budget, shape) {
+        Ok(sizing) => {
+            put_sizing(&mut text, &sizing)?;
+            Ok(Report {
+                text,
+                status: NOTHING_FOUND,
+            })
+        }
+        Err(SizeFault::Cut { number, why }) => {
+            put_cut_at(&mut text, number, why)?;
+            Ok(Report { text, status: CUT })
+        }
+        // The command's shape is one that a heap may have.
+        Err(SizeFault::BadShape) => unreachable!(),
+        Err(SizeFault::NoMemory) => Err(NoMemory),
+    }
+}
+
+/// Which attempt's failure leaks or panics, or the line of a run that was cut.
+fn swept(alloc: Global, script: &Script, budget: u32, shape: Shape) -> Result<Report, NoMemory>
+    requires script { IsTrue (is_script script.now) }
+    requires least { 1 ≤ budget }
+    requires greatest { budget ≤ LARGEST_BUDGET }
+    requires shape { IsTrue (is_shape shape) }
+    ensures { IfOk result (λ r. IsSweepReport script.now budget shape r.text.items r.status) }
+{
+    let mut text = Vec::new(alloc);
+    match sweep(alloc, script, budget, shape) {
+        Ok(told) => {
+            put_sweep(&mut text, &told)?;
+            let status = match told.found {
+                Some(_) => FOUND,
+                None => NOTHING_FOUND,
+            };
+            Ok(Report { text, status })
+        }
+        Err(SweepFault::Cut { number, why }) => {
+            put_cut_at(&mut text, number, why)?;
+            Ok(Report { text, status: CUT })
+        }
+        // The command's shape is one that a heap may have.
+        Err(SweepFault::BadShape) => unreachable!(),
+        Err(SweepFault::NoMemory) => Err(NoMemory),
+    }
+}
+
+/// Both, one behind the other; where the script wasn't sized, that alone.
+fn checked(alloc: Global, script: &Script, budget: u32, shape: Shape) -> Result<Report, NoMemory>
+    requires script { IsTrue (is_script script.now) }
+    requires least { 1 ≤ budget }
+    requires greatest { budget ≤ LARGEST_BUDGET }
+    requires shape { IsTrue (is_shape shape) }
+    ensures { IfOk result (λ r. IsCheckReport script.now budget shape r.text.items r.status) }
+{
+    let mut report = sized(alloc, script, budget, shape)?;
+    if report.status == CUT {
+        return Ok(report);
+    }
+    let sweep = swept(alloc, script, budget, shape)?;
+    report.text.extend_from_slice(sweep.text.as_slice())?;
+    report.status = sweep.status;
+    Ok(report)
+}
