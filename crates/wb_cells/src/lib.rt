@@ -9,5 +9,3 @@ pub mod cells;
 mod free_list;
 mod layout;
 mod starts;
-#[cfg(test)]
-mod tests;

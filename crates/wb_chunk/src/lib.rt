@@ -15,8 +15,6 @@ use std::marker::Model;
 
 mod growth;
 mod region;
-#[cfg(test)]
-mod tests;
 
 /// The most words that a chunk can have: 16,777,216 bytes, the ceiling of a simulated heap.
 pub const MOST_WORDS: u32 = 4_194_304;

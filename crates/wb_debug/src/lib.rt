@@ -12,11 +12,7 @@ pub use wb_model::run::{Leaks, Note, Trace};
 
 pub mod debug_heap;
 pub mod fault;
-#[cfg(test)]
-mod mark_tests;
 mod marks;
 mod payloads;
 mod rules;
 mod setting;
-#[cfg(test)]
-mod tests;

@@ -7,8 +7,6 @@
 pub mod hbuf;
 mod reading;
 pub mod sources;
-#[cfg(test)]
-mod tests;
 mod writing;
 
 pub use hbuf::{delete, edit, edit_buf, length, make, max_len, print_units, remake, set_length};

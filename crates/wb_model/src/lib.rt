@@ -17,6 +17,4 @@ pub mod run;
 pub mod script;
 pub mod script_lines;
 pub mod size;
-#[cfg(test)]
-mod tests;
 pub mod text;

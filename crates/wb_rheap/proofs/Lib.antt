@@ -4,5 +4,4 @@ pub mod Growing
 pub mod Kept
 pub mod LongestRuns
 pub mod Moving
-pub mod Numbers
 pub mod Reallocated

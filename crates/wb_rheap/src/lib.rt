@@ -13,10 +13,6 @@ pub mod heap;
 mod moves;
 mod payloads;
 mod realloc;
-#[cfg(test)]
-mod realloc_tests;
 mod room;
 mod runs;
 mod space;
-#[cfg(test)]
-mod tests;

@@ -5,8 +5,6 @@
 #![tactic(auto)]
 
 pub mod buf;
-#[cfg(test)]
-mod tests;
 pub mod units;
 
 pub use buf::Buf;

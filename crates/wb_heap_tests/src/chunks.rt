@@ -1,0 +1,128 @@
+//! `wb_chunk`: each call of a chunk on its happy path, and what a refused growth leaves.
+
+ghost use Rattle.std.specs.Prelude.{◌≡◌, ◌+◌, ◌≤◌, length, OnOk, IfOk};
+
+use std::alloc::{AllocError, Global};
+use std::test::Fail;
+use wb_chunk::{Chunk, MOST_WORDS};
+
+// The words 1 to 6.
+fn six_words(alloc: Global) -> Result<Chunk, AllocError>
+    ensures { IfOk result (λ c. length c ≡ 6) }
+{
+    let mut chunk = Chunk::new(alloc);
+    chunk.grow(6)?;
+    for i in 0..6 {
+        chunk.set_word(i, i + 1);
+    }
+    Ok(chunk)
+}
+
+// A growth of which a caller's proof sees the length alone: a list of millions of zeros is too long for it.
+fn grow_by(chunk: &mut Chunk, n: u32) -> Result<(), AllocError>
+    requires { length chunk.old + n ≤ MOST_WORDS }
+    ensures { OnOk result (length chunk.new ≡ length chunk.old + n) }
+{
+    chunk.grow(n)
+}
+
+fn holds(chunk: &Chunk, words: &[u32]) -> bool {
+    let mut same = chunk.words() as usize == words.len();
+    for i in 0..chunk.words() {
+        same = same && words.get(i as usize).copied() == Some(chunk.word(i));
+    }
+    same
+}
+
+#[test]
+fn a_chunk_grows_by_zeros(rt: HostRuntime) -> Result<(), Fail> {
+    let mut chunk = Chunk::new(rt.alloc());
+    assert_eq!(rt; chunk.words(), 0);
+    chunk.grow(2)?;
+    chunk.set_word(1, 0xffff_ffff);
+    chunk.grow(0)?;
+    chunk.grow(3)?;
+    assert!(rt; holds(&chunk, &[0, 0xffff_ffff, 0, 0, 0]));
+    Ok(())
+}
+
+#[test]
+fn words_outlast_many_growths(rt: HostRuntime) -> Result<(), Fail> {
+    let mut chunk = Chunk::new(rt.alloc());
+    for i in 0..3000 {
+        let before = chunk.words();
+        assert_eq!(rt; before, i);
+        chunk.grow(1)?;
+        chunk.set_word(before, 7 * i);
+    }
+    for i in 0..chunk.words() {
+        assert_eq!(rt; chunk.word(i), 7 * i);
+    }
+    Ok(())
+}
+
+#[test]
+fn a_chunk_reaches_its_bound(rt: HostRuntime) -> Result<(), Fail> {
+    let mut chunk = Chunk::new(rt.alloc());
+    grow_by(&mut chunk, MOST_WORDS - 1)?;
+    grow_by(&mut chunk, 1)?;
+    assert_eq!(rt; chunk.words(), MOST_WORDS);
+    assert_eq!(rt; chunk.word(MOST_WORDS - 1), 0);
+    Ok(())
+}
+
+#[test]
+fn a_word_has_a_low_and_a_high_half(rt: HostRuntime) -> Result<(), Fail> {
+    let mut chunk = six_words(rt.alloc())?;
+    chunk.set_word(2, 0x1234_5678);
+    assert_eq!(rt; chunk.half(4), 0x5678);
+    assert_eq!(rt; chunk.half(5), 0x1234);
+    chunk.set_half(4, 0xabcd);
+    assert_eq!(rt; chunk.word(2), 0x1234_abcd);
+    chunk.set_half(5, 0xfedc);
+    assert!(rt; holds(&chunk, &[1, 2, 0xfedc_abcd, 4, 5, 6]));
+    Ok(())
+}
+
+#[test]
+fn the_named_words_become_zero(rt: HostRuntime) -> Result<(), Fail> {
+    let mut chunk = six_words(rt.alloc())?;
+    chunk.zero(1, 3);
+    chunk.zero(6, 0);
+    assert!(rt; holds(&chunk, &[1, 0, 0, 0, 5, 6]));
+    Ok(())
+}
+
+#[test]
+fn a_copy_reads_its_source_first(rt: HostRuntime) -> Result<(), Fail> {
+    let mut up = six_words(rt.alloc())?;
+    up.copy(0, 1, 4);
+    assert!(rt; holds(&up, &[1, 1, 2, 3, 4, 6]));
+    let mut down = six_words(rt.alloc())?;
+    down.copy(2, 1, 4);
+    assert!(rt; holds(&down, &[1, 3, 4, 5, 6, 6]));
+    let mut apart = six_words(rt.alloc())?;
+    apart.copy(4, 0, 2);
+    assert!(rt; holds(&apart, &[5, 6, 3, 4, 5, 6]));
+    Ok(())
+}
+
+// Where an allocation is made to fail, this meets the refusal.
+#[test]
+fn a_refused_growth_leaves_the_chunk(rt: HostRuntime) {
+    let mut chunk = Chunk::new(rt.alloc());
+    let first = chunk.grow(2);
+    if first.is_err() {
+        assert_eq!(rt; chunk.words(), 0);
+        return;
+    }
+    chunk.set_word(0, 5);
+    chunk.set_word(1, 6);
+    if chunk.grow(100).is_ok() {
+        assert_eq!(rt; chunk.words(), 102);
+        assert_eq!(rt; chunk.word(0), 5);
+        assert_eq!(rt; chunk.word(1), 6);
+    } else {
+        assert!(rt; holds(&chunk, &[5, 6]));
+    }
+}

@@ -1,0 +1,292 @@
+//! Calls of a debug heap with the answers that they must give, so that a worked debug heap is a table of calls.
+
+ghost use Rattle.std.specs.Prelude.{◌≡◌};
+
+use crate::heap_calls::{Cell, header, pointer};
+use std::alloc::Global;
+use wb_debug::{DebugFault, DebugHeap};
+use wb_model::heap::{Answer, Attempt, Gave, Kind, Panic, Ptr, Rule, Shape};
+use wb_model::limits::CEILING;
+use wb_model::run::{Leak, Leaks, Note, Trace};
+
+/// A call of a debug heap, and the answer that it must give, last. Lengths are bytes without a header.
+#[derive(Clone, Copy)]
+pub(crate) enum Call {
+    /// The cell that is granted.
+    Alloc(u32, Cell),
+    /// The attempt is denied.
+    NoAlloc(u32),
+    AllocPastCeiling(u32),
+    /// Where the cell stands then, and with which number.
+    Realloc(Cell, u32, Cell),
+    /// The attempt is denied.
+    NoRealloc(Cell, u32),
+    ReallocPastCeiling(Cell, u32),
+    Free(Cell),
+    /// The pointer names no cell.
+    NoFree(Cell),
+    Mark,
+    /// Whether it panics, and with what; so in the next two.
+    MarkEnd(u32, Option<Panic>),
+    Check(u32, Option<Panic>),
+    CheckAll(u32, Option<Panic>),
+    FailNext(u32),
+    FailEvery(u32),
+    FailNone,
+    Store(Cell, u32, u32),
+    StoreHalf(Cell, u32, u16),
+    /// From the one to the other, so many words.
+    Copy(Cell, Cell, u32),
+    /// A word of the payload.
+    Word(Cell, u32, u32),
+    Half(Cell, u32, u16),
+    /// The cell's length, header included, and its level.
+    Header(Cell, u32, u32),
+    /// Nothing is told of a pointer that names no cell.
+    NoHeader(Cell),
+    Attempts(u32),
+    /// Numbers, lengths, places and answers.
+    Trace(&'static [(u32, u32, u32, Answer)]),
+    /// Numbers, lengths and places.
+    Leaks(&'static [(u32, u32, u32)]),
+    /// Live cells, their bytes, and the committed length.
+    Size(u32, u32, u32),
+    Available(u32, u32),
+    Compress(u32),
+}
+
+/// A debug heap under some rule and of some shape, by calls that are made of it after attempt 1, for the cleanup stack's
+/// 128 bytes.
+#[derive(Clone, Copy)]
+pub(crate) struct WorkedDebugHeap {
+    /// What it shows.
+    pub(crate) about: &'static str,
+    pub(crate) rule: Rule,
+    pub(crate) shape: Shape,
+    pub(crate) calls: &'static [Call],
+}
+
+/// A debug heap, and how many marks are open.
+#[derive(Drop)]
+struct Marked {
+    heap: DebugHeap,
+    marks: u32,
+    ghost open: { heap.heap.level ≡ marks },
+}
+
+/// The index of the first call that gives another answer.
+pub(crate) fn first_other(
+    alloc: Global,
+    worked: &WorkedDebugHeap,
+) -> Result<Option<usize>, DebugFault> {
+    let mut marked = Marked {
+        heap: DebugHeap::new(alloc, worked.rule, worked.shape)?,
+        marks: 0,
+    };
+    if marked.attempt(128, Kind::Cleanup).is_none() {
+        return Err(DebugFault::NoMemory);
+    }
+    for (index, call) in worked.calls.iter().enumerate() {
+        if !marked.answers(*call) {
+            return Ok(Some(index));
+        }
+    }
+    Ok(None)
+}
+
+impl Marked {
+    /// Whether a call gives its answer.
+    fn answers(&mut self, call: Call) -> bool {
+        match call {
+            Call::Alloc(bytes, cell) => self.alloc(bytes) == Some(granted(cell)),
+            Call::NoAlloc(bytes) => self.alloc(bytes) == Some(Gave::Denied),
+            Call::AllocPastCeiling(bytes) => self.alloc(bytes) == Some(Gave::Ceiling),
+            Call::Realloc(cell, bytes, moved) => self.realloc(cell, bytes) == Some(granted(moved)),
+            Call::NoRealloc(cell, bytes) => self.realloc(cell, bytes) == Some(Gave::Denied),
+            Call::ReallocPastCeiling(cell, bytes) => {
+                self.realloc(cell, bytes) == Some(Gave::Ceiling)
+            }
+            Call::Free(cell) => self.heap.release(pointer(cell)) == Ok(()),
+            Call::NoFree(cell) => self.heap.release(pointer(cell)) == Err(Panic::BAD_CELL),
+            Call::Store(cell, i, v) => self.store(pointer(cell), i, v),
+            Call::StoreHalf(cell, i, v) => self.store_half(pointer(cell), i, v),
+            Call::Copy(from, to, n) => self.copy(pointer(from), pointer(to), n),
+            Call::Compress(length) => self.heap.note_compress() == Note::Compress(length),
+            _ => self.sets(call),
+        }
+    }
+
+    /// The same of a call that sets something for those that come.
+    fn sets(&mut self, call: Call) -> bool {
+        match call {
+            Call::Mark => self.mark(),
+            Call::MarkEnd(n, panic) => self.mark_end(n).err() == panic,
+            Call::FailNext(n) if n > 0 => {
+                self.heap.fail_next(n);
+                true
+            }
+            Call::FailEvery(n) if n > 0 => {
+                self.heap.fail_every(n);
+                true
+            }
+            Call::FailNone => {
+                self.heap.fail_none();
+                true
+            }
+            _ => self.tells(call),
+        }
+    }
+
+    /// The same of a call that changes nothing.
+    fn tells(&self, call: Call) -> bool {
+        match call {
+            Call::Check(n, panic) => self.heap.check(n).err() == panic,
+            Call::CheckAll(n, panic) => self.heap.check_all(n).err() == panic,
+            Call::Word(cell, i, v) => self.word(pointer(cell), i) == Some(v),
+            Call::Half(cell, i, v) => self.half(pointer(cell), i) == Some(v),
+            Call::Header(cell, length, level) => {
+                self.heap.header(pointer(cell)) == Some(header(cell, length, level))
+            }
+            Call::NoHeader(cell) => self.heap.header(pointer(cell)).is_none(),
+            Call::Attempts(n) => self.heap.attempts() == n,
+            Call::Trace(lines) => has_lines(self.heap.trace(), lines),
+            Call::Leaks(cells) => match self.heap.leaks() {
+                Ok(leaks) => has_cells(&leaks, cells),
+                Err(_) => false,
+            },
+            Call::Size(count, bytes, committed) => {
+                self.heap.note_heap() == Note::Heap(count, bytes, committed)
+            }
+            Call::Available(total, longest) => {
+                self.heap.note_available() == Note::Available(total, longest)
+            }
+            _ => false,
+        }
+    }
+
+    /// An attempt to get a cell, or `None` where it can't be made.
+    fn attempt(&mut self, bytes: u32, kind: Kind) -> Option<Gave> {
+        if self.heap.attempts() == u32::MAX || bytes > CEILING {
+            return None;
+        }
+        self.heap.attempt_alloc(bytes, kind).ok()
+    }
+
+    /// An attempt to get a raw cell.
+    fn alloc(&mut self, bytes: u32) -> Option<Gave> {
+        self.attempt(bytes, Kind::Raw)
+    }
+
+    /// A reallocation of a cell, where there is one.
+    fn realloc(&mut self, cell: Cell, bytes: u32) -> Option<Gave> {
+        let ptr = pointer(cell);
+        if self.heap.attempts() == u32::MAX || bytes > CEILING || self.heap.header(ptr).is_none() {
+            return None;
+        }
+        self.heap.attempt_realloc(ptr, bytes).ok()
+    }
+
+    /// Opens a mark.
+    fn mark(&mut self) -> bool {
+        let Some(marks) = self.marks.checked_add(1) else {
+            return false;
+        };
+        self.heap.mark();
+        self.marks = marks;
+        true
+    }
+
+    /// Closes a mark.
+    fn mark_end(&mut self, n: u32) -> Result<(), Panic> {
+        let closed = self.heap.mark_end(n);
+        if closed.is_ok() && self.marks > 0 {
+            self.marks -= 1;
+        }
+        closed
+    }
+
+    /// Stores a word, where there is one.
+    fn store(&mut self, ptr: Ptr, i: u32, v: u32) -> bool {
+        match self.heap.header(ptr) {
+            Some(header) if i < header.words() => {
+                self.heap.set_payload(ptr, i, v);
+                true
+            }
+            _ => false,
+        }
+    }
+
+    /// Stores a half of a word, where there is one.
+    fn store_half(&mut self, ptr: Ptr, i: u32, v: u16) -> bool {
+        match self.heap.header(ptr) {
+            Some(header) if i < 2 * header.words() => {
+                self.heap.set_payload_half(ptr, i, v);
+                true
+            }
+            _ => false,
+        }
+    }
+
+    /// Copies `n` words, where both payloads have them.
+    fn copy(&mut self, from: Ptr, to: Ptr, n: u32) -> bool {
+        match (self.heap.header(from), self.heap.header(to)) {
+            (Some(source), Some(target)) if n <= source.words() && n <= target.words() => {
+                self.heap.copy_payload(from, to, n);
+                true
+            }
+            _ => false,
+        }
+    }
+
+    /// A word of a payload, where there is one.
+    fn word(&self, ptr: Ptr, i: u32) -> Option<u32> {
+        match self.heap.header(ptr) {
+            Some(header) if i < header.words() => Some(self.heap.payload(ptr, i)),
+            _ => None,
+        }
+    }
+
+    /// A half of a payload's words, where there is one.
+    fn half(&self, ptr: Ptr, i: u32) -> Option<u16> {
+        match self.heap.header(ptr) {
+            Some(header) if i < 2 * header.words() => Some(self.heap.payload_half(ptr, i)),
+            _ => None,
+        }
+    }
+}
+
+/// The answer that grants a cell.
+fn granted(cell: Cell) -> Gave {
+    Gave::Granted(pointer(cell))
+}
+
+/// Whether a trace has exactly these lines.
+fn has_lines(trace: &Trace, lines: &[(u32, u32, u32, Answer)]) -> bool {
+    for (index, (number, length, place, answer)) in lines.iter().enumerate() {
+        let line = Attempt {
+            number: *number,
+            length: *length,
+            place: *place,
+            answer: *answer,
+        };
+        if trace.get(index).copied() != Some(line) {
+            return false;
+        }
+    }
+    trace.len() == lines.len()
+}
+
+/// Whether exactly these cells leaked.
+fn has_cells(leaks: &Leaks, cells: &[(u32, u32, u32)]) -> bool {
+    for (index, (number, length, place)) in cells.iter().enumerate() {
+        let leak = Leak {
+            number: *number,
+            length: *length,
+            place: *place,
+        };
+        if leaks.get(index).copied() != Some(leak) {
+            return false;
+        }
+    }
+    leaks.len() == cells.len()
+}

@@ -1,0 +1,288 @@
+//! `wb_debug`: worked debug heaps, by what scripts ask of them, and the answers, places and refusals that their reports must
+//! have.
+
+use crate::debug_calls::{Call, WorkedDebugHeap, first_other};
+use std::test::Fail;
+use wb_debug::{DebugFault, DebugHeap};
+use wb_model::heap::Answer::{Granted, Refused, Simulated};
+use wb_model::heap::{Kind, Panic, Rule, Shape};
+
+/// The shape of most heaps here.
+const SHAPE: Shape = Shape { min: 0, step: 4096 };
+
+static ATTEMPTS: [WorkedDebugHeap; 12] = [
+    WorkedDebugHeap {
+        about: "the next attempt fails once",
+        rule: Rule::Unlimited,
+        shape: SHAPE,
+        calls: &[
+            Call::FailNext(1),
+            Call::NoAlloc(16),
+            Call::Alloc(16, (144, 3)),
+            Call::Attempts(3),
+            Call::Trace(&[
+                (1, 144, 0, Granted),
+                (2, 32, 144, Simulated),
+                (3, 32, 144, Granted),
+            ]),
+            Call::Free((144, 3)),
+            Call::Leaks(&[]),
+        ],
+    },
+    WorkedDebugHeap {
+        about: "every second attempt fails",
+        rule: Rule::Unlimited,
+        shape: SHAPE,
+        calls: &[
+            Call::FailEvery(2),
+            Call::Alloc(16, (144, 2)),
+            Call::NoAlloc(16),
+            Call::Alloc(16, (176, 4)),
+            Call::NoAlloc(16),
+            Call::FailEvery(1),
+            Call::NoAlloc(16),
+            Call::FailNone,
+            Call::Alloc(16, (208, 7)),
+        ],
+    },
+    WorkedDebugHeap {
+        about: "the second attempt fails",
+        rule: Rule::Number(2),
+        shape: SHAPE,
+        calls: &[
+            Call::NoAlloc(10),
+            Call::Alloc(100, (144, 3)),
+            Call::Alloc(16, (272, 4)),
+        ],
+    },
+    WorkedDebugHeap {
+        about: "the setting is asked before the limit",
+        rule: Rule::Limit(303),
+        shape: SHAPE,
+        calls: &[
+            Call::Alloc(10, (144, 2)),
+            Call::NoAlloc(100),
+            Call::FailNext(2),
+            Call::NoAlloc(100),
+            Call::NoAlloc(100),
+            Call::Trace(&[
+                (1, 144, 0, Granted),
+                (2, 32, 144, Granted),
+                (3, 128, 176, Refused),
+                (4, 128, 176, Refused),
+                (5, 128, 176, Simulated),
+            ]),
+        ],
+    },
+    WorkedDebugHeap {
+        about: "the ceiling counts nothing",
+        rule: Rule::Number(0),
+        shape: SHAPE,
+        calls: &[
+            Call::FailNext(2),
+            Call::AllocPastCeiling(16_777_216),
+            Call::Attempts(1),
+            Call::Alloc(16, (144, 2)),
+            Call::NoAlloc(16_777_216),
+        ],
+    },
+    WorkedDebugHeap {
+        about: "a stale pointer is not released",
+        rule: Rule::Unlimited,
+        shape: SHAPE,
+        calls: &[
+            Call::Alloc(16, (144, 2)),
+            Call::Free((144, 2)),
+            Call::NoFree((144, 2)),
+            Call::Alloc(16, (144, 3)),
+            Call::NoFree((144, 2)),
+            Call::Free((0, 0)),
+            Call::Header((144, 3), 32, 0),
+            Call::NoHeader((144, 2)),
+        ],
+    },
+    WorkedDebugHeap {
+        about: "growth fills the hole behind",
+        rule: Rule::Unlimited,
+        shape: SHAPE,
+        calls: &[
+            Call::Alloc(16, (144, 2)),
+            Call::Alloc(16, (176, 3)),
+            Call::Alloc(16, (208, 4)),
+            Call::Free((176, 3)),
+            Call::Store((144, 2), 3, 7),
+            Call::Realloc((144, 2), 48, (144, 2)),
+            Call::Size(3, 240, 4096),
+            Call::Attempts(5),
+            Call::Word((144, 2), 3, 7),
+            Call::Word((144, 2), 11, 0),
+            Call::Realloc((144, 2), 49, (240, 6)),
+            Call::Word((240, 6), 3, 7),
+            Call::NoFree((144, 2)),
+        ],
+    },
+    WorkedDebugHeap {
+        about: "a shorter cell is no attempt",
+        rule: Rule::Unlimited,
+        shape: SHAPE,
+        calls: &[
+            Call::Alloc(48, (144, 2)),
+            Call::Store((144, 2), 11, 7),
+            Call::FailNext(1),
+            Call::Realloc((144, 2), 16, (144, 2)),
+            Call::Attempts(2),
+            Call::Size(2, 176, 4096),
+            Call::NoRealloc((144, 2), 48),
+            Call::Realloc((144, 2), 48, (144, 2)),
+            Call::Word((144, 2), 11, 0),
+        ],
+    },
+    WorkedDebugHeap {
+        about: "a top cell that the limit stops stays",
+        rule: Rule::Limit(256),
+        shape: SHAPE,
+        calls: &[
+            Call::Alloc(48, (144, 2)),
+            Call::Alloc(16, (208, 3)),
+            Call::Free((144, 2)),
+            Call::NoRealloc((208, 3), 48),
+            Call::Trace(&[
+                (1, 144, 0, Granted),
+                (2, 64, 144, Granted),
+                (3, 32, 208, Granted),
+                (4, 64, 208, Refused),
+            ]),
+            Call::NoRealloc((208, 3), 16_777_216),
+            Call::Leaks(&[(3, 32, 208)]),
+        ],
+    },
+    WorkedDebugHeap {
+        about: "a cell past the ceiling stays",
+        rule: Rule::Unlimited,
+        shape: SHAPE,
+        calls: &[
+            Call::Alloc(16, (144, 2)),
+            Call::ReallocPastCeiling((144, 2), 16_777_216),
+            Call::Attempts(2),
+            Call::Free((144, 2)),
+        ],
+    },
+    WorkedDebugHeap {
+        about: "notes follow the committed length",
+        rule: Rule::Unlimited,
+        shape: Shape { min: 256, step: 64 },
+        calls: &[
+            Call::Alloc(200, (144, 2)),
+            Call::Available(16, 16),
+            Call::Size(2, 368, 384),
+            Call::Free((144, 2)),
+            Call::Available(240, 240),
+            Call::Compress(128),
+            Call::Size(1, 144, 256),
+        ],
+    },
+    WorkedDebugHeap {
+        about: "payloads are read and written",
+        rule: Rule::Unlimited,
+        shape: SHAPE,
+        calls: &[
+            Call::Alloc(16, (144, 2)),
+            Call::Alloc(32, (176, 3)),
+            Call::Store((144, 2), 0, 7),
+            Call::StoreHalf((144, 2), 3, 0xabcd),
+            Call::Half((144, 2), 2, 0),
+            Call::Half((144, 2), 3, 0xabcd),
+            Call::Copy((144, 2), (176, 3), 4),
+            Call::Word((176, 3), 0, 7),
+            Call::Word((176, 3), 1, 0xabcd_0000),
+            Call::Word((176, 3), 7, 0),
+            Call::Free((144, 2)),
+            Call::NoHeader((144, 2)),
+        ],
+    },
+];
+
+/// What checks count, and what the end of a mark leaves.
+static MARKS: [WorkedDebugHeap; 3] = [
+    WorkedDebugHeap {
+        about: "a check counts the current level",
+        rule: Rule::Unlimited,
+        shape: SHAPE,
+        calls: &[
+            Call::Alloc(16, (144, 2)),
+            Call::Mark,
+            Call::Check(0, None),
+            Call::Check(1, Some(Panic::Alloc(0))),
+            Call::Alloc(16, (176, 3)),
+            Call::Alloc(16, (208, 4)),
+            Call::Check(2, None),
+            Call::Check(0, Some(Panic::Alloc(0xb0))),
+            Call::CheckAll(3, None),
+            Call::CheckAll(4, Some(Panic::Alloc(0x90))),
+            Call::Leaks(&[(2, 32, 144), (3, 32, 176), (4, 32, 208)]),
+        ],
+    },
+    WorkedDebugHeap {
+        about: "a mark that finds cells stays open",
+        rule: Rule::Unlimited,
+        shape: SHAPE,
+        calls: &[
+            Call::MarkEnd(0, Some(Panic::NO_OPEN_MARK)),
+            Call::Mark,
+            Call::Alloc(16, (144, 2)),
+            Call::Alloc(16, (176, 3)),
+            Call::MarkEnd(0, Some(Panic::Alloc(0x90))),
+            Call::Check(2, None),
+            Call::MarkEnd(2, None),
+            Call::Check(2, None),
+            Call::MarkEnd(2, Some(Panic::NO_OPEN_MARK)),
+        ],
+    },
+    WorkedDebugHeap {
+        about: "nested marks hand cells outward",
+        rule: Rule::Unlimited,
+        shape: SHAPE,
+        calls: &[
+            Call::Mark,
+            Call::Mark,
+            Call::Alloc(1, (144, 2)),
+            Call::MarkEnd(1, None),
+            Call::Check(1, None),
+            Call::Alloc(1, (176, 3)),
+            Call::MarkEnd(2, None),
+            Call::Check(2, None),
+            Call::Leaks(&[(2, 32, 144), (3, 32, 176)]),
+        ],
+    },
+];
+
+#[test]
+fn worked_debug_heaps(rt: HostRuntime) -> Result<(), Fail> {
+    for heap in &ATTEMPTS {
+        assert_eq!(rt; first_other(rt.alloc(), heap)?, None, "{}", heap.about);
+    }
+    for heap in &MARKS {
+        assert_eq!(rt; first_other(rt.alloc(), heap)?, None, "{}", heap.about);
+    }
+    Ok(())
+}
+
+#[test]
+fn a_shape_that_no_heap_has(rt: HostRuntime) {
+    let heap = WorkedDebugHeap {
+        about: "a shape that is no multiple of 16",
+        rule: Rule::Unlimited,
+        shape: Shape { min: 8, step: 4096 },
+        calls: &[],
+    };
+    assert_eq!(rt; first_other(rt.alloc(), &heap), Err(DebugFault::BadShape));
+}
+
+#[test]
+fn a_trace_is_given_away(rt: HostRuntime) -> Result<(), Fail> {
+    let mut heap = DebugHeap::new(rt.alloc(), Rule::Unlimited, SHAPE)?;
+    heap.attempt_alloc(128, Kind::Cleanup)?;
+    let trace = heap.into_trace();
+    assert_eq!(rt; trace.len(), 1);
+    Ok(())
+}

@@ -1,0 +1,287 @@
+//! Calls of a heap with the answers that they must give, so that a worked heap is a table of calls.
+
+ghost use Rattle.std.specs.Prelude.{◌<◌, ◌≤◌, All, IsTrue};
+ghost use Rattle.wb_model.specs.LimitedHeap.{IsCellLength};
+ghost use Rattle.wb_model.specs.Row.{headers};
+
+use std::alloc::Global;
+use wb_model::heap::{Header, Kind, Ptr, Shape};
+use wb_model::limits::CEILING;
+use wb_rheap::{Heap, HeapFault};
+
+/// A cell by its place and its number.
+pub(crate) type Cell = (u32, u32);
+
+/// The pointer to a cell.
+pub(crate) fn pointer(cell: Cell) -> Ptr {
+    Ptr {
+        place: cell.0,
+        number: cell.1,
+    }
+}
+
+/// A call of a heap, and the answer that it must give, last. Lengths are those of cells.
+#[derive(Clone, Copy)]
+pub(crate) enum Call {
+    /// The cell that is granted.
+    Alloc(u32, Cell),
+    /// The limit forbids it.
+    NoAlloc(u32),
+    /// Where the cell stands then, and with which number.
+    Realloc(Cell, u32, Cell),
+    /// Why the cell stays as it is.
+    NoRealloc(Cell, u32, HeapFault),
+    Free(Cell),
+    /// The pointer names no cell.
+    NoFree(Cell),
+    SetLevel(Cell, u32),
+    Store(Cell, u32, u32),
+    StoreHalf(Cell, u32, u16),
+    /// From the one to the other, so many words.
+    Copy(Cell, Cell, u32),
+    /// A word of the payload.
+    Word(Cell, u32, u32),
+    /// The payload has no such word.
+    NoWord(Cell, u32),
+    Half(Cell, u32, u16),
+    PlaceFor(u32, u32),
+    PlaceForRealloc(Cell, u32, u32),
+    /// The usable length.
+    AllocLen(Cell, u32),
+    /// The cell's length and its level.
+    Header(Cell, u32, u32),
+    /// Nothing is told of a pointer that names no cell.
+    NoHeader(Cell),
+    /// The first cell from a place on.
+    NextLive(u32, Cell),
+    NoneLive(u32),
+    /// Live cells, their bytes, and the committed length.
+    Size(u32, u32, u32),
+    Available(u32, u32),
+    Compress(u32),
+    Held(u32),
+}
+
+/// A heap of some limit and shape, by calls that are made of it after its first attempt, for the cleanup stack's 144 bytes
+/// at place 0.
+#[derive(Clone, Copy)]
+pub(crate) struct WorkedHeap {
+    /// What it shows.
+    pub(crate) about: &'static str,
+    pub(crate) limit: u32,
+    pub(crate) shape: Shape,
+    pub(crate) calls: &'static [Call],
+}
+
+/// A heap, and the number of its next attempt.
+#[derive(Drop)]
+struct Numbered {
+    heap: Heap,
+    next: u32,
+    ghost numbered: { 1 ≤ next },
+    ghost below: { All (λ h. h.number < next) (headers heap.row) },
+}
+
+/// The index of the first call that gives another answer.
+pub(crate) fn first_other(alloc: Global, worked: &WorkedHeap) -> Result<Option<usize>, HeapFault> {
+    if worked.limit > CEILING {
+        return Err(HeapFault::TooShort);
+    }
+    let mut numbered = Numbered {
+        heap: Heap::new(alloc, worked.limit, worked.shape)?,
+        next: 1,
+    };
+    numbered.grant(144)?;
+    for (index, call) in worked.calls.iter().enumerate() {
+        if !numbered.answers(*call) {
+            return Ok(Some(index));
+        }
+    }
+    Ok(None)
+}
+
+impl Numbered {
+    /// Whether a call gives its answer.
+    fn answers(&mut self, call: Call) -> bool {
+        match call {
+            Call::Alloc(length, cell) => self.grant(length) == Ok(pointer(cell)),
+            Call::NoAlloc(length) => self.grant(length) == Err(HeapFault::TooShort),
+            Call::Realloc(cell, length, moved) => self.regrant(pointer(cell), length)
+                == Ok(pointer(moved)),
+            Call::NoRealloc(cell, length, fault) => self.regrant(pointer(cell), length)
+                == Err(fault),
+            Call::Free(cell) => self.release(pointer(cell)) == Ok(()),
+            Call::NoFree(cell) => self.release(pointer(cell)) == Err(HeapFault::BadCell),
+            Call::SetLevel(cell, level) => self.put_under(pointer(cell), level),
+            Call::Store(cell, i, v) => self.store(pointer(cell), i, v),
+            Call::StoreHalf(cell, i, v) => self.store_half(pointer(cell), i, v),
+            Call::Copy(from, other, n) => self.copy(pointer(from), pointer(other), n),
+            Call::Compress(length) => self.heap.compress() == length,
+            _ => self.tells(call),
+        }
+    }
+
+    /// The same of a call that changes nothing.
+    fn tells(&self, call: Call) -> bool {
+        match call {
+            Call::Word(cell, i, v) => self.word(pointer(cell), i) == Some(v),
+            Call::NoWord(cell, i) => self.word(pointer(cell), i).is_none(),
+            Call::Half(cell, i, v) => self.half(pointer(cell), i) == Some(v),
+            Call::PlaceFor(length, place) => {
+                is_cell_length(length) && self.heap.place_for(length) == place
+            }
+            Call::PlaceForRealloc(cell, length, place) => {
+                self.longer_place(pointer(cell), length) == Some(place)
+            }
+            Call::AllocLen(cell, bytes) => self.heap.alloc_len(pointer(cell)) == Ok(bytes),
+            Call::Header(cell, length, level) => {
+                self.heap.header(pointer(cell)) == Some(header(cell, length, level))
+            }
+            _ => self.tells_of_all(call),
+        }
+    }
+
+    /// The same of a call that asks for more than one cell.
+    fn tells_of_all(&self, call: Call) -> bool {
+        match call {
+            Call::NoHeader(cell) => {
+                self.heap.header(pointer(cell)).is_none()
+                    && self.heap.alloc_len(pointer(cell)) == Err(HeapFault::BadCell)
+            }
+            Call::NextLive(from, cell) => match self.heap.next_live(from) {
+                Some(found) => found.place == cell.0 && found.number == cell.1,
+                None => false,
+            },
+            Call::NoneLive(from) => self.heap.next_live(from).is_none(),
+            Call::Size(count, bytes, committed) => {
+                self.heap.alloc_size() == (count, bytes)
+                    && self.heap.count() == count
+                    && self.heap.committed() == committed
+            }
+            Call::Available(total, longest) => self.heap.available() == (total, longest),
+            Call::Held(length) => self.heap.held() == length,
+            _ => false,
+        }
+    }
+
+    /// An attempt for a raw cell of this length.
+    fn grant(&mut self, length: u32) -> Result<Ptr, HeapFault> {
+        if !is_cell_length(length) {
+            return Err(HeapFault::BadShape);
+        }
+        let number = self.next;
+        let Some(next) = number.checked_add(1) else {
+            return Err(HeapFault::NoMemory);
+        };
+        let granted = self.heap.alloc(length, Kind::Raw, number, 0);
+        self.next = next;
+        granted
+    }
+
+    /// An attempt to give a cell another length.
+    fn regrant(&mut self, ptr: Ptr, length: u32) -> Result<Ptr, HeapFault> {
+        if !is_cell_length(length) {
+            return Err(HeapFault::BadShape);
+        }
+        let number = self.next;
+        let Some(next) = number.checked_add(1) else {
+            return Err(HeapFault::NoMemory);
+        };
+        let granted = self.heap.realloc(ptr, length, number);
+        self.next = next;
+        granted
+    }
+
+    /// Puts a cell under a level, where there is one.
+    fn put_under(&mut self, ptr: Ptr, level: u32) -> bool {
+        match self.heap.header(ptr) {
+            Some(_) => {
+                self.heap.set_level(ptr, level);
+                true
+            }
+            None => false,
+        }
+    }
+
+    /// Releases a cell.
+    fn release(&mut self, ptr: Ptr) -> Result<(), HeapFault> {
+        self.heap.free(ptr)
+    }
+
+    /// Stores a word, where there is one.
+    fn store(&mut self, ptr: Ptr, i: u32, v: u32) -> bool {
+        match self.heap.header(ptr) {
+            Some(header) if i < header.words() => {
+                self.heap.set_payload(ptr, i, v);
+                true
+            }
+            _ => false,
+        }
+    }
+
+    /// Stores a half of a word, where there is one.
+    fn store_half(&mut self, ptr: Ptr, i: u32, v: u16) -> bool {
+        match self.heap.header(ptr) {
+            Some(header) if i < 2 * header.words() => {
+                self.heap.set_payload_half(ptr, i, v);
+                true
+            }
+            _ => false,
+        }
+    }
+
+    /// Copies `n` words, where both payloads have them.
+    fn copy(&mut self, from: Ptr, to: Ptr, n: u32) -> bool {
+        match (self.heap.header(from), self.heap.header(to)) {
+            (Some(source), Some(target)) if n <= source.words() && n <= target.words() => {
+                self.heap.copy_payload(from, to, n);
+                true
+            }
+            _ => false,
+        }
+    }
+
+    /// A word of a payload, where there is one.
+    fn word(&self, ptr: Ptr, i: u32) -> Option<u32> {
+        match self.heap.header(ptr) {
+            Some(header) if i < header.words() => Some(self.heap.payload(ptr, i)),
+            _ => None,
+        }
+    }
+
+    /// A half of a payload's words, where there is one.
+    fn half(&self, ptr: Ptr, i: u32) -> Option<u16> {
+        match self.heap.header(ptr) {
+            Some(header) if i < 2 * header.words() => Some(self.heap.payload_half(ptr, i)),
+            _ => None,
+        }
+    }
+
+    /// Where a cell goes that is to be so long, where it is shorter.
+    fn longer_place(&self, ptr: Ptr, length: u32) -> Option<u32> {
+        match self.heap.header(ptr) {
+            Some(cell) if cell.length < length && is_cell_length(length) => Some(
+                self.heap.place_for_realloc(ptr, length),
+            ),
+            _ => None,
+        }
+    }
+}
+
+/// The header of a raw cell.
+pub(crate) fn header(cell: Cell, length: u32, level: u32) -> Header {
+    Header {
+        place: cell.0,
+        length,
+        kind: Kind::Raw,
+        level,
+        number: cell.1,
+    }
+}
+
+/// Whether a cell may be so long.
+fn is_cell_length(length: u32) -> bool
+    ensures { IsTrue result → IsCellLength length }
+{
+    length % 16 == 0 && 16 <= length && length <= CEILING
+}

@@ -1,0 +1,26 @@
+//! Nothing but tests: of the heap, from words of memory up to attempts, and of texts, by the public calls of the crates
+//! that hold them. They stand here so that those crates are proved once, and not again with their tests.
+#![tactic(auto)]
+
+#[cfg(test)]
+mod buffers;
+#[cfg(test)]
+mod cell_texts;
+#[cfg(test)]
+mod cells;
+#[cfg(test)]
+mod chunks;
+#[cfg(test)]
+mod debug_calls;
+#[cfg(test)]
+mod debug_heaps;
+#[cfg(test)]
+mod heap_calls;
+#[cfg(test)]
+mod heaps;
+#[cfg(test)]
+mod lists;
+#[cfg(test)]
+mod literals;
+#[cfg(test)]
+mod texts;

@@ -1,0 +1,15 @@
+//! Literals to edit texts with.
+
+ghost use Rattle.std.specs.Prelude.{◌≡◌, IfOk};
+
+use std::alloc::{AllocError, Global};
+use wb_model::script::Chars;
+
+/// A literal of these bytes.
+pub(crate) fn literal(alloc: Global, bytes: &[u8]) -> Result<Chars, AllocError>
+    ensures { IfOk result (λ chars. chars ≡ bytes.now) }
+{
+    let mut copy = Vec::new(alloc);
+    copy.extend_from_slice(bytes)?;
+    Ok(Chars::from_vec(copy))
+}

@@ -1,0 +1,274 @@
+//! Edits of texts in two cells and a buffer, so that worked texts are a table of edits.
+
+ghost use Rattle.std.specs.Prelude.{◌≢◌, ◌≤◌, IfOk};
+ghost use Rattle.wb_hbuf.specs.Sources.{IsApart, IsSource, SuitsEdit};
+ghost use Rattle.wb_model.specs.Debug.{IsSoundDebug};
+ghost use Rattle.wb_model.specs.TextCells.{IsTextAt};
+
+use crate::literals::literal;
+use std::alloc::Global;
+use wb_debug::DebugHeap;
+use wb_hbuf::{Edit, Source, delete, edit, edit_buf, length, make, print_units, set_length};
+use wb_model::heap::{Gave, Panic, Ptr, Rule, Shape};
+use wb_model::limits::MOST_UNITS;
+use wb_model::memory::NoMemory;
+use wb_model::printed_line::Line;
+use wb_model::script::Chars;
+use wb_text::Buf;
+
+/// Where a text stands: in one of two cells, or in a buffer.
+#[derive(Clone, Copy)]
+pub(crate) enum Target {
+    First,
+    Second,
+    Buffer,
+}
+
+/// What an edit takes in: a part by its position and its length.
+#[derive(Clone, Copy)]
+pub(crate) enum Taken {
+    /// Of the literal `abcdefgXY`.
+    Letters(u16, u16),
+    /// Of the text itself.
+    Own(u16, u16),
+    /// Of the other cell's text; of the first one's, where the text stands in the buffer.
+    Other(u16, u16),
+}
+
+/// What is done to a text.
+#[derive(Clone, Copy)]
+pub(crate) enum Change {
+    Edit(Edit, Taken),
+    Delete(u16, u16),
+    SetLength(u16),
+}
+
+/// Changes that are made one after the other, of texts in cells for so many units and in a buffer for 8.
+#[derive(Clone, Copy)]
+pub(crate) struct WorkedTexts {
+    /// What they show.
+    pub(crate) about: &'static str,
+    pub(crate) first: u8,
+    pub(crate) second: u8,
+    /// Each with the panic that refuses it, and what the text prints then.
+    pub(crate) changes: &'static [(Target, Change, Option<Panic>, &'static [u8])],
+}
+
+/// The index of the first change that has another answer, or leaves another text.
+pub(crate) fn first_other(alloc: Global, worked: &WorkedTexts) -> Result<Option<usize>, NoMemory> {
+    let shape = Shape { min: 0, step: 4096 };
+    let Ok(mut heap) = DebugHeap::new(alloc, Rule::Unlimited, shape) else {
+        return Err(NoMemory);
+    };
+    let letters = literal(alloc, b"abcdefgXY")?;
+    let first = granted(&mut heap, u32::from(worked.first))?;
+    let second = granted_beside(&mut heap, first, u32::from(worked.second))?;
+    let mut buffer = Buf::new(8);
+    for (index, (target, change, panic, text)) in worked.changes.iter().enumerate() {
+        let letters = &letters;
+        let answer = make_change(
+            &mut heap,
+            first,
+            second,
+            &mut buffer,
+            letters,
+            *target,
+            *change,
+        );
+        let line = line_of(&heap, first, second, &buffer, *target);
+        if answer.err() != *panic || line.as_slice() != *text {
+            return Ok(Some(index));
+        }
+    }
+    Ok(None)
+}
+
+/// Makes a change of one of the texts.
+fn make_change(
+    heap: &mut DebugHeap,
+    first: Ptr,
+    second: Ptr,
+    buffer: &mut Buf,
+    letters: &Chars,
+    target: Target,
+    change: Change,
+) -> Result<(), Panic>
+    requires first { IsTextAt first heap.old }
+    requires second { IsTextAt second heap.old }
+    requires apart { first ≢ second }
+    requires other_apart { second ≢ first }
+    ensures first { IsTextAt first heap.new }
+    ensures second { IsTextAt second heap.new }
+{
+    match target {
+        Target::First => change_cell(heap, first, second, letters, change),
+        Target::Second => change_cell(heap, second, first, letters, change),
+        Target::Buffer => change_buffer(heap, buffer, first, letters, change),
+    }
+}
+
+/// What one of the texts prints.
+fn line_of(heap: &DebugHeap, first: Ptr, second: Ptr, buffer: &Buf, target: Target) -> Line
+    requires first { IsTextAt first heap.now }
+    requires second { IsTextAt second heap.now }
+{
+    match target {
+        Target::First => printed(heap, first),
+        Target::Second => printed(heap, second),
+        Target::Buffer => print_units(heap, Source::Buffer(buffer, 0, buffer.length())),
+    }
+}
+
+/// What the text in a cell prints.
+pub(crate) fn printed(heap: &DebugHeap, ptr: Ptr) -> Line
+    requires { IsTextAt ptr heap.now }
+{
+    print_units(heap, Source::Cell(ptr, 0, length(heap, ptr)))
+}
+
+/// Changes a buffer; the cell is that which it may take from.
+fn change_buffer(
+    heap: &DebugHeap,
+    buffer: &mut Buf,
+    ptr: Ptr,
+    letters: &Chars,
+    change: Change,
+) -> Result<(), Panic>
+    requires { IsTextAt ptr heap.now }
+{
+    match change {
+        Change::Edit(edit, Taken::Letters(at, n)) => {
+            let source = Source::Literal(letters, u32::from(at), u32::from(n));
+            edit_buf(heap, buffer, edit, source)
+        }
+        Change::Edit(edit, Taken::Other(at, n)) => {
+            let source = Source::Cell(ptr, u32::from(at), u32::from(n));
+            edit_buf(heap, buffer, edit, source)
+        }
+        Change::Edit(edit, Taken::Own(at, n)) => {
+            let source = Source::Own(u32::from(at), u32::from(n));
+            match edit {
+                Edit::Copy => edit_buf(heap, buffer, Edit::Copy, source),
+                Edit::Append => edit_buf(heap, buffer, Edit::Append, source),
+                Edit::Insert(_) => Err(Panic::NUMBER_OUT_OF_RANGE),
+            }
+        }
+        Change::Delete(at, n) => buffer.delete(u32::from(at), u32::from(n)),
+        Change::SetLength(n) => buffer.set_length(u32::from(n)),
+    }
+}
+
+/// Changes the text in a cell. That in the other stays.
+fn change_cell(
+    heap: &mut DebugHeap,
+    ptr: Ptr,
+    other: Ptr,
+    letters: &Chars,
+    change: Change,
+) -> Result<(), Panic>
+    requires text { IsTextAt ptr heap.old }
+    requires other { IsTextAt other heap.old }
+    requires apart { other ≢ ptr }
+    ensures text { IsTextAt ptr heap.new }
+    ensures other { IsTextAt other heap.new }
+{
+    match change {
+        Change::Edit(edit, Taken::Letters(at, n)) => {
+            let source = Source::Literal(letters, u32::from(at), u32::from(n));
+            edit_beside(heap, ptr, other, edit, source)
+        }
+        Change::Edit(edit, Taken::Other(at, n)) => {
+            let source = Source::Cell(other, u32::from(at), u32::from(n));
+            edit_beside(heap, ptr, other, edit, source)
+        }
+        Change::Edit(edit, Taken::Own(at, n)) => {
+            let source = Source::Own(u32::from(at), u32::from(n));
+            match edit {
+                Edit::Copy => edit_beside(heap, ptr, other, Edit::Copy, source),
+                Edit::Append => edit_beside(heap, ptr, other, Edit::Append, source),
+                Edit::Insert(_) => Err(Panic::NUMBER_OUT_OF_RANGE),
+            }
+        }
+        Change::Delete(at, n) => delete_beside(heap, ptr, other, u32::from(at), u32::from(n)),
+        Change::SetLength(n) => set_length_beside(heap, ptr, other, u32::from(n)),
+    }
+}
+
+fn edit_beside(
+    heap: &mut DebugHeap,
+    ptr: Ptr,
+    other: Ptr,
+    change: Edit,
+    source: Source,
+) -> Result<(), Panic>
+    requires text { IsTextAt ptr heap.old }
+    requires other { IsTextAt other heap.old }
+    requires apart { other ≢ ptr }
+    requires source { IsSource heap.old source }
+    requires source_apart { IsApart ptr source }
+    requires suits { SuitsEdit change source }
+    ensures text { IsTextAt ptr heap.new }
+    ensures other { IsTextAt other heap.new }
+{
+    edit(heap, ptr, change, source)
+}
+
+fn delete_beside(
+    heap: &mut DebugHeap,
+    ptr: Ptr,
+    other: Ptr,
+    position: u32,
+    count: u32,
+) -> Result<(), Panic>
+    requires text { IsTextAt ptr heap.old }
+    requires other { IsTextAt other heap.old }
+    requires apart { other ≢ ptr }
+    ensures text { IsTextAt ptr heap.new }
+    ensures other { IsTextAt other heap.new }
+{
+    delete(heap, ptr, position, count)
+}
+
+fn set_length_beside(heap: &mut DebugHeap, ptr: Ptr, other: Ptr, n: u32) -> Result<(), Panic>
+    requires text { IsTextAt ptr heap.old }
+    requires other { IsTextAt other heap.old }
+    requires apart { other ≢ ptr }
+    ensures text { IsTextAt ptr heap.new }
+    ensures other { IsTextAt other heap.new }
+{
+    set_length(heap, ptr, n)
+}
+
+/// An empty text that may have `n` units.
+pub(crate) fn granted(heap: &mut DebugHeap, n: u32) -> Result<Ptr, NoMemory>
+    requires { n ≤ MOST_UNITS }
+    ensures text { IfOk result (λ ptr. IsTextAt ptr heap.new) }
+    ensures sound { IfOk result (λ _. IsSoundDebug heap.new) }
+{
+    if heap.attempts() == u32::MAX {
+        return Err(NoMemory);
+    }
+    match make(heap, n)? {
+        Gave::Granted(ptr) => Ok(ptr),
+        Gave::Denied | Gave::Ceiling => Err(NoMemory),
+    }
+}
+
+/// An empty text in a cell beside that of another text, which stays.
+fn granted_beside(heap: &mut DebugHeap, other: Ptr, n: u32) -> Result<Ptr, NoMemory>
+    requires sound { IsSoundDebug heap.old }
+    requires other { IsTextAt other heap.old }
+    requires most { n ≤ MOST_UNITS }
+    ensures text { IfOk result (λ ptr. IsTextAt ptr heap.new) }
+    ensures other { IfOk result (λ _. IsTextAt other heap.new) }
+    ensures other_apart { IfOk result (λ ptr. other ≢ ptr) }
+    ensures apart { IfOk result (λ ptr. ptr ≢ other) }
+{
+    if heap.attempts() == u32::MAX {
+        return Err(NoMemory);
+    }
+    match make(heap, n)? {
+        Gave::Granted(ptr) if ptr != other => Ok(ptr),
+        _ => Err(NoMemory),
+    }
+}

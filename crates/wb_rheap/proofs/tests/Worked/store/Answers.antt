@@ -1,5 +1,0 @@
-use Rattle.wb_rheap.proofs.Numbers.{below_changed}
-use Rattle.wb_rheap.proofs.tests.Worked.store.Goals as goal
-
-pub invariant_of-self-clause-below : goal.invariant_of-self-clause-below
-invariant_of-self-clause-below c = below_changed c.args.self.now.heap c.set_payload.new.self c.args.ptr _ c.args.self.now.next c.set_payload.ensures.changed c.args.self.now.below
