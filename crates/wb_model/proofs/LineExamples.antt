@@ -2,7 +2,7 @@
 use Rattle.std.specs.Prelude.{◌≡◌, pos, negsuc, [], ◌∷◌, ◌++◌, Some, None, codes, map, replicate}
 use Rattle.std.proofs.Common.{refl}
 use Rattle.wb_model.specs.declared.script_lines.Key.TheVariants.{Proc, Ptr, Buf, Alloc, Free, Store, Set, Insert, Left, Print, Heap, Available, Compress, End}
-use Rattle.wb_model.specs.declared.script_lines.Operand.TheVariants.{Name, Number, Literal}
+use Rattle.wb_model.specs.declared.script_lines.Operand.TheVariants.{Name, Number, Size, Literal}
 use Rattle.wb_model.specs.declared.script_lines.Form.TheVariants.{Skip, Unknown, Line}
 use Rattle.wb_model.specs.Lines.{lines_of, words_of, first_foreign_line}
 use Rattle.wb_model.specs.Words.{declared_name, number_spelled}
@@ -161,7 +161,7 @@ no_numbers_of_bytes = refl
 
 -- the size of a text isn't negative, and nothing but digits
 sizes : map line_form (codes "buf b 257" ∷ codes "buf b -0" ∷ codes "buf b -1" ∷ codes "buf b n" ∷ codes "buf b" ∷ []) ≡
-    Line Buf (Name (codes "b") ∷ Number (pos 257) ∷ []) ∷ Line Buf (Name (codes "b") ∷ Number (pos 0) ∷ []) ∷ replicate 3 Unknown
+    Line Buf (Name (codes "b") ∷ Size 257 ∷ []) ∷ Line Buf (Name (codes "b") ∷ Size 0 ∷ []) ∷ replicate 3 Unknown
 unfolding keys
 sizes = refl
 

@@ -9,15 +9,16 @@ use Rattle.std.proofs.lemmas.Bool.Decides.{nat_tests}
 use borrow.Author.Tests.{ne_eqb, eqb-true}
 use Rattle.wb_model.specs.declared.script_lines.Key.{Key}
 use Rattle.wb_model.specs.declared.script_lines.Letter.{Letter}
-use Rattle.wb_model.specs.declared.script_lines.Letter.TheVariants.{Declared, Pointer, Value, Variable, Target, Source, Size, Writable, Readable, ViewName, Printed}
 use Rattle.wb_model.specs.declared.script_lines.Operand.{Operand}
 use Rattle.wb_model.specs.declared.script_lines.Operand.TheVariants.{Name, Number, Literal}
 use Rattle.wb_model.specs.declared.script_lines.Form.{Form}
 use Rattle.wb_model.specs.declared.script_lines.Form.TheVariants.{Line}
 use Rattle.wb_model.specs.Lines.{is_blank, words_of}
 use Rattle.wb_model.specs.Words.{is_reserved, with_digit, is_digit, is_name_byte, is_name, is_letter, declared_name, used_name, digits_of, number_spelled, literal_spelled}
-use Rattle.wb_model.specs.Keys.{keys, text_of, letters_of}
-use Rattle.wb_model.specs.Forms.{operand_of, operands_of, operands_if, either, name_word, number_word, literal_word, size_of, onto, line_or, form_in, begins_comment, skipped_or, form_of}
+use Rattle.wb_model.specs.declared.script_lines.WordKind.{WordKind}
+use Rattle.wb_model.specs.declared.script_lines.WordKind.TheVariants as kind
+use Rattle.wb_model.specs.Keys.{keys, text_of, letters_of, word_kinds}
+use Rattle.wb_model.specs.Forms.{operand_of, operand_as, operand_among, operands_of, operands_if, either, size_of, onto, line_or, form_in, begins_comment, skipped_or, form_of}
 use Rattle.wb_model.specs.Writing.{is_plain, IsWord, AreWords, IsMadeOfWords}
 use Rattle.wb_model.proofs.WritingLemmas.{both, quoted_of_literal}
 
@@ -102,15 +103,6 @@ word_of_either : (word : List ℕ) (first other : Option (Operand (List ℕ))) (
 word_of_either word (Some o) other operand one two h = one o refl
 word_of_either word None other operand one two h = two operand h
 
-word_of_name_word : (word : List ℕ) (operand : Operand (List ℕ)) → name_word word ≡ Some operand → IsWord word
-word_of_name_word word operand h = let (name, is) = mapped_back Name (used_name word) operand h in word_of_used word name is
-
-word_of_number_word : (word : List ℕ) (operand : Operand (List ℕ)) → number_word word ≡ Some operand → IsWord word
-word_of_number_word word operand h = let (z, is) = mapped_back Number (number_spelled word) operand h in word_of_number word z is
-
-word_of_literal_word : (word : List ℕ) (operand : Operand (List ℕ)) → literal_word word ≡ Some operand → IsWord word
-word_of_literal_word word operand h = let (text, is) = mapped_back Literal (literal_spelled word) operand h in word_of_literal word text is
-
 word_of_size : (word : List ℕ) (operand : Operand (List ℕ)) → size_of (number_spelled word) ≡ Some operand → IsWord word
 word_of_size word operand h = go (number_spelled word) refl h
   where
@@ -118,20 +110,17 @@ word_of_size word operand h = go (number_spelled word) refl h
     go (Some z) is h = word_of_number word z is
     go None is h = cc
 
-word_of_operand : (letter : Letter) (word : List ℕ) (operand : Operand (List ℕ)) → operand_of letter word ≡ Some operand → IsWord word
-word_of_operand Declared word operand h = let (name, is) = mapped_back Name (declared_name word) operand h in word_of_declared word name is
-word_of_operand Pointer word operand h = word_of_name_word word operand h
-word_of_operand Variable word operand h = word_of_name_word word operand h
-word_of_operand Target word operand h = word_of_name_word word operand h
-word_of_operand Value word operand h = word_of_either word (number_word word) (name_word word) operand (word_of_number_word word) (word_of_name_word word) h
-word_of_operand Source word operand h = word_of_either word (number_word word) (name_word word) operand (word_of_number_word word) (word_of_name_word word) h
-word_of_operand Size word operand h = word_of_size word operand h
-word_of_operand Writable word operand h = word_of_name_word word operand h
-word_of_operand Readable word operand h = word_of_either word (name_word word) (literal_word word) operand (word_of_name_word word) (word_of_literal_word word) h
-word_of_operand ViewName word operand h = word_of_name_word word operand h
-word_of_operand Printed word operand h =
-    word_of_either word (number_word word) (either (name_word word) (literal_word word)) operand (word_of_number_word word)
-    (λ o. word_of_either word (name_word word) (literal_word word) o (word_of_name_word word) (word_of_literal_word word)) h
+-- a word of one of the kinds
+word_of_kind : (kind : WordKind) (word : List ℕ) (operand : Operand (List ℕ)) → operand_as kind word ≡ Some operand → IsWord word
+word_of_kind kind.NewName word operand h = let (name, is) = mapped_back Name (declared_name word) operand h in word_of_declared word name is
+word_of_kind kind.Name word operand h = let (name, is) = mapped_back Name (used_name word) operand h in word_of_used word name is
+word_of_kind kind.Number word operand h = let (z, is) = mapped_back Number (number_spelled word) operand h in word_of_number word z is
+word_of_kind kind.Size word operand h = word_of_size word operand h
+word_of_kind kind.Literal word operand h = let (text, is) = mapped_back Literal (literal_spelled word) operand h in word_of_literal word text is
+
+word_among : (kinds : List WordKind) (word : List ℕ) (operand : Operand (List ℕ)) → operand_among kinds word ≡ Some operand → IsWord word
+word_among [] word operand h = cc
+word_among (kind ∷ kinds) word operand h = word_of_either word (operand_as kind word) (operand_among kinds word) operand (word_of_kind kind word) (word_among kinds word) h
 
 onto_back : (first : Option (Operand (List ℕ))) (rest : Option (List (Operand (List ℕ)))) (operands : List (Operand (List ℕ))) → onto first rest ≡ Some operands → ((o : Operand (List ℕ)) × (first ≡ Some o)) × ((os : List (Operand (List ℕ))) × (rest ≡ Some os))
 onto_back None rest operands h = cc
@@ -144,7 +133,7 @@ words_of_operands [] (word ∷ words) operands h = cc
 words_of_operands (letter ∷ letters) [] operands h = cc
 words_of_operands (letter ∷ letters) (word ∷ words) operands h =
     let ((o, is_first), (os, are_rest)) = onto_back (operand_of letter word) (operands_of letters words) operands h in
-    (word_of_operand letter word o is_first, words_of_operands letters words os are_rest)
+    (word_among (word_kinds letter) word o is_first, words_of_operands letters words os are_rest)
 
 -- lines
 

@@ -4,21 +4,23 @@ use Rattle.std.specs.Option.{option_map}
 use Rattle.std.specs.Str.{bytes_eq}
 use Rattle.wb_model.specs.declared.script_lines.Key.{Key}
 use Rattle.wb_model.specs.declared.script_lines.Letter.{Letter}
-use Rattle.wb_model.specs.declared.script_lines.Letter.TheVariants.{Declared, Pointer, Value, Variable, Target, Source, Size, Writable, Readable, ViewName, Printed}
+use Rattle.wb_model.specs.declared.script_lines.WordKind.{WordKind}
+use Rattle.wb_model.specs.declared.script_lines.WordKind.TheVariants as word
 use Rattle.wb_model.specs.declared.script_lines.Operand.{Operand}
-use Rattle.wb_model.specs.declared.script_lines.Operand.TheVariants.{Name, Number, Literal}
+use Rattle.wb_model.specs.declared.script_lines.Operand.TheVariants.{Name, Number, Size, Literal}
 use Rattle.wb_model.specs.declared.script_lines.Form.{Form}
 use Rattle.wb_model.specs.declared.script_lines.Form.TheVariants.{Skip, Unknown, Line}
 use Rattle.wb_model.specs.declared.script_lines.Role.{Role}
 use Rattle.wb_model.specs.declared.script_lines.Role.TheVariants as role
 use Rattle.wb_model.specs.Lines.{words_of}
 use Rattle.wb_model.specs.Words.{declared_name, used_name, number_spelled, literal_spelled}
-use Rattle.wb_model.specs.Keys.{keys, text_of, letters_of, role_of}
+use Rattle.wb_model.specs.Keys.{keys, text_of, letters_of, role_of, word_kinds}
 
 -- the same with other names
 abbrev pub renamed_operand : {N M : Type 0} → (N → M) → Operand N → Operand M
 renamed_operand f (Name n) = Name (f n)
 renamed_operand f (Number z) = Number z
+renamed_operand f (Size n) = Size n
 renamed_operand f (Literal n) = Literal (f n)
 
 abbrev pub renamed : {N M : Type 0} → (N → M) → Form N → Form M
@@ -35,34 +37,27 @@ abbrev pub either : Option (Operand (List ℕ)) → Option (Operand (List ℕ)) 
 either (Some operand) other = Some operand
 either None other = other
 
--- the name that a word is, and its like
-abbrev pub name_word : List ℕ → Option (Operand (List ℕ))
-name_word word = option_map Name (used_name word)
-
-abbrev pub number_word : List ℕ → Option (Operand (List ℕ))
-number_word word = option_map Number (number_spelled word)
-
 -- a number that isn't negative
 abbrev pub size_of : Option ℤ → Option (Operand (List ℕ))
-size_of (Some (pos n)) = Some (Number (pos n))
+size_of (Some (pos n)) = Some (Size n)
 size_of _ = None
 
-abbrev pub literal_word : List ℕ → Option (Operand (List ℕ))
-literal_word word = option_map Literal (literal_spelled word)
+-- the operand that a word of a kind is
+abbrev pub operand_as : WordKind → List ℕ → Option (Operand (List ℕ))
+operand_as word.NewName text = option_map Name (declared_name text)
+operand_as word.Name text = option_map Name (used_name text)
+operand_as word.Number text = option_map Number (number_spelled text)
+operand_as word.Size text = size_of (number_spelled text)
+operand_as word.Literal text = option_map Literal (literal_spelled text)
+
+-- the operand by the first of the kinds that the word is of
+abbrev pub operand_among : List WordKind → List ℕ → Option (Operand (List ℕ))
+operand_among [] text = None
+operand_among (kind ∷ kinds) text = either (operand_as kind text) (operand_among kinds text)
 
 -- what a word is where a letter stands
 abbrev pub operand_of : Letter → List ℕ → Option (Operand (List ℕ))
-operand_of Declared word = option_map Name (declared_name word)
-operand_of Pointer word = name_word word
-operand_of Value word = either (number_word word) (name_word word)
-operand_of Variable word = name_word word
-operand_of Target word = name_word word
-operand_of Source word = either (number_word word) (name_word word)
-operand_of Size word = size_of (number_spelled word)
-operand_of Writable word = name_word word
-operand_of Readable word = either (name_word word) (literal_word word)
-operand_of ViewName word = name_word word
-operand_of Printed word = either (number_word word) (either (name_word word) (literal_word word))
+operand_of letter text = operand_among (word_kinds letter) text
 
 abbrev pub onto : Option (Operand (List ℕ)) → Option (List (Operand (List ℕ))) → Option (List (Operand (List ℕ)))
 onto None rest = None

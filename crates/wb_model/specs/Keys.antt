@@ -1,10 +1,14 @@
 -- The tables of the language: for each key the word that begins its lines, what stands behind it, and what its lines are to
--- the grammar of blocks.
-use Rattle.std.specs.Prelude.{ℕ, List, [], ◌∷◌, codes}
+-- the grammar of blocks; and for each letter the words that are grammatical where it stands, and the sorts that are right.
+use Rattle.std.specs.Prelude.{ℕ, List, [], ◌∷◌, Bool, true, false, codes}
 use Rattle.wb_model.specs.declared.script_lines.Key.{Key}
 use Rattle.wb_model.specs.declared.script_lines.Key.TheVariants.{Proc, Ptr, Int, Buf, View, Alloc, Realloc, Free, AllocLen, Store, Load, Set, Null, Add, Mark, MarkEnd, Check, CheckAll, FailNext, FailEvery, FailNone, HNew, HRealloc, Copy, Append, Insert, DelText, SetLength, Left, Right, Mid, GetLen, GetMax, Print, Heap, Available, Compress, End}
 use Rattle.wb_model.specs.declared.script_lines.Letter.{Letter}
 use Rattle.wb_model.specs.declared.script_lines.Letter.TheVariants.{Declared, Pointer, Value, Variable, Target, Source, Size, Writable, Readable, ViewName, Printed}
+use Rattle.wb_model.specs.declared.script_lines.WordKind.{WordKind}
+use Rattle.wb_model.specs.declared.script_lines.WordKind.TheVariants as word
+use Rattle.wb_model.specs.declared.script_lines.Sort.{Sort}
+use Rattle.wb_model.specs.declared.script_lines.Sort.TheVariants as sort
 use Rattle.wb_model.specs.declared.script_lines.Role.{Role}
 use Rattle.wb_model.specs.declared.script_lines.Role.TheVariants as role
 
@@ -136,3 +140,46 @@ role_of Heap = role.Plain
 role_of Available = role.Plain
 role_of Compress = role.Plain
 role_of End = role.End
+
+-- The words that are grammatical where a letter stands. A word that two of them admit is of the first.
+abbrev pub word_kinds : Letter → List WordKind
+word_kinds Declared = word.NewName ∷ []
+word_kinds Pointer = word.Name ∷ []
+word_kinds Value = word.Number ∷ word.Name ∷ []
+word_kinds Variable = word.Name ∷ []
+word_kinds Target = word.Name ∷ []
+word_kinds Source = word.Number ∷ word.Name ∷ []
+word_kinds Size = word.Size ∷ []
+word_kinds Writable = word.Name ∷ []
+word_kinds Readable = word.Name ∷ word.Literal ∷ []
+word_kinds ViewName = word.Name ∷ []
+word_kinds Printed = word.Number ∷ word.Name ∷ word.Literal ∷ []
+
+-- The sorts of operands that are right where a letter stands. A pointer may be one to a text, and is asked for it only in
+-- a run.
+abbrev pub takes : Letter → Sort → Bool
+takes Declared sort.Declared = true
+takes Pointer sort.Pointer = true
+takes Value sort.Number = true
+takes Value sort.Variable = true
+takes Variable sort.Variable = true
+takes Target sort.Pointer = true
+takes Target sort.Variable = true
+takes Source sort.Pointer = true
+takes Source sort.Number = true
+takes Source sort.Variable = true
+takes Size sort.Size = true
+takes Writable sort.Pointer = true
+takes Writable sort.Buffer = true
+takes Readable sort.Pointer = true
+takes Readable sort.Buffer = true
+takes Readable sort.View = true
+takes Readable sort.Literal = true
+takes ViewName sort.View = true
+takes Printed sort.Number = true
+takes Printed sort.Variable = true
+takes Printed sort.Pointer = true
+takes Printed sort.Buffer = true
+takes Printed sort.View = true
+takes Printed sort.Literal = true
+takes _ _ = false

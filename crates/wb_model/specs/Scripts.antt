@@ -10,8 +10,8 @@ use Rattle.wb_model.specs.Forms.{forms_of, role_of_form}
 use Rattle.wb_model.specs.Grammar.{IsGrammatical}
 use Rattle.wb_model.specs.Kinds.{has_wrong_kind}
 use Rattle.wb_model.specs.Lines.{lines_of, first_foreign_line, is_too_long}
-use Rattle.wb_model.specs.Names.{Text, first_refused, uses_unknown, declares_again, passes_limit, known_of, first_declaration_of}
-use Rattle.wb_model.specs.Resolved.{resolved}
+use Rattle.wb_model.specs.Names.{Text, first_refused, declares_again, passes_limit, items_of, literals_of, first_declaration_of}
+use Rattle.wb_model.specs.Resolved.{resolved, uses_unknown}
 use Rattle.wb_model.specs.Trees.{counted, script_lines}
 
 -- the lines are those of a script, whatever their names
@@ -33,7 +33,7 @@ pub record IsGrammarLine (lines : List Text) (n : ℕ) : Type 0 where
 
 -- the index of `main` among the procedures
 abbrev pub main_of : List (Form Text) → Option ℕ
-main_of forms = first_declaration_of (known_of forms).procedures (codes "main")
+main_of forms = first_declaration_of (items_of forms) (codes "main")
 
 -- not too long, and of lines alone
 pub record IsPlainText (bytes : List ℕ) : Type 0 where
@@ -48,7 +48,7 @@ pub record IsWellFormed (bytes : List ℕ) : Type 0 where
 -- the names of lines are declared, each once, and their operands are of the right kinds
 pub record IsNamed (forms : List (Form Text)) : Type 0 where
   pub known : first_refused uses_unknown forms ≡ None
-  pub once : first_refused declares_again forms ≡ None
+  pub once : first_refused (declares_again (items_of forms)) forms ≡ None
   pub right : first_refused has_wrong_kind forms ≡ None
 
 -- the tree that lines without a fault in their names, kinds and limits have
@@ -58,7 +58,7 @@ pub record IsTreeOf (forms : List (Form Text)) (script : Script) : Type 0 where
   pub within : first_refused passes_limit forms ≡ None
   pub classes : script.classes ≡ []
   pub operations : script.operations ≡ []
-  pub literals : script.literals ≡ (known_of forms).literals
+  pub literals : script.literals ≡ literals_of forms
   pub tree : script_lines script ≡ flat_map counted (resolved forms)
 
 -- the bytes spell this script
@@ -73,8 +73,8 @@ line_of index = option_map suc index
 -- the first fault of lines that are grammatical
 abbrev pub IsLinesFault : List (Form Text) → ScriptFault → Type 0
 IsLinesFault forms (UnknownName n) = line_of (first_refused uses_unknown forms) ≡ Some n
-IsLinesFault forms (DoubleName n) = (first_refused uses_unknown forms ≡ None) × (line_of (first_refused declares_again forms) ≡ Some n)
-IsLinesFault forms (WrongKind n) = (first_refused uses_unknown forms ≡ None) × (first_refused declares_again forms ≡ None) × (line_of (first_refused has_wrong_kind forms) ≡ Some n)
+IsLinesFault forms (DoubleName n) = (first_refused uses_unknown forms ≡ None) × (line_of (first_refused (declares_again (items_of forms)) forms) ≡ Some n)
+IsLinesFault forms (WrongKind n) = (first_refused uses_unknown forms ≡ None) × (first_refused (declares_again (items_of forms)) forms ≡ None) × (line_of (first_refused has_wrong_kind forms) ≡ Some n)
 IsLinesFault forms NoMain = IsNamed forms × (main_of forms ≡ None)
 IsLinesFault forms (TooMany n) = IsNamed forms × (main_of forms ≡ None → ⊥) × (line_of (first_refused passes_limit forms) ≡ Some n)
 IsLinesFault forms _ = ⊥

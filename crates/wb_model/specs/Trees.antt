@@ -1,11 +1,11 @@
 -- The lines of a script's tree, with what their names and literals stand for.
-use Rattle.std.specs.Prelude.{ℕ, suc, pos, List, [], ◌∷◌, ◌++◌, Option, Some, None, map}
+use Rattle.std.specs.Prelude.{ℕ, suc, List, [], ◌∷◌, ◌++◌, Option, Some, None, map}
 use Rattle.wb_model.specs.declared.script_lines.Key.TheVariants as key
 use Rattle.wb_model.specs.declared.script_lines.Key.{Key}
 use Rattle.wb_model.specs.declared.script_lines.Meant.{Meant}
 use Rattle.wb_model.specs.declared.script_lines.Meant.TheVariants as meant
 use Rattle.wb_model.specs.declared.script_lines.Operand.{Operand}
-use Rattle.wb_model.specs.declared.script_lines.Operand.TheVariants.{Name, Number, Literal}
+use Rattle.wb_model.specs.declared.script_lines.Operand.TheVariants.{Name, Number, Size, Literal}
 use Rattle.wb_model.specs.declared.script_lines.Form.{Form}
 use Rattle.wb_model.specs.declared.script_lines.Form.TheVariants.{Skip, Unknown, Line}
 use Rattle.wb_model.specs.declared.script.Script.{Script}
@@ -122,7 +122,7 @@ statement_lines statements = map (λ s. statement_line (out-Statement s)) statem
 abbrev pub local_line : ℕ → Local → Indexed
 local_line index (OfPointer None) = Line key.Ptr (Name (meant.Declared index) ∷ [])
 local_line index OfNumber = Line key.Int (Name (meant.Declared index) ∷ [])
-local_line index (OfBuffer max) = Line key.Buf (Name (meant.Declared index) ∷ Number (pos max) ∷ [])
+local_line index (OfBuffer max) = Line key.Buf (Name (meant.Declared index) ∷ Size max ∷ [])
 local_line index OfView = Line key.View (Name (meant.Declared index) ∷ [])
 local_line index _ = Unknown
 

@@ -46,7 +46,8 @@ pub enum Key {
     End,
 }
 
-/// What a word behind the key may be.
+/// What stands in a place behind the key. Which words are grammatical there and which sorts of operands are right says
+/// one table for all letters.
 #[derive(Clone, Copy)]
 pub enum Letter {
     /// A name that the line declares.
@@ -73,6 +74,20 @@ pub enum Letter {
     Printed,
 }
 
+/// What a word is to the grammar.
+#[derive(Clone, Copy, PartialEq, Eq)]
+pub enum WordKind {
+    /// A name that can be declared.
+    NewName,
+    /// A name that is used.
+    Name,
+    Number,
+    /// A number from 0 on.
+    Size,
+    /// A text between quotes.
+    Literal,
+}
+
 /// What a local holds.
 #[derive(Clone, Copy)]
 pub enum Kind {
@@ -88,6 +103,8 @@ pub enum Kind {
 pub enum Operand<N> {
     Name(N),
     Number(i32),
+    /// A number where none below 0 is grammatical.
+    Size(u32),
     /// Without its quotes.
     Literal(N),
 }
@@ -108,6 +125,25 @@ pub enum Meant {
     View(usize),
     Literal(usize),
     /// Nothing: the name is declared nowhere.
+    Nothing,
+}
+
+/// What an operand is, whichever of its sort.
+#[derive(Clone, Copy, PartialEq, Eq)]
+pub enum Sort {
+    Declared,
+    /// A local that holds a pointer.
+    Pointer,
+    /// A local that holds a number.
+    Variable,
+    /// A local that holds a text.
+    Buffer,
+    /// A local that holds a view.
+    View,
+    Number,
+    Size,
+    Literal,
+    /// A name that is declared nowhere.
     Nothing,
 }
 

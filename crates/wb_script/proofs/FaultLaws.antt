@@ -9,7 +9,8 @@ use Rattle.wb_model.specs.declared.script.Script.{Script}
 use Rattle.wb_model.specs.Forms.{forms_of}
 use Rattle.wb_model.specs.Kinds.{has_wrong_kind}
 use Rattle.wb_model.specs.Lines.{lines_of, first_foreign_line, is_too_long}
-use Rattle.wb_model.specs.Names.{Text, first_refused, uses_unknown, declares_again, passes_limit}
+use Rattle.wb_model.specs.Names.{Text, first_refused, declares_again, passes_limit, items_of}
+use Rattle.wb_model.specs.Resolved.{uses_unknown}
 use Rattle.wb_model.specs.Scripts.{AreLines, AreFirstLines, IsGrammarLine, IsPlainText, IsWellFormed, IsTreeOf, IsScriptOf, IsLinesFault, IsFaultOf, main_of, line_of}
 
 take_fewer : {X : Type 0} (n m : ℕ) (xs : List X) → n ≤ m → take n (take m xs) ≡ take n xs
@@ -52,7 +53,7 @@ with_double None forms = with_wrong (first_refused has_wrong_kind forms) forms
 
 abbrev with_unknown : Option ℕ → List (Form Text) → Option ScriptFault
 with_unknown (Some index) forms = Some (UnknownName (suc index))
-with_unknown None forms = with_double (first_refused declares_again forms) forms
+with_unknown None forms = with_double (first_refused (declares_again (items_of forms)) forms) forms
 
 abbrev lines_fault : List (Form Text) → Option ScriptFault
 lines_fault forms = with_unknown (first_refused uses_unknown forms) forms
@@ -66,7 +67,7 @@ lines_fault_is forms (UnknownName n) is =
     let (index, at, same) = found_line (first_refused uses_unknown forms) n is in
     rw at (ap (λ k. Some (UnknownName k)) same)
 lines_fault_is forms (DoubleName n) (known, is) =
-    let (index, at, same) = found_line (first_refused declares_again forms) n is in
+    let (index, at, same) = found_line (first_refused (declares_again (items_of forms)) forms) n is in
     rw (known, at) (ap (λ k. Some (DoubleName k)) same)
 lines_fault_is forms (WrongKind n) (known, once, is) =
     let (index, at, same) = found_line (first_refused has_wrong_kind forms) n is in

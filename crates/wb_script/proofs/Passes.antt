@@ -1,16 +1,11 @@
 -- The steps of a loop that makes a pass.
-use Rattle.std.proofs.Common.{◌≡◌, ℕ, suc, ◌+◌, ◌<◌, ◌≤◌, List, [], ◌∷◌, length, get_or, drop, map, Option, Some, None, Bool, true, false, ◌||◌, refl, sym, ap, ◌∙◌, arith, add-zero, add-one, drop-cons, ◌++◌, append_assoc}
+use Rattle.std.proofs.Common.{◌≡◌, ℕ, suc, ◌+◌, ◌<◌, ◌≤◌, List, [], ◌∷◌, length, get_or, drop, map, Option, Some, None, Bool, true, false, refl, ap, ◌∙◌, arith, add-zero, add-one, drop-cons, ◌++◌}
 use Rattle.std.proofs.lemmas.List.{drop_all}
+use Rattle.std.specs.Prelude.{if◌then◌else◌}
 use Rattle.std.specs.Option.{option_map}
-use Rattle.std.specs.List.{list_any}
-use Rattle.wb_model.specs.declared.script_lines.Form.{Form}
-use Rattle.wb_model.specs.declared.script_lines.Form.TheVariants.{Skip, Unknown, Line}
-use Rattle.wb_model.specs.declared.script_lines.Role.{Role}
-use Rattle.wb_model.specs.declared.script_lines.Role.TheVariants.{Procedure}
-use Rattle.wb_model.specs.Forms.{role_of_form, renamed}
-use Rattle.wb_model.specs.Keys.{role_of}
-use Rattle.wb_model.specs.Names.{Text, Known, names_in_space}
-use Rattle.wb_model.specs.Passes.{first_bad, each_with}
+use Rattle.wb_model.specs.Passes.{first_bad, each_with, state_after}
+use Rattle.wb_model.specs.Scripts.{line_of}
+use Rattle.wb_script.specs.Checks.{or_here}
 
 shifted : (i : ℕ) (o : Option ℕ) → option_map (λ n. i + n) (option_map suc o) ≡ option_map (λ n. suc i + n) o
 shifted i None = refl
@@ -30,26 +25,34 @@ module _ {S L V : Type 0} (view : V → L) (next : S → L → S) (bad : S → L
   pub found_none : (lines : List V) (i : ℕ) (state : S) → length lines ≤ i → found_from lines i state ≡ None
   found_none lines i state le = rw (drop_all i lines le) refl
 
-module _ {S L V M : Type 0} (view : V → L) (next : S → L → S) (out : S → L → M) where
-  -- one more line of a pass that makes a line of each
-  pub each_more : (lines : List V) (i : ℕ) (d : V) (s t : S) (y : M) (found all : List M) → i < length lines → t ≡ next s (view (get_or lines i d)) → y ≡ out s (view (get_or lines i d)) → found ++ each_with next out s (map view (drop i lines)) ≡ all → (found ++ y ∷ []) ++ each_with next out t (map view (drop (i + 1) lines)) ≡ all
-  each_more lines i d s t y found all lt t_is y_is so_far =
-      let x = view (get_or lines i d) in
-      let here : each_with next out s (map view (drop i lines)) ≡ out s x ∷ each_with next out (next s x) (map view (drop (suc i) lines)) = rw (drop-cons lines i d lt) refl in
-      append_assoc found (y ∷ []) (each_with next out t (map view (drop (i + 1) lines)))
-      ∙ rw (add-one i, t_is, y_is) (ap (λ l. found ++ l) (sym here) ∙ so_far)
+-- what one more line is to a pass over the lines before it
+module _ {S L : Type 0} (next : S → L → S) where
+  pub state_last : (lines : List L) (line : L) (state : S) → state_after next state (lines ++ line ∷ []) ≡ next (state_after next state lines) line
+  state_last [] line state = refl
+  state_last (l ∷ ls) line state = state_last ls line (next state l)
 
--- a test of lines through a view
-pub any_lent : {V L : Type 0} (p : L → Bool) (view : V → L) (lines : List V) → list_any p (map view lines) ≡ list_any (λ l. p (view l)) lines
-any_lent p view [] = refl
-any_lent p view (l ∷ ls) = ap (λ b. p (view l) || b) (any_lent p view ls)
+  pub each_last : {M : Type 0} (out : S → L → M) (lines : List L) (line : L) (state : S) → each_with next out state (lines ++ line ∷ []) ≡ each_with next out state lines ++ out (state_after next state lines) line ∷ []
+  each_last out [] line state = refl
+  each_last out (l ∷ ls) line state = ap (λ xs. out state l ∷ xs) (each_last out ls line (next state l))
 
--- a line that begins no procedure declares among the locals
-pub other_space : {N : Type 0} (known : Known) (view : N → Text) (form : Form N) → (role_of_form form ≡ Procedure → ⊥) → names_in_space (role_of_form (renamed view form)) known ≡ known.locals
-other_space known view Skip other = refl
-other_space known view Unknown other = refl
-other_space known view (Line key operands) other = go (role_of key) other
-  where
-    go : (role : Role) → (role ≡ Procedure → ⊥) → names_in_space role known ≡ known.locals
-    go Procedure other = absurd (other refl)
-    go _ other = refl
+  pub each_length : {M : Type 0} (out : S → L → M) (lines : List L) (state : S) → length (each_with next out state lines) ≡ length lines
+  each_length out [] state = refl
+  each_length out (l ∷ ls) state = ap suc (each_length out ls (next state l))
+
+  pub first_last : (bad : S → L → Bool) (lines : List L) (line : L) (state : S) → line_of (first_bad next bad state (lines ++ line ∷ [])) ≡ or_here (line_of (first_bad next bad state lines)) (suc (length lines)) (bad (state_after next state lines) line)
+  first_last bad [] line state = go (bad state line)
+    where
+      go : (b : Bool) → line_of (if b then Some 0 else None) ≡ or_here None 1 b
+      go true = refl
+      go false = refl
+  first_last bad (l ∷ ls) line state = go (bad state l) (first_bad next bad (next state l) (ls ++ line ∷ [])) (first_bad next bad (next state l) ls) (first_last bad ls line (next state l))
+    where
+      later : (o : Option ℕ) (n : ℕ) (b : Bool) → option_map suc (or_here o n b) ≡ or_here (option_map suc o) (suc n) b
+      later (Some first) n b = refl
+      later None n true = refl
+      later None n false = refl
+
+      go : (b : Bool) (long short : Option ℕ) → line_of long ≡ or_here (line_of short) (suc (length ls)) (bad (state_after next (next state l) ls) line) →
+          line_of (if b then Some 0 else option_map suc long) ≡ or_here (line_of (if b then Some 0 else option_map suc short)) (suc (suc (length ls))) (bad (state_after next (next state l) ls) line)
+      go true long short same = refl
+      go false long short same = ap (option_map suc) same ∙ later (line_of short) (suc (length ls)) (bad (state_after next (next state l) ls) line)

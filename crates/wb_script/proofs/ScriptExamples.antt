@@ -1,5 +1,5 @@
 -- What the definitions make of whole scripts: each example is proved by computing.
-use Rattle.std.proofs.Common.{◌≡◌, refl, ℕ, negsuc, List, [], ◌∷◌, ◌++◌, Some, None, map, replicate}
+use Rattle.std.proofs.Common.{◌≡◌, refl, ℕ, negsuc, List, [], ◌∷◌, ◌++◌, Option, Some, None, map, replicate}
 use Rattle.std.specs.Prelude.{codes}
 use Rattle.std.specs.List.{flat_map}
 use Rattle.wb_model.specs.declared.script_lines.Key.TheVariants.{Proc, Ptr, Int, Alloc, Print, End}
@@ -12,13 +12,17 @@ use Rattle.wb_model.specs.Grammar.{AreItems, IsBody, AreStatements}
 use Rattle.wb_model.specs.Keys.{keys}
 use Rattle.wb_model.specs.Kinds.{has_wrong_kind}
 use Rattle.wb_model.specs.Lines.{lines_of}
-use Rattle.wb_model.specs.Names.{Text, known_of, first_refused, uses_unknown, declares_again, passes_limit}
-use Rattle.wb_model.specs.Resolved.{resolved}
+use Rattle.wb_model.specs.Names.{Text, first_refused, declares_again, passes_limit, items_of, literals_of}
+use Rattle.wb_model.specs.Resolved.{resolved, uses_unknown}
 use Rattle.wb_model.specs.Scripts.{AreLines, main_of}
 use Rattle.wb_model.specs.Trees.{counted}
 
 abbrev forms_in : List ℕ → List (Form Text)
 forms_in bytes = forms_of (lines_of bytes)
+
+-- the first line that declares a name again
+abbrev again : List ℕ → Option ℕ
+again bytes = first_refused (declares_again (items_of (forms_in bytes))) (forms_in bytes)
 
 abbrev two_bodies : List ℕ
 two_bodies = codes "proc first\nprint \"a\"\nend\n# c\nproc main\nptr p\nint x\nptr q\nalloc q -12\nprint \"b\"\nalloc p x\nend"
@@ -36,7 +40,7 @@ what_they_mean : flat_map counted (resolved (forms_in two_bodies)) ≡
 unfolding keys
 what_they_mean = refl
 
-their_literals : (known_of (forms_in two_bodies)).literals ≡ codes "a" ∷ codes "b" ∷ []
+their_literals : literals_of (forms_in two_bodies) ≡ codes "a" ∷ codes "b" ∷ []
 unfolding keys
 their_literals = refl
 
@@ -54,7 +58,7 @@ unknown_is_behind : first_refused uses_unknown (forms_in twice) ≡ Some 3
 unfolding keys
 unknown_is_behind = refl
 
-second_is_double : first_refused declares_again (forms_in twice) ≡ Some 2
+second_is_double : again twice ≡ Some 2
 unfolding keys
 second_is_double = refl
 
@@ -63,9 +67,14 @@ other_body : first_refused uses_unknown (forms_in (codes "proc a\nptr p\nend\npr
 unfolding keys
 other_body = refl
 
-same_in_both : first_refused declares_again (forms_in (codes "proc p\nptr p\nend\nproc main\nptr p\nend")) ≡ None
+same_in_both : again (codes "proc p\nptr p\nend\nproc main\nptr p\nend") ≡ None
 unfolding keys
 same_in_both = refl
+
+-- the script's own names stand in one space over the whole script
+same_item : again (codes "proc p\nend\nproc q\nend\nproc p\nend") ≡ Some 4
+unfolding keys
+same_item = refl
 
 long_name : first_refused passes_limit (forms_in (codes "proc a2345678901234567890123456789012\nend\nproc a23456789012345678901234567890123\nend")) ≡ Some 2
 unfolding keys

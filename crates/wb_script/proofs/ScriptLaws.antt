@@ -1,5 +1,5 @@
 -- The lines of a script tell which script it is.
-use Rattle.std.proofs.Common.{◌≡◌, refl, sym, ap, subst, ◌∙◌, ℕ, suc, pos, List, [], ◌∷◌, ◌++◌, Bool, true, false, map, Option, Some, None, append-nil}
+use Rattle.std.proofs.Common.{◌≡◌, refl, sym, ap, subst, ◌∙◌, ℕ, suc, List, [], ◌∷◌, ◌++◌, Bool, true, false, map, Option, Some, None, append-nil}
 use Rattle.std.specs.List.{list_all, flat_map}
 use Rattle.std.specs.Option.{option_and_then}
 use Rattle.std.proofs.lemmas.List.Folds.{list_all-append}
@@ -8,7 +8,7 @@ use Rattle.wb_model.specs.declared.script_lines.Key.TheVariants as key
 use Rattle.wb_model.specs.declared.script_lines.Meant.{Meant}
 use Rattle.wb_model.specs.declared.script_lines.Meant.TheVariants as meant
 use Rattle.wb_model.specs.declared.script_lines.Operand.{Operand}
-use Rattle.wb_model.specs.declared.script_lines.Operand.TheVariants.{Name, Number, Literal}
+use Rattle.wb_model.specs.declared.script_lines.Operand.TheVariants.{Name, Number, Size, Literal}
 use Rattle.wb_model.specs.declared.script_lines.Form.TheVariants.{Skip, Unknown, Line}
 use Rattle.wb_model.specs.declared.script_lines.Role.{Role}
 use Rattle.wb_model.specs.declared.script_lines.Role.TheVariants as role
@@ -186,7 +186,7 @@ with_line (Line key.Proc operands) part = record {
 }
 with_line (Line key.Ptr operands) part = record { locals = OfPointer None ∷ part.locals; statements = part.statements; procedures = part.procedures }
 with_line (Line key.Int operands) part = record { locals = OfNumber ∷ part.locals; statements = part.statements; procedures = part.procedures }
-with_line (Line key.Buf (name ∷ Number (pos max) ∷ [])) part = record { locals = OfBuffer max ∷ part.locals; statements = part.statements; procedures = part.procedures }
+with_line (Line key.Buf (name ∷ Size max ∷ [])) part = record { locals = OfBuffer max ∷ part.locals; statements = part.statements; procedures = part.procedures }
 with_line (Line key.View operands) part = record { locals = OfView ∷ part.locals; statements = part.statements; procedures = part.procedures }
 with_line (Line key.End operands) part = part
 with_line line part = record { locals = part.locals; statements = roll-Statement (statement_in line) ∷ part.statements; procedures = part.procedures }

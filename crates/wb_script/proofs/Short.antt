@@ -6,12 +6,8 @@ use Rattle.wb_model.specs.declared.script_lines.Meant.{Meant}
 use Rattle.wb_model.specs.declared.script_lines.Operand.{Operand}
 use Rattle.wb_model.specs.declared.script_lines.Role.{Role}
 use Rattle.wb_model.specs.Kinds.{are_right}
-use Rattle.wb_model.specs.Names.{Text, Pick, picked_of, Known}
+use Rattle.wb_model.specs.Names.{Text, Known}
 use Rattle.wb_model.specs.Resolved.{resolved_operands}
-
-nothing_picked : (pick : Pick) (letters : List Letter) → picked_of pick letters [] ≡ []
-nothing_picked pick [] = refl
-nothing_picked pick (l ∷ ls) = refl
 
 nothing_right : (letters : List Letter) → are_right letters [] ≡ true
 nothing_right [] = refl
@@ -25,8 +21,5 @@ nothing_resolved known role [] = refl
 nothing_resolved known role (l ∷ ls) = refl
 
 module _ {V : Type 0} (view : V → Operand Text) where
-  pub picked_short : (pick : Pick) (found : List Text) (letters : List Letter) (operands : List V) (i : ℕ) → length operands ≤ i → found ++ picked_of pick (drop i letters) (map view (drop i operands)) ≡ found
-  picked_short pick found letters operands i le = rw (drop_all i operands le) (ap (λ l. found ++ l) (nothing_picked pick (drop i letters)) ∙ append-nil found)
-
   pub resolved_short : (known : Known) (role : Role) (found : List (Operand Meant)) (letters : List Letter) (operands : List V) (i : ℕ) → length operands ≤ i → found ++ resolved_operands known role (drop i letters) (map view (drop i operands)) ≡ found
   resolved_short known role found letters operands i le = rw (drop_all i operands le) (ap (λ l. found ++ l) (nothing_resolved known role (drop i letters)) ∙ append-nil found)

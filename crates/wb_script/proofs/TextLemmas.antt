@@ -12,7 +12,7 @@ use Rattle.wb_model.specs.Grammar.{IsGrammatical, IsFirstMisfit}
 use Rattle.wb_model.specs.Keys.{keys}
 use Rattle.wb_model.specs.Lines.{lines_of, is_too_long, ends_line, pieces_from, onto_first, quoted_after}
 use Rattle.wb_model.specs.Names.{Text}
-use Rattle.wb_model.specs.Scripts.{IsGrammarLine, IsPlainText, IsFaultOf}
+use Rattle.wb_model.specs.Scripts.{IsGrammarLine, IsPlainText, IsTreeOf, IsScriptOf, IsFaultOf}
 use Rattle.wb_script.specs.Reads.{roles_of, IsFormsFault}
 use Rattle.wb_script.proofs.Foreign.{at_most}
 
@@ -84,3 +84,11 @@ pub faults_of_lines : {E : Type 0} (bytes : List ℕ) (forms : List (Form Text))
 faults_of_lines bytes forms (Ok (Ok script)) is text told = told
 faults_of_lines bytes forms (Ok (Err fault)) is text told = fault_of_lines bytes fault text (subst (λ l. IsFormsFault l fault) is told)
 faults_of_lines bytes forms (Err error) is text told = told
+
+pub scripts_of_lines : {E : Type 0} (bytes : List ℕ) (forms : List (Form Text)) (r : Result (Result Script ScriptFault) E) → forms ≡ forms_of (lines_of bytes) → IsPlainText bytes → IfOk r (λ answer. IfOk answer (λ _. IsGrammatical (roles_of forms))) → IfOk r (λ answer. IfOk answer (IsTreeOf forms)) → IfOk r (λ answer. IfOk answer (IsScriptOf bytes))
+scripts_of_lines bytes forms (Ok (Ok script)) is text grammar tree = record {
+  well_formed = record { text = text; grammar = subst (λ l. IsGrammatical (roles_of l)) is grammar };
+  tree = subst (λ l. IsTreeOf l script) is tree;
+}
+scripts_of_lines bytes forms (Ok (Err fault)) is text grammar tree = tree
+scripts_of_lines bytes forms (Err error) is text grammar tree = tree

@@ -1,31 +1,37 @@
 -- The form of a line has operands of the letters of its key.
-use Rattle.std.proofs.Common.{◌≡◌, refl, subst, ℕ, ℤ, zero, suc, pos, neg_ℤ, ◌+◌, ◌-◌, ◌^◌, ◌<◌, ◌≤◌, List, [], ◌∷◌, Bool, true, false, ◌&&◌, nat_eq, nat_lt, nat_le, length, drop, Option, Some, None, fold, arith, length-drop}
+use Rattle.std.proofs.Common.{◌≡◌, refl, subst, ℕ, ℤ, zero, suc, pos, neg_ℤ, ◌+◌, ◌-◌, ◌^◌, ◌<◌, ◌≤◌, List, [], ◌∷◌, Bool, true, false, ◌&&◌, ◌||◌, nat_eq, nat_lt, nat_le, length, drop, Option, Some, None, fold, arith, length-drop}
 use Rattle.std.specs.Prelude.{if◌then◌else◌}
 use Rattle.std.specs.Option.{option_map}
-use Rattle.std.specs.List.{list_all}
+use Rattle.std.specs.List.{list_all, list_any}
 use Rattle.std.specs.Str.{bytes_eq}
 use Rattle.std.proofs.lemmas.Bool.{le-leb}
 use Rattle.std.proofs.lemmas.Bool.Decides.{nat_tests}
 use Rattle.std.proofs.lemmas.List.{length-take}
 use Rattle.wb_model.specs.declared.script_lines.Key.{Key}
 use Rattle.wb_model.specs.declared.script_lines.Letter.{Letter}
-use Rattle.wb_model.specs.declared.script_lines.Letter.TheVariants as letter
+use Rattle.wb_model.specs.declared.script_lines.WordKind.{WordKind}
+use Rattle.wb_model.specs.declared.script_lines.WordKind.TheVariants as word
 use Rattle.wb_model.specs.declared.script_lines.Operand.{Operand}
-use Rattle.wb_model.specs.declared.script_lines.Operand.TheVariants.{Name, Number, Literal}
+use Rattle.wb_model.specs.declared.script_lines.Operand.TheVariants.{Name, Number, Size, Literal}
 use Rattle.wb_model.specs.declared.script_lines.Form.{Form}
-use Rattle.wb_model.specs.Forms.{operand_of, operands_of, onto, operands_if, line_or, form_in, form_of, skipped_or, begins_comment, forms_of, either, name_word, number_word, literal_word, size_of}
-use Rattle.wb_model.specs.Keys.{keys, letters_of, text_of}
+use Rattle.wb_model.specs.Forms.{operand_as, operand_among, operand_of, operands_of, onto, operands_if, line_or, form_in, form_of, skipped_or, begins_comment, forms_of, either, size_of}
+use Rattle.wb_model.specs.Keys.{keys, letters_of, text_of, word_kinds}
 use Rattle.wb_model.specs.Lines.{words_of}
 use Rattle.wb_model.specs.Names.{Text}
 use Rattle.wb_model.specs.Sound.{is_quotable, is_literal_text}
 use Rattle.wb_model.specs.Words.{is_digit, with_digit, digits_of, number_spelled, declared_name, used_name, literal_spelled, is_literal, inside}
-use Rattle.wb_script.specs.Typed.{is_short, is_operand, are_operands, is_typed, AreTyped}
+use Rattle.wb_script.specs.Typed.{is_short, is_word_of, is_operand, are_operands, is_typed, AreTyped}
 use Rattle.wb_script.proofs.Cuts.{AreWithin, words_within}
 use Rattle.wb_script.proofs.Digits.{digit_at_most_nine, one_more_digit, nine_digits}
 
 pub both : (a b : Bool) → (a && b) ≡ true → (a ≡ true) × (b ≡ true)
 both true b e = (refl, e)
 both false b e = let clash : ⊥ = cc in absurd clash
+
+-- the first of two, where the second gives it too
+pub either_first : (a b : Bool) → (b ≡ true → a ≡ true) → (a || b) ≡ true → a ≡ true
+either_first true b other e = refl
+either_first false b other e = other e
 
 -- what a test that holds gives
 given : {X : Type 0} (b : Bool) (x y : X) → (if b then Some x else None) ≡ Some y → (b ≡ true) × (x ≡ y)
@@ -90,46 +96,32 @@ literal_sound word text short is =
     let within : nat_le (length (inside word)) 65536 ≡ true = le-leb (length (inside word)) 65536 (omega (arith, short, inside_within word)) in
     subst (λ t. is_literal_text t ≡ true) same (rw (quotable, within) refl)
 
-either_typed : (letter : Letter) (first other : Option (Operand Text)) (operand : Operand Text) → ((o : Operand Text) → first ≡ Some o → is_operand letter o ≡ true) → ((o : Operand Text) → other ≡ Some o → is_operand letter o ≡ true) → either first other ≡ Some operand → is_operand letter operand ≡ true
-either_typed letter (Some o) other operand one two is = one operand is
-either_typed letter None other operand one two is = two operand is
-
-module _ (at : Letter) (word : Text) (operand : Operand Text) where
-  name_typed : ((n : Text) → is_operand at (Name n) ≡ true) → name_word word ≡ Some operand → is_operand at operand ≡ true
-  name_typed each is = mapped (λ o. is_operand at o ≡ true) Name (used_name word) operand (λ n e. each n) is
-
-  number_typed : ((z : ℤ) → is_short z ≡ true → is_operand at (Number z) ≡ true) → number_word word ≡ Some operand → is_operand at operand ≡ true
-  number_typed each is = mapped (λ o. is_operand at o ≡ true) Number (number_spelled word) operand (λ z e. each z (number_bounded word z e)) is
-
-  literal_typed : length word ≤ 65536 → ((t : Text) → is_literal_text t ≡ true → is_operand at (Literal t) ≡ true) → literal_word word ≡ Some operand → is_operand at operand ≡ true
-  literal_typed short each is = mapped (λ o. is_operand at o ≡ true) Literal (literal_spelled word) operand (λ t e. each t (literal_sound word t short e)) is
-
-value_typed : (at : Letter) (word : Text) (operand : Operand Text) → ((n : Text) → is_operand at (Name n) ≡ true) → ((z : ℤ) → is_short z ≡ true → is_operand at (Number z) ≡ true) → either (number_word word) (name_word word) ≡ Some operand → is_operand at operand ≡ true
-value_typed at word operand names numbers is = either_typed at (number_word word) (name_word word) operand (λ o. number_typed at word o numbers) (λ o. name_typed at word o names) is
-
-text_typed : (at : Letter) (word : Text) (operand : Operand Text) → length word ≤ 65536 → ((n : Text) → is_operand at (Name n) ≡ true) → ((t : Text) → is_literal_text t ≡ true → is_operand at (Literal t) ≡ true) → either (name_word word) (literal_word word) ≡ Some operand → is_operand at operand ≡ true
-text_typed at word operand short names literals is = either_typed at (name_word word) (literal_word word) operand (λ o. name_typed at word o names) (λ o. literal_typed at word o short literals) is
-
-size_typed : (number : Option ℤ) (operand : Operand Text) → size_of number ≡ Some operand → is_operand letter.Size operand ≡ true
-size_typed (Some (pos n)) operand is = let same : Number (pos n) ≡ operand = cc in subst (λ o. is_operand letter.Size o ≡ true) same refl
+size_typed : (number : Option ℤ) (operand : Operand Text) → size_of number ≡ Some operand → is_word_of operand word.Size ≡ true
+size_typed (Some (pos n)) operand is = let same : Size n ≡ operand = cc in subst (λ o. is_word_of o word.Size ≡ true) same refl
 size_typed _ operand is = let clash : ⊥ = cc in absurd clash
 
-operand_typed : (letter : Letter) (word : Text) (operand : Operand Text) → length word ≤ 65536 → operand_of letter word ≡ Some operand → is_operand letter operand ≡ true
-operand_typed letter.Declared word operand short is = mapped (λ o. is_operand letter.Declared o ≡ true) Name (declared_name word) operand (λ n e. refl) is
-operand_typed letter.Pointer word operand short is = name_typed letter.Pointer word operand (λ n. refl) is
-operand_typed letter.Variable word operand short is = name_typed letter.Variable word operand (λ n. refl) is
-operand_typed letter.Target word operand short is = name_typed letter.Target word operand (λ n. refl) is
-operand_typed letter.Value word operand short is = value_typed letter.Value word operand (λ n. refl) (λ z e. e) is
-operand_typed letter.Source word operand short is = value_typed letter.Source word operand (λ n. refl) (λ z e. e) is
-operand_typed letter.Size word operand short is = size_typed (number_spelled word) operand is
-operand_typed letter.Writable word operand short is = name_typed letter.Writable word operand (λ n. refl) is
-operand_typed letter.Readable word operand short is = text_typed letter.Readable word operand short (λ n. refl) (λ t e. e) is
-operand_typed letter.ViewName word operand short is = name_typed letter.ViewName word operand (λ n. refl) is
-operand_typed letter.Printed word operand short is =
-    either_typed letter.Printed (number_word word) (either (name_word word) (literal_word word)) operand
-    (λ o. number_typed letter.Printed word o (λ z e. e))
-    (λ o. text_typed letter.Printed word o short (λ n. refl) (λ t e. e))
-    is
+kind_typed : (kind : WordKind) (text : Text) (operand : Operand Text) → length text ≤ 65536 → operand_as kind text ≡ Some operand → is_word_of operand kind ≡ true
+kind_typed word.NewName text operand short is = mapped (λ o. is_word_of o word.NewName ≡ true) Name (declared_name text) operand (λ n e. refl) is
+kind_typed word.Name text operand short is = mapped (λ o. is_word_of o word.Name ≡ true) Name (used_name text) operand (λ n e. refl) is
+kind_typed word.Number text operand short is = mapped (λ o. is_word_of o word.Number ≡ true) Number (number_spelled text) operand (λ z e. number_bounded text z e) is
+kind_typed word.Size text operand short is = size_typed (number_spelled text) operand is
+kind_typed word.Literal text operand short is = mapped (λ o. is_word_of o word.Literal ≡ true) Literal (literal_spelled text) operand (λ t e. literal_sound text t short e) is
+
+-- a word of one of some kinds
+among_typed : (kinds : List WordKind) (text : Text) (operand : Operand Text) → length text ≤ 65536 → operand_among kinds text ≡ Some operand → list_any (is_word_of operand) kinds ≡ true
+among_typed [] text operand short is = let clash : ⊥ = cc in absurd clash
+among_typed (kind ∷ kinds) text operand short is = go (operand_as kind text) (λ o. kind_typed kind text o short) (among_typed kinds text operand short) is
+  where
+    later : (b : Bool) → list_any (is_word_of operand) kinds ≡ true → (b || list_any (is_word_of operand) kinds) ≡ true
+    later true e = refl
+    later false e = e
+
+    go : (first : Option (Operand Text)) → ((o : Operand Text) → first ≡ Some o → is_word_of o kind ≡ true) → (operand_among kinds text ≡ Some operand → list_any (is_word_of operand) kinds ≡ true) → either first (operand_among kinds text) ≡ Some operand → list_any (is_word_of operand) (kind ∷ kinds) ≡ true
+    go (Some o) one others e = rw (one operand e) refl
+    go None one others e = later (is_word_of operand kind) (others e)
+
+operand_typed : (letter : Letter) (text : Text) (operand : Operand Text) → length text ≤ 65536 → operand_of letter text ≡ Some operand → is_operand letter operand ≡ true
+operand_typed letter text operand short is = among_typed (word_kinds letter) text operand short is
 
 operands_typed : (letters : List Letter) (words : List Text) (operands : List (Operand Text)) → AreWithin 65536 words → operands_of letters words ≡ Some operands → are_operands letters operands ≡ true
 operands_typed [] [] operands short is = let same : [] ≡ operands = cc in subst (λ o. are_operands [] o ≡ true) same refl

@@ -1,5 +1,5 @@
 -- What a tree in the making stands for, and which lines can be added to it.
-use Rattle.std.specs.Prelude.{◌≡◌, ℕ, suc, pos, List, [], ◌∷◌, ◌++◌, Bool, true, false, not, ◌&&◌, ◌<◌, nat_eq, nat_lt, nat_le, Option, Some, None, IsTrue, length}
+use Rattle.std.specs.Prelude.{◌≡◌, ℕ, suc, List, [], ◌∷◌, ◌++◌, Bool, true, false, not, ◌&&◌, ◌<◌, nat_eq, nat_lt, nat_le, Option, Some, None, IsTrue, length}
 use Rattle.std.specs.List.{list_all}
 use Rattle.std.specs.Option.{option_map_or}
 use Rattle.wb_model.specs.declared.limits.TheConstants.{LARGEST_BUFFER, MOST_LOCALS, MOST_PROCEDURES}
@@ -8,7 +8,7 @@ use Rattle.wb_model.specs.declared.script_lines.Key.TheVariants as key
 use Rattle.wb_model.specs.declared.script_lines.Meant.{Meant}
 use Rattle.wb_model.specs.declared.script_lines.Meant.TheVariants as meant
 use Rattle.wb_model.specs.declared.script_lines.Operand.{Operand}
-use Rattle.wb_model.specs.declared.script_lines.Operand.TheVariants.{Name, Number}
+use Rattle.wb_model.specs.declared.script_lines.Operand.TheVariants.{Name, Size}
 use Rattle.wb_model.specs.declared.script_lines.Form.TheVariants.{Line}
 use Rattle.wb_model.specs.declared.script_lines.Role.{Role}
 use Rattle.wb_model.specs.declared.script_lines.Role.TheVariants.{Procedure, Declaration}
@@ -34,7 +34,7 @@ use Rattle.wb_script.specs.Fitting.{operands_fit}
 abbrev pub local_of : Key → List (Operand Meant) → Option Local
 local_of key.Ptr operands = Some (OfPointer None)
 local_of key.Int operands = Some OfNumber
-local_of key.Buf (name ∷ Number (pos max) ∷ []) = Some (OfBuffer max)
+local_of key.Buf (name ∷ Size max ∷ []) = Some (OfBuffer max)
 local_of key.View operands = Some OfView
 local_of _ operands = None
 
@@ -65,7 +65,7 @@ declares index _ = false
 
 -- a text no larger than texts may be, where a size is told
 abbrev pub is_small : List (Operand Meant) → Bool
-is_small (name ∷ Number (pos max) ∷ []) = nat_le max LARGEST_BUFFER
+is_small (name ∷ Size max ∷ []) = nat_le max LARGEST_BUFFER
 is_small _ = true
 
 -- a local is the next of its body, not one more than there may be, and not too large

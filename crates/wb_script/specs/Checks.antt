@@ -1,33 +1,42 @@
--- What the code's names of picks and checks mean.
-use Rattle.std.specs.Prelude.{Bool}
+-- What the lines so far are found to be.
+use Rattle.std.specs.Prelude.{◌≡◌, ℕ, List, length, Bool, true, false, Option, Some, None}
 use Rattle.wb_model.specs.declared.script_lines.Form.{Form}
-use Rattle.wb_model.specs.Names.{Text, Pick, name_declared, name_used, name_in, literal_in, uses_unknown, declares_again, passes_limit}
+use Rattle.wb_model.specs.Names.{Text, nothing_known, known_after, first_refused, declares_again, passes_limit, literals_of}
 use Rattle.wb_model.specs.Names as model
+use Rattle.wb_model.specs.Passes.{state_after}
 use Rattle.wb_model.specs.Kinds.{has_wrong_kind}
+use Rattle.wb_model.specs.Resolved.{resolved, uses_unknown}
+use Rattle.wb_model.specs.Scripts.{line_of}
 use Rattle.wb_script.specs.Lent.{lent_texts}
-use Rattle.wb_script.specs.declared.checks.known.Wanted.{Wanted}
-use Rattle.wb_script.specs.declared.checks.known.Wanted.TheVariants.{Declared, Used, Names, Literals}
 use Rattle.wb_script.specs.declared.checks.known.Known.{Known}
-use Rattle.wb_script.specs.declared.checks.Check.{Check}
-use Rattle.wb_script.specs.declared.checks.Check.TheVariants as check
-
-abbrev pub pick_of : Wanted → Pick
-pick_of Declared = name_declared
-pick_of Used = name_used
-pick_of Names = name_in
-pick_of Literals = literal_in
+use Rattle.wb_script.specs.declared.checks.Checked.{Checked}
 
 -- what is known, without the references
 abbrev pub known_in : Known → model.Known
 known_in known = record {
-  procedures = lent_texts known.procedures.items;
+  items = known.items;
+  literals = length known.literals.items;
   locals = lent_texts known.locals.items;
   kinds = known.kinds.items;
-  literals = lent_texts known.literals.items;
 }
 
-abbrev pub test_of : Check → model.Known → Form Text → Bool
-test_of check.UnknownName = uses_unknown
-test_of check.DoubleName = declares_again
-test_of check.WrongKind = has_wrong_kind
-test_of check.TooMany = passes_limit
+-- the first line that a check refuses, with one more line
+abbrev pub or_here : Option ℕ → ℕ → Bool → Option ℕ
+or_here (Some first) line refused = Some first
+or_here None line true = Some line
+or_here None line false = None
+
+-- what stands behind all lines
+abbrev pub known_of : List (Form Text) → model.Known
+known_of forms = state_after known_after nothing_known forms
+
+-- The lines of a script with these names in its own space: what their names stand for, the literals, and the number of the
+-- first line that each check refuses.
+pub record AreChecked (items : List Text) (forms : List (Form Text)) (checked : Checked) : Type 0 where
+  pub lines : checked.lines.items ≡ resolved forms
+  pub known : known_in checked.known ≡ known_of forms
+  pub literals : lent_texts checked.known.literals.items ≡ literals_of forms
+  pub unknown_name : checked.first.unknown_name ≡ line_of (first_refused uses_unknown forms)
+  pub double_name : checked.first.double_name ≡ line_of (first_refused (declares_again items) forms)
+  pub wrong_kind : checked.first.wrong_kind ≡ line_of (first_refused has_wrong_kind forms)
+  pub too_many : checked.first.too_many ≡ line_of (first_refused passes_limit forms)

@@ -1,22 +1,16 @@
 -- What the forms of all lines tell of a script: no fault, or the first.
-use Rattle.std.specs.Prelude.{◌≡◌, ℕ, ◌+◌, List, Some, None, map}
+use Rattle.std.specs.Prelude.{◌≡◌, ℕ, ◌+◌, List, map}
 use Rattle.wb_model.specs.declared.fault.ScriptFault.{ScriptFault}
 use Rattle.wb_model.specs.declared.fault.ScriptFault.TheVariants.{Grammar}
 use Rattle.wb_model.specs.declared.script_lines.Form.{Form}
 use Rattle.wb_model.specs.declared.script_lines.Role.{Role}
 use Rattle.wb_model.specs.Forms.{role_of_form}
 use Rattle.wb_model.specs.Grammar.{IsGrammatical, IsFirstMisfit}
-use Rattle.wb_model.specs.Names.{Text, first_refused, passes_limit}
-use Rattle.wb_model.specs.Scripts.{main_of, IsNamed, IsLinesFault}
+use Rattle.wb_model.specs.Names.{Text}
+use Rattle.wb_model.specs.Scripts.{IsLinesFault}
 
 abbrev pub roles_of : List (Form Text) → List Role
 roles_of forms = map role_of_form forms
-
--- the checks of names, kinds and limits find nothing, and `main` is the procedure with this index
-pub record IsFaultless (forms : List (Form Text)) (main : ℕ) : Type 0 where
-  pub named : IsNamed forms
-  pub main_is : main_of forms ≡ Some main
-  pub within : first_refused passes_limit forms ≡ None
 
 -- the first fault, the line of a grammar fault as an index behind which it stands
 abbrev pub IsFormsFault : List (Form Text) → ScriptFault → Type 0

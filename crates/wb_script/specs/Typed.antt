@@ -1,14 +1,15 @@
 -- Forms whose operands are of the letters of their keys, as each line's is that is no longer than a script.
 use Rattle.std.specs.Prelude.{ℤ, pos, negsuc, nat_le, nat_lt, List, [], ◌∷◌, Bool, true, false, ◌&&◌, IsTrue}
-use Rattle.std.specs.List.{list_all}
+use Rattle.std.specs.List.{list_all, list_any}
 use Rattle.wb_model.specs.declared.limits.TheConstants.{NINE_DIGITS}
 use Rattle.wb_model.specs.declared.script_lines.Letter.{Letter}
-use Rattle.wb_model.specs.declared.script_lines.Letter.TheVariants as letter
 use Rattle.wb_model.specs.declared.script_lines.Operand.{Operand}
-use Rattle.wb_model.specs.declared.script_lines.Operand.TheVariants.{Name, Number, Literal}
+use Rattle.wb_model.specs.declared.script_lines.Operand.TheVariants.{Name, Number, Size, Literal}
 use Rattle.wb_model.specs.declared.script_lines.Form.{Form}
 use Rattle.wb_model.specs.declared.script_lines.Form.TheVariants.{Line}
-use Rattle.wb_model.specs.Keys.{letters_of}
+use Rattle.wb_model.specs.declared.script_lines.WordKind.{WordKind}
+use Rattle.wb_model.specs.declared.script_lines.WordKind.TheVariants as word
+use Rattle.wb_model.specs.Keys.{letters_of, word_kinds}
 use Rattle.wb_model.specs.Names.{Text}
 use Rattle.wb_model.specs.Sound.{is_literal_text}
 
@@ -17,24 +18,17 @@ abbrev pub is_short : ℤ → Bool
 is_short (pos n) = nat_le n NINE_DIGITS
 is_short (negsuc n) = nat_lt n NINE_DIGITS
 
+-- an operand that a word of a kind is
+abbrev pub is_word_of : Operand Text → WordKind → Bool
+is_word_of (Name name) word.NewName = true
+is_word_of (Name name) word.Name = true
+is_word_of (Number z) word.Number = is_short z
+is_word_of (Size n) word.Size = true
+is_word_of (Literal text) word.Literal = is_literal_text text
+is_word_of _ _ = false
+
 abbrev pub is_operand : Letter → Operand Text → Bool
-is_operand letter.Declared (Name name) = true
-is_operand letter.Pointer (Name name) = true
-is_operand letter.Value (Name name) = true
-is_operand letter.Value (Number z) = is_short z
-is_operand letter.Variable (Name name) = true
-is_operand letter.Target (Name name) = true
-is_operand letter.Source (Name name) = true
-is_operand letter.Source (Number z) = is_short z
-is_operand letter.Size (Number (pos n)) = true
-is_operand letter.Writable (Name name) = true
-is_operand letter.Readable (Name name) = true
-is_operand letter.Readable (Literal text) = is_literal_text text
-is_operand letter.ViewName (Name name) = true
-is_operand letter.Printed (Name name) = true
-is_operand letter.Printed (Number z) = is_short z
-is_operand letter.Printed (Literal text) = is_literal_text text
-is_operand _ _ = false
+is_operand letter operand = list_any (is_word_of operand) (word_kinds letter)
 
 abbrev pub are_operands : List Letter → List (Operand Text) → Bool
 are_operands [] [] = true

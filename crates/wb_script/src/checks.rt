@@ -1,4 +1,4 @@
-//! The checks of names, kinds and limits. Each is one pass over all lines.
+//! The checks of names, kinds and limits: one pass over all lines, which also finds what their names stand for.
 
 pub(crate) mod kinds;
 pub(crate) mod known;
@@ -7,96 +7,129 @@ pub(crate) mod names;
 pub(crate) mod nesting;
 pub(crate) mod resolved;
 
-ghost use Rattle.std.specs.Prelude.{◌≡◌, ◌<◌, length, IfOk, IfSome};
+ghost use Rattle.std.specs.Prelude.{◌≡◌, ◌+◌, ◌<◌, ◌≤◌, [], ◌∷◌, ◌++◌, List, length, IfOk, OnOk};
+ghost use Rattle.wb_model.specs.declared.script_lines.Form as model;
 ghost use Rattle.wb_model.specs.Kinds.{has_wrong_kind};
-ghost use Rattle.wb_model.specs.Names.{uses_unknown, declares_again, passes_limit, first_refused};
-ghost use Rattle.wb_script.specs.Lent.{lent_form, lent_forms};
-ghost use Rattle.wb_script.specs.Checks.{known_in, test_of};
+ghost use Rattle.wb_model.specs.Names.{Text, declares_again, passes_limit, items_of};
+ghost use Rattle.wb_model.specs.Resolved.{uses_unknown, resolved_line};
+ghost use Rattle.wb_script.specs.Lent.{lent_form, lent_forms, lent_texts};
+ghost use Rattle.wb_script.specs.Checks.{known_in, or_here, AreChecked};
 
 use crate::checks::kinds::is_right_line;
-use crate::checks::known::{Known, Wanted, add_line, picked};
-use crate::checks::limits::{any_long, is_large, is_one_more};
-use crate::checks::names::{any_known, any_unknown};
+use crate::checks::known::{Known, items_of};
+use crate::checks::limits::passes_limit;
+use crate::checks::names::{declares_again, has_unknown};
 use crate::checks::resolved::resolved_line;
-use crate::lines::forms::role;
 use std::alloc::{AllocError, Global};
-use wb_model::script_lines::{Form, Role};
+use wb_model::limits::LONGEST_SCRIPT;
+use wb_model::script_lines::{Form, Meant};
 
-/// What a line is looked at for.
+/// The number of the first line that a check refuses, with one more line.
+fn or_here(found: Option<u32>, line: u32, refused: bool) -> Option<u32>
+    ensures { result ≡ or_here found line refused }
+{
+    match found {
+        Some(first) => Some(first),
+        None => { if refused { Some(line) } else { None } }
+    }
+}
+
+/// The numbers of the first lines that the checks refuse.
 #[derive(Clone, Copy)]
-pub(crate) enum Check {
-    UnknownName,
-    DoubleName,
-    WrongKind,
-    TooMany,
+pub(crate) struct FirstLines {
+    pub unknown_name: Option<u32>,
+    pub double_name: Option<u32>,
+    pub wrong_kind: Option<u32>,
+    pub too_many: Option<u32>,
 }
 
-fn uses_unknown(alloc: Global, known: &Known, form: &Form<&[u8]>) -> Result<bool, AllocError>
-    ensures { IfOk result (λ bad. bad ≡ uses_unknown (known_in known.now) (lent_form form.now)) }
-{
-    let names = picked(alloc, Wanted::Used, form)?;
-    Ok(any_unknown(&known.locals, &names))
-}
-
-#[tactic(auto, using(crate::proofs::Passes::any_lent))]
-fn declares_again(alloc: Global, known: &Known, form: &Form<&[u8]>) -> Result<bool, AllocError>
-    ensures { IfOk result (λ bad. bad ≡ declares_again (known_in known.now) (lent_form form.now)) }
-{
-    let names = picked(alloc, Wanted::Declared, form)?;
-    match role(form) {
-        Role::Procedure => Ok(any_known(&known.procedures, &names)),
-        _ => Ok(any_known(&known.locals, &names)),
-    }
-}
-
-fn has_wrong_kind(alloc: Global, known: &Known, form: &Form<&[u8]>) -> Result<bool, AllocError>
-    ensures { IfOk result (λ bad. bad ≡ has_wrong_kind (known_in known.now) (lent_form form.now)) }
-{
-    let line = resolved_line(alloc, known, form)?;
-    Ok(!is_right_line(&line))
-}
-
-fn passes_limit(alloc: Global, known: &Known, form: &Form<&[u8]>) -> Result<bool, AllocError>
-    ensures { IfOk result (λ bad. bad ≡ passes_limit (known_in known.now) (lent_form form.now)) }
-{
-    let names = picked(alloc, Wanted::Names, form)?;
-    if any_long(&names) || is_one_more(role(form), known) {
-        return Ok(true);
-    }
-    Ok(is_large(form))
-}
-
-fn is_refused(
-    alloc: Global,
-    check: Check,
-    known: &Known,
-    form: &Form<&[u8]>,
-) -> Result<bool, AllocError>
-    ensures { IfOk result (λ bad. bad ≡ test_of check (known_in known.now) (lent_form form.now)) }
-{
-    match check {
-        Check::UnknownName => uses_unknown(alloc, known, form),
-        Check::DoubleName => declares_again(alloc, known, form),
-        Check::WrongKind => has_wrong_kind(alloc, known, form),
-        Check::TooMany => passes_limit(alloc, known, form),
-    }
-}
-
-/// The index of the first line that a check refuses.
-pub(crate) fn first_refused(
-    alloc: Global,
-    check: Check,
-    forms: &[Form<&[u8]>],
-) -> Result<Option<usize>, AllocError>
-    ensures found { IfOk result (λ found. found ≡ first_refused (test_of check) (lent_forms forms.now)) }
-    ensures within { IfOk result (λ found. IfSome found (λ n. n < length forms.now)) }
-{
-    let mut known = Known::nothing(alloc);
-    for (index, form) in forms.iter().enumerate() {
-        if is_refused(alloc, check, &known, form)? {
-            return Ok(Some(index));
+impl FirstLines {
+    /// With one more line, by its number: its form, and what its names stand for.
+    fn with(
+        self,
+        items: &[&[u8]],
+        known: &Known,
+        number: u32,
+        form: &Form<&[u8]>,
+        line: &Form<Meant>,
+    ) -> FirstLines
+        requires { line.now ≡ resolved_line (known_in known.now) (lent_form form.now) }
+        ensures unknown_name { result.unknown_name ≡ or_here self.unknown_name number (uses_unknown (known_in known.now) (lent_form form.now)) }
+        ensures double_name { result.double_name ≡ or_here self.double_name number (declares_again (lent_texts items.now) (known_in known.now) (lent_form form.now)) }
+        ensures wrong_kind { result.wrong_kind ≡ or_here self.wrong_kind number (has_wrong_kind (known_in known.now) (lent_form form.now)) }
+        ensures too_many { result.too_many ≡ or_here self.too_many number (passes_limit (known_in known.now) (lent_form form.now)) }
+    {
+        let double = declares_again(items, known, form);
+        FirstLines {
+            unknown_name: or_here(self.unknown_name, number, has_unknown(line)),
+            double_name: or_here(self.double_name, number, double),
+            wrong_kind: or_here(self.wrong_kind, number, !is_right_line(line)),
+            too_many: or_here(self.too_many, number, passes_limit(known, form)),
         }
-        add_line(alloc, &mut known, form)?;
     }
-    Ok(None)
+}
+
+/// What the lines so far are found to be.
+#[derive(Drop)]
+pub(crate) struct Checked<'a> {
+    /// The lines with what their names and literals stand for.
+    pub lines: Vec<Form<Meant>>,
+    pub known: Known<'a>,
+    pub first: FirstLines,
+}
+
+impl<'a> Checked<'a> {
+    fn nothing(alloc: Global) -> Checked<'a>
+        ensures checked { (items : List Text) → AreChecked items [] result }
+        ensures items { result.known.items ≤ length result.lines.items }
+        ensures lines { length result.lines.items ≡ 0 }
+    {
+        Checked {
+            lines: Vec::new(alloc),
+            known: Known::nothing(alloc),
+            first: FirstLines {
+                unknown_name: None,
+                double_name: None,
+                wrong_kind: None,
+                too_many: None,
+            },
+        }
+    }
+
+    /// Checks one more line of a script with these names in its own space.
+    fn add_line(
+        &mut self,
+        alloc: Global,
+        items: &[&[u8]],
+        form: &Form<&'a [u8]>,
+    ) -> Result<(), AllocError>
+        requires few { length self.now.lines.items < LONGEST_SCRIPT }
+        requires items { self.now.known.items ≤ length self.now.lines.items }
+        ensures checked { OnOk result ((before : List (model.Form Text)) → AreChecked (lent_texts items.now) before self.old → AreChecked (lent_texts items.now) (before ++ lent_form form.now ∷ []) self.new) }
+        ensures items { OnOk result (self.new.known.items ≤ length self.new.lines.items) }
+        ensures lines { OnOk result (length self.new.lines.items ≡ length self.old.lines.items + 1) }
+    {
+        let line = resolved_line(alloc, &self.known, form)?;
+        let number = self.lines.len() as u32 + 1;
+        self.first = self.first.with(items, &self.known, number, form, &line);
+        self.known.add_line(form)?;
+        self.lines.push(line)?;
+        Ok(())
+    }
+}
+
+/// What the lines of a script are found to be.
+pub(crate) fn checked_lines<'a>(
+    alloc: Global,
+    items: &[&[u8]],
+    forms: &[Form<&'a [u8]>],
+) -> Result<Checked<'a>, AllocError>
+    requires { length forms.now ≤ LONGEST_SCRIPT }
+    ensures { IfOk result (AreChecked (lent_texts items.now) (lent_forms forms.now)) }
+{
+    let mut checked = Checked::nothing(alloc);
+    for form in forms {
+        checked.add_line(alloc, items, form)?;
+    }
+    Ok(checked)
 }

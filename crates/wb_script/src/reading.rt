@@ -3,22 +3,22 @@
 #[cfg(test)]
 mod tests;
 
-ghost use Rattle.std.specs.Prelude.{◌≡◌, ◌≢◌, ◌≤◌, ◌+◌, length, map, IsTrue, IfOk, IfErr, MatchOption, None, Some};
+ghost use Rattle.std.specs.Prelude.{◌≡◌, ◌≢◌, ◌≤◌, ◌<◌, ◌^◌, [], length, map, IsTrue, IfOk, IfErr, MatchOption};
+ghost use Rattle.std.specs.List.{list_all, flat_map};
 ghost use Rattle.wb_model.specs.Forms.{role_of_form};
 ghost use Rattle.wb_model.specs.Grammar.{IsGrammatical, IsFirstMisfit};
-ghost use Rattle.wb_model.specs.Names.{first_refused, known_of};
-ghost use Rattle.wb_model.specs.Scripts.{IsPlainText, IsScriptOf, IsFaultOf, IsTreeOf, IsLinesFault, line_of};
-ghost use Rattle.wb_model.specs.Sound.{is_script};
+ghost use Rattle.wb_model.specs.Scripts.{IsPlainText, IsScriptOf, IsFaultOf, IsTreeOf, IsLinesFault};
+ghost use Rattle.wb_model.specs.Sound.{is_script, is_literal_text};
+ghost use Rattle.wb_model.specs.Trees.{script_lines, counted};
+ghost use Rattle.wb_script.specs.Building.{AllFit, counts_of};
 ghost use Rattle.wb_script.specs.Lent.{lent_texts, lent_forms};
-ghost use Rattle.wb_script.specs.Checks.{known_in, test_of};
-ghost use Rattle.wb_script.specs.Reads.{roles_of, IsFaultless, IsFormsFault};
+ghost use Rattle.wb_script.specs.Reads.{roles_of, IsFormsFault};
 ghost use Rattle.wb_script.specs.Typed.{AreTyped};
 
-use crate::checks::known::{Known, known_of};
+use crate::checks::checked_lines;
+use crate::checks::known::items_of;
 use crate::checks::names::place_of;
 use crate::checks::nesting::first_misfit;
-use crate::checks::resolved::resolved;
-use crate::checks::{Check, first_refused};
 use crate::lines::bytes::{first_foreign_line, is_too_long};
 use crate::lines::forms::{forms, role};
 use crate::lines::pieces::lines;
@@ -28,7 +28,7 @@ use wb_model::fault::ScriptFault;
 use wb_model::items::Items;
 use wb_model::limits::LONGEST_SCRIPT;
 use wb_model::script::{Chars, Script};
-use wb_model::script_lines::{Form, Role};
+use wb_model::script_lines::{Form, Meant, Role};
 
 fn roles<N>(alloc: Global, forms: &[Form<N>]) -> Result<Vec<Role>, AllocError>
     ensures { IfOk result (λ found. found.items ≡ map role_of_form forms.now) }
@@ -50,21 +50,6 @@ fn misfit(alloc: Global, forms: &[Form<&[u8]>]) -> Result<Option<usize>, AllocEr
     first_misfit(alloc, &roles)
 }
 
-/// The number of the first line that a check refuses.
-fn refused_line(
-    alloc: Global,
-    check: Check,
-    forms: &[Form<&[u8]>],
-) -> Result<Option<u32>, AllocError>
-    requires { length forms.now ≤ LONGEST_SCRIPT }
-    ensures { IfOk result (λ found. found ≡ line_of (first_refused (test_of check) (lent_forms forms.now))) }
-{
-    match first_refused(alloc, check, forms)? {
-        Some(index) => Ok(Some(index as u32 + 1)),
-        None => Ok(None),
-    }
-}
-
 fn chars_of(alloc: Global, text: &[u8]) -> Result<Chars, AllocError>
     ensures { IfOk result (λ chars. chars ≡ text.now) }
 {
@@ -83,30 +68,30 @@ fn literals_of(alloc: Global, texts: &[&[u8]]) -> Result<Items<Chars>, AllocErro
     Ok(Items::from_vec(literals))
 }
 
-/// The script of lines that have no fault.
+/// The script of lines that have no fault, with these literals and the index of its `main`.
 fn script_of(
     alloc: Global,
-    forms: &[Form<&[u8]>],
-    known: &Known,
+    lines: &[Form<Meant>],
+    literals: &[&[u8]],
     main: usize,
 ) -> Result<Script, AllocError>
-    requires few { length forms.now ≤ LONGEST_SCRIPT }
-    requires typed { AreTyped (lent_forms forms.now) }
-    requires grammar { IsGrammatical (roles_of (lent_forms forms.now)) }
-    requires names { known_in known.now ≡ known_of (lent_forms forms.now) }
-    requires faultless { IsFaultless (lent_forms forms.now) main }
-    ensures tree { IfOk result (IsTreeOf (lent_forms forms.now)) }
+    requires grammar { IsGrammatical (map role_of_form lines.now) }
+    requires fit { AllFit (length literals.now) lines.now }
+    requires few { length literals.now < 2 ^ 32 }
+    requires quotable { IsTrue (list_all is_literal_text (lent_texts literals.now)) }
+    requires main { main < (counts_of lines.now).procedures }
+    ensures tree { IfOk result (λ s. script_lines s ≡ flat_map counted lines.now) }
+    ensures literals { IfOk result (λ s. s.literals ≡ lent_texts literals.now) }
+    ensures main { IfOk result (λ s. s.main ≡ main) }
+    ensures others { IfOk result (λ s. (s.classes ≡ []) × (s.operations ≡ [])) }
     ensures sound { IfOk result (λ s. IsTrue (is_script s)) }
 {
-    let lines = resolved(alloc, forms)?;
-    let literals = literals_of(alloc, &known.literals)?;
-    let count = literals.len() as u32;
-    let procedures = procedures_of(alloc, count, &lines)?;
+    let procedures = procedures_of(alloc, literals.len() as u32, lines)?;
     Ok(Script {
         classes: Items::new(alloc),
         procedures: Items::from_vec(procedures),
         operations: Items::new(alloc),
-        literals,
+        literals: literals_of(alloc, literals)?,
         main: main as u16,
     })
 }
@@ -120,25 +105,29 @@ fn checked(alloc: Global, forms: &[Form<&[u8]>]) -> Result<Result<Script, Script
     ensures sound { IfOk result (λ answer. IfOk answer (λ s. IsTrue (is_script s))) }
     ensures fault { IfOk result (λ answer. IfErr answer (IsLinesFault (lent_forms forms.now))) }
 {
-    match refused_line(alloc, Check::UnknownName, forms)? {
+    let items = items_of(alloc, forms)?;
+    let found = checked_lines(alloc, &items, forms)?;
+    match found.first.unknown_name {
         Some(line) => return Ok(Err(ScriptFault::UnknownName { line })),
         None => {}
     }
-    match refused_line(alloc, Check::DoubleName, forms)? {
+    match found.first.double_name {
         Some(line) => return Ok(Err(ScriptFault::DoubleName { line })),
         None => {}
     }
-    match refused_line(alloc, Check::WrongKind, forms)? {
+    match found.first.wrong_kind {
         Some(line) => return Ok(Err(ScriptFault::WrongKind { line })),
         None => {}
     }
-    let known = known_of(alloc, forms)?;
-    let Some(main) = place_of(&known.procedures, b"main") else {
+    let Some(main) = place_of(&items, b"main") else {
         return Ok(Err(ScriptFault::NoMain));
     };
-    match refused_line(alloc, Check::TooMany, forms)? {
+    match found.first.too_many {
         Some(line) => Ok(Err(ScriptFault::TooMany { line })),
-        None => Ok(Ok(script_of(alloc, forms, &known, main)?)),
+        None => {
+            let script = script_of(alloc, &found.lines, &found.known.literals, main)?;
+            Ok(Ok(script))
+        }
     }
 }
 

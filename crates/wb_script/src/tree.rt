@@ -60,8 +60,8 @@ fn sized(index: usize, operands: &[Operand<Meant>]) -> Option<Local>
     ensures found { (literals : ℕ) (locals : List model.Local) → IsTrue (letters_fit literals locals (letter.Declared ∷ letter.Size ∷ []) operands.now) → IsTrue (declares index operands.now) → IsTrue (is_small operands.now) → IsTrue (is_some result) }
 {
     match operands {
-        [Operand::Name(Meant::Declared(name)), Operand::Number(max)] => {
-            if *name == index && *max >= 0 && *max <= LARGEST_BUFFER as i32 {
+        [Operand::Name(Meant::Declared(name)), Operand::Size(max)] => {
+            if *name == index && *max <= LARGEST_BUFFER {
                 Some(Local::OfBuffer(*max as u16))
             } else {
                 None

@@ -1,71 +1,31 @@
-//! Which operands are of the kinds that their lines take.
+//! Which operands are of the sorts that their lines take.
 
 ghost use Rattle.std.specs.Prelude.{◌≡◌};
-ghost use Rattle.wb_model.specs.Kinds.{means_pointer, means_variable, means_number, means_writable, means_view, means_literal, means_readable, is_right, are_right, sides_agree, is_right_line};
+ghost use Rattle.wb_model.specs.Kinds.{sort_of, is_right, are_right, is_pointer_sort, sides_agree, is_right_line};
 
-use crate::lines::keys::letters_of;
-use wb_model::script_lines::{Form, Key, Letter, Meant, Operand};
+use crate::lines::keys::{letters_of, takes};
+use wb_model::script_lines::{Form, Key, Letter, Meant, Operand, Sort};
 
-fn is_pointer(operand: &Operand<Meant>) -> bool
-    ensures { result ≡ means_pointer operand.now }
-{
-    matches!(operand, Operand::Name(Meant::Pointer(_)))
-}
-
-fn is_variable(operand: &Operand<Meant>) -> bool
-    ensures { result ≡ means_variable operand.now }
-{
-    matches!(operand, Operand::Name(Meant::Number(_)))
-}
-
-fn is_number(operand: &Operand<Meant>) -> bool
-    ensures { result ≡ means_number operand.now }
+fn sort_of(operand: &Operand<Meant>) -> Sort
+    ensures { result ≡ sort_of operand.now }
 {
     match operand {
-        Operand::Number(_) => true,
-        _ => is_variable(operand),
+        Operand::Name(Meant::Declared(_)) => Sort::Declared,
+        Operand::Name(Meant::Pointer(_)) => Sort::Pointer,
+        Operand::Name(Meant::Number(_)) => Sort::Variable,
+        Operand::Name(Meant::Buffer(_)) => Sort::Buffer,
+        Operand::Name(Meant::View(_)) => Sort::View,
+        Operand::Name(Meant::Literal(_) | Meant::Nothing) => Sort::Nothing,
+        Operand::Number(_) => Sort::Number,
+        Operand::Size(_) => Sort::Size,
+        Operand::Literal(_) => Sort::Literal,
     }
-}
-
-fn is_writable(operand: &Operand<Meant>) -> bool
-    ensures { result ≡ means_writable operand.now }
-{
-    is_pointer(operand) || matches!(operand, Operand::Name(Meant::Buffer(_)))
-}
-
-fn is_view(operand: &Operand<Meant>) -> bool
-    ensures { result ≡ means_view operand.now }
-{
-    matches!(operand, Operand::Name(Meant::View(_)))
-}
-
-fn is_literal(operand: &Operand<Meant>) -> bool
-    ensures { result ≡ means_literal operand.now }
-{
-    matches!(operand, Operand::Literal(_))
-}
-
-fn is_readable(operand: &Operand<Meant>) -> bool
-    ensures { result ≡ means_readable operand.now }
-{
-    is_writable(operand) || is_view(operand) || is_literal(operand)
 }
 
 fn is_right(letter: Letter, operand: &Operand<Meant>) -> bool
     ensures { result ≡ is_right letter operand.now }
 {
-    match letter {
-        Letter::Declared | Letter::Size => true,
-        Letter::Pointer => is_pointer(operand),
-        Letter::Value => is_number(operand),
-        Letter::Variable => is_variable(operand),
-        Letter::Target => is_pointer(operand) || is_variable(operand),
-        Letter::Source => is_pointer(operand) || is_number(operand),
-        Letter::Writable => is_writable(operand),
-        Letter::Readable => is_readable(operand),
-        Letter::ViewName => is_view(operand),
-        Letter::Printed => is_number(operand) || is_readable(operand),
-    }
+    takes(letter, sort_of(operand))
 }
 
 fn are_right(letters: &[Letter], operands: &[Operand<Meant>]) -> bool
@@ -82,6 +42,12 @@ fn are_right(letters: &[Letter], operands: &[Operand<Meant>]) -> bool
     true
 }
 
+fn is_pointer(operand: &Operand<Meant>) -> bool
+    ensures { result ≡ is_pointer_sort (sort_of operand.now) }
+{
+    matches!(sort_of(operand), Sort::Pointer)
+}
+
 /// Whether the two sides of a `set` are of one kind.
 fn sides_agree(key: Key, operands: &[Operand<Meant>]) -> bool
     ensures { result ≡ sides_agree key operands.now }
@@ -95,7 +61,7 @@ fn sides_agree(key: Key, operands: &[Operand<Meant>]) -> bool
     }
 }
 
-/// Whether all operands of a line are of the kinds that it takes.
+/// Whether all operands of a line are of the sorts that it takes.
 pub(crate) fn is_right_line(line: &Form<Meant>) -> bool
     ensures { result ≡ is_right_line line.now }
 {

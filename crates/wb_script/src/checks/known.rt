@@ -1,87 +1,47 @@
 //! What the lines of a script declare.
 
-ghost use Rattle.std.specs.Prelude.{◌≡◌, IfOk, OnOk};
-ghost use Rattle.std.specs.Option.{option_map};
-ghost use Rattle.wb_model.specs.Names.{kind_declared, kind_in, picked_of, picked, known_after, nothing_known, known_of};
-ghost use Rattle.wb_script.specs.Lent.{lent_text, lent_texts, lent_operand, lent_operands, lent_form, lent_forms};
-ghost use Rattle.wb_script.specs.Checks.{pick_of, known_in};
+ghost use Rattle.std.specs.Prelude.{◌≡◌, ◌+◌, ◌≤◌, ◌<◌, ◌^◌, [], ◌++◌, IfOk, OnOk};
+ghost use Rattle.std.specs.Option.{option_map, option_to_list};
+ghost use Rattle.std.specs.List.{flat_map};
+ghost use Rattle.wb_model.specs.Names.{first_name, literal_text, literals_in, with_one, kind_declared, kind_in, items_of, known_after, nothing_known};
+ghost use Rattle.wb_script.specs.Lent.{lent_text, lent_texts, lent_operands, lent_form, lent_forms};
+ghost use Rattle.wb_script.specs.Checks.{known_in};
 
 use crate::lines::forms::role;
-use crate::lines::keys::letters_of;
 use std::alloc::{AllocError, Global};
-use wb_model::script_lines::{Form, Key, Kind, Letter, Operand, Role};
+use wb_model::script_lines::{Form, Key, Kind, Operand, Role};
 
-/// Which texts of a line are meant.
-#[derive(Clone, Copy)]
-pub(crate) enum Wanted {
-    /// The names that it declares.
-    Declared,
-    /// The names that it uses.
-    Used,
-    /// All its names.
-    Names,
-    Literals,
-}
-
-fn picked_text<'a>(wanted: Wanted, letter: Letter, operand: &Operand<&'a [u8]>) -> Option<&'a [u8]>
-    ensures { option_map lent_text result ≡ pick_of wanted letter (lent_operand operand.now) }
-{
-    match operand {
-        Operand::Name(name) => match wanted {
-            Wanted::Declared => match letter {
-                Letter::Declared => Some(*name),
-                _ => None,
-            },
-            Wanted::Used => match letter {
-                Letter::Declared => None,
-                _ => Some(*name),
-            },
-            Wanted::Names => Some(*name),
-            Wanted::Literals => None,
-        },
-        Operand::Number(_) => None,
-        Operand::Literal(text) => match wanted {
-            Wanted::Literals => Some(*text),
-            _ => None,
-        },
-    }
-}
-
-fn picked_of<'a>(
-    alloc: Global,
-    wanted: Wanted,
-    letters: &[Letter],
-    operands: &[Operand<&'a [u8]>],
-) -> Result<Vec<&'a [u8]>, AllocError>
-    ensures { IfOk result (λ found. lent_texts found.items ≡ picked_of (pick_of wanted) letters.now (lent_operands operands.now)) }
-{
-    let mut found = Vec::new(alloc);
-    for (index, letter) in letters.iter().enumerate() {
-        if index >= operands.len() {
-            return Ok(found);
-        }
-        match picked_text(wanted, *letter, &operands[index]) {
-            Some(text) => found.push(text)?,
-            None => {}
-        }
-    }
-    Ok(found)
-}
-
-/// The texts of a line that are meant, in order.
-pub(crate) fn picked<'a>(
-    alloc: Global,
-    wanted: Wanted,
-    form: &Form<&'a [u8]>,
-) -> Result<Vec<&'a [u8]>, AllocError>
-    ensures { IfOk result (λ found. lent_texts found.items ≡ picked (pick_of wanted) (lent_form form.now)) }
+/// The name that the first word of a line spells.
+pub(crate) fn first_name<'a>(form: &Form<&'a [u8]>) -> Option<&'a [u8]>
+    ensures { option_to_list (option_map lent_text result) ≡ first_name (lent_form form.now) }
 {
     match form {
-        Form::Line(key, operands) => {
-            picked_of(alloc, wanted, letters_of(*key), operands.as_slice())
-        }
-        _ => Ok(Vec::new(alloc)),
+        Form::Line(_, operands) => match operands.as_slice() {
+            [Operand::Name(name), ..] => Some(*name),
+            _ => None,
+        },
+        _ => None,
     }
+}
+
+/// The names of the script's own space, from all its lines.
+pub(crate) fn items_of<'a>(
+    alloc: Global,
+    forms: &[Form<&'a [u8]>],
+) -> Result<Vec<&'a [u8]>, AllocError>
+    ensures { IfOk result (λ items. lent_texts items.items ≡ items_of (lent_forms forms.now)) }
+{
+    let mut items = Vec::new(alloc);
+    for form in forms {
+        match role(form) {
+            Role::Procedure => match first_name(form) {
+                Some(name) => items.push(name)?,
+                None => {}
+            },
+            _ => {}
+        }
+    }
+    Ok(items)
 }
 
 /// What the local holds that a line of a key declares.
@@ -106,65 +66,92 @@ fn kind_in(form: &Form<&[u8]>) -> Option<Kind>
     }
 }
 
-/// What the lines so far declare: the procedures, the locals of the body that stands open or was the last, each
-/// with what it holds, and the literals.
-#[derive(Drop)]
-pub(crate) struct Known<'a> {
-    pub procedures: Vec<&'a [u8]>,
-    pub locals: Vec<&'a [u8]>,
-    pub kinds: Vec<Kind>,
-    pub literals: Vec<&'a [u8]>,
-}
-
-/// Takes in one more line.
-pub(crate) fn add_line<'a>(
-    alloc: Global,
-    known: &mut Known<'a>,
-    form: &Form<&'a [u8]>,
+/// Appends the literals among operands.
+fn add_literals<'a>(
+    literals: &mut Vec<&'a [u8]>,
+    operands: &[Operand<&'a [u8]>],
 ) -> Result<(), AllocError>
-    ensures { OnOk result (known_in known.new ≡ known_after (known_in known.old) (lent_form form.now)) }
+    ensures { OnOk result (lent_texts literals.new.items ≡ lent_texts literals.old.items ++ flat_map literal_text (lent_operands operands.now)) }
 {
-    let names = picked(alloc, Wanted::Declared, form)?;
-    let literals = picked(alloc, Wanted::Literals, form)?;
-    known.literals.extend_from_slice(&literals)?;
-    match role(form) {
-        Role::Procedure => {
-            known.procedures.extend_from_slice(&names)?;
-            known.locals.clear();
-            known.kinds.clear();
+    for operand in operands {
+        match operand {
+            Operand::Literal(text) => literals.push(*text)?,
+            _ => {}
         }
-        Role::Declaration => {
-            known.locals.extend_from_slice(&names)?;
-            match kind_in(form) {
-                Some(kind) => known.kinds.push(kind)?,
-                None => {}
-            }
-        }
-        _ => {}
     }
     Ok(())
 }
 
-impl<'a> Known<'a> {
-    pub(crate) fn nothing(alloc: Global) -> Known<'a>
-        ensures { known_in result ≡ nothing_known }
-    {
-        Known {
-            procedures: Vec::new(alloc),
-            locals: Vec::new(alloc),
-            kinds: Vec::new(alloc),
-            literals: Vec::new(alloc),
-        }
-    }
+/// What stands before a line: how many items of the script's own space, the literals, and the locals of the body that
+/// is open or was the last, each with what it holds.
+#[derive(Drop)]
+pub(crate) struct Known<'a> {
+    pub items: usize,
+    pub literals: Vec<&'a [u8]>,
+    pub locals: Vec<&'a [u8]>,
+    pub kinds: Vec<Kind>,
 }
 
-/// What all lines declare.
-pub(crate) fn known_of<'a>(alloc: Global, forms: &[Form<&'a [u8]>]) -> Result<Known<'a>, AllocError>
-    ensures { IfOk result (λ known. known_in known ≡ known_of (lent_forms forms.now)) }
-{
-    let mut known = Known::nothing(alloc);
-    for form in forms {
-        add_line(alloc, &mut known, form)?;
+impl<'a> Known<'a> {
+    pub(crate) fn nothing(alloc: Global) -> Known<'a>
+        ensures known { known_in result ≡ nothing_known }
+        ensures literals { lent_texts result.literals.items ≡ [] }
+    {
+        Known {
+            items: 0,
+            literals: Vec::new(alloc),
+            locals: Vec::new(alloc),
+            kinds: Vec::new(alloc),
+        }
     }
-    Ok(known)
+
+    /// Takes in the locals of one more line.
+    fn add_local(&mut self, form: &Form<&'a [u8]>) -> Result<(), AllocError>
+        ensures names { OnOk result (lent_texts self.new.locals.items ≡ lent_texts self.old.locals.items ++ first_name (lent_form form.now)) }
+        ensures kinds { OnOk result (self.new.kinds.items ≡ with_one self.old.kinds.items (kind_in (lent_form form.now))) }
+        ensures others { (self.new.items ≡ self.old.items) × (self.new.literals ≡ self.old.literals) }
+    {
+        match first_name(form) {
+            Some(name) => self.locals.push(name)?,
+            None => {}
+        }
+        match kind_in(form) {
+            Some(kind) => self.kinds.push(kind)?,
+            None => {}
+        }
+        Ok(())
+    }
+
+    /// Takes in the literals of one more line.
+    fn add_literals(&mut self, form: &Form<&'a [u8]>) -> Result<(), AllocError>
+        ensures literals { OnOk result (lent_texts self.new.literals.items ≡ lent_texts self.old.literals.items ++ literals_in (lent_form form.now)) }
+        ensures others { (self.new.items ≡ self.old.items) × (self.new.locals ≡ self.old.locals) × (self.new.kinds ≡ self.old.kinds) }
+    {
+        match form {
+            Form::Line(_, operands) => add_literals(&mut self.literals, operands.as_slice()),
+            _ => Ok(()),
+        }
+    }
+
+    /// Takes in one more line.
+    pub(crate) fn add_line(&mut self, form: &Form<&'a [u8]>) -> Result<(), AllocError>
+        requires { self.now.items < 2 ^ 32 }
+        ensures known { OnOk result (known_in self.new ≡ known_after (known_in self.old) (lent_form form.now)) }
+        ensures literals { OnOk result (lent_texts self.new.literals.items ≡ lent_texts self.old.literals.items ++ literals_in (lent_form form.now)) }
+        ensures items { OnOk result (self.new.items ≤ self.old.items + 1) }
+    {
+        self.add_literals(form)?;
+        match role(form) {
+            Role::Procedure => {
+                if first_name(form).is_some() {
+                    self.items += 1;
+                }
+                self.locals.clear();
+                self.kinds.clear();
+                Ok(())
+            }
+            Role::Declaration => self.add_local(form),
+            _ => Ok(()),
+        }
+    }
 }

@@ -1,35 +1,53 @@
 //! The limits of names and declarations.
 
-ghost use Rattle.std.specs.Prelude.{◌≡◌, length, nat_lt};
+ghost use Rattle.std.specs.Prelude.{◌≡◌};
 ghost use Rattle.std.specs.List.{list_any};
-ghost use Rattle.wb_model.specs.declared.limits.TheConstants.{LONGEST_NAME};
-ghost use Rattle.wb_model.specs.Names.{is_large, is_one_more};
+ghost use Rattle.wb_model.specs.Names.{has_long_name, is_large, is_long, is_one_more, passes_limit};
 ghost use Rattle.wb_script.specs.Checks.{known_in};
-ghost use Rattle.wb_script.specs.Lent.{lent_form, lent_texts};
+ghost use Rattle.wb_script.specs.Lent.{lent_operand, lent_operands, lent_form};
 
 use crate::checks::known::Known;
+use crate::lines::forms::role;
 use wb_model::limits::{LARGEST_BUFFER, LONGEST_NAME, MOST_LOCALS, MOST_PROCEDURES};
 use wb_model::script_lines::{Form, Key, Operand, Role};
 
-/// Whether one of the names is longer than names may be.
-pub(crate) fn any_long(names: &[&[u8]]) -> bool
-    ensures { result ≡ list_any (λ n. nat_lt LONGEST_NAME (length n)) (lent_texts names.now) }
+fn is_long(operand: &Operand<&[u8]>) -> bool
+    ensures { result ≡ is_long (lent_operand operand.now) }
 {
-    for name in names {
-        if name.len() > LONGEST_NAME as usize {
+    match operand {
+        Operand::Name(name) => name.len() > LONGEST_NAME as usize,
+        _ => false,
+    }
+}
+
+fn any_long(operands: &[Operand<&[u8]>]) -> bool
+    ensures { result ≡ list_any is_long (lent_operands operands.now) }
+{
+    for operand in operands {
+        if is_long(operand) {
             return true;
         }
     }
     false
 }
 
+/// Whether a line has a longer name than names may be.
+fn has_long_name(form: &Form<&[u8]>) -> bool
+    ensures { result ≡ has_long_name (lent_form form.now) }
+{
+    match form {
+        Form::Line(_, operands) => any_long(operands.as_slice()),
+        _ => false,
+    }
+}
+
 /// Whether a line declares a text with a larger maximum than texts may have.
-pub(crate) fn is_large(form: &Form<&[u8]>) -> bool
+fn is_large(form: &Form<&[u8]>) -> bool
     ensures { result ≡ is_large (lent_form form.now) }
 {
     match form {
         Form::Line(Key::Buf, operands) => match operands.as_slice() {
-            [_, Operand::Number(max)] => *max > LARGEST_BUFFER as i32,
+            [_, Operand::Size(max)] => *max > LARGEST_BUFFER,
             _ => false,
         },
         _ => false,
@@ -37,12 +55,19 @@ pub(crate) fn is_large(form: &Form<&[u8]>) -> bool
 }
 
 /// Whether a line of this role declares one more than there may be.
-pub(crate) fn is_one_more(role: Role, known: &Known) -> bool
+fn is_one_more(role: Role, known: &Known) -> bool
     ensures { result ≡ is_one_more role (known_in known.now) }
 {
     match role {
-        Role::Procedure => known.procedures.len() >= MOST_PROCEDURES as usize,
+        Role::Procedure => known.items >= MOST_PROCEDURES as usize,
         Role::Declaration => known.locals.len() >= MOST_LOCALS as usize,
         _ => false,
     }
+}
+
+/// Whether a line passes a limit.
+pub(crate) fn passes_limit(known: &Known, form: &Form<&[u8]>) -> bool
+    ensures { result ≡ passes_limit (known_in known.now) (lent_form form.now) }
+{
+    has_long_name(form) || is_one_more(role(form), known) || is_large(form)
 }

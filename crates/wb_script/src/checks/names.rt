@@ -1,9 +1,15 @@
 //! Names among those that are declared.
 
-ghost use Rattle.std.specs.Prelude.{◌≡◌, is_none, is_some};
+ghost use Rattle.std.specs.Prelude.{◌≡◌};
 ghost use Rattle.std.specs.List.{list_any};
-ghost use Rattle.wb_model.specs.Names.{first_declaration_of};
-ghost use Rattle.wb_script.specs.Lent.{lent_text, lent_texts};
+ghost use Rattle.wb_model.specs.Names.{first_declaration_of, is_item_before, stands_declared, declares_again};
+ghost use Rattle.wb_model.specs.Resolved.{means_nothing, has_unknown};
+ghost use Rattle.wb_script.specs.Checks.{known_in};
+ghost use Rattle.wb_script.specs.Lent.{lent_texts, lent_form};
+
+use crate::checks::known::{Known, first_name};
+use crate::lines::forms::role;
+use wb_model::script_lines::{Form, Meant, Operand, Role};
 
 /// The index of the first declaration of a name.
 pub(crate) fn place_of(names: &[&[u8]], name: &[u8]) -> Option<usize>
@@ -17,16 +23,60 @@ pub(crate) fn place_of(names: &[&[u8]], name: &[u8]) -> Option<usize>
     None
 }
 
-/// Whether one of the names is declared nowhere among those that are known.
-pub(crate) fn any_unknown(known: &[&[u8]], names: &[&[u8]]) -> bool
-    ensures { result ≡ list_any (λ n. is_none (first_declaration_of (lent_texts known.now) (lent_text n))) names.now }
+/// Whether a name is that of one of the first items of the script's own space.
+fn is_item_before(items: &[&[u8]], before: usize, name: &[u8]) -> bool
+    ensures { result ≡ is_item_before (lent_texts items.now) before name.now }
 {
-    names.iter().any(|name| place_of(known, name).is_none())
+    match place_of(items, name) {
+        Some(index) => index < before,
+        None => false,
+    }
 }
 
-/// Whether one of the names stands declared among those that are known.
-pub(crate) fn any_known(known: &[&[u8]], names: &[&[u8]]) -> bool
-    ensures { result ≡ list_any (λ n. is_some (first_declaration_of (lent_texts known.now) (lent_text n))) names.now }
+/// Whether a name stands declared in the space of a line of this role.
+fn stands_declared(items: &[&[u8]], known: &Known, role: Role, name: &[u8]) -> bool
+    ensures { result ≡ stands_declared (lent_texts items.now) (known_in known.now) role name.now }
 {
-    names.iter().any(|name| place_of(known, name).is_some())
+    match role {
+        Role::Procedure => is_item_before(items, known.items, name),
+        Role::Declaration => place_of(&known.locals, name).is_some(),
+        _ => false,
+    }
+}
+
+/// Whether a line declares a name which stands declared in its space.
+pub(crate) fn declares_again(items: &[&[u8]], known: &Known, form: &Form<&[u8]>) -> bool
+    ensures { result ≡ declares_again (lent_texts items.now) (known_in known.now) (lent_form form.now) }
+{
+    match first_name(form) {
+        Some(name) => stands_declared(items, known, role(form), name),
+        None => false,
+    }
+}
+
+fn means_nothing(operand: &Operand<Meant>) -> bool
+    ensures { result ≡ means_nothing operand.now }
+{
+    matches!(operand, Operand::Name(Meant::Nothing))
+}
+
+fn any_nothing(operands: &[Operand<Meant>]) -> bool
+    ensures { result ≡ list_any means_nothing operands.now }
+{
+    for operand in operands {
+        if means_nothing(operand) {
+            return true;
+        }
+    }
+    false
+}
+
+/// Whether a line uses a name that is declared nowhere.
+pub(crate) fn has_unknown(line: &Form<Meant>) -> bool
+    ensures { result ≡ has_unknown line.now }
+{
+    match line {
+        Form::Line(_, operands) => any_nothing(operands.as_slice()),
+        _ => false,
+    }
 }

@@ -1,12 +1,12 @@
-//! The lines of a script with what their names and literals stand for.
+//! A line of a script with what its names and literals stand for.
 
 ghost use Rattle.std.specs.Prelude.{◌≡◌, IfOk};
 ghost use Rattle.wb_model.specs.Names.{first_declaration_of};
-ghost use Rattle.wb_model.specs.Resolved.{local_meant, meant_at, name_meant, resolved_operand, resolved_operands, resolved_line, resolved};
-ghost use Rattle.wb_script.specs.Lent.{lent_operand, lent_operands, lent_form, lent_forms};
+ghost use Rattle.wb_model.specs.Resolved.{local_meant, meant_at, name_meant, resolved_operand, resolved_operands, resolved_line};
+ghost use Rattle.wb_script.specs.Lent.{lent_operand, lent_operands, lent_form};
 ghost use Rattle.wb_script.specs.Checks.{known_in};
 
-use crate::checks::known::{Known, add_line};
+use crate::checks::known::Known;
 use crate::checks::names::place_of;
 use crate::lines::keys::{letters_of, role_of};
 use std::alloc::{AllocError, Global};
@@ -40,7 +40,7 @@ fn name_meant(known: &Known, role: Role, letter: Letter, name: &[u8]) -> Meant
 {
     match letter {
         Letter::Declared => match role {
-            Role::Procedure => Meant::Declared(known.procedures.len()),
+            Role::Procedure => Meant::Declared(known.items),
             _ => Meant::Declared(known.locals.len()),
         },
         _ => used_meant(known, name),
@@ -58,6 +58,7 @@ fn resolved_operand(
     match operand {
         Operand::Name(name) => Operand::Name(name_meant(known, role, letter, name)),
         Operand::Number(number) => Operand::Number(*number),
+        Operand::Size(size) => Operand::Size(*size),
         Operand::Literal(_) => Operand::Literal(Meant::Literal(known.literals.len())),
     }
 }
@@ -81,7 +82,7 @@ fn resolved_operands(
     Ok(found)
 }
 
-/// A line, by what stands declared before it.
+/// A line, by what stands before it.
 pub(crate) fn resolved_line(
     alloc: Global,
     known: &Known,
@@ -103,17 +104,4 @@ pub(crate) fn resolved_line(
             Ok(Form::Line(*key, Items::from_vec(found)))
         }
     }
-}
-
-/// The lines with what their names and literals stand for.
-pub(crate) fn resolved(alloc: Global, forms: &[Form<&[u8]>]) -> Result<Vec<Form<Meant>>, AllocError>
-    ensures { IfOk result (λ found. found.items ≡ resolved (lent_forms forms.now)) }
-{
-    let mut known = Known::nothing(alloc);
-    let mut found = Vec::new(alloc);
-    for form in forms {
-        found.push(resolved_line(alloc, &known, form)?)?;
-        add_line(alloc, &mut known, form)?;
-    }
-    Ok(found)
 }

@@ -1,77 +1,61 @@
 //! What a line says: the first key whose text and letters fit its words, and its operands.
 
-ghost use Rattle.std.specs.Prelude.{◌≡◌, length, IfOk, IfErr};
+ghost use Rattle.std.specs.Prelude.{◌≡◌, length, IfOk, IfErr, Some};
 ghost use Rattle.std.specs.Option.{option_map};
-ghost use Rattle.wb_model.specs.declared.script_lines.Letter.TheVariants.{Printed};
-ghost use Rattle.wb_model.specs.Forms.{either, name_word, number_word, size_of, literal_word, operand_of, operands_of, form_in, form_of, forms_of, line_form, begins_comment, role_of_form};
+ghost use Rattle.wb_model.specs.declared.script_lines.Operand.TheVariants.{Size};
+ghost use Rattle.wb_model.specs.Forms.{size_of, operand_as, operand_among, operand_of, operands_of, form_in, form_of, forms_of, line_form, begins_comment, role_of_form};
 ghost use Rattle.wb_model.specs.Keys.{keys};
-ghost use Rattle.wb_model.specs.Words.{number_spelled};
 ghost use Rattle.wb_script.specs.Lent.{lent_texts, lent_operand, lent_operands, lent_form, lent_forms};
 
-use crate::lines::keys::{ALL, letters_of, role_of, text_of};
+use crate::lines::keys::{ALL, letters_of, role_of, text_of, word_kinds};
 use crate::lines::pieces::words;
 use crate::lines::words::{declared_name, literal_of, number_of, used_name};
 use std::alloc::{AllocError, Global};
 use wb_model::items::Items;
-use wb_model::script_lines::{Form, Key, Letter, Operand, Role};
+use wb_model::script_lines::{Form, Key, Letter, Operand, Role, WordKind};
 
-fn name_word<'a>(word: &'a [u8]) -> Option<Operand<&'a [u8]>>
-    ensures { option_map lent_operand result ≡ name_word word.now }
+/// A number that isn't negative.
+fn size_of(number: i32) -> Option<u32>
+    ensures { option_map Size result ≡ size_of (Some number) }
 {
-    Some(Operand::Name(used_name(word)?))
-}
-
-fn number_or_name<'a>(word: &'a [u8]) -> Option<Operand<&'a [u8]>>
-    ensures { option_map lent_operand result ≡ either (number_word word.now) (name_word word.now) }
-{
-    match number_of(word) {
-        Some(number) => Some(Operand::Number(number)),
-        None => name_word(word),
-    }
-}
-
-fn name_or_literal<'a>(word: &'a [u8]) -> Option<Operand<&'a [u8]>>
-    ensures { option_map lent_operand result ≡ either (name_word word.now) (literal_word word.now) }
-{
-    match used_name(word) {
-        Some(name) => Some(Operand::Name(name)),
-        None => Some(Operand::Literal(literal_of(word)?)),
-    }
-}
-
-fn size_word<'a>(word: &'a [u8]) -> Option<Operand<&'a [u8]>>
-    ensures { option_map lent_operand result ≡ size_of (number_spelled word.now) }
-{
-    let number = number_of(word)?;
     if number < 0 {
         None
     } else {
-        Some(Operand::Number(number))
+        Some(number as u32)
     }
 }
 
-fn printed_word<'a>(word: &'a [u8]) -> Option<Operand<&'a [u8]>>
-    ensures { option_map lent_operand result ≡ operand_of Printed word.now }
+/// The operand that a word of a kind is.
+fn operand_as<'a>(kind: WordKind, word: &'a [u8]) -> Option<Operand<&'a [u8]>>
+    ensures { option_map lent_operand result ≡ operand_as kind word.now }
 {
-    match number_of(word) {
-        Some(number) => Some(Operand::Number(number)),
-        None => name_or_literal(word),
+    match kind {
+        WordKind::NewName => Some(Operand::Name(declared_name(word)?)),
+        WordKind::Name => Some(Operand::Name(used_name(word)?)),
+        WordKind::Number => Some(Operand::Number(number_of(word)?)),
+        WordKind::Size => Some(Operand::Size(size_of(number_of(word)?)?)),
+        WordKind::Literal => Some(Operand::Literal(literal_of(word)?)),
     }
+}
+
+/// The operand by the first of the kinds that the word is of.
+fn operand_among<'a>(kinds: &[WordKind], word: &'a [u8]) -> Option<Operand<&'a [u8]>>
+    ensures { option_map lent_operand result ≡ operand_among kinds.now word.now }
+{
+    for kind in kinds {
+        match operand_as(*kind, word) {
+            Some(operand) => return Some(operand),
+            None => {}
+        }
+    }
+    None
 }
 
 /// What a word is where a letter stands.
 fn operand_of<'a>(letter: Letter, word: &'a [u8]) -> Option<Operand<&'a [u8]>>
     ensures { option_map lent_operand result ≡ operand_of letter word.now }
 {
-    match letter {
-        Letter::Declared => Some(Operand::Name(declared_name(word)?)),
-        Letter::Pointer | Letter::Variable | Letter::Target => name_word(word),
-        Letter::Writable | Letter::ViewName => name_word(word),
-        Letter::Value | Letter::Source => number_or_name(word),
-        Letter::Size => size_word(word),
-        Letter::Readable => name_or_literal(word),
-        Letter::Printed => printed_word(word),
-    }
+    operand_among(word_kinds(letter), word)
 }
 
 /// What the words are, one for each letter; none where they do not fit. Memory is asked for only where there are

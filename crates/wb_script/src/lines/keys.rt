@@ -1,9 +1,9 @@
-//! The tables of the language: a row for each key. No line's meaning stands here.
+//! The tables of the language: a row for each key, and one for each letter. No line's meaning stands here.
 
 ghost use Rattle.std.specs.Prelude.{◌≡◌};
-ghost use Rattle.wb_model.specs.Keys.{text_of, letters_of, role_of};
+ghost use Rattle.wb_model.specs.Keys.{text_of, letters_of, role_of, word_kinds, takes};
 
-use wb_model::script_lines::{Key, Letter, Role};
+use wb_model::script_lines::{Key, Letter, Role, Sort, WordKind};
 
 /// Every key; a line is of the first that fits.
 pub(crate) const ALL: [Key; 38] = [
@@ -146,5 +146,42 @@ pub(crate) fn role_of(key: Key) -> Role
         Key::Print => Role::Plain,
         Key::Heap | Key::Available | Key::Compress => Role::Plain,
         Key::End => Role::End,
+    }
+}
+
+/// The words that are grammatical where a letter stands; a word is of the first kind that admits it.
+pub(crate) fn word_kinds(letter: Letter) -> &'static [WordKind]
+    ensures { result.now ≡ word_kinds letter }
+{
+    match letter {
+        Letter::Declared => &[WordKind::NewName],
+        Letter::Pointer | Letter::Variable | Letter::Target => &[WordKind::Name],
+        Letter::Writable | Letter::ViewName => &[WordKind::Name],
+        Letter::Value | Letter::Source => &[WordKind::Number, WordKind::Name],
+        Letter::Size => &[WordKind::Size],
+        Letter::Readable => &[WordKind::Name, WordKind::Literal],
+        Letter::Printed => &[WordKind::Number, WordKind::Name, WordKind::Literal],
+    }
+}
+
+/// Whether an operand of this sort is right where a letter stands.
+pub(crate) fn takes(letter: Letter, sort: Sort) -> bool
+    ensures { result ≡ takes letter sort }
+{
+    match letter {
+        Letter::Declared => matches!(sort, Sort::Declared),
+        Letter::Pointer => matches!(sort, Sort::Pointer),
+        Letter::Value => matches!(sort, Sort::Number | Sort::Variable),
+        Letter::Variable => matches!(sort, Sort::Variable),
+        Letter::Target => matches!(sort, Sort::Pointer | Sort::Variable),
+        Letter::Source => matches!(sort, Sort::Pointer | Sort::Number | Sort::Variable),
+        Letter::Size => matches!(sort, Sort::Size),
+        Letter::Writable => matches!(sort, Sort::Pointer | Sort::Buffer),
+        Letter::Readable => matches!(
+            sort,
+            Sort::Pointer | Sort::Buffer | Sort::View | Sort::Literal
+        ),
+        Letter::ViewName => matches!(sort, Sort::View),
+        Letter::Printed => !matches!(sort, Sort::Declared | Sort::Size | Sort::Nothing),
     }
 }

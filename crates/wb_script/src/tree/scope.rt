@@ -4,7 +4,8 @@ ghost use Rattle.std.specs.Prelude.{◌<◌, ◌≤◌, length};
 ghost use Rattle.wb_model.specs.declared.limits.TheConstants.{MOST_LOCALS};
 ghost use Rattle.wb_model.specs.Sound.{is_pointer, is_variable, is_number, is_view, is_writable, is_readable};
 ghost use Rattle.wb_model.specs.Trees.{pointer_operand, variable_operand, number_operand, view_operand, writable_operand, text_operand};
-ghost use Rattle.wb_script.specs.Fitting.{IsSpelled, spells_pointer, spells_variable, spells_number, spells_writable, spells_view, spells_readable};
+ghost use Rattle.wb_model.specs.declared.script_lines.Letter.TheVariants as letter;
+ghost use Rattle.wb_script.specs.Fitting.{IsSpelled};
 
 use wb_model::limits::NINE_DIGITS;
 use wb_model::script::{Holder, Local, Number, Pointer, Readable, Writable};
@@ -22,7 +23,7 @@ pub(crate) struct Scope<'a> {
 impl<'a> Scope<'a> {
     /// The pointer that an operand spells.
     pub(crate) fn pointer(self, operand: &Operand<Meant>) -> Option<Pointer>
-        ensures { IsSpelled pointer_operand (is_pointer self.entry.locals.now) (spells_pointer self.entry.locals.now operand.now) operand.now result }
+        ensures { IsSpelled pointer_operand (is_pointer self.entry.locals.now) self.entry.literals self.entry.locals.now letter.Pointer operand.now result }
     {
         match operand {
             Operand::Name(Meant::Pointer(index)) => match self.locals.get(*index) {
@@ -35,7 +36,7 @@ impl<'a> Scope<'a> {
 
     /// The local that holds a number and that an operand spells.
     pub(crate) fn variable(self, operand: &Operand<Meant>) -> Option<u8>
-        ensures { IsSpelled variable_operand (is_variable self.entry.locals.now) (spells_variable self.entry.locals.now operand.now) operand.now result }
+        ensures { IsSpelled variable_operand (is_variable self.entry.locals.now) self.entry.literals self.entry.locals.now letter.Variable operand.now result }
     {
         match operand {
             Operand::Name(Meant::Number(index)) => match self.locals.get(*index) {
@@ -48,7 +49,7 @@ impl<'a> Scope<'a> {
 
     /// The number that an operand spells, or the local that holds it.
     pub(crate) fn number(self, operand: &Operand<Meant>) -> Option<Number>
-        ensures { IsSpelled number_operand (is_number self.entry.locals.now) (spells_number self.entry.locals.now operand.now) operand.now result }
+        ensures { IsSpelled number_operand (is_number self.entry.locals.now) self.entry.literals self.entry.locals.now letter.Value operand.now result }
     {
         match operand {
             Operand::Number(number) => {
@@ -64,7 +65,7 @@ impl<'a> Scope<'a> {
 
     /// The local that holds a view and that an operand spells.
     pub(crate) fn view(self, operand: &Operand<Meant>) -> Option<u8>
-        ensures { IsSpelled view_operand (is_view self.entry.locals.now) (spells_view self.entry.locals.now operand.now) operand.now result }
+        ensures { IsSpelled view_operand (is_view self.entry.locals.now) self.entry.literals self.entry.locals.now letter.ViewName operand.now result }
     {
         match operand {
             Operand::Name(Meant::View(index)) => match self.locals.get(*index) {
@@ -77,7 +78,7 @@ impl<'a> Scope<'a> {
 
     /// The text that an operand spells and that can be changed.
     pub(crate) fn writable(self, operand: &Operand<Meant>) -> Option<Writable>
-        ensures { IsSpelled writable_operand (is_writable self.entry.locals.now) (spells_writable self.entry.locals.now operand.now) operand.now result }
+        ensures { IsSpelled writable_operand (is_writable self.entry.locals.now) self.entry.literals self.entry.locals.now letter.Writable operand.now result }
     {
         match operand {
             Operand::Name(Meant::Buffer(index)) => match self.locals.get(*index) {
@@ -90,7 +91,7 @@ impl<'a> Scope<'a> {
 
     /// The text that an operand spells and that can be read.
     pub(crate) fn readable(self, operand: &Operand<Meant>) -> Option<Readable>
-        ensures { IsSpelled text_operand (is_readable self.entry.literals self.entry.locals.now) (spells_readable self.entry.literals self.entry.locals.now operand.now) operand.now result }
+        ensures { IsSpelled text_operand (is_readable self.entry.literals self.entry.locals.now) self.entry.literals self.entry.locals.now letter.Readable operand.now result }
     {
         match operand {
             Operand::Literal(Meant::Literal(index)) => {

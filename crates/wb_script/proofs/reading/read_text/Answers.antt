@@ -6,7 +6,7 @@ use Rattle.wb_script.specs.Lent.{lent_texts, lent_forms}
 use Rattle.wb_script.specs.Typed.{AreTyped}
 use Rattle.wb_script.proofs.Cuts.{lines_within}
 use Rattle.wb_script.proofs.Foreign.{at_most}
-use Rattle.wb_script.proofs.TextLemmas.{few_lines, faults_of_lines}
+use Rattle.wb_script.proofs.TextLemmas.{few_lines, faults_of_lines, scripts_of_lines}
 use Rattle.wb_script.proofs.TypedLemmas.{lines_typed}
 use Rattle.wb_script.proofs.reading.read_text.Goals as goal
 
@@ -25,3 +25,8 @@ pub returns-clause-fault : goal.returns-clause-fault
 returns-clause-fault c =
     let are = ap (lent_forms) c.deref-2.ensures.value ∙ c.in_ok-forms.ensures ∙ ap (λ l. forms_of (lent_texts l)) c.deref.ensures.value ∙ ap forms_of c.in_ok-lines.ensures in
     faults_of_lines c.args.bytes.now _ c.read_forms.result are c.requires c.read_forms.ensures.fault
+
+pub returns-clause-script : goal.returns-clause-script
+returns-clause-script c =
+    let are = ap (lent_forms) c.deref-2.ensures.value ∙ c.in_ok-forms.ensures ∙ ap (λ l. forms_of (lent_texts l)) c.deref.ensures.value ∙ ap forms_of c.in_ok-lines.ensures in
+    scripts_of_lines c.args.bytes.now _ c.read_forms.result are c.requires c.read_forms.ensures.grammar c.read_forms.ensures.tree

@@ -1,8 +1,8 @@
-use Rattle.std.proofs.Common.{◌≡◌, nat_lt, length, drop}
+use Rattle.std.proofs.Common.{◌≡◌, drop}
 use Rattle.std.specs.List.{list_any}
-use Rattle.wb_model.specs.declared.limits.TheConstants.{LONGEST_NAME}
-use Rattle.wb_script.specs.Lent.{lent_texts}
+use Rattle.wb_model.specs.Names.{is_long}
+use Rattle.wb_script.specs.Lent.{lent_operands}
 use Rattle.wb_script.proofs.checks.limits.any_long.Given as goal
 
-abbrev pub invariant-loop-name : goal.invariant-loop-name
-invariant-loop-name l = list_any (λ n. nat_lt LONGEST_NAME (length n)) (lent_texts (drop l.name-index l.names)) ≡ list_any (λ n. nat_lt LONGEST_NAME (length n)) (lent_texts l.names)
+abbrev pub invariant-loop-operand : goal.invariant-loop-operand
+invariant-loop-operand l = list_any is_long (lent_operands (drop l.operand-index l.operands)) ≡ list_any is_long (lent_operands l.operands)

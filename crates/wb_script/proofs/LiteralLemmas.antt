@@ -1,0 +1,65 @@
+-- The literals of a script: what may stand in quotes, no longer than a script, and no more than four of a line.
+use Rattle.std.proofs.Common.{◌≡◌, refl, ◌∙◌, suc, ◌+◌, ◌*◌, ◌≤◌, List, [], ◌∷◌, true, length, IsTrue, length-append, arith}
+use Rattle.std.specs.List.{list_all, list_any, flat_map}
+use Rattle.std.proofs.lemmas.List.Folds.{list_all-append}
+use Rattle.wb_model.specs.declared.script_lines.Key.{Key}
+use Rattle.wb_model.specs.declared.script_lines.Key.TheVariants as key
+use Rattle.wb_model.specs.declared.script_lines.Letter.{Letter}
+use Rattle.wb_model.specs.declared.script_lines.WordKind.{WordKind}
+use Rattle.wb_model.specs.declared.script_lines.WordKind.TheVariants as word
+use Rattle.wb_model.specs.declared.script_lines.Operand.{Operand}
+use Rattle.wb_model.specs.declared.script_lines.Operand.TheVariants.{Literal}
+use Rattle.wb_model.specs.declared.script_lines.Form.{Form}
+use Rattle.wb_model.specs.declared.script_lines.Form.TheVariants.{Skip, Unknown, Line}
+use Rattle.wb_model.specs.Keys.{letters_of, word_kinds}
+use Rattle.wb_model.specs.Names.{Text, literal_text, literals_in, literals_of}
+use Rattle.wb_model.specs.Sound.{is_literal_text}
+use Rattle.wb_script.specs.Typed.{is_word_of, is_operand, are_operands, is_typed, AreTyped}
+use Rattle.wb_script.proofs.TypedLemmas.{both, either_first}
+use Rattle.wb_script.proofs.FitLemmas.{both_hold}
+
+quoted_of : (kinds : List WordKind) (text : Text) → list_any (is_word_of (Literal text)) kinds ≡ true → is_literal_text text ≡ true
+quoted_of [] text is = let clash : ⊥ = cc in absurd clash
+quoted_of (word.Literal ∷ kinds) text is = either_first (is_literal_text text) (list_any (is_word_of (Literal text)) kinds) (quoted_of kinds text) is
+quoted_of (_ ∷ kinds) text is = quoted_of kinds text is
+
+-- of a line there are as many as letters at most, each of which may stand in quotes
+sound_of : (letters : List Letter) (operands : List (Operand Text)) → are_operands letters operands ≡ true → (list_all is_literal_text (flat_map literal_text operands) ≡ true) × (length (flat_map literal_text operands) ≤ length letters)
+sound_of [] [] typed = (refl, omega arith)
+sound_of [] (o ∷ os) typed = let clash : ⊥ = cc in absurd clash
+sound_of (at ∷ letters) [] typed = let clash : ⊥ = cc in absurd clash
+sound_of (at ∷ letters) (o ∷ os) typed =
+    let (here, rest) = both (is_operand at o) (are_operands letters os) typed in
+    by_operand o here (sound_of letters os rest)
+  where
+    by_operand : (o : Operand Text) → is_operand at o ≡ true → (list_all is_literal_text (flat_map literal_text os) ≡ true) × (length (flat_map literal_text os) ≤ length letters) →
+        (list_all is_literal_text (flat_map literal_text (o ∷ os)) ≡ true) × (length (flat_map literal_text (o ∷ os)) ≤ suc (length letters))
+    by_operand (Literal text) here (sound, few) = (both_hold _ _ (quoted_of (word_kinds at) text here) sound, omega (arith, few))
+    by_operand _ here (sound, few) = (sound, omega (arith, few))
+
+few_letters : (k : Key) → length (letters_of k) ≤ 4
+few_letters key.Mid = omega arith
+few_letters _ = omega arith
+
+line_sound : (form : Form Text) → is_typed form ≡ true → (list_all is_literal_text (literals_in form) ≡ true) × (length (literals_in form) ≤ 4)
+line_sound Skip typed = (refl, omega arith)
+line_sound Unknown typed = (refl, omega arith)
+line_sound (Line k operands) typed =
+    let (sound, few) = sound_of (letters_of k) operands typed in
+    let letters = few_letters k in
+    (sound, omega arith)
+
+pub literals_sound : (forms : List (Form Text)) → AreTyped forms → IsTrue (list_all is_literal_text (literals_of forms))
+literals_sound [] typed = refl
+literals_sound (form ∷ forms) typed =
+    let (here, rest) = both (is_typed form) (list_all is_typed forms) typed in
+    list_all-append is_literal_text (literals_in form) (literals_of forms) ∙ both_hold _ _ (line_sound form here).0 (literals_sound forms rest)
+
+pub few_literals : (forms : List (Form Text)) → AreTyped forms → length (literals_of forms) ≤ 4 * length forms
+few_literals [] typed = omega arith
+few_literals (form ∷ forms) typed =
+    let (here, rest) = both (is_typed form) (list_all is_typed forms) typed in
+    let few = (line_sound form here).1 in
+    let later = few_literals forms rest in
+    let parts : length (literals_of (form ∷ forms)) ≡ length (literals_in form) + length (literals_of forms) = simp length-append in
+    omega (arith, few, later, parts)
