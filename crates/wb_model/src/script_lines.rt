@@ -75,7 +75,7 @@ pub enum Letter {
 }
 
 /// What a word is to the grammar.
-#[derive(Clone, Copy, PartialEq, Eq)]
+#[derive(Clone, Copy)]
 pub enum WordKind {
     /// A name that can be declared.
     NewName,
@@ -129,7 +129,7 @@ pub enum Meant {
 }
 
 /// What an operand is, whichever of its sort.
-#[derive(Clone, Copy, PartialEq, Eq)]
+#[derive(Clone, Copy)]
 pub enum Sort {
     Declared,
     /// A local that holds a pointer.
