@@ -12,7 +12,7 @@ use Rattle.wb_model.specs.Kinds.{has_wrong_kind}
 use Rattle.wb_model.specs.Lines.{lines_of, first_foreign_line, is_too_long}
 use Rattle.wb_model.specs.Names.{Text, first_refused, uses_unknown, declares_again, passes_limit, known_of, first_declaration_of}
 use Rattle.wb_model.specs.Resolved.{resolved}
-use Rattle.wb_model.specs.Trees.{counted, script_lines}
+use Rattle.wb_model.specs.Trees.{counted, numbered_from, script_lines, numbered_lines}
 
 -- the lines are those of a script, whatever their names
 abbrev pub AreLines : List Text → Type 0
@@ -60,6 +60,7 @@ pub record IsTreeOf (forms : List (Form Text)) (script : Script) : Type 0 where
   pub operations : script.operations ≡ []
   pub literals : script.literals ≡ (known_of forms).literals
   pub tree : script_lines script ≡ flat_map counted (resolved forms)
+  pub numbers : numbered_lines script ≡ numbered_from 1 (resolved forms)
 
 -- the bytes spell this script
 pub record IsScriptOf (bytes : List ℕ) (script : Script) : Type 0 where

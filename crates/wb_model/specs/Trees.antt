@@ -1,5 +1,5 @@
--- The lines of a script's tree, with what their names and literals stand for.
-use Rattle.std.specs.Prelude.{ℕ, suc, pos, List, [], ◌∷◌, ◌++◌, Option, Some, None, map}
+-- The lines of a script's tree, with what their names and literals stand for, and the numbers of those whose number it keeps.
+use Rattle.std.specs.Prelude.{ℕ, suc, pos, Bool, true, false, List, [], ◌∷◌, ◌++◌, Option, Some, None, map}
 use Rattle.wb_model.specs.declared.script_lines.Key.TheVariants as key
 use Rattle.wb_model.specs.declared.script_lines.Key.{Key}
 use Rattle.wb_model.specs.declared.script_lines.Meant.{Meant}
@@ -8,6 +8,8 @@ use Rattle.wb_model.specs.declared.script_lines.Operand.{Operand}
 use Rattle.wb_model.specs.declared.script_lines.Operand.TheVariants.{Name, Number, Literal}
 use Rattle.wb_model.specs.declared.script_lines.Form.{Form}
 use Rattle.wb_model.specs.declared.script_lines.Form.TheVariants.{Skip, Unknown, Line}
+use Rattle.wb_model.specs.declared.script_lines.Role.{Role}
+use Rattle.wb_model.specs.declared.script_lines.Role.TheVariants as role
 use Rattle.wb_model.specs.declared.script.Script.{Script}
 use Rattle.wb_model.specs.declared.script.Body.{Body}
 use Rattle.wb_model.specs.declared.script.Procedure.{Procedure}
@@ -24,9 +26,11 @@ use Rattle.wb_model.specs.declared.script.Writable.TheVariants.{OwnBuffer, InCel
 use Rattle.wb_model.specs.declared.script.Readable.{Readable}
 use Rattle.wb_model.specs.declared.script.Readable.TheVariants.{Of, ViewOf, Quoted}
 use Rattle.wb_model.specs.declared.script.Refusal.TheVariants.{GivesNull}
+use Rattle.wb_model.specs.declared.script.Numbered.{Numbered}
 use Rattle.wb_model.specs.declared.script.Statement.{Statement}
 use Rattle.wb_model.specs.declared.script.Statement.TheOpen.{Statement-F}
 use Rattle.wb_model.specs.declared.script.Statement.TheViews.{out-Statement}
+use Rattle.wb_model.specs.Keys.{role_of}
 
 abbrev pub Indexed : Type 0
 Indexed = Form Meant
@@ -35,6 +39,32 @@ Indexed = Form Meant
 abbrev pub counted : Indexed → List Indexed
 counted Skip = []
 counted line = line ∷ []
+
+-- A line with its number.
+abbrev pub At : Type 0
+At = ℕ × Indexed
+
+-- A tree keeps the numbers of lines that begin an item, and of statements. Declarations and the ends of things have none in it.
+abbrev pub keeps_number : Role → Bool
+keeps_number role.Class = true
+keeps_number role.Procedure = true
+keeps_number role.Plain = true
+keeps_number role.Loop = true
+keeps_number role.If = true
+keeps_number _ = false
+
+abbrev pub line_at : Bool → ℕ → Indexed → List At
+line_at true number line = (number, line) ∷ []
+line_at false number line = []
+
+abbrev pub numbered : ℕ → Indexed → List At
+numbered number (Line key operands) = line_at (keeps_number (role_of key)) number (Line key operands)
+numbered number _ = []
+
+-- the lines whose numbers a tree keeps, where the first has this number; blank lines and comments count
+abbrev pub numbered_from : ℕ → List Indexed → List At
+numbered_from number [] = []
+numbered_from number (line ∷ lines) = numbered number line ++ numbered_from (suc number) lines
 
 -- The operand that spells a pointer, a number or a text to print; none where no line spells it.
 abbrev pub Spelled : Type 0
@@ -79,7 +109,7 @@ abbrev pub line : Key → List Spelled → Indexed
 line k words = line_or_unknown k (all_spelled words)
 
 -- The line of a statement. One that no line spells has a line of no script.
-abbrev pub statement_line : Statement-F Statement → Indexed
+abbrev pub statement_line : Statement-F Statement Numbered → Indexed
 statement_line (Statement-F.Alloc p v GivesNull) = line key.Alloc (pointer_operand p ∷ number_operand v ∷ [])
 statement_line (Statement-F.Realloc p q v GivesNull) = line key.Realloc (pointer_operand p ∷ pointer_operand q ∷ number_operand v ∷ [])
 statement_line (Statement-F.Free p) = line key.Free (pointer_operand p ∷ [])
@@ -116,8 +146,8 @@ statement_line Statement-F.NoteAvailable = line key.Available []
 statement_line Statement-F.NoteCompress = line key.Compress []
 statement_line _ = Unknown
 
-abbrev pub statement_lines : List Statement → List Indexed
-statement_lines statements = map (λ s. statement_line (out-Statement s)) statements
+abbrev pub statement_lines : List Numbered → List Indexed
+statement_lines statements = map (λ s. statement_line (out-Statement s.statement)) statements
 
 abbrev pub local_line : ℕ → Local → Indexed
 local_line index (OfPointer None) = Line key.Ptr (Name (meant.Declared index) ∷ [])
@@ -148,3 +178,20 @@ procedures_lines index (p ∷ ps) = procedure_lines index p ++ procedures_lines 
 
 abbrev pub script_lines : Script → List Indexed
 script_lines script = procedures_lines 0 script.procedures
+
+-- The same lines without those that have no number in the tree, each with its number.
+abbrev pub numbered_statement : Numbered → At
+numbered_statement s = (s.line, statement_line (out-Statement s.statement))
+
+abbrev pub numbered_statements : List Numbered → List At
+numbered_statements statements = map numbered_statement statements
+
+abbrev pub numbered_procedure : ℕ → Procedure → List At
+numbered_procedure index p = (p.line, head_line index p.parameters) ∷ numbered_statements p.body.statements
+
+abbrev pub numbered_procedures : ℕ → List Procedure → List At
+numbered_procedures index [] = []
+numbered_procedures index (p ∷ ps) = numbered_procedure index p ++ numbered_procedures (suc index) ps
+
+abbrev pub numbered_lines : Script → List At
+numbered_lines script = numbered_procedures 0 script.procedures
