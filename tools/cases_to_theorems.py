@@ -62,11 +62,6 @@ def text_term(text: str) -> str:
     return listed([str(ord(c)) for c in text])
 
 
-def rolled(statements: list[str]) -> str:
-    """A list of statements from their layers."""
-    return apply("rolled", listed(statements)) if statements else "[]"
-
-
 # --- scripts ------------------------------------------------------------------
 
 # The lines that are a list of operands of fixed kinds: word, constructor, the
@@ -122,8 +117,9 @@ def parameter(word: str, index: int) -> tuple[str, Local]:
 
 @dataclass
 class ClassLines:
-    """What a `class` declares: its index, extra bytes, fields with their classes, and bodies."""
+    """What a `class` declares: its line, index, extra bytes, fields with their classes, and bodies."""
 
+    line: int
     index: int
     extra: int
     fields: dict[str, str | None] = field(default_factory=dict)
@@ -134,8 +130,10 @@ class Reader:
     """Reads an accepted script; faults were refused before, so none are looked for."""
 
     def __init__(self, text: str) -> None:
-        # the lines still to read, the next one last
-        self.lines = [w for w in map(words_of, reversed(text.split("\n"))) if w]
+        # the lines still to read with their numbers, the next one last
+        numbered = enumerate(map(words_of, text.split("\n")), 1)
+        self.lines = [(number, words) for number, words in reversed(list(numbered)) if words]
+        self.line = 0
         self.classes: dict[str, ClassLines] = {}
         self.procedures: dict[str, int] = {}
         self.operations: dict[str, int] = {}
@@ -148,10 +146,10 @@ class Reader:
         """Collects the names that bodies may use before their declaration."""
         # A line's first word tells these from statements: no statement begins with such a word.
         name = ""
-        for words in reversed(self.lines):
+        for number, words in reversed(self.lines):
             if words[0] == "class":
                 name = words[1]
-                self.classes[name] = ClassLines(len(self.classes), int(words[2]))
+                self.classes[name] = ClassLines(number, len(self.classes), int(words[2]))
             elif words[0] == "field":
                 self.classes[name].fields[words[1]] = words[2] if len(words) > 2 else None
             elif words[0] == "proc":
@@ -159,19 +157,25 @@ class Reader:
             elif words[0] == "op":
                 self.operations[words[1]] = len(self.operations)
 
+    def next_line(self) -> list[str]:
+        """Takes the next line's words, and keeps its number."""
+        self.line, words = self.lines.pop()
+        return words
+
     def script(self) -> str:
         """The whole script."""
         procedures: list[str] = []
         operations: list[str] = []
         while self.lines:
-            words = self.lines.pop()
+            words, line = self.next_line(), str(self.line)
             if words[0] == "class":
                 self.class_body(words[1])
             elif words[0] == "proc":
                 parameters = dict(map(parameter, words[2:], range(len(words))))
-                procedures.append(record(parameters=listed(list(map(self.parameter_term, parameters.values()))), body=self.body(parameters, None)))
+                terms = listed(list(map(self.parameter_term, parameters.values())))
+                procedures.append(record(line=line, parameters=terms, body=self.body(parameters, None)))
             else:
-                operations.append(self.body({words[2]: Local("ptr", 0)}, None))
+                operations.append(record(line=line, body=self.body({words[2]: Local("ptr", 0)}, None)))
         return record(
             classes=listed([self.class_term(c) for c in self.classes.values()]),
             procedures=listed(procedures),
@@ -182,7 +186,7 @@ class Reader:
 
     def class_body(self, name: str) -> None:
         """The lines of a class after its first."""
-        while (words := self.lines.pop())[0] != "end":
+        while (words := self.next_line())[0] != "end":
             if words[0] in ("construct", "destroy"):
                 self.classes[name].bodies[words[0]] = self.body({}, name)
 
@@ -196,15 +200,15 @@ class Reader:
         """A class."""
         fields = [option(None if of is None else str(self.classes[of].index)) for of in c.fields.values()]
         bodies = {name: option(c.bodies.get(name)) for name in ("construct", "destroy")}
-        return record(extra=str(c.extra), fields=listed(fields), **bodies)
+        return record(line=str(c.line), extra=str(c.extra), fields=listed(fields), **bodies)
 
     def body(self, given: dict[str, Local], this: str | None) -> str:
         """A body up to its `end`, with its parameters and the class of `self`."""
         self.locals, self.this = dict(given), this
         begun: list[str] = []
-        while self.lines[-1][0] in DECLARATIONS:
-            begun.append(self.declaration(self.lines.pop()))
-        return record(locals=listed(begun), statements=rolled(self.block()[0]))
+        while self.lines[-1][1][0] in DECLARATIONS:
+            begun.append(self.declaration(self.next_line()))
+        return record(locals=listed(begun), statements=listed(self.block()[0]))
 
     def declaration(self, words: list[str]) -> str:
         """A local."""
@@ -217,10 +221,11 @@ class Reader:
         return "OfNumber" if words[0] == "int" else "OfView"
 
     def block(self) -> tuple[list[str], str]:
-        """Statements up to an `end` or `else`, and which of these it was."""
+        """Statements with their lines up to an `end` or `else`, and which of these it was."""
         statements: list[str] = []
-        while (words := self.lines.pop())[0] not in ("end", "else"):
-            statements.append("Statement-F." + self.statement(words))
+        while (words := self.next_line())[0] not in ("end", "else"):
+            line = str(self.line)
+            statements.append(apply("on", line, "Statement-F." + self.statement(words)))
         return statements, words[0]
 
     def statement(self, words: list[str]) -> str:
@@ -241,7 +246,7 @@ class Reader:
         if key == "if":
             return self.choice(operands)
         name, letter = {"repeat": ("Repeat", "V"), "trap": ("Trap", "X")}[key]
-        return apply(name, self.operand(letter, operands[0]), rolled(self.block()[0]))
+        return apply(name, self.operand(letter, operands[0]), listed(self.block()[0]))
 
     def call(self, words: list[str]) -> tuple[str, str]:
         """A procedure and its arguments."""
@@ -256,8 +261,8 @@ class Reader:
         condition = apply(name, *map(self.operand, letters, operands[1:]))
         first, closed_by = self.block()
         if closed_by == "end":
-            return apply("If", condition, rolled(first))
-        return apply("IfElse", condition, rolled(first), rolled(self.block()[0]))
+            return apply("If", condition, listed(first))
+        return apply("IfElse", condition, listed(first), listed(self.block()[0]))
 
     def operand(self, letter: str, word: str) -> str:
         """An operand by its letter."""
@@ -454,17 +459,18 @@ script.Body.{Body}; size.Rise.{Rise}; script.Parameter.TheVariants as Par; scrip
 script.Number.TheVariants.{Constant, Variable}; script.Writable.TheVariants.{OwnBuffer, InCell};
 script.Readable.TheVariants.{Of, ViewOf, Quoted}; script.Condition.TheVariants.{IsNull, NotNull, Equal, Less};
 script.Argument.TheVariants.{Passed, Given}; script.Refusal.TheVariants.{GivesNull, Leaves}; script.Statement.{Statement};
+script.Numbered.{Numbered};
 script.Statement.TheOpen.{Statement-F}; script.Statement.TheViews.{out-Statement, roll-Statement}
 """
 
 # The files of specs/ whose definitions a run computes through, and what it computes through beside these.
 COMPUTED_IN = ("Attempts", "Meaning", "Operands", "Reading", "Run", "State", "Statements")
 COMPUTED_THROUGH = """out-Statement denote.Hole.Carrier.out roll-Statement denote.Hole.Carrier.roll
-denote.Hole.Carrier.shown denote.Hole.Carrier.hidden {declared}.script.Statement.TheBlock.shown-the_row-Statement-0 digits"""
+denote.Hole.Carrier.shown denote.Hole.Carrier.hidden {declared}.script.Statement.TheBlock.shown-the_row-Numbered-0 digits"""
 
 SHORTHANDS = """
-abbrev rolled : List (Statement-F Statement) → List Statement
-rolled ss = map roll-Statement ss
+abbrev on : ℕ → Statement-F Statement Numbered → Numbered
+on line layer = record { line = line; statement = roll-Statement layer }
 
 abbrev shaped : ℕ → ℕ → Shape
 shaped min step = record { min = min; step = step }

@@ -10,7 +10,7 @@ use Rattle.wb_model.specs.declared.heap.Gave.{Gave}
 use Rattle.wb_model.specs.declared.heap.Gave.TheVariants as G
 use Rattle.wb_model.specs.declared.script.Script.{Script}
 use Rattle.wb_model.specs.declared.script.Local.{Local}
-use Rattle.wb_model.specs.declared.script.Statement.{Statement}
+use Rattle.wb_model.specs.declared.script.Numbered.{Numbered}
 use Rattle.wb_model.specs.Space.{space_of, bound_below, limit_under}
 use Rattle.wb_model.specs.State.{none, null, initial, State, goes_on, Process, ends, stops, asks, notes, and_then, on_plain_end}
 use Rattle.wb_model.specs.Heap.{alloc_request, after_alloc}
@@ -47,13 +47,13 @@ and_then-ends (asks t cut go) = ap (asks t cut) (fun_ext (λ n. fun_ext (λ a. a
 and_then-ends (notes q p) = ap (notes q) (and_then-ends p)
 
 -- where `main` begins, its statements and its TRAP are what is to do
-main_begins : (script : Script) (budget : ℕ) (st : State) (statements : List Statement) → statements ≡ (main_of script).statements →
+main_begins : (script : Script) (budget : ℕ) (st : State) (statements : List Numbered) → statements ≡ (main_of script).statements →
     resume script budget (doing in_main_frame (all statements) ∷ main_catching in_main_frame ∷ []) goes_on
     (record st { frame = record { this = null; locals = map initial (main_of script).locals } })
     ≡ in_main (meaning_of script budget) script st
 unfolding resume resumed on_plain_end in_main
 main_begins script budget st statements is =
-    ap (λ (ss : List Statement). and_then (meaning_of script budget in_main_frame (all ss) (record st { frame = record { this = null; locals = map initial (main_of script).locals } }))
+    ap (λ (ss : List Numbered). and_then (meaning_of script budget in_main_frame (all ss) (record st { frame = record { this = null; locals = map initial (main_of script).locals } }))
     (λ way st. and_then (main_trapped (meaning_of script budget) in_main_frame way st) ends)) is
     ∙ ap (and_then _) (fun_ext (λ way. fun_ext (λ st. and_then-ends (main_trapped (meaning_of script budget) in_main_frame way st))))
 
@@ -65,7 +65,7 @@ first_gave h = (first_made h).gave
 abbrev after_first : RunState → RunState
 after_first h = with_debug h (first_made h).debug
 
-begun_rest : (r : Rule) (script : Script) (budget : ℕ) (h : RunState) (statements : List Statement) (pieces : List Piece) (gave : Gave) →
+begun_rest : (r : Rule) (script : Script) (budget : ℕ) (h : RunState) (statements : List Numbered) (pieces : List Piece) (gave : Gave) →
     statements ≡ (main_of script).statements →
     ((begun_by h (main_of script).locals gave).ending ≡ GoesOn → pending_in pieces ≡ doing in_main_frame (all statements) ∷ main_catching in_main_frame ∷ []) →
     rest_from script budget r (begun_by h (main_of script).locals gave).ending pieces (begun_by h (main_of script).locals gave).state
@@ -110,7 +110,7 @@ one_attempt h g start is =
     ap (λ (d : Debug). d.attempts) is ∙ ap (λ (x : RunState). (first_made x).debug.attempts) start ∙ first_counted h.debug.rule h.debug.shape
 
 -- after the turn that begins a run its rest is the run
-rest_begun : (r own : Rule) (script : Script) (budget : ℕ) (shape : Shape) (statements : List Statement) (pieces : List Piece) →
+rest_begun : (r own : Rule) (script : Script) (budget : ℕ) (shape : Shape) (statements : List Numbered) (pieces : List Piece) →
     let h = first_state own shape in
     let c = begun_carried h (main_of script).locals in
     Fits r own (is_stop c.ending) c.state.debug.attempts → statements ≡ (main_of script).statements →
@@ -132,7 +132,7 @@ rest_begun r own script budget shape statements pieces f body is =
     ∙ ap (λ b. result_of (settled r (space_of r shape) (process script budget) (record { trace = []; notes = []; committed = min shape.min (bound_below b) }))) (sym limit)
 
 -- the same of what a machine then holds
-pub run_begun : (r : Rule) (script : Script) (budget : ℕ) (h g : RunState) (ending : Ending) (statements : List Statement) (pieces : List Piece) →
+pub run_begun : (r : Rule) (script : Script) (budget : ℕ) (h g : RunState) (ending : Ending) (statements : List Numbered) (pieces : List Piece) →
     h ≡ first_state h.debug.rule h.debug.shape →
     ending ≡ (begun_carried h (main_of script).locals).ending → g ≡ (begun_carried h (main_of script).locals).state →
     Fits r h.debug.rule (is_stop ending) g.debug.attempts → statements ≡ (main_of script).statements →

@@ -61,7 +61,7 @@ module _ (script : Script) (ok : is_script script ≡ true) where
       within = ltb-true _ _ (and_right (nat_le (length script.procedures) MOST_PROCEDURES) _ (and_right nothing counts (and_left (nothing && counts) (procedures && literals) ok)))
 
       by : (o : Option Procedure) → slice_get script.procedures script.main ≡ o →
-          is_body (length script.literals) (unwrap_or o (record { parameters = []; body = no_body })).body ≡ true
+          is_body (length script.literals) (unwrap_or o (record { line = 0; parameters = []; body = no_body })).body ≡ true
       by None e = absurd (none_within script.procedures script.main within e)
       by (Some p) e = and_right (nat_eq (length p.parameters) 0) (is_body (length script.literals) p.body) (all_at (is_procedure (length script.literals)) script.procedures script.main p each e)
 

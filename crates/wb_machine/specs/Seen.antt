@@ -1,5 +1,5 @@
 -- What callers see of a machine.
-use Rattle.std.specs.Prelude.{ℕ, Bool}
+use Rattle.std.specs.Prelude.{ℕ, Bool, ◌&&◌, Option, nat_lt, unwrap_or, if◌then◌else◌}
 use Rattle.wb_model.specs.declared.heap.Rule.{Rule}
 use Rattle.wb_model.specs.declared.heap.Shape.{Shape}
 use Rattle.wb_model.specs.declared.script.Script.{Script}
@@ -14,9 +14,18 @@ pub record Seen : Type 0 where
   pub attempts : ℕ
   -- how many steps were counted
   pub steps : ℕ
+  -- the line of the statement begun last, 0 before the first
+  pub line : ℕ
+  -- the line of the statement that is to begin next, where one is
+  pub next : Option ℕ
   -- the first turn was taken
   pub begun : Bool
   -- the run has ended
   pub over : Bool
   -- its memory ran out
   pub failed : Bool
+
+-- The line of the statement begun last, after a turn from here. The first turn begins no statement, and none is begun where the
+-- budget is used up.
+abbrev pub line_after : Seen → ℕ
+line_after m = if m.begun && nat_lt m.steps m.budget then unwrap_or m.next m.line else m.line

@@ -5,17 +5,20 @@ use Rattle.wb_model.specs.declared.heap.Rule.{Rule}
 use Rattle.wb_model.specs.declared.run.RunResult.{RunResult}
 use Rattle.wb_model.specs.Sound.{is_script}
 use Rattle.wb_model.specs.Run.{run}
-use Rattle.wb_model.specs.Rest.{Fits}
+use Rattle.wb_model.specs.Rest.{Fits, Progress, next_line}
 use Rattle.wb_machine.specs.declared.machine.Machine.TheInside.{Inside}
 use Rattle.wb_machine.specs.declared.control.Ending.TheVariants.{GoesOn}
-use Rattle.wb_machine.specs.RunState.{HasLines}
+use Rattle.wb_machine.specs.RunState.{HasLines, state_of}
 use Rattle.wb_machine.specs.Seen.{Seen}
-use Rattle.wb_machine.specs.Flow.{is_over, are_sound, IsReady, IsFirst, rest_at}
+use Rattle.wb_machine.specs.Flow.{is_over, are_sound, IsReady, IsFirst, pending_in, progress_of, rest_at}
 use Rattle.wb_machine.specs.Told.{leaks_at_end}
 
 -- the run has ended
 abbrev pub has_ended : Inside → Bool
 has_ended m = m.begun && is_over m.control.ending m.control.pieces.items
+
+abbrev pub progress_in : Inside → Progress
+progress_in m = progress_of m.begun m.control.ending (pending_in m.control.pieces.items) (state_of m.script.now m.state)
 
 abbrev pub seen : Inside → Seen
 seen m = record {
@@ -25,6 +28,8 @@ seen m = record {
   shape = m.state.debug.shape;
   attempts = m.state.debug.attempts;
   steps = m.state.steps;
+  line = m.control.line;
+  next = next_line (progress_in m);
   begun = m.begun;
   over = has_ended m;
   failed = m.failed;
@@ -47,6 +52,8 @@ pub record IsSound (m : Inside) : Type 0 where
   -- a step is to come, or the run is over
   pub settled : m.begun ≡ true → (is_over m.control.ending m.control.pieces.items ≡ true) ⊎ IsReady m.control.ending m.control.pieces.items
   pub pieces : are_sound m.script.now m.control.pieces.items ≡ true
+  -- no statement was begun yet
+  pub no_line : m.begun ≡ false → m.control.line ≡ 0
   pub leaks : has_ended m ≡ true → m.control.ending ≡ GoesOn → m.leaks ≡ leaks_at_end m.state
 
 -- under each rule that fits, the rest is the run under that rule

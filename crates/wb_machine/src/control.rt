@@ -1,9 +1,9 @@
 //! What is still to do, as explicit pieces. What the pieces act on stands in `state`.
 
-ghost use Rattle.std.specs.Prelude.{◌≡◌, ◌+◌, ◌^◌, ◌<◌, ◌≤◌, ◌⊎◌, ◌++◌, ◌∷◌, [], ℕ, List, true, false, length, vec_len, min, IsTrue, OnOk};
+ghost use Rattle.std.specs.Prelude.{◌≡◌, ◌+◌, ◌^◌, ◌<◌, ◌≤◌, ◌⊎◌, ◌++◌, ◌∷◌, ◌&&◌, [], ℕ, List, true, false, if◌then◌else◌, nat_lt, length, unwrap_or, vec_len, min, IsTrue, OnOk};
 ghost use Rattle.wb_model.specs.Sound.{is_script, is_statement};
 ghost use Rattle.wb_model.specs.Statements.{all};
-ghost use Rattle.wb_model.specs.Rest.{doing, Fits};
+ghost use Rattle.wb_model.specs.Rest.{doing, first_line, Fits};
 ghost use Rattle.wb_model.specs.Run.{run};
 ghost use Rattle.wb_model.specs.declared.heap.Rule.{Rule};
 ghost use Rattle.wb_model.specs.declared.run.Why.TheVariants.{Budget};
@@ -12,7 +12,7 @@ ghost use Rattle.wb_model.specs.declared.script.Statement.TheViews.{out-Statemen
 ghost use Rattle.wb_machine.specs.declared.control.Piece.{Piece};
 ghost use Rattle.wb_machine.specs.declared.control.Ending.TheVariants.{GoesOn, Cut};
 ghost use Rattle.wb_machine.specs.RunState.{RunState, HasLines, first_state, main_of};
-ghost use Rattle.wb_machine.specs.Flow.{in_main_frame, pending_of, needs_step, is_stop, is_over, are_sound, IsReady, IsFirst, rest_from, rest_at};
+ghost use Rattle.wb_machine.specs.Flow.{in_main_frame, pending_of, pending_in, needs_step, is_stop, is_over, are_sound, IsReady, IsFirst, rest_from, rest_at};
 ghost use Rattle.wb_machine.specs.Owed.{MayAttempt, Stays};
 
 use crate::state::State;
@@ -21,7 +21,7 @@ use wb_model::heap::{Gave, Kind, Panic};
 use wb_model::limits::LARGEST_BUDGET;
 use wb_model::memory::NoMemory;
 use wb_model::run::Why;
-use wb_model::script::{Body, Script, Statement};
+use wb_model::script::{Body, Numbered, Script};
 
 /// How many bytes the cleanup stack's cell is for at first.
 const FIRST_BYTES: u32 = 128;
@@ -40,15 +40,16 @@ pub enum Ending {
 /// A pending piece: the rest of a block, or `main`'s own TRAP.
 #[derive(Clone, Copy)]
 pub enum Piece<'a> {
-    Code(&'a [Statement]),
+    Code(&'a [Numbered]),
     MainTrap,
 }
 
-/// The pending pieces, the last of them on top, and how the piece above them ended.
+/// The pending pieces, the last of them on top, how the piece above them ended, and the line of the statement begun last.
 #[derive(Drop)]
 pub struct Control<'a> {
     pieces: Vec<Piece<'a>>,
     ending: Ending,
+    line: u32,
 }
 
 /// Whether a piece begins with a step.
@@ -87,10 +88,12 @@ impl<'a> Control<'a> {
     pub fn new(alloc: Global) -> Control<'a>
         ensures pieces { result.pieces.items ≡ [] }
         ensures ending { result.ending ≡ GoesOn }
+        ensures line { result.line ≡ 0 }
     {
         Control {
             pieces: Vec::new(alloc),
             ending: Ending::GoesOn,
+            line: 0,
         }
     }
 
@@ -99,6 +102,13 @@ impl<'a> Control<'a> {
         ensures { result ≡ self.now.ending }
     {
         self.ending
+    }
+
+    /// The line of the statement begun last; 0 before the first.
+    pub fn line(&self) -> u32
+        ensures { result ≡ self.now.line }
+    {
+        self.line
     }
 
     /// Whether nothing more is to do.
@@ -112,6 +122,7 @@ impl<'a> Control<'a> {
     fn push(&mut self, piece: Piece<'a>) -> Result<(), AllocError>
         ensures pieces { OnOk result (self.new.pieces.items ≡ self.old.pieces.items ++ piece.entry ∷ []) }
         ensures ending { OnOk result (self.new.ending ≡ self.old.ending) }
+        ensures line { self.new.line ≡ self.old.line }
     {
         self.pieces.push(piece)?;
         Ok(())
@@ -130,6 +141,7 @@ impl<'a> Control<'a> {
         ensures level { OnOk result (state.new.debug.heap.level ≡ 0) }
         ensures steps { OnOk result (state.new.steps ≡ 0) }
         ensures one { OnOk result (state.new.debug.attempts ≡ 1) }
+        ensures line { self.new.line ≡ self.old.line }
     {
         match state.attempt(FIRST_BYTES, Kind::Cleanup)? {
             Gave::Granted(cell) => {
@@ -148,13 +160,13 @@ impl<'a> Control<'a> {
     fn step_code(
         &mut self,
         script: &'a Script,
-        first: &'a Statement,
-        rest: &'a [Statement],
+        first: &'a Numbered,
+        rest: &'a [Numbered],
         state: &mut State,
     ) -> Result<(), NoMemory>
         requires script { IsTrue (is_script script.now) }
         requires going { self.old.ending ≡ GoesOn }
-        requires first { IsTrue (is_statement (length script.now.literals) (main_of script.now).locals (out-Statement first.now)) }
+        requires first { IsTrue (is_statement (length script.now.literals) (main_of script.now).locals (out-Statement first.now.statement)) }
         requires number { MayAttempt state.old }
         requires lines { HasLines state.old }
         requires level { state.old.debug.heap.level + 1 < 2 ^ 32 }
@@ -166,10 +178,12 @@ impl<'a> Control<'a> {
         ensures pieces { OnOk result ((q : Piece) × (pending_of q ≡ doing in_main_frame (all rest.now)) × (self.new.pieces.items ≡ self.old.pieces.items ++ q ∷ [])) }
         ensures stays { Stays state.old state.new }
         ensures steps { OnOk result (state.new.steps ≡ state.old.steps + 1) }
+        ensures line { OnOk result (self.new.line ≡ first.now.line) }
     {
         state.tick();
         self.push(Piece::Code(rest))?;
-        self.ending = state.carry_out(script, first)?;
+        self.line = first.line;
+        self.ending = state.carry_out(script, &first.statement)?;
         Ok(())
     }
 }
@@ -190,6 +204,7 @@ impl<'a> Control<'a> {
         ensures sound { OnOk result (are_sound script.now self.new.pieces.items ≡ true) }
         ensures stays { Stays state.old state.new }
         ensures steps { OnOk result (state.new.steps ≡ state.old.steps + 1) }
+        ensures line { OnOk result (self.new.line ≡ unwrap_or (first_line (pending_in self.old.pieces.items)) self.old.line) }
     {
         match self.pieces.pop() {
             Some(Piece::Code([first, rest @ ..])) => { self.step_code(script, first, rest, state) }
@@ -204,6 +219,7 @@ impl<'a> Control<'a> {
             rest_from script budget r self.new.ending self.new.pieces.items h ≡ rest_from script budget r self.old.ending self.old.pieces.items h }
         ensures pieces { self.new.pieces.items ≡ self.old.pieces.items }
         ensures ending { self.new.ending ≡ Cut Budget }
+        ensures line { self.new.line ≡ self.old.line }
     {
         self.ending = Ending::Cut(Why::Budget);
     }
@@ -224,6 +240,7 @@ impl<'a> Control<'a> {
         ensures kept { (script : Script) (r : Rule) (budget : ℕ) (h : RunState) → h.steps ≤ budget →
             rest_from script budget r self.new.ending self.new.pieces.items h ≡ rest_from script budget r self.old.ending self.old.pieces.items h }
         ensures ending { self.new.ending ≡ self.old.ending }
+        ensures line { self.new.line ≡ self.old.line }
         ensures sound { (script : Script) → are_sound script self.old.pieces.items ≡ true → are_sound script self.new.pieces.items ≡ true }
         ensures settled { (is_over self.new.ending self.new.pieces.items ≡ true) ⊎ IsReady self.new.ending self.new.pieces.items }
     {
@@ -263,6 +280,7 @@ impl<'a> Control<'a> {
         ensures one { OnOk result (begun ≡ false → state.new.debug.attempts ≡ 1) }
         ensures later { OnOk result (begun ≡ true → state.new.steps ≡ min (state.old.steps + 1) budget) }
         ensures steps { OnOk result (begun ≡ true → is_over self.new.ending self.new.pieces.items ≡ false → state.new.steps ≡ state.old.steps + 1) }
+        ensures line { OnOk result (self.new.line ≡ (if begun && nat_lt state.old.steps budget then unwrap_or (first_line (pending_in self.old.pieces.items)) self.old.line else self.old.line)) }
     {
         if !begun {
             self.begin(script, state)?;

@@ -1,12 +1,13 @@
 //! The machine that callers see, and a whole run. What a turn does stands in `control`.
 
-ghost use Rattle.std.specs.Prelude.{◌≡◌, ◌+◌, ◌≤◌, ◌↔◌, true, false, length, min, is_err, IsTrue, IfOk, IsOk, OnOk, OnErr};
+ghost use Rattle.std.specs.Prelude.{◌≡◌, ◌+◌, ◌≤◌, ◌↔◌, None, true, false, length, min, is_err, IsTrue, IfOk, IsOk, OnOk, OnErr};
 ghost use Rattle.wb_model.specs.Sound.{is_script};
 ghost use Rattle.wb_model.specs.Space.{is_shape};
 ghost use Rattle.wb_model.specs.Run.{run};
 ghost use Rattle.wb_machine.specs.declared.machine.Turn.TheVariants.{GoesOn, Ended};
 ghost use Rattle.wb_machine.specs.declared.machine.RunFault.TheVariants.{BadShape};
 ghost use Rattle.wb_machine.specs.Flow.{is_stop};
+ghost use Rattle.wb_machine.specs.Seen.{line_after};
 ghost use Rattle.wb_machine.specs.Told.{leaks_at_end};
 
 use crate::control::{Control, Ending};
@@ -101,6 +102,8 @@ impl<'a> Machine<'a> {
           shape = shape;
           attempts = 0;
           steps = 0;
+          line = 0;
+          next = None;
           begun = false;
           over = false;
           failed = false;
@@ -142,6 +145,7 @@ impl<'a> Machine<'a> {
         ensures within { OnOk result (self.new.steps ≤ self.new.budget) }
         ensures ended { IfOk result (λ turn. (turn ≡ Turn.Ended) ↔ (self.new.over ≡ true)) }
         ensures over { self.old.failed ≡ false → self.old.over ≡ true → (result ≡ Ok Turn.Ended) × (self.new ≡ self.old) }
+        ensures line { OnOk result (self.new.line ≡ line_after self.old) }
         ensures fewer { self.old.attempts ≤ self.new.attempts }
         ensures more { self.new.attempts ≤ self.old.attempts + 1 }
         ensures well { OnOk result (self.new.failed ≡ false) }
@@ -172,6 +176,13 @@ impl<'a> Machine<'a> {
         ensures { result ≡ self.now.attempts }
     {
         self.state.attempts()
+    }
+
+    /// The line of the statement begun last; 0 before the first.
+    pub fn line(&self) -> u32
+        ensures { result ≡ self.now.line }
+    {
+        self.control.line()
     }
 
     /// What the run tells, once it is over: exactly what the definitions say of the script, the rule, the

@@ -46,7 +46,7 @@ module _ (L : Lasting) where
   piece-alike ns script budget rec rec' at (all []) st f h k = (refl, ((omega arith, f), h))
   piece-alike ns script budget rec rec' at (all (s ∷ rest)) st f h k =
       let B = between L (st.steps + 1) budget in
-      begun-alike ns budget st _ _ f h (λ st g. then_do-alike B _ _ _ _ _ (statement-alike B script rec rec' at (out-Statement s) st k g) (λ ns st g. k ns _ _ st g))
+      begun-alike ns budget st _ _ f h (λ st g. then_do-alike B _ _ _ _ _ (statement-alike B script rec rec' at (out-Statement s.statement) st k g) (λ ns st g. k ns _ _ st g))
   piece-alike ns script budget rec rec' at (turns zero body) st f h k = (refl, ((omega arith, f), h))
   piece-alike ns script budget rec rec' at (turns (suc n) body) st f h k =
       let B = between L (st.steps + 1) budget in begun-alike ns budget st _ _ f h (λ st g. then_do-alike B _ _ _ _ _ (k ns _ _ st g) (λ ns st g. k ns _ _ st g))

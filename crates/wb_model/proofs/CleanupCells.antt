@@ -1,5 +1,5 @@
 -- Items in the words of slots: what is written is read, and words that are no item's are read as none.
-use Rattle.std.proofs.Common.{◌≡◌, ℕ, suc, ◌+◌, ◌*◌, ◌^◌, ◌<◌, List, [], ◌∷◌, ◌++◌, All, length, take, drop, Some, None, option_map, true, refl, sym, ap, ◌∙◌, arith}
+use Rattle.std.proofs.Common.{◌≡◌, ℕ, suc, ◌*◌, ◌^◌, List, [], ◌∷◌, ◌++◌, All, length, drop, Some, None, option_map, true, refl, sym, ap, ◌∙◌, arith}
 use Rattle.std.specs.Prelude.{nat_lt}
 use Rattle.std.proofs.lemmas.Bool.{lt-ltb}
 use Rattle.std.proofs.lemmas.List.{take-append-drop}
@@ -7,7 +7,7 @@ use Rattle.std.proofs.lemmas.Option.{same_Some}
 use Rattle.wb_model.specs.declared.heap.Ptr.{Ptr}
 use Rattle.wb_model.specs.declared.heap.Item.{Item}
 use Rattle.wb_model.specs.declared.heap.Item.TheVariants.{Free, Delete, Call}
-use Rattle.wb_model.specs.CleanupCells.{slot_words, items_words, IsItem, IsCleanup, items_in}
+use Rattle.wb_model.specs.CleanupCells.{items_words, IsItem, IsCleanup, items_in}
 
 -- the words of items are read as these items, whatever follows
 pub items-read : (items : List Item) (rest : List ℕ) → All IsItem items → items_in (length items) (items_words items ++ rest) ≡ Some items

@@ -1,5 +1,5 @@
 -- What a grant and a release keep of a heap with a limit.
-use Rattle.std.proofs.Common.{◌≡◌, ◌≢◌, ℕ, ◌+◌, ◌-◌, ◌*◌, ◌/◌, ◌%◌, ◌≤◌, ◌<◌, Bool, true, false, List, [], ◌∷◌, refl, arith, rules, suc, cond, min, max, length, replicate, subst, sym, ◌∙◌, ap, All, find, Some, IfSome}
+use Rattle.std.proofs.Common.{◌≡◌, ◌≢◌, ℕ, ◌+◌, ◌-◌, ◌*◌, ◌/◌, ◌%◌, ◌≤◌, ◌<◌, Bool, true, false, List, [], ◌∷◌, refl, arith, rules, suc, cond, min, length, subst, sym, ◌∙◌, ap, All, find, Some, IfSome}
 use Rattle.std.specs.Prelude.{nat_lt}
 use Rattle.std.proofs.lemmas.Bool.{ltb-true, ltb-false}
 use Rattle.std.proofs.Math.Nat.{mul-mod_left, mul_assoc}
@@ -11,9 +11,9 @@ use Rattle.wb_model.specs.declared.heap.Kind.{Kind}
 use Rattle.wb_model.specs.declared.heap.Ptr.{Ptr}
 use Rattle.wb_model.specs.declared.heap.Shape.{Shape}
 use Rattle.wb_model.specs.CellRow.{payload_of}
-use Rattle.wb_model.specs.Row.{Cell, headers, end_of, is_at, IsSpacedFrom, IsRow, IsLeastPlace, top_of}
+use Rattle.wb_model.specs.Row.{headers, end_of, IsSpacedFrom, IsRow, IsLeastPlace, top_of}
 use Rattle.wb_model.specs.Space.{Space, committed_by, compressed_to, round_up, is_shape}
-use Rattle.wb_model.specs.LimitedHeap.{LimitedHeap, IsSoundHeap, IsCellLength, IsLiveBelow, IsFilled, space_in, place_in, zero_words, fresh_cell, empty_heap, committed_with, heap_with, heap_without, heap_changed, compressed_length, heap_compressed}
+use Rattle.wb_model.specs.LimitedHeap.{LimitedHeap, IsSoundHeap, IsCellLength, IsLiveBelow, IsFilled, space_in, place_in, zero_words, fresh_cell, empty_heap, heap_with, heap_without, heap_changed, compressed_length, heap_compressed}
 use Rattle.wb_model.proofs.Places.{place_of-least}
 use Rattle.wb_model.proofs.Rows.{headers-without, headers-changed, IsRow-filter, IsRow-inserted, All-inserted, All-placed, place_from-top, top_from-within, ends-within}
 use Rattle.wb_model.proofs.Payloads.{filled-changed}

@@ -9,7 +9,7 @@ use Rattle.wb_model.specs.declared.script.Pointer.{Pointer}
 use Rattle.wb_model.specs.declared.script.Pointer.TheVariants.{Held, Field}
 use Rattle.wb_model.specs.declared.script.Condition.{Condition}
 use Rattle.wb_model.specs.declared.script.Condition.TheVariants.{IsNull, NotNull, Equal, Less}
-use Rattle.wb_model.specs.declared.script.Statement.{Statement}
+use Rattle.wb_model.specs.declared.script.Numbered.{Numbered}
 use Rattle.wb_model.specs.declared.script.Statement.TheOpen.{Statement-F}
 use Rattle.wb_model.specs.declared.script.Statement.TheViews.{out-Statement}
 use Rattle.wb_model.specs.State.{State, Way, goes_on, Process, ends, stops, asks, notes, and_then, on_plain_end, then_do, with_some}
@@ -60,18 +60,18 @@ with_condition-and_then st (Equal v w) go k = refl
 with_condition-and_then st (Less v w) go k = refl
 
 -- the turn that begins a statement
-pub resume-all : (script : Script) (budget : ℕ) (at : Where) (s : Statement) (ss : List Statement) (ps : List Pending) (st : State) → st.steps ≤ budget →
+pub resume-all : (script : Script) (budget : ℕ) (at : Where) (s : Numbered) (ss : List Numbered) (ps : List Pending) (st : State) → st.steps ≤ budget →
     resume script budget (doing at (all (s ∷ ss)) ∷ ps) goes_on st
-    ≡ begun budget st (λ st. and_then (statement script (meaning_of script budget) at (out-Statement s) st) (resume script budget (doing at (all ss) ∷ ps)))
+    ≡ begun budget st (λ st. and_then (statement script (meaning_of script budget) at (out-Statement s.statement) st) (resume script budget (doing at (all ss) ∷ ps)))
 unfolding resume resumed on_plain_end piece then_do
 resume-all script budget at s ss ps st f =
     ap (λ p. and_then p (resume script budget ps)) (meaning_of-unfolds script budget at (all (s ∷ ss)) st f)
     ∙ begun-and_then budget st _ (resume script budget ps)
-    ∙ ap (begun budget st) (fun_ext (λ st. and_then-assoc (statement script (meaning_of script budget) at (out-Statement s) st) _ (resume script budget ps)))
+    ∙ ap (begun budget st) (fun_ext (λ st. and_then-assoc (statement script (meaning_of script budget) at (out-Statement s.statement) st) _ (resume script budget ps)))
 
 -- an `if` leaves its part before the rest of the block
-pub resume-if : (script : Script) (budget : ℕ) (at : Where) (s : Statement) (c : Condition) (one other ss : List Statement) (ps : List Pending) (st : State) →
-    out-Statement s ≡ Statement-F.IfElse c one other → st.steps ≤ budget →
+pub resume-if : (script : Script) (budget : ℕ) (at : Where) (s : Numbered) (c : Condition) (one other ss : List Numbered) (ps : List Pending) (st : State) →
+    out-Statement s.statement ≡ Statement-F.IfElse c one other → st.steps ≤ budget →
     resume script budget (doing at (all (s ∷ ss)) ∷ ps) goes_on st
     ≡ begun budget st (λ st. with_condition st c (λ b. resume script budget (doing at (all (choice b one other)) ∷ doing at (all ss) ∷ ps) goes_on st))
 unfolding resume resumed on_plain_end statement

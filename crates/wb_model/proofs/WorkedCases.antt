@@ -1,6 +1,6 @@
 -- Worked cases, each by computing: the definitions give what the files of cases/ say. Written by tools/cases_to_theorems.py;
 -- edit nothing here.
-use Rattle.std.specs.Prelude.{◌≡◌, refl, ℕ, pos, negsuc, List, [], ◌∷◌, length, Some, None, map}
+use Rattle.std.specs.Prelude.{◌≡◌, refl, ℕ, pos, negsuc, [], ◌∷◌, length, Some, None}
 use Rattle.wb_model.specs.declared.heap.Rule.TheVariants as R
 use Rattle.wb_model.specs.declared.heap.Panic.TheVariants as P
 use Rattle.wb_model.specs.declared.script.Holder.TheVariants as H
@@ -23,6 +23,7 @@ use Rattle.wb_model.specs.declared.script.Condition.TheVariants.{IsNull, NotNull
 use Rattle.wb_model.specs.declared.script.Argument.TheVariants.{Passed, Given}
 use Rattle.wb_model.specs.declared.script.Refusal.TheVariants.{GivesNull, Leaves}
 use Rattle.wb_model.specs.declared.script.Statement.{Statement}
+use Rattle.wb_model.specs.declared.script.Numbered.{Numbered}
 use Rattle.wb_model.specs.declared.script.Statement.TheOpen.{Statement-F}
 use Rattle.wb_model.specs.declared.script.Statement.TheViews.{out-Statement, roll-Statement}
 use Rattle.wb_model.specs.Run.{run, required, rises}
@@ -37,7 +38,7 @@ unfolding out-Statement
     denote.Hole.Carrier.roll
     denote.Hole.Carrier.shown
     denote.Hole.Carrier.hidden
-    Rattle.wb_model.specs.declared.script.Statement.TheBlock.shown-the_row-Statement-0
+    Rattle.wb_model.specs.declared.script.Statement.TheBlock.shown-the_row-Numbered-0
     digits
     Rattle.wb_model.specs.Attempts.attempt
     Rattle.wb_model.specs.Attempts.allocate
@@ -93,8 +94,8 @@ unfolding out-Statement
     Rattle.wb_model.specs.Statements.statement
 everything = tt
 
-abbrev rolled : List (Statement-F Statement) → List Statement
-rolled ss = map roll-Statement ss
+abbrev on : ℕ → Statement-F Statement Numbered → Numbered
+on line layer = record { line = line; statement = roll-Statement layer }
 
 abbrev shaped : ℕ → ℕ → Shape
 shaped min step = record { min = min; step = step }
@@ -106,1638 +107,1638 @@ abbrev rise : ℕ → ℕ → Rise
 rise number top = record { number = number; top = top }
 
 abbrev script_buffer_edits_one_after_another_run : Script
-script_buffer_edits_one_after_another_run = record { classes = []; procedures = (record { parameters = []; body = record { locals = (OfBuffer 8) ∷ OfView ∷ []; statements = rolled ((Statement-F.Copy (OwnBuffer 0) (Quoted 0)) ∷ (Statement-F.Insert (OwnBuffer 0) (Constant (pos 1)) (Quoted 1)) ∷ (Statement-F.DeleteText (OwnBuffer 0) (Constant (pos 4)) (Constant (pos 99))) ∷ (Statement-F.Right 1 (Of (OwnBuffer 0)) (Constant (pos 2))) ∷ (Statement-F.Append (OwnBuffer 0) (ViewOf 1)) ∷ (Statement-F.SetLength (OwnBuffer 0) (Constant (pos 8))) ∷ (Statement-F.PrintText (Of (OwnBuffer 0))) ∷ []) } }) ∷ []; operations = []; literals = (97 ∷ 98 ∷ 99 ∷ 100 ∷ []) ∷ (88 ∷ 89 ∷ []) ∷ []; main = 0 }
+script_buffer_edits_one_after_another_run = record { classes = []; procedures = (record { line = 1; parameters = []; body = record { locals = (OfBuffer 8) ∷ OfView ∷ []; statements = (on 4 (Statement-F.Copy (OwnBuffer 0) (Quoted 0))) ∷ (on 5 (Statement-F.Insert (OwnBuffer 0) (Constant (pos 1)) (Quoted 1))) ∷ (on 6 (Statement-F.DeleteText (OwnBuffer 0) (Constant (pos 4)) (Constant (pos 99)))) ∷ (on 7 (Statement-F.Right 1 (Of (OwnBuffer 0)) (Constant (pos 2)))) ∷ (on 8 (Statement-F.Append (OwnBuffer 0) (ViewOf 1))) ∷ (on 9 (Statement-F.SetLength (OwnBuffer 0) (Constant (pos 8)))) ∷ (on 10 (Statement-F.PrintText (Of (OwnBuffer 0)))) ∷ [] } }) ∷ []; operations = []; literals = (97 ∷ 98 ∷ 99 ∷ 100 ∷ []) ∷ (88 ∷ 89 ∷ []) ∷ []; main = 0 }
 
 buffer_edits_one_after_another_run : run script_buffer_edits_one_after_another_run R.Unlimited 10000 (shaped 4096 4096) ≡ record { outcome = Ended None []; trace = (line 1 144 0 Granted) ∷ []; lines = (97 ∷ 88 ∷ 89 ∷ 98 ∷ 89 ∷ 98 ∷ 46 ∷ 46 ∷ []) ∷ []; notes = []; steps = 7 }
 unfolding everything
 buffer_edits_one_after_another_run = refl
 
 abbrev script_refused_text_growth_keeps_the_text_run : Script
-script_refused_text_growth_keeps_the_text_run = record { classes = []; procedures = (record { parameters = []; body = record { locals = (OfPointer None) ∷ (OfPointer None) ∷ []; statements = rolled ((Statement-F.NewText (Held (H.Local 0)) (Constant (pos 4)) GivesNull) ∷ (Statement-F.Append (InCell (Held (H.Local 0))) (Quoted 0)) ∷ (Statement-F.FailNext (Constant (pos 1))) ∷ (Statement-F.ReallocText (Held (H.Local 1)) (Held (H.Local 0)) (Constant (pos 20))) ∷ (Statement-F.PrintText (Of (InCell (Held (H.Local 0))))) ∷ (Statement-F.Free (Held (H.Local 0))) ∷ []) } }) ∷ []; operations = []; literals = (97 ∷ 98 ∷ 99 ∷ []) ∷ []; main = 0 }
+script_refused_text_growth_keeps_the_text_run = record { classes = []; procedures = (record { line = 1; parameters = []; body = record { locals = (OfPointer None) ∷ (OfPointer None) ∷ []; statements = (on 4 (Statement-F.NewText (Held (H.Local 0)) (Constant (pos 4)) GivesNull)) ∷ (on 5 (Statement-F.Append (InCell (Held (H.Local 0))) (Quoted 0))) ∷ (on 6 (Statement-F.FailNext (Constant (pos 1)))) ∷ (on 7 (Statement-F.ReallocText (Held (H.Local 1)) (Held (H.Local 0)) (Constant (pos 20)))) ∷ (on 8 (Statement-F.PrintText (Of (InCell (Held (H.Local 0)))))) ∷ (on 9 (Statement-F.Free (Held (H.Local 0)))) ∷ [] } }) ∷ []; operations = []; literals = (97 ∷ 98 ∷ 99 ∷ []) ∷ []; main = 0 }
 
 refused_text_growth_keeps_the_text_run : run script_refused_text_growth_keeps_the_text_run R.Unlimited 10000 (shaped 4096 4096) ≡ record { outcome = Ended None []; trace = (line 1 144 0 Granted) ∷ (line 2 32 144 Granted) ∷ (line 3 64 144 Simulated) ∷ []; lines = (97 ∷ 98 ∷ 99 ∷ []) ∷ []; notes = []; steps = 6 }
 unfolding everything
 refused_text_growth_keeps_the_text_run = refl
 
 abbrev script_text_longer_than_its_maximum_run : Script
-script_text_longer_than_its_maximum_run = record { classes = []; procedures = (record { parameters = []; body = record { locals = (OfPointer None) ∷ OfNumber ∷ OfView ∷ []; statements = rolled ((Statement-F.NewText (Held (H.Local 0)) (Constant (pos 4)) GivesNull) ∷ (Statement-F.GetMaximum 1 (InCell (Held (H.Local 0)))) ∷ (Statement-F.PrintNumber (Variable 1)) ∷ (Statement-F.Append (InCell (Held (H.Local 0))) (Quoted 0)) ∷ (Statement-F.Append (InCell (Held (H.Local 0))) (Quoted 1)) ∷ []) } }) ∷ []; operations = []; literals = (97 ∷ 98 ∷ 99 ∷ 100 ∷ 101 ∷ 102 ∷ []) ∷ (103 ∷ []) ∷ []; main = 0 }
+script_text_longer_than_its_maximum_run = record { classes = []; procedures = (record { line = 1; parameters = []; body = record { locals = (OfPointer None) ∷ OfNumber ∷ OfView ∷ []; statements = (on 5 (Statement-F.NewText (Held (H.Local 0)) (Constant (pos 4)) GivesNull)) ∷ (on 6 (Statement-F.GetMaximum 1 (InCell (Held (H.Local 0))))) ∷ (on 7 (Statement-F.PrintNumber (Variable 1))) ∷ (on 8 (Statement-F.Append (InCell (Held (H.Local 0))) (Quoted 0))) ∷ (on 9 (Statement-F.Append (InCell (Held (H.Local 0))) (Quoted 1))) ∷ [] } }) ∷ []; operations = []; literals = (97 ∷ 98 ∷ 99 ∷ 100 ∷ 101 ∷ 102 ∷ []) ∷ (103 ∷ []) ∷ []; main = 0 }
 
 text_longer_than_its_maximum_run : run script_text_longer_than_its_maximum_run R.Unlimited 10000 (shaped 4096 4096) ≡ record { outcome = Panicked (P.User 11); trace = (line 1 144 0 Granted) ∷ (line 2 32 144 Granted) ∷ []; lines = (54 ∷ []) ∷ []; notes = []; steps = 5 }
 unfolding everything
 text_longer_than_its_maximum_run = refl
 
 abbrev script_text_made_shorter_than_its_length_run : Script
-script_text_made_shorter_than_its_length_run = record { classes = []; procedures = (record { parameters = []; body = record { locals = (OfPointer None) ∷ (OfPointer None) ∷ []; statements = rolled ((Statement-F.NewText (Held (H.Local 0)) (Constant (pos 4)) GivesNull) ∷ (Statement-F.Append (InCell (Held (H.Local 0))) (Quoted 0)) ∷ (Statement-F.ReallocText (Held (H.Local 1)) (Held (H.Local 0)) (Constant (pos 2))) ∷ []) } }) ∷ []; operations = []; literals = (97 ∷ 98 ∷ 99 ∷ []) ∷ []; main = 0 }
+script_text_made_shorter_than_its_length_run = record { classes = []; procedures = (record { line = 1; parameters = []; body = record { locals = (OfPointer None) ∷ (OfPointer None) ∷ []; statements = (on 4 (Statement-F.NewText (Held (H.Local 0)) (Constant (pos 4)) GivesNull)) ∷ (on 5 (Statement-F.Append (InCell (Held (H.Local 0))) (Quoted 0))) ∷ (on 6 (Statement-F.ReallocText (Held (H.Local 1)) (Held (H.Local 0)) (Constant (pos 2)))) ∷ [] } }) ∷ []; operations = []; literals = (97 ∷ 98 ∷ 99 ∷ []) ∷ []; main = 0 }
 
 text_made_shorter_than_its_length_run : run script_text_made_shorter_than_its_length_run R.Unlimited 10000 (shaped 4096 4096) ≡ record { outcome = Panicked (P.Workbench 8); trace = (line 1 144 0 Granted) ∷ (line 2 32 144 Granted) ∷ []; lines = []; notes = []; steps = 3 }
 unfolding everything
 text_made_shorter_than_its_length_run = refl
 
 abbrev script_view_of_a_freed_text_run : Script
-script_view_of_a_freed_text_run = record { classes = []; procedures = (record { parameters = []; body = record { locals = (OfPointer None) ∷ OfView ∷ []; statements = rolled ((Statement-F.NewText (Held (H.Local 0)) (Constant (pos 4)) GivesNull) ∷ (Statement-F.Mid 1 (Of (InCell (Held (H.Local 0)))) (Constant (pos 0)) (Constant (pos 0))) ∷ (Statement-F.Free (Held (H.Local 0))) ∷ (Statement-F.PrintText (ViewOf 1)) ∷ []) } }) ∷ []; operations = []; literals = []; main = 0 }
+script_view_of_a_freed_text_run = record { classes = []; procedures = (record { line = 1; parameters = []; body = record { locals = (OfPointer None) ∷ OfView ∷ []; statements = (on 4 (Statement-F.NewText (Held (H.Local 0)) (Constant (pos 4)) GivesNull)) ∷ (on 5 (Statement-F.Mid 1 (Of (InCell (Held (H.Local 0)))) (Constant (pos 0)) (Constant (pos 0)))) ∷ (on 6 (Statement-F.Free (Held (H.Local 0)))) ∷ (on 7 (Statement-F.PrintText (ViewOf 1))) ∷ [] } }) ∷ []; operations = []; literals = []; main = 0 }
 
 view_of_a_freed_text_run : run script_view_of_a_freed_text_run R.Unlimited 10000 (shaped 4096 4096) ≡ record { outcome = Panicked (P.Workbench 1); trace = (line 1 144 0 Granted) ∷ (line 2 32 144 Granted) ∷ []; lines = []; notes = []; steps = 4 }
 unfolding everything
 view_of_a_freed_text_run = refl
 
 abbrev script_view_of_an_empty_view_is_still_the_same_text_run : Script
-script_view_of_an_empty_view_is_still_the_same_text_run = record { classes = []; procedures = (record { parameters = []; body = record { locals = OfView ∷ OfView ∷ (OfBuffer 4) ∷ []; statements = rolled ((Statement-F.Copy (OwnBuffer 2) (Quoted 0)) ∷ (Statement-F.Left 0 (Of (OwnBuffer 2)) (Constant (pos 0))) ∷ (Statement-F.Left 1 (ViewOf 0) (Constant (pos 0))) ∷ (Statement-F.Insert (OwnBuffer 2) (Constant (pos 0)) (ViewOf 1)) ∷ []) } }) ∷ []; operations = []; literals = (97 ∷ 98 ∷ []) ∷ []; main = 0 }
+script_view_of_an_empty_view_is_still_the_same_text_run = record { classes = []; procedures = (record { line = 1; parameters = []; body = record { locals = OfView ∷ OfView ∷ (OfBuffer 4) ∷ []; statements = (on 5 (Statement-F.Copy (OwnBuffer 2) (Quoted 0))) ∷ (on 6 (Statement-F.Left 0 (Of (OwnBuffer 2)) (Constant (pos 0)))) ∷ (on 7 (Statement-F.Left 1 (ViewOf 0) (Constant (pos 0)))) ∷ (on 8 (Statement-F.Insert (OwnBuffer 2) (Constant (pos 0)) (ViewOf 1))) ∷ [] } }) ∷ []; operations = []; literals = (97 ∷ 98 ∷ []) ∷ []; main = 0 }
 
 view_of_an_empty_view_is_still_the_same_text_run : run script_view_of_an_empty_view_is_still_the_same_text_run R.Unlimited 10000 (shaped 4096 4096) ≡ record { outcome = Panicked (P.Workbench 9); trace = (line 1 144 0 Granted) ∷ []; lines = []; notes = []; steps = 4 }
 unfolding everything
 view_of_an_empty_view_is_still_the_same_text_run = refl
 
 abbrev script_view_of_nothing_run : Script
-script_view_of_nothing_run = record { classes = []; procedures = (record { parameters = []; body = record { locals = OfView ∷ OfView ∷ (OfBuffer 4) ∷ []; statements = rolled ((Statement-F.Left 1 (ViewOf 0) (Constant (pos 0))) ∷ (Statement-F.Insert (OwnBuffer 2) (Constant (pos 0)) (ViewOf 1)) ∷ (Statement-F.PrintText (Of (OwnBuffer 2))) ∷ (Statement-F.Left 1 (ViewOf 0) (Constant (pos 1))) ∷ []) } }) ∷ []; operations = []; literals = []; main = 0 }
+script_view_of_nothing_run = record { classes = []; procedures = (record { line = 1; parameters = []; body = record { locals = OfView ∷ OfView ∷ (OfBuffer 4) ∷ []; statements = (on 5 (Statement-F.Left 1 (ViewOf 0) (Constant (pos 0)))) ∷ (on 6 (Statement-F.Insert (OwnBuffer 2) (Constant (pos 0)) (ViewOf 1))) ∷ (on 7 (Statement-F.PrintText (Of (OwnBuffer 2)))) ∷ (on 8 (Statement-F.Left 1 (ViewOf 0) (Constant (pos 1)))) ∷ [] } }) ∷ []; operations = []; literals = []; main = 0 }
 
 view_of_nothing_run : run script_view_of_nothing_run R.Unlimited 10000 (shaped 4096 4096) ≡ record { outcome = Panicked (P.User 10); trace = (line 1 144 0 Granted) ∷ []; lines = [] ∷ []; notes = []; steps = 4 }
 unfolding everything
 view_of_nothing_run = refl
 
 abbrev script_view_position_past_the_text_run : Script
-script_view_position_past_the_text_run = record { classes = []; procedures = (record { parameters = []; body = record { locals = (OfPointer None) ∷ OfNumber ∷ OfView ∷ []; statements = rolled ((Statement-F.NewText (Held (H.Local 0)) (Constant (pos 4)) GivesNull) ∷ (Statement-F.GetMaximum 1 (InCell (Held (H.Local 0)))) ∷ (Statement-F.PrintNumber (Variable 1)) ∷ (Statement-F.Append (InCell (Held (H.Local 0))) (Quoted 0)) ∷ (Statement-F.Mid 2 (Of (InCell (Held (H.Local 0)))) (Constant (pos 7)) (Constant (pos 0))) ∷ []) } }) ∷ []; operations = []; literals = (97 ∷ 98 ∷ 99 ∷ 100 ∷ 101 ∷ 102 ∷ []) ∷ []; main = 0 }
+script_view_position_past_the_text_run = record { classes = []; procedures = (record { line = 1; parameters = []; body = record { locals = (OfPointer None) ∷ OfNumber ∷ OfView ∷ []; statements = (on 5 (Statement-F.NewText (Held (H.Local 0)) (Constant (pos 4)) GivesNull)) ∷ (on 6 (Statement-F.GetMaximum 1 (InCell (Held (H.Local 0))))) ∷ (on 7 (Statement-F.PrintNumber (Variable 1))) ∷ (on 8 (Statement-F.Append (InCell (Held (H.Local 0))) (Quoted 0))) ∷ (on 9 (Statement-F.Mid 2 (Of (InCell (Held (H.Local 0)))) (Constant (pos 7)) (Constant (pos 0)))) ∷ [] } }) ∷ []; operations = []; literals = (97 ∷ 98 ∷ 99 ∷ 100 ∷ 101 ∷ 102 ∷ []) ∷ []; main = 0 }
 
 view_position_past_the_text_run : run script_view_position_past_the_text_run R.Unlimited 10000 (shaped 4096 4096) ≡ record { outcome = Panicked (P.User 10); trace = (line 1 144 0 Granted) ∷ (line 2 32 144 Granted) ∷ []; lines = (54 ∷ []) ∷ []; notes = []; steps = 5 }
 unfolding everything
 view_position_past_the_text_run = refl
 
 abbrev script_append_too_long_run : Script
-script_append_too_long_run = record { classes = []; procedures = (record { parameters = []; body = record { locals = (OfPointer None) ∷ OfNumber ∷ []; statements = rolled ((Statement-F.NewText (Held (H.Local 0)) (Constant (pos 5)) GivesNull) ∷ (Statement-F.GetMaximum 1 (InCell (Held (H.Local 0)))) ∷ (Statement-F.PrintNumber (Variable 1)) ∷ (Statement-F.Append (InCell (Held (H.Local 0))) (Quoted 0)) ∷ (Statement-F.Append (InCell (Held (H.Local 0))) (Quoted 1)) ∷ (Statement-F.Free (Held (H.Local 0))) ∷ []) } }) ∷ []; operations = []; literals = (104 ∷ 101 ∷ 97 ∷ 112 ∷ []) ∷ (32 ∷ 102 ∷ 117 ∷ 108 ∷ 108 ∷ []) ∷ []; main = 0 }
+script_append_too_long_run = record { classes = []; procedures = (record { line = 2; parameters = []; body = record { locals = (OfPointer None) ∷ OfNumber ∷ []; statements = (on 6 (Statement-F.NewText (Held (H.Local 0)) (Constant (pos 5)) GivesNull)) ∷ (on 7 (Statement-F.GetMaximum 1 (InCell (Held (H.Local 0))))) ∷ (on 8 (Statement-F.PrintNumber (Variable 1))) ∷ (on 9 (Statement-F.Append (InCell (Held (H.Local 0))) (Quoted 0))) ∷ (on 11 (Statement-F.Append (InCell (Held (H.Local 0))) (Quoted 1))) ∷ (on 12 (Statement-F.Free (Held (H.Local 0)))) ∷ [] } }) ∷ []; operations = []; literals = (104 ∷ 101 ∷ 97 ∷ 112 ∷ []) ∷ (32 ∷ 102 ∷ 117 ∷ 108 ∷ 108 ∷ []) ∷ []; main = 0 }
 
 append_too_long_run : run script_append_too_long_run R.Unlimited 10000 (shaped 4096 4096) ≡ record { outcome = Panicked (P.User 11); trace = (line 1 144 0 Granted) ∷ (line 2 32 144 Granted) ∷ []; lines = (54 ∷ []) ∷ []; notes = []; steps = 5 }
 unfolding everything
 append_too_long_run = refl
 
 abbrev script_double_free_run : Script
-script_double_free_run = record { classes = []; procedures = (record { parameters = []; body = record { locals = (OfPointer None) ∷ (OfPointer None) ∷ []; statements = rolled ((Statement-F.Alloc (Held (H.Local 0)) (Constant (pos 40)) GivesNull) ∷ (Statement-F.Free (Held (H.Local 0))) ∷ (Statement-F.Alloc (Held (H.Local 1)) (Constant (pos 40)) GivesNull) ∷ (Statement-F.PrintText (Quoted 0)) ∷ (Statement-F.Free (Held (H.Local 0))) ∷ []) } }) ∷ []; operations = []; literals = (116 ∷ 104 ∷ 101 ∷ 32 ∷ 112 ∷ 108 ∷ 97 ∷ 99 ∷ 101 ∷ 115 ∷ 32 ∷ 97 ∷ 114 ∷ 101 ∷ 32 ∷ 116 ∷ 104 ∷ 101 ∷ 32 ∷ 115 ∷ 97 ∷ 109 ∷ 101 ∷ 44 ∷ 32 ∷ 116 ∷ 104 ∷ 101 ∷ 32 ∷ 97 ∷ 108 ∷ 108 ∷ 111 ∷ 99 ∷ 97 ∷ 116 ∷ 105 ∷ 111 ∷ 110 ∷ 32 ∷ 110 ∷ 117 ∷ 109 ∷ 98 ∷ 101 ∷ 114 ∷ 115 ∷ 32 ∷ 97 ∷ 114 ∷ 101 ∷ 110 ∷ 39 ∷ 116 ∷ []) ∷ []; main = 0 }
+script_double_free_run = record { classes = []; procedures = (record { line = 2; parameters = []; body = record { locals = (OfPointer None) ∷ (OfPointer None) ∷ []; statements = (on 5 (Statement-F.Alloc (Held (H.Local 0)) (Constant (pos 40)) GivesNull)) ∷ (on 6 (Statement-F.Free (Held (H.Local 0)))) ∷ (on 7 (Statement-F.Alloc (Held (H.Local 1)) (Constant (pos 40)) GivesNull)) ∷ (on 8 (Statement-F.PrintText (Quoted 0))) ∷ (on 9 (Statement-F.Free (Held (H.Local 0)))) ∷ [] } }) ∷ []; operations = []; literals = (116 ∷ 104 ∷ 101 ∷ 32 ∷ 112 ∷ 108 ∷ 97 ∷ 99 ∷ 101 ∷ 115 ∷ 32 ∷ 97 ∷ 114 ∷ 101 ∷ 32 ∷ 116 ∷ 104 ∷ 101 ∷ 32 ∷ 115 ∷ 97 ∷ 109 ∷ 101 ∷ 44 ∷ 32 ∷ 116 ∷ 104 ∷ 101 ∷ 32 ∷ 97 ∷ 108 ∷ 108 ∷ 111 ∷ 99 ∷ 97 ∷ 116 ∷ 105 ∷ 111 ∷ 110 ∷ 32 ∷ 110 ∷ 117 ∷ 109 ∷ 98 ∷ 101 ∷ 114 ∷ 115 ∷ 32 ∷ 97 ∷ 114 ∷ 101 ∷ 110 ∷ 39 ∷ 116 ∷ []) ∷ []; main = 0 }
 
 double_free_run : run script_double_free_run R.Unlimited 10000 (shaped 4096 4096) ≡ record { outcome = Panicked (P.User 42); trace = (line 1 144 0 Granted) ∷ (line 2 64 144 Granted) ∷ (line 3 64 144 Granted) ∷ []; lines = (116 ∷ 104 ∷ 101 ∷ 32 ∷ 112 ∷ 108 ∷ 97 ∷ 99 ∷ 101 ∷ 115 ∷ 32 ∷ 97 ∷ 114 ∷ 101 ∷ 32 ∷ 116 ∷ 104 ∷ 101 ∷ 32 ∷ 115 ∷ 97 ∷ 109 ∷ 101 ∷ 44 ∷ 32 ∷ 116 ∷ 104 ∷ 101 ∷ 32 ∷ 97 ∷ 108 ∷ 108 ∷ 111 ∷ 99 ∷ 97 ∷ 116 ∷ 105 ∷ 111 ∷ 110 ∷ 32 ∷ 110 ∷ 117 ∷ 109 ∷ 98 ∷ 101 ∷ 114 ∷ 115 ∷ 32 ∷ 97 ∷ 114 ∷ 101 ∷ 110 ∷ 39 ∷ 116 ∷ []) ∷ []; notes = []; steps = 5 }
 unfolding everything
 double_free_run = refl
 
 abbrev script_grow_then_append_refused_run : Script
-script_grow_then_append_refused_run = record { classes = []; procedures = (record { parameters = []; body = record { locals = (OfPointer None) ∷ (OfPointer None) ∷ OfNumber ∷ []; statements = rolled ((Statement-F.NewText (Held (H.Local 0)) (Constant (pos 5)) GivesNull) ∷ (Statement-F.Append (InCell (Held (H.Local 0))) (Quoted 0)) ∷ (Statement-F.ReallocText (Held (H.Local 1)) (Held (H.Local 0)) (Constant (pos 9))) ∷ (Statement-F.GetMaximum 2 (InCell (Held (H.Local 1)))) ∷ (Statement-F.PrintNumber (Variable 2)) ∷ (Statement-F.Append (InCell (Held (H.Local 1))) (Quoted 1)) ∷ (Statement-F.PrintText (Of (InCell (Held (H.Local 1))))) ∷ (Statement-F.Free (Held (H.Local 1))) ∷ []) } }) ∷ []; operations = []; literals = (104 ∷ 101 ∷ 97 ∷ 112 ∷ []) ∷ (32 ∷ 102 ∷ 117 ∷ 108 ∷ 108 ∷ []) ∷ []; main = 0 }
+script_grow_then_append_refused_run = record { classes = []; procedures = (record { line = 2; parameters = []; body = record { locals = (OfPointer None) ∷ (OfPointer None) ∷ OfNumber ∷ []; statements = (on 6 (Statement-F.NewText (Held (H.Local 0)) (Constant (pos 5)) GivesNull)) ∷ (on 7 (Statement-F.Append (InCell (Held (H.Local 0))) (Quoted 0))) ∷ (on 9 (Statement-F.ReallocText (Held (H.Local 1)) (Held (H.Local 0)) (Constant (pos 9)))) ∷ (on 11 (Statement-F.GetMaximum 2 (InCell (Held (H.Local 1))))) ∷ (on 12 (Statement-F.PrintNumber (Variable 2))) ∷ (on 13 (Statement-F.Append (InCell (Held (H.Local 1))) (Quoted 1))) ∷ (on 14 (Statement-F.PrintText (Of (InCell (Held (H.Local 1)))))) ∷ (on 15 (Statement-F.Free (Held (H.Local 1)))) ∷ [] } }) ∷ []; operations = []; literals = (104 ∷ 101 ∷ 97 ∷ 112 ∷ []) ∷ (32 ∷ 102 ∷ 117 ∷ 108 ∷ 108 ∷ []) ∷ []; main = 0 }
 
 grow_then_append_refused_run : run script_grow_then_append_refused_run (R.Number 3) 10000 (shaped 4096 4096) ≡ record { outcome = Panicked (P.Workbench 1); trace = (line 1 144 0 Granted) ∷ (line 2 32 144 Granted) ∷ (line 3 48 144 Simulated) ∷ []; lines = []; notes = []; steps = 4 }
 unfolding everything
 grow_then_append_refused_run = refl
 
 abbrev script_grow_then_append_run : Script
-script_grow_then_append_run = record { classes = []; procedures = (record { parameters = []; body = record { locals = (OfPointer None) ∷ (OfPointer None) ∷ OfNumber ∷ []; statements = rolled ((Statement-F.NewText (Held (H.Local 0)) (Constant (pos 5)) GivesNull) ∷ (Statement-F.Append (InCell (Held (H.Local 0))) (Quoted 0)) ∷ (Statement-F.ReallocText (Held (H.Local 1)) (Held (H.Local 0)) (Constant (pos 9))) ∷ (Statement-F.GetMaximum 2 (InCell (Held (H.Local 1)))) ∷ (Statement-F.PrintNumber (Variable 2)) ∷ (Statement-F.Append (InCell (Held (H.Local 1))) (Quoted 1)) ∷ (Statement-F.PrintText (Of (InCell (Held (H.Local 1))))) ∷ (Statement-F.Free (Held (H.Local 1))) ∷ []) } }) ∷ []; operations = []; literals = (104 ∷ 101 ∷ 97 ∷ 112 ∷ []) ∷ (32 ∷ 102 ∷ 117 ∷ 108 ∷ 108 ∷ []) ∷ []; main = 0 }
+script_grow_then_append_run = record { classes = []; procedures = (record { line = 2; parameters = []; body = record { locals = (OfPointer None) ∷ (OfPointer None) ∷ OfNumber ∷ []; statements = (on 6 (Statement-F.NewText (Held (H.Local 0)) (Constant (pos 5)) GivesNull)) ∷ (on 7 (Statement-F.Append (InCell (Held (H.Local 0))) (Quoted 0))) ∷ (on 9 (Statement-F.ReallocText (Held (H.Local 1)) (Held (H.Local 0)) (Constant (pos 9)))) ∷ (on 11 (Statement-F.GetMaximum 2 (InCell (Held (H.Local 1))))) ∷ (on 12 (Statement-F.PrintNumber (Variable 2))) ∷ (on 13 (Statement-F.Append (InCell (Held (H.Local 1))) (Quoted 1))) ∷ (on 14 (Statement-F.PrintText (Of (InCell (Held (H.Local 1)))))) ∷ (on 15 (Statement-F.Free (Held (H.Local 1)))) ∷ [] } }) ∷ []; operations = []; literals = (104 ∷ 101 ∷ 97 ∷ 112 ∷ []) ∷ (32 ∷ 102 ∷ 117 ∷ 108 ∷ 108 ∷ []) ∷ []; main = 0 }
 
 grow_then_append_run : run script_grow_then_append_run R.Unlimited 10000 (shaped 4096 4096) ≡ record { outcome = Ended None []; trace = (line 1 144 0 Granted) ∷ (line 2 32 144 Granted) ∷ (line 3 48 144 Granted) ∷ []; lines = (49 ∷ 52 ∷ []) ∷ (104 ∷ 101 ∷ 97 ∷ 112 ∷ 32 ∷ 102 ∷ 117 ∷ 108 ∷ 108 ∷ []) ∷ []; notes = []; steps = 8 }
 unfolding everything
 grow_then_append_run = refl
 
 abbrev script_hole_reused_run : Script
-script_hole_reused_run = record { classes = []; procedures = (record { parameters = []; body = record { locals = (OfPointer None) ∷ (OfPointer None) ∷ (OfPointer None) ∷ OfNumber ∷ []; statements = rolled ((Statement-F.Alloc (Held (H.Local 0)) (Constant (pos 48)) GivesNull) ∷ (Statement-F.Alloc (Held (H.Local 1)) (Constant (pos 16)) GivesNull) ∷ (Statement-F.Store (Held (H.Local 1)) (Constant (pos 0)) (Constant (pos 7))) ∷ (Statement-F.Alloc (Held (H.Local 2)) (Constant (pos 16)) GivesNull) ∷ (Statement-F.Free (Held (H.Local 0))) ∷ (Statement-F.Realloc (Held (H.Local 1)) (Held (H.Local 1)) (Constant (pos 40)) GivesNull) ∷ (Statement-F.Load 3 (Held (H.Local 1)) (Constant (pos 0))) ∷ (Statement-F.PrintNumber (Variable 3)) ∷ (Statement-F.SetNull (Held (H.Local 0))) ∷ (Statement-F.Realloc (Held (H.Local 0)) (Held (H.Local 0)) (Constant (pos 16)) GivesNull) ∷ (Statement-F.Free (Held (H.Local 0))) ∷ (Statement-F.Free (Held (H.Local 2))) ∷ (Statement-F.Free (Held (H.Local 1))) ∷ []) } }) ∷ []; operations = []; literals = []; main = 0 }
+script_hole_reused_run = record { classes = []; procedures = (record { line = 2; parameters = []; body = record { locals = (OfPointer None) ∷ (OfPointer None) ∷ (OfPointer None) ∷ OfNumber ∷ []; statements = (on 7 (Statement-F.Alloc (Held (H.Local 0)) (Constant (pos 48)) GivesNull)) ∷ (on 8 (Statement-F.Alloc (Held (H.Local 1)) (Constant (pos 16)) GivesNull)) ∷ (on 9 (Statement-F.Store (Held (H.Local 1)) (Constant (pos 0)) (Constant (pos 7)))) ∷ (on 10 (Statement-F.Alloc (Held (H.Local 2)) (Constant (pos 16)) GivesNull)) ∷ (on 12 (Statement-F.Free (Held (H.Local 0)))) ∷ (on 14 (Statement-F.Realloc (Held (H.Local 1)) (Held (H.Local 1)) (Constant (pos 40)) GivesNull)) ∷ (on 16 (Statement-F.Load 3 (Held (H.Local 1)) (Constant (pos 0)))) ∷ (on 17 (Statement-F.PrintNumber (Variable 3))) ∷ (on 19 (Statement-F.SetNull (Held (H.Local 0)))) ∷ (on 21 (Statement-F.Realloc (Held (H.Local 0)) (Held (H.Local 0)) (Constant (pos 16)) GivesNull)) ∷ (on 22 (Statement-F.Free (Held (H.Local 0)))) ∷ (on 23 (Statement-F.Free (Held (H.Local 2)))) ∷ (on 24 (Statement-F.Free (Held (H.Local 1)))) ∷ [] } }) ∷ []; operations = []; literals = []; main = 0 }
 
 hole_reused_run : run script_hole_reused_run R.Unlimited 10000 (shaped 4096 4096) ≡ record { outcome = Ended None []; trace = (line 1 144 0 Granted) ∷ (line 2 64 144 Granted) ∷ (line 3 32 208 Granted) ∷ (line 4 32 240 Granted) ∷ (line 5 64 144 Granted) ∷ (line 6 32 208 Granted) ∷ []; lines = (55 ∷ []) ∷ []; notes = []; steps = 13 }
 unfolding everything
 hole_reused_run = refl
 
 abbrev script_leak_under_failure_in_a_large_heap_run : Script
-script_leak_under_failure_in_a_large_heap_run = record { classes = []; procedures = (record { parameters = []; body = record { locals = (OfPointer None) ∷ []; statements = rolled ((Statement-F.Alloc (Held (H.Local 0)) (Constant (pos 16)) GivesNull) ∷ (Statement-F.Realloc (Held (H.Local 0)) (Held (H.Local 0)) (Constant (pos 32)) GivesNull) ∷ (Statement-F.Free (Held (H.Local 0))) ∷ []) } }) ∷ []; operations = []; literals = []; main = 0 }
+script_leak_under_failure_in_a_large_heap_run = record { classes = []; procedures = (record { line = 4; parameters = []; body = record { locals = (OfPointer None) ∷ []; statements = (on 6 (Statement-F.Alloc (Held (H.Local 0)) (Constant (pos 16)) GivesNull)) ∷ (on 7 (Statement-F.Realloc (Held (H.Local 0)) (Held (H.Local 0)) (Constant (pos 32)) GivesNull)) ∷ (on 9 (Statement-F.Free (Held (H.Local 0)))) ∷ [] } }) ∷ []; operations = []; literals = []; main = 0 }
 
 leak_under_failure_in_a_large_heap_run : run script_leak_under_failure_in_a_large_heap_run R.Unlimited 10000 (shaped 4096 4096) ≡ record { outcome = Ended None []; trace = (line 1 144 0 Granted) ∷ (line 2 32 144 Granted) ∷ (line 3 48 144 Granted) ∷ []; lines = []; notes = []; steps = 3 }
 unfolding everything
 leak_under_failure_in_a_large_heap_run = refl
 
 abbrev script_leak_under_failure_run : Script
-script_leak_under_failure_run = record { classes = []; procedures = (record { parameters = []; body = record { locals = (OfPointer None) ∷ []; statements = rolled ((Statement-F.Alloc (Held (H.Local 0)) (Constant (pos 16)) GivesNull) ∷ (Statement-F.Realloc (Held (H.Local 0)) (Held (H.Local 0)) (Constant (pos 32)) GivesNull) ∷ (Statement-F.Free (Held (H.Local 0))) ∷ []) } }) ∷ []; operations = []; literals = []; main = 0 }
+script_leak_under_failure_run = record { classes = []; procedures = (record { line = 4; parameters = []; body = record { locals = (OfPointer None) ∷ []; statements = (on 6 (Statement-F.Alloc (Held (H.Local 0)) (Constant (pos 16)) GivesNull)) ∷ (on 7 (Statement-F.Realloc (Held (H.Local 0)) (Held (H.Local 0)) (Constant (pos 32)) GivesNull)) ∷ (on 9 (Statement-F.Free (Held (H.Local 0)))) ∷ [] } }) ∷ []; operations = []; literals = []; main = 0 }
 
 leak_under_failure_run : run script_leak_under_failure_run (R.Number 3) 10000 (shaped 4096 4096) ≡ record { outcome = Ended None ((record { number = 2; length = 32; place = 144 }) ∷ []); trace = (line 1 144 0 Granted) ∷ (line 2 32 144 Granted) ∷ (line 3 48 144 Simulated) ∷ []; lines = []; notes = []; steps = 3 }
 unfolding everything
 leak_under_failure_run = refl
 
 abbrev script_notes_with_a_step_of_64_run : Script
-script_notes_with_a_step_of_64_run = record { classes = []; procedures = (record { parameters = []; body = record { locals = (OfPointer None) ∷ (OfPointer None) ∷ []; statements = rolled ((Statement-F.Alloc (Held (H.Local 0)) (Constant (pos 40)) GivesNull) ∷ (Statement-F.Store (Held (H.Local 0)) (Constant (pos 9)) (Constant (negsuc 0))) ∷ Statement-F.NoteHeap ∷ (Statement-F.Alloc (Held (H.Local 1)) (Constant (pos 5000)) GivesNull) ∷ Statement-F.NoteHeap ∷ (Statement-F.Free (Held (H.Local 1))) ∷ Statement-F.NoteAvailable ∷ Statement-F.NoteCompress ∷ Statement-F.NoteHeap ∷ (Statement-F.Free (Held (H.Local 0))) ∷ []) } }) ∷ []; operations = []; literals = []; main = 0 }
+script_notes_with_a_step_of_64_run = record { classes = []; procedures = (record { line = 2; parameters = []; body = record { locals = (OfPointer None) ∷ (OfPointer None) ∷ []; statements = (on 5 (Statement-F.Alloc (Held (H.Local 0)) (Constant (pos 40)) GivesNull)) ∷ (on 7 (Statement-F.Store (Held (H.Local 0)) (Constant (pos 9)) (Constant (negsuc 0)))) ∷ (on 8 Statement-F.NoteHeap) ∷ (on 9 (Statement-F.Alloc (Held (H.Local 1)) (Constant (pos 5000)) GivesNull)) ∷ (on 10 Statement-F.NoteHeap) ∷ (on 11 (Statement-F.Free (Held (H.Local 1)))) ∷ (on 13 Statement-F.NoteAvailable) ∷ (on 14 Statement-F.NoteCompress) ∷ (on 15 Statement-F.NoteHeap) ∷ (on 16 (Statement-F.Free (Held (H.Local 0)))) ∷ [] } }) ∷ []; operations = []; literals = []; main = 0 }
 
 notes_with_a_step_of_64_run : run script_notes_with_a_step_of_64_run R.Unlimited 10000 (shaped 4096 64) ≡ record { outcome = Ended None []; trace = (line 1 144 0 Granted) ∷ (line 2 64 144 Granted) ∷ (line 3 5024 208 Granted) ∷ []; lines = []; notes = (Heap 2 208 4096) ∷ (Heap 3 5232 5248) ∷ (Available 5040 5040) ∷ (Compress 1152) ∷ (Heap 2 208 4096) ∷ []; steps = 10 }
 unfolding everything
 notes_with_a_step_of_64_run = refl
 
 abbrev script_notes_run : Script
-script_notes_run = record { classes = []; procedures = (record { parameters = []; body = record { locals = (OfPointer None) ∷ (OfPointer None) ∷ []; statements = rolled ((Statement-F.Alloc (Held (H.Local 0)) (Constant (pos 40)) GivesNull) ∷ (Statement-F.Store (Held (H.Local 0)) (Constant (pos 9)) (Constant (negsuc 0))) ∷ Statement-F.NoteHeap ∷ (Statement-F.Alloc (Held (H.Local 1)) (Constant (pos 5000)) GivesNull) ∷ Statement-F.NoteHeap ∷ (Statement-F.Free (Held (H.Local 1))) ∷ Statement-F.NoteAvailable ∷ Statement-F.NoteCompress ∷ Statement-F.NoteHeap ∷ (Statement-F.Free (Held (H.Local 0))) ∷ []) } }) ∷ []; operations = []; literals = []; main = 0 }
+script_notes_run = record { classes = []; procedures = (record { line = 2; parameters = []; body = record { locals = (OfPointer None) ∷ (OfPointer None) ∷ []; statements = (on 5 (Statement-F.Alloc (Held (H.Local 0)) (Constant (pos 40)) GivesNull)) ∷ (on 7 (Statement-F.Store (Held (H.Local 0)) (Constant (pos 9)) (Constant (negsuc 0)))) ∷ (on 8 Statement-F.NoteHeap) ∷ (on 9 (Statement-F.Alloc (Held (H.Local 1)) (Constant (pos 5000)) GivesNull)) ∷ (on 10 Statement-F.NoteHeap) ∷ (on 11 (Statement-F.Free (Held (H.Local 1)))) ∷ (on 13 Statement-F.NoteAvailable) ∷ (on 14 Statement-F.NoteCompress) ∷ (on 15 Statement-F.NoteHeap) ∷ (on 16 (Statement-F.Free (Held (H.Local 0)))) ∷ [] } }) ∷ []; operations = []; literals = []; main = 0 }
 
 notes_run : run script_notes_run R.Unlimited 10000 (shaped 4096 4096) ≡ record { outcome = Ended None []; trace = (line 1 144 0 Granted) ∷ (line 2 64 144 Granted) ∷ (line 3 5024 208 Granted) ∷ []; lines = []; notes = (Heap 2 208 4096) ∷ (Heap 3 5232 8192) ∷ (Available 7984 7984) ∷ (Compress 4096) ∷ (Heap 2 208 4096) ∷ []; steps = 10 }
 unfolding everything
 notes_run = refl
 
 abbrev script_named_file_run : Script
-script_named_file_run = record { classes = []; procedures = (record { parameters = []; body = record { locals = (OfPointer None) ∷ (OfPointer None) ∷ (OfPointer None) ∷ []; statements = rolled ((Statement-F.PrintText (Quoted 0)) ∷ (Statement-F.Alloc (Held (H.Local 0)) (Constant (pos 10)) GivesNull) ∷ (Statement-F.Alloc (Held (H.Local 1)) (Constant (pos 100)) GivesNull) ∷ (Statement-F.Free (Held (H.Local 0))) ∷ (Statement-F.Alloc (Held (H.Local 2)) (Constant (pos 16)) GivesNull) ∷ (Statement-F.Free (Held (H.Local 1))) ∷ []) } }) ∷ []; operations = []; literals = (116 ∷ 104 ∷ 114 ∷ 101 ∷ 101 ∷ 32 ∷ 114 ∷ 101 ∷ 113 ∷ 117 ∷ 101 ∷ 115 ∷ 116 ∷ 115 ∷ []) ∷ []; main = 0 }
+script_named_file_run = record { classes = []; procedures = (record { line = 2; parameters = []; body = record { locals = (OfPointer None) ∷ (OfPointer None) ∷ (OfPointer None) ∷ []; statements = (on 6 (Statement-F.PrintText (Quoted 0))) ∷ (on 7 (Statement-F.Alloc (Held (H.Local 0)) (Constant (pos 10)) GivesNull)) ∷ (on 8 (Statement-F.Alloc (Held (H.Local 1)) (Constant (pos 100)) GivesNull)) ∷ (on 9 (Statement-F.Free (Held (H.Local 0)))) ∷ (on 11 (Statement-F.Alloc (Held (H.Local 2)) (Constant (pos 16)) GivesNull)) ∷ (on 12 (Statement-F.Free (Held (H.Local 1)))) ∷ [] } }) ∷ []; operations = []; literals = (116 ∷ 104 ∷ 114 ∷ 101 ∷ 101 ∷ 32 ∷ 114 ∷ 101 ∷ 113 ∷ 117 ∷ 101 ∷ 115 ∷ 116 ∷ 115 ∷ []) ∷ []; main = 0 }
 
 named_file_run : run script_named_file_run R.Unlimited 10000 (shaped 4096 4096) ≡ record { outcome = Ended None ((record { number = 4; length = 32; place = 144 }) ∷ []); trace = (line 1 144 0 Granted) ∷ (line 2 32 144 Granted) ∷ (line 3 128 176 Granted) ∷ (line 4 32 144 Granted) ∷ []; lines = (116 ∷ 104 ∷ 114 ∷ 101 ∷ 101 ∷ 32 ∷ 114 ∷ 101 ∷ 113 ∷ 117 ∷ 101 ∷ 115 ∷ 116 ∷ 115 ∷ []) ∷ []; notes = []; steps = 6 }
 unfolding everything
 named_file_run = refl
 
 abbrev script_empty_main_run : Script
-script_empty_main_run = record { classes = []; procedures = (record { parameters = []; body = record { locals = []; statements = [] } }) ∷ []; operations = []; literals = []; main = 0 }
+script_empty_main_run = record { classes = []; procedures = (record { line = 1; parameters = []; body = record { locals = []; statements = [] } }) ∷ []; operations = []; literals = []; main = 0 }
 
 empty_main_run : run script_empty_main_run R.Unlimited 10000 (shaped 4096 4096) ≡ record { outcome = Ended None []; trace = (line 1 144 0 Granted) ∷ []; lines = []; notes = []; steps = 0 }
 unfolding everything
 empty_main_run = refl
 
 abbrev script_first_fit_reuses_hole_run : Script
-script_first_fit_reuses_hole_run = record { classes = []; procedures = (record { parameters = []; body = record { locals = (OfPointer None) ∷ (OfPointer None) ∷ (OfPointer None) ∷ []; statements = rolled ((Statement-F.Alloc (Held (H.Local 0)) (Constant (pos 10)) GivesNull) ∷ (Statement-F.Alloc (Held (H.Local 1)) (Constant (pos 100)) GivesNull) ∷ (Statement-F.Free (Held (H.Local 0))) ∷ (Statement-F.Alloc (Held (H.Local 2)) (Constant (pos 16)) GivesNull) ∷ (Statement-F.Free (Held (H.Local 1))) ∷ (Statement-F.Free (Held (H.Local 2))) ∷ []) } }) ∷ []; operations = []; literals = []; main = 0 }
+script_first_fit_reuses_hole_run = record { classes = []; procedures = (record { line = 1; parameters = []; body = record { locals = (OfPointer None) ∷ (OfPointer None) ∷ (OfPointer None) ∷ []; statements = (on 5 (Statement-F.Alloc (Held (H.Local 0)) (Constant (pos 10)) GivesNull)) ∷ (on 6 (Statement-F.Alloc (Held (H.Local 1)) (Constant (pos 100)) GivesNull)) ∷ (on 7 (Statement-F.Free (Held (H.Local 0)))) ∷ (on 8 (Statement-F.Alloc (Held (H.Local 2)) (Constant (pos 16)) GivesNull)) ∷ (on 9 (Statement-F.Free (Held (H.Local 1)))) ∷ (on 10 (Statement-F.Free (Held (H.Local 2)))) ∷ [] } }) ∷ []; operations = []; literals = []; main = 0 }
 
 first_fit_reuses_hole_run : run script_first_fit_reuses_hole_run R.Unlimited 10000 (shaped 4096 4096) ≡ record { outcome = Ended None []; trace = (line 1 144 0 Granted) ∷ (line 2 32 144 Granted) ∷ (line 3 128 176 Granted) ∷ (line 4 32 144 Granted) ∷ []; lines = []; notes = []; steps = 6 }
 unfolding everything
 first_fit_reuses_hole_run = refl
 
 abbrev script_forgotten_cell_leaks_run : Script
-script_forgotten_cell_leaks_run = record { classes = []; procedures = (record { parameters = []; body = record { locals = (OfPointer None) ∷ []; statements = rolled ((Statement-F.Alloc (Held (H.Local 0)) (Constant (pos 16)) GivesNull) ∷ []) } }) ∷ []; operations = []; literals = []; main = 0 }
+script_forgotten_cell_leaks_run = record { classes = []; procedures = (record { line = 1; parameters = []; body = record { locals = (OfPointer None) ∷ []; statements = (on 3 (Statement-F.Alloc (Held (H.Local 0)) (Constant (pos 16)) GivesNull)) ∷ [] } }) ∷ []; operations = []; literals = []; main = 0 }
 
 forgotten_cell_leaks_run : run script_forgotten_cell_leaks_run R.Unlimited 10000 (shaped 4096 4096) ≡ record { outcome = Ended None ((record { number = 2; length = 32; place = 144 }) ∷ []); trace = (line 1 144 0 Granted) ∷ (line 2 32 144 Granted) ∷ []; lines = []; notes = []; steps = 1 }
 unfolding everything
 forgotten_cell_leaks_run = refl
 
 abbrev script_freed_neighbours_merge_run : Script
-script_freed_neighbours_merge_run = record { classes = []; procedures = (record { parameters = []; body = record { locals = (OfPointer None) ∷ (OfPointer None) ∷ (OfPointer None) ∷ (OfPointer None) ∷ (OfPointer None) ∷ []; statements = rolled ((Statement-F.Alloc (Held (H.Local 0)) (Constant (pos 16)) GivesNull) ∷ (Statement-F.Alloc (Held (H.Local 1)) (Constant (pos 16)) GivesNull) ∷ (Statement-F.Alloc (Held (H.Local 2)) (Constant (pos 16)) GivesNull) ∷ (Statement-F.Alloc (Held (H.Local 3)) (Constant (pos 16)) GivesNull) ∷ (Statement-F.Free (Held (H.Local 1))) ∷ (Statement-F.Free (Held (H.Local 0))) ∷ (Statement-F.Free (Held (H.Local 2))) ∷ (Statement-F.Alloc (Held (H.Local 4)) (Constant (pos 80)) GivesNull) ∷ (Statement-F.Free (Held (H.Local 3))) ∷ (Statement-F.Free (Held (H.Local 4))) ∷ []) } }) ∷ []; operations = []; literals = []; main = 0 }
+script_freed_neighbours_merge_run = record { classes = []; procedures = (record { line = 1; parameters = []; body = record { locals = (OfPointer None) ∷ (OfPointer None) ∷ (OfPointer None) ∷ (OfPointer None) ∷ (OfPointer None) ∷ []; statements = (on 7 (Statement-F.Alloc (Held (H.Local 0)) (Constant (pos 16)) GivesNull)) ∷ (on 8 (Statement-F.Alloc (Held (H.Local 1)) (Constant (pos 16)) GivesNull)) ∷ (on 9 (Statement-F.Alloc (Held (H.Local 2)) (Constant (pos 16)) GivesNull)) ∷ (on 10 (Statement-F.Alloc (Held (H.Local 3)) (Constant (pos 16)) GivesNull)) ∷ (on 11 (Statement-F.Free (Held (H.Local 1)))) ∷ (on 12 (Statement-F.Free (Held (H.Local 0)))) ∷ (on 13 (Statement-F.Free (Held (H.Local 2)))) ∷ (on 14 (Statement-F.Alloc (Held (H.Local 4)) (Constant (pos 80)) GivesNull)) ∷ (on 15 (Statement-F.Free (Held (H.Local 3)))) ∷ (on 16 (Statement-F.Free (Held (H.Local 4)))) ∷ [] } }) ∷ []; operations = []; literals = []; main = 0 }
 
 freed_neighbours_merge_run : run script_freed_neighbours_merge_run R.Unlimited 10000 (shaped 4096 4096) ≡ record { outcome = Ended None []; trace = (line 1 144 0 Granted) ∷ (line 2 32 144 Granted) ∷ (line 3 32 176 Granted) ∷ (line 4 32 208 Granted) ∷ (line 5 32 240 Granted) ∷ (line 6 96 144 Granted) ∷ []; lines = []; notes = []; steps = 10 }
 unfolding everything
 freed_neighbours_merge_run = refl
 
 abbrev script_request_over_one_mebibyte_run : Script
-script_request_over_one_mebibyte_run = record { classes = []; procedures = (record { parameters = []; body = record { locals = (OfPointer None) ∷ []; statements = rolled ((Statement-F.Alloc (Held (H.Local 0)) (Constant (pos 1048577)) GivesNull) ∷ []) } }) ∷ []; operations = []; literals = []; main = 0 }
+script_request_over_one_mebibyte_run = record { classes = []; procedures = (record { line = 1; parameters = []; body = record { locals = (OfPointer None) ∷ []; statements = (on 3 (Statement-F.Alloc (Held (H.Local 0)) (Constant (pos 1048577)) GivesNull)) ∷ [] } }) ∷ []; operations = []; literals = []; main = 0 }
 
 request_over_one_mebibyte_run : run script_request_over_one_mebibyte_run R.Unlimited 10000 (shaped 4096 4096) ≡ record { outcome = Panicked (P.Workbench 9); trace = (line 1 144 0 Granted) ∷ []; lines = []; notes = []; steps = 1 }
 unfolding everything
 request_over_one_mebibyte_run = refl
 
 abbrev script_seventeenth_cell_passes_the_ceiling_run : Script
-script_seventeenth_cell_passes_the_ceiling_run = record { classes = []; procedures = (record { parameters = []; body = record { locals = (OfPointer None) ∷ []; statements = rolled ((Statement-F.Alloc (Held (H.Local 0)) (Constant (pos 1048576)) GivesNull) ∷ (Statement-F.Alloc (Held (H.Local 0)) (Constant (pos 1048576)) GivesNull) ∷ (Statement-F.Alloc (Held (H.Local 0)) (Constant (pos 1048576)) GivesNull) ∷ (Statement-F.Alloc (Held (H.Local 0)) (Constant (pos 1048576)) GivesNull) ∷ (Statement-F.Alloc (Held (H.Local 0)) (Constant (pos 1048576)) GivesNull) ∷ (Statement-F.Alloc (Held (H.Local 0)) (Constant (pos 1048576)) GivesNull) ∷ (Statement-F.Alloc (Held (H.Local 0)) (Constant (pos 1048576)) GivesNull) ∷ (Statement-F.Alloc (Held (H.Local 0)) (Constant (pos 1048576)) GivesNull) ∷ (Statement-F.Alloc (Held (H.Local 0)) (Constant (pos 1048576)) GivesNull) ∷ (Statement-F.Alloc (Held (H.Local 0)) (Constant (pos 1048576)) GivesNull) ∷ (Statement-F.Alloc (Held (H.Local 0)) (Constant (pos 1048576)) GivesNull) ∷ (Statement-F.Alloc (Held (H.Local 0)) (Constant (pos 1048576)) GivesNull) ∷ (Statement-F.Alloc (Held (H.Local 0)) (Constant (pos 1048576)) GivesNull) ∷ (Statement-F.Alloc (Held (H.Local 0)) (Constant (pos 1048576)) GivesNull) ∷ (Statement-F.Alloc (Held (H.Local 0)) (Constant (pos 1048576)) GivesNull) ∷ (Statement-F.Alloc (Held (H.Local 0)) (Constant (pos 1048576)) GivesNull) ∷ []) } }) ∷ []; operations = []; literals = []; main = 0 }
+script_seventeenth_cell_passes_the_ceiling_run = record { classes = []; procedures = (record { line = 1; parameters = []; body = record { locals = (OfPointer None) ∷ []; statements = (on 3 (Statement-F.Alloc (Held (H.Local 0)) (Constant (pos 1048576)) GivesNull)) ∷ (on 4 (Statement-F.Alloc (Held (H.Local 0)) (Constant (pos 1048576)) GivesNull)) ∷ (on 5 (Statement-F.Alloc (Held (H.Local 0)) (Constant (pos 1048576)) GivesNull)) ∷ (on 6 (Statement-F.Alloc (Held (H.Local 0)) (Constant (pos 1048576)) GivesNull)) ∷ (on 7 (Statement-F.Alloc (Held (H.Local 0)) (Constant (pos 1048576)) GivesNull)) ∷ (on 8 (Statement-F.Alloc (Held (H.Local 0)) (Constant (pos 1048576)) GivesNull)) ∷ (on 9 (Statement-F.Alloc (Held (H.Local 0)) (Constant (pos 1048576)) GivesNull)) ∷ (on 10 (Statement-F.Alloc (Held (H.Local 0)) (Constant (pos 1048576)) GivesNull)) ∷ (on 11 (Statement-F.Alloc (Held (H.Local 0)) (Constant (pos 1048576)) GivesNull)) ∷ (on 12 (Statement-F.Alloc (Held (H.Local 0)) (Constant (pos 1048576)) GivesNull)) ∷ (on 13 (Statement-F.Alloc (Held (H.Local 0)) (Constant (pos 1048576)) GivesNull)) ∷ (on 14 (Statement-F.Alloc (Held (H.Local 0)) (Constant (pos 1048576)) GivesNull)) ∷ (on 15 (Statement-F.Alloc (Held (H.Local 0)) (Constant (pos 1048576)) GivesNull)) ∷ (on 16 (Statement-F.Alloc (Held (H.Local 0)) (Constant (pos 1048576)) GivesNull)) ∷ (on 17 (Statement-F.Alloc (Held (H.Local 0)) (Constant (pos 1048576)) GivesNull)) ∷ (on 18 (Statement-F.Alloc (Held (H.Local 0)) (Constant (pos 1048576)) GivesNull)) ∷ [] } }) ∷ []; operations = []; literals = []; main = 0 }
 
 seventeenth_cell_passes_the_ceiling_run : run script_seventeenth_cell_passes_the_ceiling_run R.Unlimited 10000 (shaped 4096 4096) ≡ record { outcome = Cut Ceiling; trace = (line 1 144 0 Granted) ∷ (line 2 1048592 144 Granted) ∷ (line 3 1048592 1048736 Granted) ∷ (line 4 1048592 2097328 Granted) ∷ (line 5 1048592 3145920 Granted) ∷ (line 6 1048592 4194512 Granted) ∷ (line 7 1048592 5243104 Granted) ∷ (line 8 1048592 6291696 Granted) ∷ (line 9 1048592 7340288 Granted) ∷ (line 10 1048592 8388880 Granted) ∷ (line 11 1048592 9437472 Granted) ∷ (line 12 1048592 10486064 Granted) ∷ (line 13 1048592 11534656 Granted) ∷ (line 14 1048592 12583248 Granted) ∷ (line 15 1048592 13631840 Granted) ∷ (line 16 1048592 14680432 Granted) ∷ []; lines = []; notes = []; steps = 16 }
 unfolding everything
 seventeenth_cell_passes_the_ceiling_run = refl
 
 abbrev script_stale_pointer_freed_after_reuse_run : Script
-script_stale_pointer_freed_after_reuse_run = record { classes = []; procedures = (record { parameters = []; body = record { locals = (OfPointer None) ∷ (OfPointer None) ∷ []; statements = rolled ((Statement-F.Alloc (Held (H.Local 0)) (Constant (pos 16)) GivesNull) ∷ (Statement-F.Free (Held (H.Local 0))) ∷ (Statement-F.Alloc (Held (H.Local 1)) (Constant (pos 16)) GivesNull) ∷ (Statement-F.Free (Held (H.Local 0))) ∷ []) } }) ∷ []; operations = []; literals = []; main = 0 }
+script_stale_pointer_freed_after_reuse_run = record { classes = []; procedures = (record { line = 1; parameters = []; body = record { locals = (OfPointer None) ∷ (OfPointer None) ∷ []; statements = (on 4 (Statement-F.Alloc (Held (H.Local 0)) (Constant (pos 16)) GivesNull)) ∷ (on 5 (Statement-F.Free (Held (H.Local 0)))) ∷ (on 6 (Statement-F.Alloc (Held (H.Local 1)) (Constant (pos 16)) GivesNull)) ∷ (on 7 (Statement-F.Free (Held (H.Local 0)))) ∷ [] } }) ∷ []; operations = []; literals = []; main = 0 }
 
 stale_pointer_freed_after_reuse_run : run script_stale_pointer_freed_after_reuse_run R.Unlimited 10000 (shaped 4096 4096) ≡ record { outcome = Panicked (P.User 42); trace = (line 1 144 0 Granted) ∷ (line 2 32 144 Granted) ∷ (line 3 32 144 Granted) ∷ []; lines = []; notes = []; steps = 4 }
 unfolding everything
 stale_pointer_freed_after_reuse_run = refl
 
 abbrev script_cell_in_a_mark_run : Script
-script_cell_in_a_mark_run = record { classes = []; procedures = (record { parameters = []; body = record { locals = (OfPointer None) ∷ (OfPointer None) ∷ []; statements = rolled ((Statement-F.Alloc (Held (H.Local 0)) (Constant (pos 1)) GivesNull) ∷ Statement-F.Mark ∷ (Statement-F.Alloc (Held (H.Local 1)) (Constant (pos 1)) GivesNull) ∷ (Statement-F.Check (Constant (pos 1))) ∷ (Statement-F.CheckAll (Constant (pos 2))) ∷ (Statement-F.MarkEnd (Constant (pos 0))) ∷ []) } }) ∷ []; operations = []; literals = []; main = 0 }
+script_cell_in_a_mark_run = record { classes = []; procedures = (record { line = 2; parameters = []; body = record { locals = (OfPointer None) ∷ (OfPointer None) ∷ []; statements = (on 5 (Statement-F.Alloc (Held (H.Local 0)) (Constant (pos 1)) GivesNull)) ∷ (on 6 Statement-F.Mark) ∷ (on 7 (Statement-F.Alloc (Held (H.Local 1)) (Constant (pos 1)) GivesNull)) ∷ (on 8 (Statement-F.Check (Constant (pos 1)))) ∷ (on 9 (Statement-F.CheckAll (Constant (pos 2)))) ∷ (on 10 (Statement-F.MarkEnd (Constant (pos 0)))) ∷ [] } }) ∷ []; operations = []; literals = []; main = 0 }
 
 cell_in_a_mark_run : run script_cell_in_a_mark_run R.Unlimited 10000 (shaped 4096 4096) ≡ record { outcome = Panicked (P.Alloc 176); trace = (line 1 144 0 Granted) ∷ (line 2 32 144 Granted) ∷ (line 3 32 176 Granted) ∷ []; lines = []; notes = []; steps = 6 }
 unfolding everything
 cell_in_a_mark_run = refl
 
 abbrev script_failing_requests_run : Script
-script_failing_requests_run = record { classes = []; procedures = (record { parameters = []; body = record { locals = (OfPointer None) ∷ (OfPointer None) ∷ []; statements = rolled ((Statement-F.FailNext (Constant (pos 2))) ∷ (Statement-F.Alloc (Held (H.Local 0)) (Constant (pos 1)) GivesNull) ∷ (Statement-F.Alloc (Held (H.Local 1)) (Constant (pos 1)) GivesNull) ∷ (Statement-F.FailEvery (Constant (pos 1))) ∷ (Statement-F.Realloc (Held (H.Local 1)) (Held (H.Local 1)) (Constant (pos 17)) GivesNull) ∷ Statement-F.FailNone ∷ (Statement-F.Realloc (Held (H.Local 0)) (Held (H.Local 0)) (Constant (pos 17)) GivesNull) ∷ (Statement-F.Free (Held (H.Local 0))) ∷ []) } }) ∷ []; operations = []; literals = []; main = 0 }
+script_failing_requests_run = record { classes = []; procedures = (record { line = 2; parameters = []; body = record { locals = (OfPointer None) ∷ (OfPointer None) ∷ []; statements = (on 5 (Statement-F.FailNext (Constant (pos 2)))) ∷ (on 6 (Statement-F.Alloc (Held (H.Local 0)) (Constant (pos 1)) GivesNull)) ∷ (on 7 (Statement-F.Alloc (Held (H.Local 1)) (Constant (pos 1)) GivesNull)) ∷ (on 8 (Statement-F.FailEvery (Constant (pos 1)))) ∷ (on 9 (Statement-F.Realloc (Held (H.Local 1)) (Held (H.Local 1)) (Constant (pos 17)) GivesNull)) ∷ (on 10 Statement-F.FailNone) ∷ (on 11 (Statement-F.Realloc (Held (H.Local 0)) (Held (H.Local 0)) (Constant (pos 17)) GivesNull)) ∷ (on 12 (Statement-F.Free (Held (H.Local 0)))) ∷ [] } }) ∷ []; operations = []; literals = []; main = 0 }
 
 failing_requests_run : run script_failing_requests_run R.Unlimited 10000 (shaped 4096 4096) ≡ record { outcome = Ended None []; trace = (line 1 144 0 Granted) ∷ (line 2 32 144 Granted) ∷ (line 3 32 176 Simulated) ∷ (line 4 48 176 Simulated) ∷ (line 5 48 144 Granted) ∷ []; lines = []; notes = []; steps = 8 }
 unfolding everything
 failing_requests_run = refl
 
 abbrev script_name_in_a_cell_run : Script
-script_name_in_a_cell_run = record { classes = []; procedures = (record { parameters = []; body = record { locals = (OfPointer None) ∷ OfNumber ∷ []; statements = rolled ((Statement-F.NewText (Held (H.Local 0)) (Constant (pos 4)) GivesNull) ∷ (Statement-F.GetMaximum 1 (InCell (Held (H.Local 0)))) ∷ (Statement-F.PrintNumber (Variable 1)) ∷ (Statement-F.Append (InCell (Held (H.Local 0))) (Quoted 0)) ∷ (Statement-F.ReallocText (Held (H.Local 0)) (Held (H.Local 0)) (Constant (pos 10))) ∷ (Statement-F.Append (InCell (Held (H.Local 0))) (Quoted 1)) ∷ (Statement-F.PrintText (Of (InCell (Held (H.Local 0))))) ∷ (Statement-F.Free (Held (H.Local 0))) ∷ []) } }) ∷ []; operations = []; literals = (83 ∷ 121 ∷ 109 ∷ []) ∷ (98 ∷ 105 ∷ 97 ∷ 110 ∷ 32 ∷ 79 ∷ 83 ∷ []) ∷ []; main = 0 }
+script_name_in_a_cell_run = record { classes = []; procedures = (record { line = 2; parameters = []; body = record { locals = (OfPointer None) ∷ OfNumber ∷ []; statements = (on 5 (Statement-F.NewText (Held (H.Local 0)) (Constant (pos 4)) GivesNull)) ∷ (on 6 (Statement-F.GetMaximum 1 (InCell (Held (H.Local 0))))) ∷ (on 7 (Statement-F.PrintNumber (Variable 1))) ∷ (on 8 (Statement-F.Append (InCell (Held (H.Local 0))) (Quoted 0))) ∷ (on 9 (Statement-F.ReallocText (Held (H.Local 0)) (Held (H.Local 0)) (Constant (pos 10)))) ∷ (on 10 (Statement-F.Append (InCell (Held (H.Local 0))) (Quoted 1))) ∷ (on 11 (Statement-F.PrintText (Of (InCell (Held (H.Local 0)))))) ∷ (on 12 (Statement-F.Free (Held (H.Local 0)))) ∷ [] } }) ∷ []; operations = []; literals = (83 ∷ 121 ∷ 109 ∷ []) ∷ (98 ∷ 105 ∷ 97 ∷ 110 ∷ 32 ∷ 79 ∷ 83 ∷ []) ∷ []; main = 0 }
 
 name_in_a_cell_run : run script_name_in_a_cell_run R.Unlimited 10000 (shaped 4096 4096) ≡ record { outcome = Ended None []; trace = (line 1 144 0 Granted) ∷ (line 2 32 144 Granted) ∷ (line 3 48 144 Granted) ∷ []; lines = (54 ∷ []) ∷ (83 ∷ 121 ∷ 109 ∷ 98 ∷ 105 ∷ 97 ∷ 110 ∷ 32 ∷ 79 ∷ 83 ∷ []) ∷ []; notes = []; steps = 8 }
 unfolding everything
 name_in_a_cell_run = refl
 
 abbrev script_numbers_run : Script
-script_numbers_run = record { classes = []; procedures = (record { parameters = []; body = record { locals = OfNumber ∷ OfNumber ∷ []; statements = rolled ((Statement-F.PrintNumber (Variable 0)) ∷ (Statement-F.SetNumber 0 (Constant (pos 3))) ∷ (Statement-F.Add 0 (Constant (negsuc 0))) ∷ (Statement-F.SetNumber 1 (Constant (pos 40))) ∷ (Statement-F.Add 1 (Variable 0)) ∷ (Statement-F.PrintNumber (Variable 1)) ∷ []) } }) ∷ []; operations = []; literals = []; main = 0 }
+script_numbers_run = record { classes = []; procedures = (record { line = 2; parameters = []; body = record { locals = OfNumber ∷ OfNumber ∷ []; statements = (on 5 (Statement-F.PrintNumber (Variable 0))) ∷ (on 6 (Statement-F.SetNumber 0 (Constant (pos 3)))) ∷ (on 7 (Statement-F.Add 0 (Constant (negsuc 0)))) ∷ (on 8 (Statement-F.SetNumber 1 (Constant (pos 40)))) ∷ (on 9 (Statement-F.Add 1 (Variable 0))) ∷ (on 10 (Statement-F.PrintNumber (Variable 1))) ∷ [] } }) ∷ []; operations = []; literals = []; main = 0 }
 
 numbers_run : run script_numbers_run R.Unlimited 10000 (shaped 4096 4096) ≡ record { outcome = Ended None []; trace = (line 1 144 0 Granted) ∷ []; lines = (48 ∷ []) ∷ (52 ∷ 50 ∷ []) ∷ []; notes = []; steps = 6 }
 unfolding everything
 numbers_run = refl
 
 abbrev script_pointer_to_a_moved_cell_run : Script
-script_pointer_to_a_moved_cell_run = record { classes = []; procedures = (record { parameters = []; body = record { locals = (OfPointer None) ∷ (OfPointer None) ∷ (OfPointer None) ∷ []; statements = rolled ((Statement-F.Alloc (Held (H.Local 0)) (Constant (pos 16)) GivesNull) ∷ (Statement-F.Alloc (Held (H.Local 1)) (Constant (pos 16)) GivesNull) ∷ (Statement-F.Set (Held (H.Local 2)) (Held (H.Local 0))) ∷ (Statement-F.Realloc (Held (H.Local 0)) (Held (H.Local 0)) (Constant (pos 32)) GivesNull) ∷ (Statement-F.Free (Held (H.Local 1))) ∷ (Statement-F.SetNull (Held (H.Local 1))) ∷ (Statement-F.Free (Held (H.Local 1))) ∷ (Statement-F.Free (Held (H.Local 2))) ∷ []) } }) ∷ []; operations = []; literals = []; main = 0 }
+script_pointer_to_a_moved_cell_run = record { classes = []; procedures = (record { line = 2; parameters = []; body = record { locals = (OfPointer None) ∷ (OfPointer None) ∷ (OfPointer None) ∷ []; statements = (on 6 (Statement-F.Alloc (Held (H.Local 0)) (Constant (pos 16)) GivesNull)) ∷ (on 7 (Statement-F.Alloc (Held (H.Local 1)) (Constant (pos 16)) GivesNull)) ∷ (on 8 (Statement-F.Set (Held (H.Local 2)) (Held (H.Local 0)))) ∷ (on 9 (Statement-F.Realloc (Held (H.Local 0)) (Held (H.Local 0)) (Constant (pos 32)) GivesNull)) ∷ (on 10 (Statement-F.Free (Held (H.Local 1)))) ∷ (on 11 (Statement-F.SetNull (Held (H.Local 1)))) ∷ (on 12 (Statement-F.Free (Held (H.Local 1)))) ∷ (on 13 (Statement-F.Free (Held (H.Local 2)))) ∷ [] } }) ∷ []; operations = []; literals = []; main = 0 }
 
 pointer_to_a_moved_cell_run : run script_pointer_to_a_moved_cell_run R.Unlimited 10000 (shaped 4096 4096) ≡ record { outcome = Panicked (P.User 42); trace = (line 1 144 0 Granted) ∷ (line 2 32 144 Granted) ∷ (line 3 32 176 Granted) ∷ (line 4 48 208 Granted) ∷ []; lines = []; notes = []; steps = 8 }
 unfolding everything
 pointer_to_a_moved_cell_run = refl
 
 abbrev script_two_cells_run : Script
-script_two_cells_run = record { classes = []; procedures = (record { parameters = []; body = record { locals = (OfPointer None) ∷ (OfPointer None) ∷ []; statements = rolled ((Statement-F.Alloc (Held (H.Local 0)) (Constant (pos 10)) GivesNull) ∷ (Statement-F.Alloc (Held (H.Local 1)) (Constant (pos 100)) GivesNull) ∷ (Statement-F.Free (Held (H.Local 0))) ∷ (Statement-F.PrintText (Quoted 0)) ∷ []) } }) ∷ []; operations = []; literals = (111 ∷ 110 ∷ 101 ∷ 32 ∷ 105 ∷ 115 ∷ 32 ∷ 108 ∷ 101 ∷ 102 ∷ 116 ∷ []) ∷ []; main = 0 }
+script_two_cells_run = record { classes = []; procedures = (record { line = 2; parameters = []; body = record { locals = (OfPointer None) ∷ (OfPointer None) ∷ []; statements = (on 5 (Statement-F.Alloc (Held (H.Local 0)) (Constant (pos 10)) GivesNull)) ∷ (on 6 (Statement-F.Alloc (Held (H.Local 1)) (Constant (pos 100)) GivesNull)) ∷ (on 7 (Statement-F.Free (Held (H.Local 0)))) ∷ (on 8 (Statement-F.PrintText (Quoted 0))) ∷ [] } }) ∷ []; operations = []; literals = (111 ∷ 110 ∷ 101 ∷ 32 ∷ 105 ∷ 115 ∷ 32 ∷ 108 ∷ 101 ∷ 102 ∷ 116 ∷ []) ∷ []; main = 0 }
 
 two_cells_run : run script_two_cells_run R.Unlimited 10000 (shaped 4096 4096) ≡ record { outcome = Ended None ((record { number = 3; length = 128; place = 176 }) ∷ []); trace = (line 1 144 0 Granted) ∷ (line 2 32 144 Granted) ∷ (line 3 128 176 Granted) ∷ []; lines = (111 ∷ 110 ∷ 101 ∷ 32 ∷ 105 ∷ 115 ∷ 32 ∷ 108 ∷ 101 ∷ 102 ∷ 116 ∷ []) ∷ []; notes = []; steps = 4 }
 unfolding everything
 two_cells_run = refl
 
 abbrev script_views_of_a_date_run : Script
-script_views_of_a_date_run = record { classes = []; procedures = (record { parameters = []; body = record { locals = (OfBuffer 8) ∷ OfView ∷ OfView ∷ []; statements = rolled ((Statement-F.Copy (OwnBuffer 0) (Quoted 0)) ∷ (Statement-F.Left 1 (Of (OwnBuffer 0)) (Constant (pos 4))) ∷ (Statement-F.Right 2 (Of (OwnBuffer 0)) (Constant (pos 2))) ∷ (Statement-F.PrintText (ViewOf 1)) ∷ (Statement-F.PrintText (ViewOf 2)) ∷ (Statement-F.Mid 2 (Of (OwnBuffer 0)) (Constant (pos 4)) (Constant (pos 2))) ∷ (Statement-F.Copy (OwnBuffer 0) (Quoted 1)) ∷ (Statement-F.PrintText (ViewOf 1)) ∷ (Statement-F.PrintText (ViewOf 2)) ∷ []) } }) ∷ []; operations = []; literals = (50 ∷ 48 ∷ 48 ∷ 51 ∷ 49 ∷ 50 ∷ 50 ∷ 52 ∷ []) ∷ (49 ∷ 57 ∷ 57 ∷ 57 ∷ []) ∷ []; main = 0 }
+script_views_of_a_date_run = record { classes = []; procedures = (record { line = 2; parameters = []; body = record { locals = (OfBuffer 8) ∷ OfView ∷ OfView ∷ []; statements = (on 6 (Statement-F.Copy (OwnBuffer 0) (Quoted 0))) ∷ (on 7 (Statement-F.Left 1 (Of (OwnBuffer 0)) (Constant (pos 4)))) ∷ (on 8 (Statement-F.Right 2 (Of (OwnBuffer 0)) (Constant (pos 2)))) ∷ (on 9 (Statement-F.PrintText (ViewOf 1))) ∷ (on 10 (Statement-F.PrintText (ViewOf 2))) ∷ (on 11 (Statement-F.Mid 2 (Of (OwnBuffer 0)) (Constant (pos 4)) (Constant (pos 2)))) ∷ (on 12 (Statement-F.Copy (OwnBuffer 0) (Quoted 1))) ∷ (on 13 (Statement-F.PrintText (ViewOf 1))) ∷ (on 14 (Statement-F.PrintText (ViewOf 2))) ∷ [] } }) ∷ []; operations = []; literals = (50 ∷ 48 ∷ 48 ∷ 51 ∷ 49 ∷ 50 ∷ 50 ∷ 52 ∷ []) ∷ (49 ∷ 57 ∷ 57 ∷ 57 ∷ []) ∷ []; main = 0 }
 
 views_of_a_date_run : run script_views_of_a_date_run R.Unlimited 10000 (shaped 4096 4096) ≡ record { outcome = Ended None []; trace = (line 1 144 0 Granted) ∷ []; lines = (50 ∷ 48 ∷ 48 ∷ 51 ∷ []) ∷ (50 ∷ 52 ∷ []) ∷ (49 ∷ 57 ∷ 57 ∷ 57 ∷ []) ∷ (46 ∷ 46 ∷ []) ∷ []; notes = []; steps = 9 }
 unfolding everything
 views_of_a_date_run = refl
 
 abbrev script_weather_in_a_buffer_run : Script
-script_weather_in_a_buffer_run = record { classes = []; procedures = (record { parameters = []; body = record { locals = (OfBuffer 12) ∷ OfNumber ∷ []; statements = rolled ((Statement-F.Copy (OwnBuffer 0) (Quoted 0)) ∷ (Statement-F.Insert (OwnBuffer 0) (Constant (pos 0)) (Quoted 1)) ∷ (Statement-F.DeleteText (OwnBuffer 0) (Constant (pos 0)) (Constant (pos 1))) ∷ (Statement-F.Append (OwnBuffer 0) (Quoted 2)) ∷ (Statement-F.Insert (OwnBuffer 0) (Constant (pos 4)) (Quoted 3)) ∷ (Statement-F.PrintText (Of (OwnBuffer 0))) ∷ (Statement-F.SetLength (OwnBuffer 0) (Constant (pos 4))) ∷ (Statement-F.GetLength 1 (Of (OwnBuffer 0))) ∷ (Statement-F.PrintNumber (Variable 1)) ∷ (Statement-F.GetMaximum 1 (OwnBuffer 0)) ∷ (Statement-F.PrintNumber (Variable 1)) ∷ []) } }) ∷ []; operations = []; literals = (99 ∷ 111 ∷ 108 ∷ 100 ∷ []) ∷ (115 ∷ []) ∷ (32 ∷ 100 ∷ 97 ∷ 121 ∷ []) ∷ (101 ∷ 114 ∷ []) ∷ []; main = 0 }
+script_weather_in_a_buffer_run = record { classes = []; procedures = (record { line = 2; parameters = []; body = record { locals = (OfBuffer 12) ∷ OfNumber ∷ []; statements = (on 5 (Statement-F.Copy (OwnBuffer 0) (Quoted 0))) ∷ (on 6 (Statement-F.Insert (OwnBuffer 0) (Constant (pos 0)) (Quoted 1))) ∷ (on 7 (Statement-F.DeleteText (OwnBuffer 0) (Constant (pos 0)) (Constant (pos 1)))) ∷ (on 8 (Statement-F.Append (OwnBuffer 0) (Quoted 2))) ∷ (on 9 (Statement-F.Insert (OwnBuffer 0) (Constant (pos 4)) (Quoted 3))) ∷ (on 10 (Statement-F.PrintText (Of (OwnBuffer 0)))) ∷ (on 11 (Statement-F.SetLength (OwnBuffer 0) (Constant (pos 4)))) ∷ (on 12 (Statement-F.GetLength 1 (Of (OwnBuffer 0)))) ∷ (on 13 (Statement-F.PrintNumber (Variable 1))) ∷ (on 14 (Statement-F.GetMaximum 1 (OwnBuffer 0))) ∷ (on 15 (Statement-F.PrintNumber (Variable 1))) ∷ [] } }) ∷ []; operations = []; literals = (99 ∷ 111 ∷ 108 ∷ 100 ∷ []) ∷ (115 ∷ []) ∷ (32 ∷ 100 ∷ 97 ∷ 121 ∷ []) ∷ (101 ∷ 114 ∷ []) ∷ []; main = 0 }
 
 weather_in_a_buffer_run : run script_weather_in_a_buffer_run R.Unlimited 10000 (shaped 4096 4096) ≡ record { outcome = Ended None []; trace = (line 1 144 0 Granted) ∷ []; lines = (99 ∷ 111 ∷ 108 ∷ 100 ∷ 101 ∷ 114 ∷ 32 ∷ 100 ∷ 97 ∷ 121 ∷ []) ∷ (52 ∷ []) ∷ (49 ∷ 50 ∷ []) ∷ []; notes = []; steps = 11 }
 unfolding everything
 weather_in_a_buffer_run = refl
 
 abbrev script_words_of_a_table_run : Script
-script_words_of_a_table_run = record { classes = []; procedures = (record { parameters = []; body = record { locals = (OfPointer None) ∷ OfNumber ∷ OfNumber ∷ []; statements = rolled ((Statement-F.Alloc (Held (H.Local 0)) (Constant (pos 10)) GivesNull) ∷ (Statement-F.AllocLen 1 (Held (H.Local 0))) ∷ (Statement-F.PrintNumber (Variable 1)) ∷ (Statement-F.Store (Held (H.Local 0)) (Constant (pos 3)) (Constant (negsuc 6))) ∷ (Statement-F.Realloc (Held (H.Local 0)) (Held (H.Local 0)) (Constant (pos 40)) GivesNull) ∷ (Statement-F.AllocLen 1 (Held (H.Local 0))) ∷ (Statement-F.PrintNumber (Variable 1)) ∷ (Statement-F.Load 2 (Held (H.Local 0)) (Constant (pos 3))) ∷ (Statement-F.PrintNumber (Variable 2)) ∷ (Statement-F.Load 2 (Held (H.Local 0)) (Constant (pos 11))) ∷ (Statement-F.PrintNumber (Variable 2)) ∷ (Statement-F.Free (Held (H.Local 0))) ∷ []) } }) ∷ []; operations = []; literals = []; main = 0 }
+script_words_of_a_table_run = record { classes = []; procedures = (record { line = 2; parameters = []; body = record { locals = (OfPointer None) ∷ OfNumber ∷ OfNumber ∷ []; statements = (on 6 (Statement-F.Alloc (Held (H.Local 0)) (Constant (pos 10)) GivesNull)) ∷ (on 7 (Statement-F.AllocLen 1 (Held (H.Local 0)))) ∷ (on 8 (Statement-F.PrintNumber (Variable 1))) ∷ (on 9 (Statement-F.Store (Held (H.Local 0)) (Constant (pos 3)) (Constant (negsuc 6)))) ∷ (on 10 (Statement-F.Realloc (Held (H.Local 0)) (Held (H.Local 0)) (Constant (pos 40)) GivesNull)) ∷ (on 11 (Statement-F.AllocLen 1 (Held (H.Local 0)))) ∷ (on 12 (Statement-F.PrintNumber (Variable 1))) ∷ (on 13 (Statement-F.Load 2 (Held (H.Local 0)) (Constant (pos 3)))) ∷ (on 14 (Statement-F.PrintNumber (Variable 2))) ∷ (on 15 (Statement-F.Load 2 (Held (H.Local 0)) (Constant (pos 11)))) ∷ (on 16 (Statement-F.PrintNumber (Variable 2))) ∷ (on 17 (Statement-F.Free (Held (H.Local 0)))) ∷ [] } }) ∷ []; operations = []; literals = []; main = 0 }
 
 words_of_a_table_run : run script_words_of_a_table_run R.Unlimited 10000 (shaped 4096 4096) ≡ record { outcome = Ended None []; trace = (line 1 144 0 Granted) ∷ (line 2 32 144 Granted) ∷ (line 3 64 144 Granted) ∷ []; lines = (49 ∷ 54 ∷ []) ∷ (52 ∷ 56 ∷ []) ∷ (45 ∷ 55 ∷ []) ∷ (48 ∷ []) ∷ []; notes = []; steps = 12 }
 unfolding everything
 words_of_a_table_run = refl
 
 abbrev script_cell_behind_a_pointer_made_null_leaks_run : Script
-script_cell_behind_a_pointer_made_null_leaks_run = record { classes = []; procedures = (record { parameters = []; body = record { locals = (OfPointer None) ∷ []; statements = rolled ((Statement-F.Alloc (Held (H.Local 0)) (Constant (pos 1)) GivesNull) ∷ (Statement-F.SetNull (Held (H.Local 0))) ∷ (Statement-F.Free (Held (H.Local 0))) ∷ []) } }) ∷ []; operations = []; literals = []; main = 0 }
+script_cell_behind_a_pointer_made_null_leaks_run = record { classes = []; procedures = (record { line = 1; parameters = []; body = record { locals = (OfPointer None) ∷ []; statements = (on 3 (Statement-F.Alloc (Held (H.Local 0)) (Constant (pos 1)) GivesNull)) ∷ (on 4 (Statement-F.SetNull (Held (H.Local 0)))) ∷ (on 5 (Statement-F.Free (Held (H.Local 0)))) ∷ [] } }) ∷ []; operations = []; literals = []; main = 0 }
 
 cell_behind_a_pointer_made_null_leaks_run : run script_cell_behind_a_pointer_made_null_leaks_run R.Unlimited 10000 (shaped 4096 4096) ≡ record { outcome = Ended None ((record { number = 2; length = 32; place = 144 }) ∷ []); trace = (line 1 144 0 Granted) ∷ (line 2 32 144 Granted) ∷ []; lines = []; notes = []; steps = 3 }
 unfolding everything
 cell_behind_a_pointer_made_null_leaks_run = refl
 
 abbrev script_check_finds_a_cell_of_its_level_run : Script
-script_check_finds_a_cell_of_its_level_run = record { classes = []; procedures = (record { parameters = []; body = record { locals = (OfPointer None) ∷ (OfPointer None) ∷ []; statements = rolled ((Statement-F.Alloc (Held (H.Local 0)) (Constant (pos 1)) GivesNull) ∷ Statement-F.Mark ∷ (Statement-F.Alloc (Held (H.Local 1)) (Constant (pos 1)) GivesNull) ∷ (Statement-F.Check (Constant (pos 0))) ∷ []) } }) ∷ []; operations = []; literals = []; main = 0 }
+script_check_finds_a_cell_of_its_level_run = record { classes = []; procedures = (record { line = 1; parameters = []; body = record { locals = (OfPointer None) ∷ (OfPointer None) ∷ []; statements = (on 4 (Statement-F.Alloc (Held (H.Local 0)) (Constant (pos 1)) GivesNull)) ∷ (on 5 Statement-F.Mark) ∷ (on 6 (Statement-F.Alloc (Held (H.Local 1)) (Constant (pos 1)) GivesNull)) ∷ (on 7 (Statement-F.Check (Constant (pos 0)))) ∷ [] } }) ∷ []; operations = []; literals = []; main = 0 }
 
 check_finds_a_cell_of_its_level_run : run script_check_finds_a_cell_of_its_level_run R.Unlimited 10000 (shaped 4096 4096) ≡ record { outcome = Panicked (P.Alloc 176); trace = (line 1 144 0 Granted) ∷ (line 2 32 144 Granted) ∷ (line 3 32 176 Granted) ∷ []; lines = []; notes = []; steps = 4 }
 unfolding everything
 check_finds_a_cell_of_its_level_run = refl
 
 abbrev script_check_leaves_other_levels_alone_run : Script
-script_check_leaves_other_levels_alone_run = record { classes = []; procedures = (record { parameters = []; body = record { locals = (OfPointer None) ∷ []; statements = rolled ((Statement-F.Alloc (Held (H.Local 0)) (Constant (pos 1)) GivesNull) ∷ Statement-F.Mark ∷ (Statement-F.Check (Constant (pos 1))) ∷ []) } }) ∷ []; operations = []; literals = []; main = 0 }
+script_check_leaves_other_levels_alone_run = record { classes = []; procedures = (record { line = 1; parameters = []; body = record { locals = (OfPointer None) ∷ []; statements = (on 3 (Statement-F.Alloc (Held (H.Local 0)) (Constant (pos 1)) GivesNull)) ∷ (on 4 Statement-F.Mark) ∷ (on 5 (Statement-F.Check (Constant (pos 1)))) ∷ [] } }) ∷ []; operations = []; literals = []; main = 0 }
 
 check_leaves_other_levels_alone_run : run script_check_leaves_other_levels_alone_run R.Unlimited 10000 (shaped 4096 4096) ≡ record { outcome = Panicked (P.Alloc 0); trace = (line 1 144 0 Granted) ∷ (line 2 32 144 Granted) ∷ []; lines = []; notes = []; steps = 3 }
 unfolding everything
 check_leaves_other_levels_alone_run = refl
 
 abbrev script_check_of_all_levels_finds_no_cell_run : Script
-script_check_of_all_levels_finds_no_cell_run = record { classes = []; procedures = (record { parameters = []; body = record { locals = []; statements = rolled ((Statement-F.CheckAll (Constant (pos 1))) ∷ []) } }) ∷ []; operations = []; literals = []; main = 0 }
+script_check_of_all_levels_finds_no_cell_run = record { classes = []; procedures = (record { line = 1; parameters = []; body = record { locals = []; statements = (on 2 (Statement-F.CheckAll (Constant (pos 1)))) ∷ [] } }) ∷ []; operations = []; literals = []; main = 0 }
 
 check_of_all_levels_finds_no_cell_run : run script_check_of_all_levels_finds_no_cell_run R.Unlimited 10000 (shaped 4096 4096) ≡ record { outcome = Panicked (P.Alloc 0); trace = (line 1 144 0 Granted) ∷ []; lines = []; notes = []; steps = 1 }
 unfolding everything
 check_of_all_levels_finds_no_cell_run = refl
 
 abbrev script_check_of_all_levels_names_the_lowest_cell_run : Script
-script_check_of_all_levels_names_the_lowest_cell_run = record { classes = []; procedures = (record { parameters = []; body = record { locals = (OfPointer None) ∷ (OfPointer None) ∷ []; statements = rolled ((Statement-F.Alloc (Held (H.Local 0)) (Constant (pos 1)) GivesNull) ∷ Statement-F.Mark ∷ (Statement-F.Alloc (Held (H.Local 1)) (Constant (pos 1)) GivesNull) ∷ (Statement-F.CheckAll (Constant (pos 1))) ∷ []) } }) ∷ []; operations = []; literals = []; main = 0 }
+script_check_of_all_levels_names_the_lowest_cell_run = record { classes = []; procedures = (record { line = 1; parameters = []; body = record { locals = (OfPointer None) ∷ (OfPointer None) ∷ []; statements = (on 4 (Statement-F.Alloc (Held (H.Local 0)) (Constant (pos 1)) GivesNull)) ∷ (on 5 Statement-F.Mark) ∷ (on 6 (Statement-F.Alloc (Held (H.Local 1)) (Constant (pos 1)) GivesNull)) ∷ (on 7 (Statement-F.CheckAll (Constant (pos 1)))) ∷ [] } }) ∷ []; operations = []; literals = []; main = 0 }
 
 check_of_all_levels_names_the_lowest_cell_run : run script_check_of_all_levels_names_the_lowest_cell_run R.Unlimited 10000 (shaped 4096 4096) ≡ record { outcome = Panicked (P.Alloc 144); trace = (line 1 144 0 Granted) ∷ (line 2 32 144 Granted) ∷ (line 3 32 176 Granted) ∷ []; lines = []; notes = []; steps = 4 }
 unfolding everything
 check_of_all_levels_names_the_lowest_cell_run = refl
 
 abbrev script_check_of_fewer_than_none_run : Script
-script_check_of_fewer_than_none_run = record { classes = []; procedures = (record { parameters = []; body = record { locals = OfNumber ∷ []; statements = rolled ((Statement-F.Add 0 (Constant (negsuc 0))) ∷ (Statement-F.Check (Variable 0)) ∷ []) } }) ∷ []; operations = []; literals = []; main = 0 }
+script_check_of_fewer_than_none_run = record { classes = []; procedures = (record { line = 1; parameters = []; body = record { locals = OfNumber ∷ []; statements = (on 3 (Statement-F.Add 0 (Constant (negsuc 0)))) ∷ (on 4 (Statement-F.Check (Variable 0))) ∷ [] } }) ∷ []; operations = []; literals = []; main = 0 }
 
 check_of_fewer_than_none_run : run script_check_of_fewer_than_none_run R.Unlimited 10000 (shaped 4096 4096) ≡ record { outcome = Panicked (P.Workbench 9); trace = (line 1 144 0 Granted) ∷ []; lines = []; notes = []; steps = 2 }
 unfolding everything
 check_of_fewer_than_none_run = refl
 
 abbrev script_every_none_to_fail_run : Script
-script_every_none_to_fail_run = record { classes = []; procedures = (record { parameters = []; body = record { locals = []; statements = rolled ((Statement-F.FailEvery (Constant (pos 0))) ∷ []) } }) ∷ []; operations = []; literals = []; main = 0 }
+script_every_none_to_fail_run = record { classes = []; procedures = (record { line = 1; parameters = []; body = record { locals = []; statements = (on 2 (Statement-F.FailEvery (Constant (pos 0)))) ∷ [] } }) ∷ []; operations = []; literals = []; main = 0 }
 
 every_none_to_fail_run : run script_every_none_to_fail_run R.Unlimited 10000 (shaped 4096 4096) ≡ record { outcome = Panicked (P.Workbench 9); trace = (line 1 144 0 Granted) ∷ []; lines = []; notes = []; steps = 1 }
 unfolding everything
 every_none_to_fail_run = refl
 
 abbrev script_every_second_request_fails_run : Script
-script_every_second_request_fails_run = record { classes = []; procedures = (record { parameters = []; body = record { locals = (OfPointer None) ∷ (OfPointer None) ∷ (OfPointer None) ∷ (OfPointer None) ∷ []; statements = rolled ((Statement-F.FailEvery (Constant (pos 2))) ∷ (Statement-F.Alloc (Held (H.Local 0)) (Constant (pos 1)) GivesNull) ∷ (Statement-F.Alloc (Held (H.Local 1)) (Constant (pos 1)) GivesNull) ∷ (Statement-F.Alloc (Held (H.Local 2)) (Constant (pos 1)) GivesNull) ∷ (Statement-F.Alloc (Held (H.Local 3)) (Constant (pos 1)) GivesNull) ∷ (Statement-F.Free (Held (H.Local 0))) ∷ (Statement-F.Free (Held (H.Local 1))) ∷ (Statement-F.Free (Held (H.Local 2))) ∷ (Statement-F.Free (Held (H.Local 3))) ∷ []) } }) ∷ []; operations = []; literals = []; main = 0 }
+script_every_second_request_fails_run = record { classes = []; procedures = (record { line = 1; parameters = []; body = record { locals = (OfPointer None) ∷ (OfPointer None) ∷ (OfPointer None) ∷ (OfPointer None) ∷ []; statements = (on 6 (Statement-F.FailEvery (Constant (pos 2)))) ∷ (on 7 (Statement-F.Alloc (Held (H.Local 0)) (Constant (pos 1)) GivesNull)) ∷ (on 8 (Statement-F.Alloc (Held (H.Local 1)) (Constant (pos 1)) GivesNull)) ∷ (on 9 (Statement-F.Alloc (Held (H.Local 2)) (Constant (pos 1)) GivesNull)) ∷ (on 10 (Statement-F.Alloc (Held (H.Local 3)) (Constant (pos 1)) GivesNull)) ∷ (on 11 (Statement-F.Free (Held (H.Local 0)))) ∷ (on 12 (Statement-F.Free (Held (H.Local 1)))) ∷ (on 13 (Statement-F.Free (Held (H.Local 2)))) ∷ (on 14 (Statement-F.Free (Held (H.Local 3)))) ∷ [] } }) ∷ []; operations = []; literals = []; main = 0 }
 
 every_second_request_fails_run : run script_every_second_request_fails_run R.Unlimited 10000 (shaped 4096 4096) ≡ record { outcome = Ended None []; trace = (line 1 144 0 Granted) ∷ (line 2 32 144 Granted) ∷ (line 3 32 176 Simulated) ∷ (line 4 32 176 Granted) ∷ (line 5 32 208 Simulated) ∷ []; lines = []; notes = []; steps = 9 }
 unfolding everything
 every_second_request_fails_run = refl
 
 abbrev script_failures_are_switched_off_run : Script
-script_failures_are_switched_off_run = record { classes = []; procedures = (record { parameters = []; body = record { locals = (OfPointer None) ∷ []; statements = rolled ((Statement-F.FailEvery (Constant (pos 1))) ∷ (Statement-F.Alloc (Held (H.Local 0)) (Constant (pos 1)) GivesNull) ∷ (Statement-F.Alloc (Held (H.Local 0)) (Constant (pos 1)) GivesNull) ∷ Statement-F.FailNone ∷ (Statement-F.Alloc (Held (H.Local 0)) (Constant (pos 1)) GivesNull) ∷ (Statement-F.Free (Held (H.Local 0))) ∷ []) } }) ∷ []; operations = []; literals = []; main = 0 }
+script_failures_are_switched_off_run = record { classes = []; procedures = (record { line = 1; parameters = []; body = record { locals = (OfPointer None) ∷ []; statements = (on 3 (Statement-F.FailEvery (Constant (pos 1)))) ∷ (on 4 (Statement-F.Alloc (Held (H.Local 0)) (Constant (pos 1)) GivesNull)) ∷ (on 5 (Statement-F.Alloc (Held (H.Local 0)) (Constant (pos 1)) GivesNull)) ∷ (on 6 Statement-F.FailNone) ∷ (on 7 (Statement-F.Alloc (Held (H.Local 0)) (Constant (pos 1)) GivesNull)) ∷ (on 8 (Statement-F.Free (Held (H.Local 0)))) ∷ [] } }) ∷ []; operations = []; literals = []; main = 0 }
 
 failures_are_switched_off_run : run script_failures_are_switched_off_run R.Unlimited 10000 (shaped 4096 4096) ≡ record { outcome = Ended None []; trace = (line 1 144 0 Granted) ∷ (line 2 32 144 Simulated) ∷ (line 3 32 144 Simulated) ∷ (line 4 32 144 Granted) ∷ []; lines = []; notes = []; steps = 6 }
 unfolding everything
 failures_are_switched_off_run = refl
 
 abbrev script_first_attempt_fails_run : Script
-script_first_attempt_fails_run = record { classes = []; procedures = (record { parameters = []; body = record { locals = (OfPointer None) ∷ []; statements = rolled ((Statement-F.Alloc (Held (H.Local 0)) (Constant (pos 1)) GivesNull) ∷ (Statement-F.Free (Held (H.Local 0))) ∷ []) } }) ∷ []; operations = []; literals = []; main = 0 }
+script_first_attempt_fails_run = record { classes = []; procedures = (record { line = 1; parameters = []; body = record { locals = (OfPointer None) ∷ []; statements = (on 3 (Statement-F.Alloc (Held (H.Local 0)) (Constant (pos 1)) GivesNull)) ∷ (on 4 (Statement-F.Free (Held (H.Local 0)))) ∷ [] } }) ∷ []; operations = []; literals = []; main = 0 }
 
 first_attempt_fails_run : run script_first_attempt_fails_run (R.Number 1) 10000 (shaped 4096 4096) ≡ record { outcome = NoCleanup; trace = (line 1 144 0 Simulated) ∷ []; lines = []; notes = []; steps = 0 }
 unfolding everything
 first_attempt_fails_run = refl
 
 abbrev script_growth_with_a_number_fails_run : Script
-script_growth_with_a_number_fails_run = record { classes = []; procedures = (record { parameters = []; body = record { locals = (OfPointer None) ∷ (OfPointer None) ∷ []; statements = rolled ((Statement-F.Alloc (Held (H.Local 0)) (Constant (pos 1)) GivesNull) ∷ (Statement-F.Realloc (Held (H.Local 1)) (Held (H.Local 0)) (Constant (pos 17)) GivesNull) ∷ (Statement-F.Free (Held (H.Local 0))) ∷ (Statement-F.Free (Held (H.Local 1))) ∷ []) } }) ∷ []; operations = []; literals = []; main = 0 }
+script_growth_with_a_number_fails_run = record { classes = []; procedures = (record { line = 1; parameters = []; body = record { locals = (OfPointer None) ∷ (OfPointer None) ∷ []; statements = (on 4 (Statement-F.Alloc (Held (H.Local 0)) (Constant (pos 1)) GivesNull)) ∷ (on 5 (Statement-F.Realloc (Held (H.Local 1)) (Held (H.Local 0)) (Constant (pos 17)) GivesNull)) ∷ (on 6 (Statement-F.Free (Held (H.Local 0)))) ∷ (on 7 (Statement-F.Free (Held (H.Local 1)))) ∷ [] } }) ∷ []; operations = []; literals = []; main = 0 }
 
 growth_with_a_number_fails_run : run script_growth_with_a_number_fails_run (R.Number 3) 10000 (shaped 4096 4096) ≡ record { outcome = Ended None []; trace = (line 1 144 0 Granted) ∷ (line 2 32 144 Granted) ∷ (line 3 48 144 Simulated) ∷ []; lines = []; notes = []; steps = 4 }
 unfolding everything
 growth_with_a_number_fails_run = refl
 
 abbrev script_mark_end_finds_no_cell_run : Script
-script_mark_end_finds_no_cell_run = record { classes = []; procedures = (record { parameters = []; body = record { locals = []; statements = rolled (Statement-F.Mark ∷ (Statement-F.MarkEnd (Constant (pos 1))) ∷ []) } }) ∷ []; operations = []; literals = []; main = 0 }
+script_mark_end_finds_no_cell_run = record { classes = []; procedures = (record { line = 1; parameters = []; body = record { locals = []; statements = (on 2 Statement-F.Mark) ∷ (on 3 (Statement-F.MarkEnd (Constant (pos 1)))) ∷ [] } }) ∷ []; operations = []; literals = []; main = 0 }
 
 mark_end_finds_no_cell_run : run script_mark_end_finds_no_cell_run R.Unlimited 10000 (shaped 4096 4096) ≡ record { outcome = Panicked (P.Alloc 0); trace = (line 1 144 0 Granted) ∷ []; lines = []; notes = []; steps = 2 }
 unfolding everything
 mark_end_finds_no_cell_run = refl
 
 abbrev script_mark_end_finds_too_few_cells_run : Script
-script_mark_end_finds_too_few_cells_run = record { classes = []; procedures = (record { parameters = []; body = record { locals = (OfPointer None) ∷ (OfPointer None) ∷ []; statements = rolled ((Statement-F.Alloc (Held (H.Local 0)) (Constant (pos 1)) GivesNull) ∷ Statement-F.Mark ∷ (Statement-F.Alloc (Held (H.Local 1)) (Constant (pos 1)) GivesNull) ∷ (Statement-F.MarkEnd (Constant (pos 2))) ∷ []) } }) ∷ []; operations = []; literals = []; main = 0 }
+script_mark_end_finds_too_few_cells_run = record { classes = []; procedures = (record { line = 1; parameters = []; body = record { locals = (OfPointer None) ∷ (OfPointer None) ∷ []; statements = (on 4 (Statement-F.Alloc (Held (H.Local 0)) (Constant (pos 1)) GivesNull)) ∷ (on 5 Statement-F.Mark) ∷ (on 6 (Statement-F.Alloc (Held (H.Local 1)) (Constant (pos 1)) GivesNull)) ∷ (on 7 (Statement-F.MarkEnd (Constant (pos 2)))) ∷ [] } }) ∷ []; operations = []; literals = []; main = 0 }
 
 mark_end_finds_too_few_cells_run : run script_mark_end_finds_too_few_cells_run R.Unlimited 10000 (shaped 4096 4096) ≡ record { outcome = Panicked (P.Alloc 176); trace = (line 1 144 0 Granted) ∷ (line 2 32 144 Granted) ∷ (line 3 32 176 Granted) ∷ []; lines = []; notes = []; steps = 4 }
 unfolding everything
 mark_end_finds_too_few_cells_run = refl
 
 abbrev script_mark_end_of_fewer_than_none_run : Script
-script_mark_end_of_fewer_than_none_run = record { classes = []; procedures = (record { parameters = []; body = record { locals = []; statements = rolled ((Statement-F.MarkEnd (Constant (negsuc 0))) ∷ []) } }) ∷ []; operations = []; literals = []; main = 0 }
+script_mark_end_of_fewer_than_none_run = record { classes = []; procedures = (record { line = 1; parameters = []; body = record { locals = []; statements = (on 2 (Statement-F.MarkEnd (Constant (negsuc 0)))) ∷ [] } }) ∷ []; operations = []; literals = []; main = 0 }
 
 mark_end_of_fewer_than_none_run : run script_mark_end_of_fewer_than_none_run R.Unlimited 10000 (shaped 4096 4096) ≡ record { outcome = Panicked (P.Workbench 9); trace = (line 1 144 0 Granted) ∷ []; lines = []; notes = []; steps = 1 }
 unfolding everything
 mark_end_of_fewer_than_none_run = refl
 
 abbrev script_mark_end_without_a_mark_run : Script
-script_mark_end_without_a_mark_run = record { classes = []; procedures = (record { parameters = []; body = record { locals = (OfPointer None) ∷ []; statements = rolled ((Statement-F.Alloc (Held (H.Local 0)) (Constant (pos 1)) GivesNull) ∷ (Statement-F.MarkEnd (Constant (pos 1))) ∷ []) } }) ∷ []; operations = []; literals = []; main = 0 }
+script_mark_end_without_a_mark_run = record { classes = []; procedures = (record { line = 1; parameters = []; body = record { locals = (OfPointer None) ∷ []; statements = (on 3 (Statement-F.Alloc (Held (H.Local 0)) (Constant (pos 1)) GivesNull)) ∷ (on 4 (Statement-F.MarkEnd (Constant (pos 1)))) ∷ [] } }) ∷ []; operations = []; literals = []; main = 0 }
 
 mark_end_without_a_mark_run : run script_mark_end_without_a_mark_run R.Unlimited 10000 (shaped 4096 4096) ≡ record { outcome = Panicked (P.Workbench 6); trace = (line 1 144 0 Granted) ∷ (line 2 32 144 Granted) ∷ []; lines = []; notes = []; steps = 2 }
 unfolding everything
 mark_end_without_a_mark_run = refl
 
 abbrev script_mark_left_open_at_the_end_run : Script
-script_mark_left_open_at_the_end_run = record { classes = []; procedures = (record { parameters = []; body = record { locals = (OfPointer None) ∷ []; statements = rolled (Statement-F.Mark ∷ (Statement-F.Alloc (Held (H.Local 0)) (Constant (pos 1)) GivesNull) ∷ (Statement-F.Free (Held (H.Local 0))) ∷ []) } }) ∷ []; operations = []; literals = []; main = 0 }
+script_mark_left_open_at_the_end_run = record { classes = []; procedures = (record { line = 1; parameters = []; body = record { locals = (OfPointer None) ∷ []; statements = (on 3 Statement-F.Mark) ∷ (on 4 (Statement-F.Alloc (Held (H.Local 0)) (Constant (pos 1)) GivesNull)) ∷ (on 5 (Statement-F.Free (Held (H.Local 0)))) ∷ [] } }) ∷ []; operations = []; literals = []; main = 0 }
 
 mark_left_open_at_the_end_run : run script_mark_left_open_at_the_end_run R.Unlimited 10000 (shaped 4096 4096) ≡ record { outcome = Ended None []; trace = (line 1 144 0 Granted) ∷ (line 2 32 144 Granted) ∷ []; lines = []; notes = []; steps = 3 }
 unfolding everything
 mark_left_open_at_the_end_run = refl
 
 abbrev script_marks_and_checks_that_hold_run : Script
-script_marks_and_checks_that_hold_run = record { classes = []; procedures = (record { parameters = []; body = record { locals = (OfPointer None) ∷ (OfPointer None) ∷ []; statements = rolled ((Statement-F.CheckAll (Constant (pos 0))) ∷ (Statement-F.Alloc (Held (H.Local 0)) (Constant (pos 1)) GivesNull) ∷ (Statement-F.Check (Constant (pos 1))) ∷ Statement-F.Mark ∷ (Statement-F.Check (Constant (pos 0))) ∷ (Statement-F.Alloc (Held (H.Local 1)) (Constant (pos 1)) GivesNull) ∷ (Statement-F.Check (Constant (pos 1))) ∷ (Statement-F.CheckAll (Constant (pos 2))) ∷ (Statement-F.MarkEnd (Constant (pos 1))) ∷ (Statement-F.Check (Constant (pos 2))) ∷ (Statement-F.Free (Held (H.Local 0))) ∷ (Statement-F.Free (Held (H.Local 1))) ∷ (Statement-F.CheckAll (Constant (pos 0))) ∷ []) } }) ∷ []; operations = []; literals = []; main = 0 }
+script_marks_and_checks_that_hold_run = record { classes = []; procedures = (record { line = 1; parameters = []; body = record { locals = (OfPointer None) ∷ (OfPointer None) ∷ []; statements = (on 4 (Statement-F.CheckAll (Constant (pos 0)))) ∷ (on 5 (Statement-F.Alloc (Held (H.Local 0)) (Constant (pos 1)) GivesNull)) ∷ (on 6 (Statement-F.Check (Constant (pos 1)))) ∷ (on 7 Statement-F.Mark) ∷ (on 8 (Statement-F.Check (Constant (pos 0)))) ∷ (on 9 (Statement-F.Alloc (Held (H.Local 1)) (Constant (pos 1)) GivesNull)) ∷ (on 10 (Statement-F.Check (Constant (pos 1)))) ∷ (on 11 (Statement-F.CheckAll (Constant (pos 2)))) ∷ (on 12 (Statement-F.MarkEnd (Constant (pos 1)))) ∷ (on 13 (Statement-F.Check (Constant (pos 2)))) ∷ (on 14 (Statement-F.Free (Held (H.Local 0)))) ∷ (on 15 (Statement-F.Free (Held (H.Local 1)))) ∷ (on 16 (Statement-F.CheckAll (Constant (pos 0)))) ∷ [] } }) ∷ []; operations = []; literals = []; main = 0 }
 
 marks_and_checks_that_hold_run : run script_marks_and_checks_that_hold_run R.Unlimited 10000 (shaped 4096 4096) ≡ record { outcome = Ended None []; trace = (line 1 144 0 Granted) ∷ (line 2 32 144 Granted) ∷ (line 3 32 176 Granted) ∷ []; lines = []; notes = []; steps = 13 }
 unfolding everything
 marks_and_checks_that_hold_run = refl
 
 abbrev script_moved_cell_keeps_its_level_run : Script
-script_moved_cell_keeps_its_level_run = record { classes = []; procedures = (record { parameters = []; body = record { locals = (OfPointer None) ∷ (OfPointer None) ∷ []; statements = rolled ((Statement-F.Alloc (Held (H.Local 0)) (Constant (pos 16)) GivesNull) ∷ (Statement-F.Alloc (Held (H.Local 1)) (Constant (pos 16)) GivesNull) ∷ Statement-F.Mark ∷ (Statement-F.Realloc (Held (H.Local 0)) (Held (H.Local 0)) (Constant (pos 48)) GivesNull) ∷ (Statement-F.Check (Constant (pos 0))) ∷ (Statement-F.MarkEnd (Constant (pos 0))) ∷ (Statement-F.Check (Constant (pos 2))) ∷ (Statement-F.Free (Held (H.Local 0))) ∷ (Statement-F.Free (Held (H.Local 1))) ∷ []) } }) ∷ []; operations = []; literals = []; main = 0 }
+script_moved_cell_keeps_its_level_run = record { classes = []; procedures = (record { line = 1; parameters = []; body = record { locals = (OfPointer None) ∷ (OfPointer None) ∷ []; statements = (on 4 (Statement-F.Alloc (Held (H.Local 0)) (Constant (pos 16)) GivesNull)) ∷ (on 5 (Statement-F.Alloc (Held (H.Local 1)) (Constant (pos 16)) GivesNull)) ∷ (on 6 Statement-F.Mark) ∷ (on 7 (Statement-F.Realloc (Held (H.Local 0)) (Held (H.Local 0)) (Constant (pos 48)) GivesNull)) ∷ (on 8 (Statement-F.Check (Constant (pos 0)))) ∷ (on 9 (Statement-F.MarkEnd (Constant (pos 0)))) ∷ (on 10 (Statement-F.Check (Constant (pos 2)))) ∷ (on 11 (Statement-F.Free (Held (H.Local 0)))) ∷ (on 12 (Statement-F.Free (Held (H.Local 1)))) ∷ [] } }) ∷ []; operations = []; literals = []; main = 0 }
 
 moved_cell_keeps_its_level_run : run script_moved_cell_keeps_its_level_run R.Unlimited 10000 (shaped 4096 4096) ≡ record { outcome = Ended None []; trace = (line 1 144 0 Granted) ∷ (line 2 32 144 Granted) ∷ (line 3 32 176 Granted) ∷ (line 4 64 208 Granted) ∷ []; lines = []; notes = []; steps = 9 }
 unfolding everything
 moved_cell_keeps_its_level_run = refl
 
 abbrev script_new_setting_counts_anew_run : Script
-script_new_setting_counts_anew_run = record { classes = []; procedures = (record { parameters = []; body = record { locals = (OfPointer None) ∷ (OfPointer None) ∷ (OfPointer None) ∷ []; statements = rolled ((Statement-F.FailEvery (Constant (pos 2))) ∷ (Statement-F.Alloc (Held (H.Local 0)) (Constant (pos 1)) GivesNull) ∷ (Statement-F.FailNext (Constant (pos 2))) ∷ (Statement-F.Alloc (Held (H.Local 1)) (Constant (pos 1)) GivesNull) ∷ (Statement-F.Alloc (Held (H.Local 2)) (Constant (pos 1)) GivesNull) ∷ (Statement-F.Alloc (Held (H.Local 2)) (Constant (pos 1)) GivesNull) ∷ (Statement-F.Free (Held (H.Local 0))) ∷ (Statement-F.Free (Held (H.Local 1))) ∷ (Statement-F.Free (Held (H.Local 2))) ∷ []) } }) ∷ []; operations = []; literals = []; main = 0 }
+script_new_setting_counts_anew_run = record { classes = []; procedures = (record { line = 1; parameters = []; body = record { locals = (OfPointer None) ∷ (OfPointer None) ∷ (OfPointer None) ∷ []; statements = (on 5 (Statement-F.FailEvery (Constant (pos 2)))) ∷ (on 6 (Statement-F.Alloc (Held (H.Local 0)) (Constant (pos 1)) GivesNull)) ∷ (on 7 (Statement-F.FailNext (Constant (pos 2)))) ∷ (on 8 (Statement-F.Alloc (Held (H.Local 1)) (Constant (pos 1)) GivesNull)) ∷ (on 9 (Statement-F.Alloc (Held (H.Local 2)) (Constant (pos 1)) GivesNull)) ∷ (on 10 (Statement-F.Alloc (Held (H.Local 2)) (Constant (pos 1)) GivesNull)) ∷ (on 11 (Statement-F.Free (Held (H.Local 0)))) ∷ (on 12 (Statement-F.Free (Held (H.Local 1)))) ∷ (on 13 (Statement-F.Free (Held (H.Local 2)))) ∷ [] } }) ∷ []; operations = []; literals = []; main = 0 }
 
 new_setting_counts_anew_run : run script_new_setting_counts_anew_run R.Unlimited 10000 (shaped 4096 4096) ≡ record { outcome = Ended None []; trace = (line 1 144 0 Granted) ∷ (line 2 32 144 Granted) ∷ (line 3 32 176 Granted) ∷ (line 4 32 208 Simulated) ∷ (line 5 32 208 Granted) ∷ []; lines = []; notes = []; steps = 9 }
 unfolding everything
 new_setting_counts_anew_run = refl
 
 abbrev script_next_but_none_to_fail_run : Script
-script_next_but_none_to_fail_run = record { classes = []; procedures = (record { parameters = []; body = record { locals = []; statements = rolled ((Statement-F.FailNext (Constant (pos 0))) ∷ []) } }) ∷ []; operations = []; literals = []; main = 0 }
+script_next_but_none_to_fail_run = record { classes = []; procedures = (record { line = 1; parameters = []; body = record { locals = []; statements = (on 2 (Statement-F.FailNext (Constant (pos 0)))) ∷ [] } }) ∷ []; operations = []; literals = []; main = 0 }
 
 next_but_none_to_fail_run : run script_next_but_none_to_fail_run R.Unlimited 10000 (shaped 4096 4096) ≡ record { outcome = Panicked (P.Workbench 9); trace = (line 1 144 0 Granted) ∷ []; lines = []; notes = []; steps = 1 }
 unfolding everything
 next_but_none_to_fail_run = refl
 
 abbrev script_number_past_the_last_attempt_run : Script
-script_number_past_the_last_attempt_run = record { classes = []; procedures = (record { parameters = []; body = record { locals = (OfPointer None) ∷ []; statements = rolled ((Statement-F.Alloc (Held (H.Local 0)) (Constant (pos 1)) GivesNull) ∷ (Statement-F.Free (Held (H.Local 0))) ∷ []) } }) ∷ []; operations = []; literals = []; main = 0 }
+script_number_past_the_last_attempt_run = record { classes = []; procedures = (record { line = 1; parameters = []; body = record { locals = (OfPointer None) ∷ []; statements = (on 3 (Statement-F.Alloc (Held (H.Local 0)) (Constant (pos 1)) GivesNull)) ∷ (on 4 (Statement-F.Free (Held (H.Local 0)))) ∷ [] } }) ∷ []; operations = []; literals = []; main = 0 }
 
 number_past_the_last_attempt_run : run script_number_past_the_last_attempt_run (R.Number 16777216) 10000 (shaped 4096 4096) ≡ record { outcome = Ended None []; trace = (line 1 144 0 Granted) ∷ (line 2 32 144 Granted) ∷ []; lines = []; notes = []; steps = 2 }
 unfolding everything
 number_past_the_last_attempt_run = refl
 
 abbrev script_number_zero_fails_nothing_run : Script
-script_number_zero_fails_nothing_run = record { classes = []; procedures = (record { parameters = []; body = record { locals = (OfPointer None) ∷ []; statements = rolled ((Statement-F.Alloc (Held (H.Local 0)) (Constant (pos 1)) GivesNull) ∷ (Statement-F.Free (Held (H.Local 0))) ∷ []) } }) ∷ []; operations = []; literals = []; main = 0 }
+script_number_zero_fails_nothing_run = record { classes = []; procedures = (record { line = 1; parameters = []; body = record { locals = (OfPointer None) ∷ []; statements = (on 3 (Statement-F.Alloc (Held (H.Local 0)) (Constant (pos 1)) GivesNull)) ∷ (on 4 (Statement-F.Free (Held (H.Local 0)))) ∷ [] } }) ∷ []; operations = []; literals = []; main = 0 }
 
 number_zero_fails_nothing_run : run script_number_zero_fails_nothing_run (R.Number 0) 10000 (shaped 4096 4096) ≡ record { outcome = Ended None []; trace = (line 1 144 0 Granted) ∷ (line 2 32 144 Granted) ∷ []; lines = []; notes = []; steps = 2 }
 unfolding everything
 number_zero_fails_nothing_run = refl
 
 abbrev script_numbers_are_set_and_added_run : Script
-script_numbers_are_set_and_added_run = record { classes = []; procedures = (record { parameters = []; body = record { locals = OfNumber ∷ OfNumber ∷ []; statements = rolled ((Statement-F.PrintNumber (Variable 0)) ∷ (Statement-F.SetNumber 0 (Constant (pos 5))) ∷ (Statement-F.Add 0 (Constant (negsuc 6))) ∷ (Statement-F.PrintNumber (Variable 0)) ∷ (Statement-F.SetNumber 1 (Variable 0)) ∷ (Statement-F.Add 1 (Variable 1)) ∷ (Statement-F.PrintNumber (Variable 1)) ∷ (Statement-F.PrintNumber (Constant (negsuc 11))) ∷ []) } }) ∷ []; operations = []; literals = []; main = 0 }
+script_numbers_are_set_and_added_run = record { classes = []; procedures = (record { line = 1; parameters = []; body = record { locals = OfNumber ∷ OfNumber ∷ []; statements = (on 4 (Statement-F.PrintNumber (Variable 0))) ∷ (on 5 (Statement-F.SetNumber 0 (Constant (pos 5)))) ∷ (on 6 (Statement-F.Add 0 (Constant (negsuc 6)))) ∷ (on 7 (Statement-F.PrintNumber (Variable 0))) ∷ (on 8 (Statement-F.SetNumber 1 (Variable 0))) ∷ (on 9 (Statement-F.Add 1 (Variable 1))) ∷ (on 10 (Statement-F.PrintNumber (Variable 1))) ∷ (on 11 (Statement-F.PrintNumber (Constant (negsuc 11)))) ∷ [] } }) ∷ []; operations = []; literals = []; main = 0 }
 
 numbers_are_set_and_added_run : run script_numbers_are_set_and_added_run R.Unlimited 10000 (shaped 4096 4096) ≡ record { outcome = Ended None []; trace = (line 1 144 0 Granted) ∷ []; lines = (48 ∷ []) ∷ (45 ∷ 50 ∷ []) ∷ (45 ∷ 52 ∷ []) ∷ (45 ∷ 49 ∷ 50 ∷ []) ∷ []; notes = []; steps = 8 }
 unfolding everything
 numbers_are_set_and_added_run = refl
 
 abbrev script_reallocating_a_freed_cell_run : Script
-script_reallocating_a_freed_cell_run = record { classes = []; procedures = (record { parameters = []; body = record { locals = (OfPointer None) ∷ []; statements = rolled ((Statement-F.Alloc (Held (H.Local 0)) (Constant (pos 16)) GivesNull) ∷ (Statement-F.Free (Held (H.Local 0))) ∷ (Statement-F.Realloc (Held (H.Local 0)) (Held (H.Local 0)) (Constant (negsuc 0)) GivesNull) ∷ []) } }) ∷ []; operations = []; literals = []; main = 0 }
+script_reallocating_a_freed_cell_run = record { classes = []; procedures = (record { line = 1; parameters = []; body = record { locals = (OfPointer None) ∷ []; statements = (on 3 (Statement-F.Alloc (Held (H.Local 0)) (Constant (pos 16)) GivesNull)) ∷ (on 4 (Statement-F.Free (Held (H.Local 0)))) ∷ (on 5 (Statement-F.Realloc (Held (H.Local 0)) (Held (H.Local 0)) (Constant (negsuc 0)) GivesNull)) ∷ [] } }) ∷ []; operations = []; literals = []; main = 0 }
 
 reallocating_a_freed_cell_run : run script_reallocating_a_freed_cell_run R.Unlimited 10000 (shaped 4096 4096) ≡ record { outcome = Panicked (P.User 42); trace = (line 1 144 0 Granted) ∷ (line 2 32 144 Granted) ∷ []; lines = []; notes = []; steps = 3 }
 unfolding everything
 reallocating_a_freed_cell_run = refl
 
 abbrev script_reallocating_null_allocates_run : Script
-script_reallocating_null_allocates_run = record { classes = []; procedures = (record { parameters = []; body = record { locals = (OfPointer None) ∷ (OfPointer None) ∷ []; statements = rolled ((Statement-F.Realloc (Held (H.Local 1)) (Held (H.Local 0)) (Constant (pos 40)) GivesNull) ∷ (Statement-F.Store (Held (H.Local 1)) (Constant (pos 11)) (Constant (pos 3))) ∷ (Statement-F.Free (Held (H.Local 1))) ∷ []) } }) ∷ []; operations = []; literals = []; main = 0 }
+script_reallocating_null_allocates_run = record { classes = []; procedures = (record { line = 1; parameters = []; body = record { locals = (OfPointer None) ∷ (OfPointer None) ∷ []; statements = (on 4 (Statement-F.Realloc (Held (H.Local 1)) (Held (H.Local 0)) (Constant (pos 40)) GivesNull)) ∷ (on 5 (Statement-F.Store (Held (H.Local 1)) (Constant (pos 11)) (Constant (pos 3)))) ∷ (on 6 (Statement-F.Free (Held (H.Local 1)))) ∷ [] } }) ∷ []; operations = []; literals = []; main = 0 }
 
 reallocating_null_allocates_run : run script_reallocating_null_allocates_run R.Unlimited 10000 (shaped 4096 4096) ≡ record { outcome = Ended None []; trace = (line 1 144 0 Granted) ∷ (line 2 64 144 Granted) ∷ []; lines = []; notes = []; steps = 3 }
 unfolding everything
 reallocating_null_allocates_run = refl
 
 abbrev script_reallocating_null_refused_gives_null_run : Script
-script_reallocating_null_refused_gives_null_run = record { classes = []; procedures = (record { parameters = []; body = record { locals = (OfPointer None) ∷ (OfPointer None) ∷ []; statements = rolled ((Statement-F.Alloc (Held (H.Local 1)) (Constant (pos 1)) GivesNull) ∷ (Statement-F.FailNext (Constant (pos 1))) ∷ (Statement-F.Realloc (Held (H.Local 1)) (Held (H.Local 0)) (Constant (pos 40)) GivesNull) ∷ (Statement-F.Free (Held (H.Local 1))) ∷ []) } }) ∷ []; operations = []; literals = []; main = 0 }
+script_reallocating_null_refused_gives_null_run = record { classes = []; procedures = (record { line = 1; parameters = []; body = record { locals = (OfPointer None) ∷ (OfPointer None) ∷ []; statements = (on 4 (Statement-F.Alloc (Held (H.Local 1)) (Constant (pos 1)) GivesNull)) ∷ (on 5 (Statement-F.FailNext (Constant (pos 1)))) ∷ (on 6 (Statement-F.Realloc (Held (H.Local 1)) (Held (H.Local 0)) (Constant (pos 40)) GivesNull)) ∷ (on 7 (Statement-F.Free (Held (H.Local 1)))) ∷ [] } }) ∷ []; operations = []; literals = []; main = 0 }
 
 reallocating_null_refused_gives_null_run : run script_reallocating_null_refused_gives_null_run R.Unlimited 10000 (shaped 4096 4096) ≡ record { outcome = Ended None ((record { number = 2; length = 32; place = 144 }) ∷ []); trace = (line 1 144 0 Granted) ∷ (line 2 32 144 Granted) ∷ (line 3 64 176 Simulated) ∷ []; lines = []; notes = []; steps = 4 }
 unfolding everything
 reallocating_null_refused_gives_null_run = refl
 
 abbrev script_reallocating_past_one_mebibyte_run : Script
-script_reallocating_past_one_mebibyte_run = record { classes = []; procedures = (record { parameters = []; body = record { locals = (OfPointer None) ∷ (OfPointer None) ∷ []; statements = rolled ((Statement-F.Realloc (Held (H.Local 1)) (Held (H.Local 0)) (Constant (pos 1048577)) GivesNull) ∷ []) } }) ∷ []; operations = []; literals = []; main = 0 }
+script_reallocating_past_one_mebibyte_run = record { classes = []; procedures = (record { line = 1; parameters = []; body = record { locals = (OfPointer None) ∷ (OfPointer None) ∷ []; statements = (on 4 (Statement-F.Realloc (Held (H.Local 1)) (Held (H.Local 0)) (Constant (pos 1048577)) GivesNull)) ∷ [] } }) ∷ []; operations = []; literals = []; main = 0 }
 
 reallocating_past_one_mebibyte_run : run script_reallocating_past_one_mebibyte_run R.Unlimited 10000 (shaped 4096 4096) ≡ record { outcome = Panicked (P.Workbench 9); trace = (line 1 144 0 Granted) ∷ []; lines = []; notes = []; steps = 1 }
 unfolding everything
 reallocating_past_one_mebibyte_run = refl
 
 abbrev script_reallocating_to_less_than_nothing_run : Script
-script_reallocating_to_less_than_nothing_run = record { classes = []; procedures = (record { parameters = []; body = record { locals = (OfPointer None) ∷ []; statements = rolled ((Statement-F.Alloc (Held (H.Local 0)) (Constant (pos 16)) GivesNull) ∷ (Statement-F.Realloc (Held (H.Local 0)) (Held (H.Local 0)) (Constant (negsuc 0)) GivesNull) ∷ []) } }) ∷ []; operations = []; literals = []; main = 0 }
+script_reallocating_to_less_than_nothing_run = record { classes = []; procedures = (record { line = 1; parameters = []; body = record { locals = (OfPointer None) ∷ []; statements = (on 3 (Statement-F.Alloc (Held (H.Local 0)) (Constant (pos 16)) GivesNull)) ∷ (on 4 (Statement-F.Realloc (Held (H.Local 0)) (Held (H.Local 0)) (Constant (negsuc 0)) GivesNull)) ∷ [] } }) ∷ []; operations = []; literals = []; main = 0 }
 
 reallocating_to_less_than_nothing_run : run script_reallocating_to_less_than_nothing_run R.Unlimited 10000 (shaped 4096 4096) ≡ record { outcome = Panicked (P.Workbench 9); trace = (line 1 144 0 Granted) ∷ (line 2 32 144 Granted) ∷ []; lines = []; notes = []; steps = 2 }
 unfolding everything
 reallocating_to_less_than_nothing_run = refl
 
 abbrev script_refused_growth_keeps_the_cell_run : Script
-script_refused_growth_keeps_the_cell_run = record { classes = []; procedures = (record { parameters = []; body = record { locals = (OfPointer None) ∷ (OfPointer None) ∷ OfNumber ∷ []; statements = rolled ((Statement-F.Alloc (Held (H.Local 0)) (Constant (pos 16)) GivesNull) ∷ (Statement-F.Store (Held (H.Local 0)) (Constant (pos 0)) (Constant (pos 9))) ∷ (Statement-F.FailNext (Constant (pos 1))) ∷ (Statement-F.Realloc (Held (H.Local 1)) (Held (H.Local 0)) (Constant (pos 32)) GivesNull) ∷ (Statement-F.Load 2 (Held (H.Local 0)) (Constant (pos 0))) ∷ (Statement-F.PrintNumber (Variable 2)) ∷ (Statement-F.Free (Held (H.Local 0))) ∷ (Statement-F.Free (Held (H.Local 1))) ∷ []) } }) ∷ []; operations = []; literals = []; main = 0 }
+script_refused_growth_keeps_the_cell_run = record { classes = []; procedures = (record { line = 1; parameters = []; body = record { locals = (OfPointer None) ∷ (OfPointer None) ∷ OfNumber ∷ []; statements = (on 5 (Statement-F.Alloc (Held (H.Local 0)) (Constant (pos 16)) GivesNull)) ∷ (on 6 (Statement-F.Store (Held (H.Local 0)) (Constant (pos 0)) (Constant (pos 9)))) ∷ (on 7 (Statement-F.FailNext (Constant (pos 1)))) ∷ (on 8 (Statement-F.Realloc (Held (H.Local 1)) (Held (H.Local 0)) (Constant (pos 32)) GivesNull)) ∷ (on 9 (Statement-F.Load 2 (Held (H.Local 0)) (Constant (pos 0)))) ∷ (on 10 (Statement-F.PrintNumber (Variable 2))) ∷ (on 11 (Statement-F.Free (Held (H.Local 0)))) ∷ (on 12 (Statement-F.Free (Held (H.Local 1)))) ∷ [] } }) ∷ []; operations = []; literals = []; main = 0 }
 
 refused_growth_keeps_the_cell_run : run script_refused_growth_keeps_the_cell_run R.Unlimited 10000 (shaped 4096 4096) ≡ record { outcome = Ended None []; trace = (line 1 144 0 Granted) ∷ (line 2 32 144 Granted) ∷ (line 3 48 144 Simulated) ∷ []; lines = (57 ∷ []) ∷ []; notes = []; steps = 8 }
 unfolding everything
 refused_growth_keeps_the_cell_run = refl
 
 abbrev script_refused_growth_over_its_own_pointer_leaks_run : Script
-script_refused_growth_over_its_own_pointer_leaks_run = record { classes = []; procedures = (record { parameters = []; body = record { locals = (OfPointer None) ∷ []; statements = rolled ((Statement-F.Alloc (Held (H.Local 0)) (Constant (pos 16)) GivesNull) ∷ (Statement-F.FailNext (Constant (pos 1))) ∷ (Statement-F.Realloc (Held (H.Local 0)) (Held (H.Local 0)) (Constant (pos 32)) GivesNull) ∷ (Statement-F.Free (Held (H.Local 0))) ∷ []) } }) ∷ []; operations = []; literals = []; main = 0 }
+script_refused_growth_over_its_own_pointer_leaks_run = record { classes = []; procedures = (record { line = 1; parameters = []; body = record { locals = (OfPointer None) ∷ []; statements = (on 3 (Statement-F.Alloc (Held (H.Local 0)) (Constant (pos 16)) GivesNull)) ∷ (on 4 (Statement-F.FailNext (Constant (pos 1)))) ∷ (on 5 (Statement-F.Realloc (Held (H.Local 0)) (Held (H.Local 0)) (Constant (pos 32)) GivesNull)) ∷ (on 6 (Statement-F.Free (Held (H.Local 0)))) ∷ [] } }) ∷ []; operations = []; literals = []; main = 0 }
 
 refused_growth_over_its_own_pointer_leaks_run : run script_refused_growth_over_its_own_pointer_leaks_run R.Unlimited 10000 (shaped 4096 4096) ≡ record { outcome = Ended None ((record { number = 2; length = 32; place = 144 }) ∷ []); trace = (line 1 144 0 Granted) ∷ (line 2 32 144 Granted) ∷ (line 3 48 144 Simulated) ∷ []; lines = []; notes = []; steps = 4 }
 unfolding everything
 refused_growth_over_its_own_pointer_leaks_run = refl
 
 abbrev script_second_next_request_fails_run : Script
-script_second_next_request_fails_run = record { classes = []; procedures = (record { parameters = []; body = record { locals = (OfPointer None) ∷ (OfPointer None) ∷ (OfPointer None) ∷ []; statements = rolled ((Statement-F.FailNext (Constant (pos 2))) ∷ (Statement-F.Alloc (Held (H.Local 0)) (Constant (pos 1)) GivesNull) ∷ (Statement-F.Alloc (Held (H.Local 1)) (Constant (pos 1)) GivesNull) ∷ (Statement-F.Alloc (Held (H.Local 2)) (Constant (pos 1)) GivesNull) ∷ (Statement-F.Free (Held (H.Local 0))) ∷ (Statement-F.Free (Held (H.Local 1))) ∷ (Statement-F.Free (Held (H.Local 2))) ∷ []) } }) ∷ []; operations = []; literals = []; main = 0 }
+script_second_next_request_fails_run = record { classes = []; procedures = (record { line = 1; parameters = []; body = record { locals = (OfPointer None) ∷ (OfPointer None) ∷ (OfPointer None) ∷ []; statements = (on 5 (Statement-F.FailNext (Constant (pos 2)))) ∷ (on 6 (Statement-F.Alloc (Held (H.Local 0)) (Constant (pos 1)) GivesNull)) ∷ (on 7 (Statement-F.Alloc (Held (H.Local 1)) (Constant (pos 1)) GivesNull)) ∷ (on 8 (Statement-F.Alloc (Held (H.Local 2)) (Constant (pos 1)) GivesNull)) ∷ (on 9 (Statement-F.Free (Held (H.Local 0)))) ∷ (on 10 (Statement-F.Free (Held (H.Local 1)))) ∷ (on 11 (Statement-F.Free (Held (H.Local 2)))) ∷ [] } }) ∷ []; operations = []; literals = []; main = 0 }
 
 second_next_request_fails_run : run script_second_next_request_fails_run R.Unlimited 10000 (shaped 4096 4096) ≡ record { outcome = Ended None []; trace = (line 1 144 0 Granted) ∷ (line 2 32 144 Granted) ∷ (line 3 32 176 Simulated) ∷ (line 4 32 176 Granted) ∷ []; lines = []; notes = []; steps = 7 }
 unfolding everything
 second_next_request_fails_run = refl
 
 abbrev script_setting_and_number_refuse_one_after_the_other_run : Script
-script_setting_and_number_refuse_one_after_the_other_run = record { classes = []; procedures = (record { parameters = []; body = record { locals = (OfPointer None) ∷ []; statements = rolled ((Statement-F.FailNext (Constant (pos 1))) ∷ (Statement-F.Alloc (Held (H.Local 0)) (Constant (pos 1)) GivesNull) ∷ (Statement-F.Alloc (Held (H.Local 0)) (Constant (pos 1)) GivesNull) ∷ (Statement-F.Alloc (Held (H.Local 0)) (Constant (pos 1)) GivesNull) ∷ (Statement-F.Free (Held (H.Local 0))) ∷ []) } }) ∷ []; operations = []; literals = []; main = 0 }
+script_setting_and_number_refuse_one_after_the_other_run = record { classes = []; procedures = (record { line = 1; parameters = []; body = record { locals = (OfPointer None) ∷ []; statements = (on 3 (Statement-F.FailNext (Constant (pos 1)))) ∷ (on 4 (Statement-F.Alloc (Held (H.Local 0)) (Constant (pos 1)) GivesNull)) ∷ (on 5 (Statement-F.Alloc (Held (H.Local 0)) (Constant (pos 1)) GivesNull)) ∷ (on 6 (Statement-F.Alloc (Held (H.Local 0)) (Constant (pos 1)) GivesNull)) ∷ (on 7 (Statement-F.Free (Held (H.Local 0)))) ∷ [] } }) ∷ []; operations = []; literals = []; main = 0 }
 
 setting_and_number_refuse_one_after_the_other_run : run script_setting_and_number_refuse_one_after_the_other_run (R.Number 3) 10000 (shaped 4096 4096) ≡ record { outcome = Ended None []; trace = (line 1 144 0 Granted) ∷ (line 2 32 144 Simulated) ∷ (line 3 32 144 Simulated) ∷ (line 4 32 144 Granted) ∷ []; lines = []; notes = []; steps = 5 }
 unfolding everything
 setting_and_number_refuse_one_after_the_other_run = refl
 
 abbrev script_setting_counts_what_the_number_refuses_run : Script
-script_setting_counts_what_the_number_refuses_run = record { classes = []; procedures = (record { parameters = []; body = record { locals = (OfPointer None) ∷ []; statements = rolled ((Statement-F.FailNext (Constant (pos 2))) ∷ (Statement-F.Alloc (Held (H.Local 0)) (Constant (pos 1)) GivesNull) ∷ (Statement-F.Alloc (Held (H.Local 0)) (Constant (pos 1)) GivesNull) ∷ (Statement-F.Alloc (Held (H.Local 0)) (Constant (pos 1)) GivesNull) ∷ (Statement-F.Free (Held (H.Local 0))) ∷ []) } }) ∷ []; operations = []; literals = []; main = 0 }
+script_setting_counts_what_the_number_refuses_run = record { classes = []; procedures = (record { line = 1; parameters = []; body = record { locals = (OfPointer None) ∷ []; statements = (on 3 (Statement-F.FailNext (Constant (pos 2)))) ∷ (on 4 (Statement-F.Alloc (Held (H.Local 0)) (Constant (pos 1)) GivesNull)) ∷ (on 5 (Statement-F.Alloc (Held (H.Local 0)) (Constant (pos 1)) GivesNull)) ∷ (on 6 (Statement-F.Alloc (Held (H.Local 0)) (Constant (pos 1)) GivesNull)) ∷ (on 7 (Statement-F.Free (Held (H.Local 0)))) ∷ [] } }) ∷ []; operations = []; literals = []; main = 0 }
 
 setting_counts_what_the_number_refuses_run : run script_setting_counts_what_the_number_refuses_run (R.Number 2) 10000 (shaped 4096 4096) ≡ record { outcome = Ended None []; trace = (line 1 144 0 Granted) ∷ (line 2 32 144 Simulated) ∷ (line 3 32 144 Simulated) ∷ (line 4 32 144 Granted) ∷ []; lines = []; notes = []; steps = 5 }
 unfolding everything
 setting_counts_what_the_number_refuses_run = refl
 
 abbrev script_setting_is_asked_before_the_limit_run : Script
-script_setting_is_asked_before_the_limit_run = record { classes = []; procedures = (record { parameters = []; body = record { locals = (OfPointer None) ∷ []; statements = rolled ((Statement-F.FailNext (Constant (pos 1))) ∷ (Statement-F.Alloc (Held (H.Local 0)) (Constant (pos 1)) GivesNull) ∷ (Statement-F.Alloc (Held (H.Local 0)) (Constant (pos 1)) GivesNull) ∷ (Statement-F.Free (Held (H.Local 0))) ∷ []) } }) ∷ []; operations = []; literals = []; main = 0 }
+script_setting_is_asked_before_the_limit_run = record { classes = []; procedures = (record { line = 1; parameters = []; body = record { locals = (OfPointer None) ∷ []; statements = (on 3 (Statement-F.FailNext (Constant (pos 1)))) ∷ (on 4 (Statement-F.Alloc (Held (H.Local 0)) (Constant (pos 1)) GivesNull)) ∷ (on 5 (Statement-F.Alloc (Held (H.Local 0)) (Constant (pos 1)) GivesNull)) ∷ (on 6 (Statement-F.Free (Held (H.Local 0)))) ∷ [] } }) ∷ []; operations = []; literals = []; main = 0 }
 
 setting_is_asked_before_the_limit_run : run script_setting_is_asked_before_the_limit_run (R.Limit 175) 10000 (shaped 4096 4096) ≡ record { outcome = Ended None []; trace = (line 1 144 0 Granted) ∷ (line 2 32 144 Simulated) ∷ (line 3 32 144 Refused) ∷ []; lines = []; notes = []; steps = 4 }
 unfolding everything
 setting_is_asked_before_the_limit_run = refl
 
 abbrev script_shrinking_is_no_attempt_run : Script
-script_shrinking_is_no_attempt_run = record { classes = []; procedures = (record { parameters = []; body = record { locals = (OfPointer None) ∷ (OfPointer None) ∷ []; statements = rolled ((Statement-F.Alloc (Held (H.Local 0)) (Constant (pos 32)) GivesNull) ∷ (Statement-F.FailNext (Constant (pos 1))) ∷ (Statement-F.Realloc (Held (H.Local 0)) (Held (H.Local 0)) (Constant (pos 5)) GivesNull) ∷ (Statement-F.Realloc (Held (H.Local 1)) (Held (H.Local 0)) (Constant (pos 17)) GivesNull) ∷ (Statement-F.Free (Held (H.Local 0))) ∷ []) } }) ∷ []; operations = []; literals = []; main = 0 }
+script_shrinking_is_no_attempt_run = record { classes = []; procedures = (record { line = 1; parameters = []; body = record { locals = (OfPointer None) ∷ (OfPointer None) ∷ []; statements = (on 4 (Statement-F.Alloc (Held (H.Local 0)) (Constant (pos 32)) GivesNull)) ∷ (on 5 (Statement-F.FailNext (Constant (pos 1)))) ∷ (on 6 (Statement-F.Realloc (Held (H.Local 0)) (Held (H.Local 0)) (Constant (pos 5)) GivesNull)) ∷ (on 7 (Statement-F.Realloc (Held (H.Local 1)) (Held (H.Local 0)) (Constant (pos 17)) GivesNull)) ∷ (on 8 (Statement-F.Free (Held (H.Local 0)))) ∷ [] } }) ∷ []; operations = []; literals = []; main = 0 }
 
 shrinking_is_no_attempt_run : run script_shrinking_is_no_attempt_run R.Unlimited 10000 (shaped 4096 4096) ≡ record { outcome = Ended None []; trace = (line 1 144 0 Granted) ∷ (line 2 48 144 Granted) ∷ (line 3 48 144 Simulated) ∷ []; lines = []; notes = []; steps = 5 }
 unfolding everything
 shrinking_is_no_attempt_run = refl
 
 abbrev script_stale_pointer_can_be_copied_run : Script
-script_stale_pointer_can_be_copied_run = record { classes = []; procedures = (record { parameters = []; body = record { locals = (OfPointer None) ∷ (OfPointer None) ∷ []; statements = rolled ((Statement-F.Alloc (Held (H.Local 0)) (Constant (pos 1)) GivesNull) ∷ (Statement-F.Free (Held (H.Local 0))) ∷ (Statement-F.Set (Held (H.Local 1)) (Held (H.Local 0))) ∷ (Statement-F.SetNull (Held (H.Local 0))) ∷ (Statement-F.Free (Held (H.Local 0))) ∷ (Statement-F.Free (Held (H.Local 1))) ∷ []) } }) ∷ []; operations = []; literals = []; main = 0 }
+script_stale_pointer_can_be_copied_run = record { classes = []; procedures = (record { line = 1; parameters = []; body = record { locals = (OfPointer None) ∷ (OfPointer None) ∷ []; statements = (on 4 (Statement-F.Alloc (Held (H.Local 0)) (Constant (pos 1)) GivesNull)) ∷ (on 5 (Statement-F.Free (Held (H.Local 0)))) ∷ (on 6 (Statement-F.Set (Held (H.Local 1)) (Held (H.Local 0)))) ∷ (on 7 (Statement-F.SetNull (Held (H.Local 0)))) ∷ (on 8 (Statement-F.Free (Held (H.Local 0)))) ∷ (on 9 (Statement-F.Free (Held (H.Local 1)))) ∷ [] } }) ∷ []; operations = []; literals = []; main = 0 }
 
 stale_pointer_can_be_copied_run : run script_stale_pointer_can_be_copied_run R.Unlimited 10000 (shaped 4096 4096) ≡ record { outcome = Panicked (P.User 42); trace = (line 1 144 0 Granted) ∷ (line 2 32 144 Granted) ∷ []; lines = []; notes = []; steps = 6 }
 unfolding everything
 stale_pointer_can_be_copied_run = refl
 
 abbrev script_sum_below_the_least_number_run : Script
-script_sum_below_the_least_number_run = record { classes = []; procedures = (record { parameters = []; body = record { locals = OfNumber ∷ []; statements = rolled ((Statement-F.SetNumber 0 (Constant (negsuc 999999998))) ∷ (Statement-F.Add 0 (Variable 0)) ∷ (Statement-F.Add 0 (Constant (negsuc 147483649))) ∷ (Statement-F.PrintNumber (Variable 0)) ∷ (Statement-F.Add 0 (Constant (negsuc 0))) ∷ []) } }) ∷ []; operations = []; literals = []; main = 0 }
+script_sum_below_the_least_number_run = record { classes = []; procedures = (record { line = 1; parameters = []; body = record { locals = OfNumber ∷ []; statements = (on 3 (Statement-F.SetNumber 0 (Constant (negsuc 999999998)))) ∷ (on 4 (Statement-F.Add 0 (Variable 0))) ∷ (on 5 (Statement-F.Add 0 (Constant (negsuc 147483649)))) ∷ (on 6 (Statement-F.PrintNumber (Variable 0))) ∷ (on 7 (Statement-F.Add 0 (Constant (negsuc 0)))) ∷ [] } }) ∷ []; operations = []; literals = []; main = 0 }
 
 sum_below_the_least_number_run : run script_sum_below_the_least_number_run R.Unlimited 10000 (shaped 4096 4096) ≡ record { outcome = Panicked (P.Workbench 9); trace = (line 1 144 0 Granted) ∷ []; lines = (45 ∷ 50 ∷ 49 ∷ 52 ∷ 55 ∷ 52 ∷ 56 ∷ 51 ∷ 54 ∷ 52 ∷ 56 ∷ []) ∷ []; notes = []; steps = 5 }
 unfolding everything
 sum_below_the_least_number_run = refl
 
 abbrev script_sum_of_the_ends_is_in_range_run : Script
-script_sum_of_the_ends_is_in_range_run = record { classes = []; procedures = (record { parameters = []; body = record { locals = OfNumber ∷ OfNumber ∷ []; statements = rolled ((Statement-F.SetNumber 0 (Constant (pos 999999999))) ∷ (Statement-F.Add 0 (Variable 0)) ∷ (Statement-F.Add 0 (Constant (pos 147483649))) ∷ (Statement-F.Add 1 (Constant (negsuc 0))) ∷ (Statement-F.Add 0 (Variable 1)) ∷ (Statement-F.PrintNumber (Variable 0)) ∷ []) } }) ∷ []; operations = []; literals = []; main = 0 }
+script_sum_of_the_ends_is_in_range_run = record { classes = []; procedures = (record { line = 1; parameters = []; body = record { locals = OfNumber ∷ OfNumber ∷ []; statements = (on 4 (Statement-F.SetNumber 0 (Constant (pos 999999999)))) ∷ (on 5 (Statement-F.Add 0 (Variable 0))) ∷ (on 6 (Statement-F.Add 0 (Constant (pos 147483649)))) ∷ (on 7 (Statement-F.Add 1 (Constant (negsuc 0)))) ∷ (on 8 (Statement-F.Add 0 (Variable 1))) ∷ (on 9 (Statement-F.PrintNumber (Variable 0))) ∷ [] } }) ∷ []; operations = []; literals = []; main = 0 }
 
 sum_of_the_ends_is_in_range_run : run script_sum_of_the_ends_is_in_range_run R.Unlimited 10000 (shaped 4096 4096) ≡ record { outcome = Ended None []; trace = (line 1 144 0 Granted) ∷ []; lines = (50 ∷ 49 ∷ 52 ∷ 55 ∷ 52 ∷ 56 ∷ 51 ∷ 54 ∷ 52 ∷ 54 ∷ []) ∷ []; notes = []; steps = 6 }
 unfolding everything
 sum_of_the_ends_is_in_range_run = refl
 
 abbrev script_sum_past_the_greatest_number_run : Script
-script_sum_past_the_greatest_number_run = record { classes = []; procedures = (record { parameters = []; body = record { locals = OfNumber ∷ []; statements = rolled ((Statement-F.SetNumber 0 (Constant (pos 999999999))) ∷ (Statement-F.Add 0 (Variable 0)) ∷ (Statement-F.Add 0 (Constant (pos 147483649))) ∷ (Statement-F.PrintNumber (Variable 0)) ∷ (Statement-F.Add 0 (Constant (pos 1))) ∷ []) } }) ∷ []; operations = []; literals = []; main = 0 }
+script_sum_past_the_greatest_number_run = record { classes = []; procedures = (record { line = 1; parameters = []; body = record { locals = OfNumber ∷ []; statements = (on 3 (Statement-F.SetNumber 0 (Constant (pos 999999999)))) ∷ (on 4 (Statement-F.Add 0 (Variable 0))) ∷ (on 5 (Statement-F.Add 0 (Constant (pos 147483649)))) ∷ (on 6 (Statement-F.PrintNumber (Variable 0))) ∷ (on 7 (Statement-F.Add 0 (Constant (pos 1)))) ∷ [] } }) ∷ []; operations = []; literals = []; main = 0 }
 
 sum_past_the_greatest_number_run : run script_sum_past_the_greatest_number_run R.Unlimited 10000 (shaped 4096 4096) ≡ record { outcome = Panicked (P.Workbench 9); trace = (line 1 144 0 Granted) ∷ []; lines = (50 ∷ 49 ∷ 52 ∷ 55 ∷ 52 ∷ 56 ∷ 51 ∷ 54 ∷ 52 ∷ 55 ∷ []) ∷ []; notes = []; steps = 5 }
 unfolding everything
 sum_past_the_greatest_number_run = refl
 
 abbrev script_tail_of_a_shrunk_cell_is_reused_run : Script
-script_tail_of_a_shrunk_cell_is_reused_run = record { classes = []; procedures = (record { parameters = []; body = record { locals = (OfPointer None) ∷ (OfPointer None) ∷ (OfPointer None) ∷ []; statements = rolled ((Statement-F.Alloc (Held (H.Local 0)) (Constant (pos 64)) GivesNull) ∷ (Statement-F.Alloc (Held (H.Local 1)) (Constant (pos 1)) GivesNull) ∷ (Statement-F.Realloc (Held (H.Local 0)) (Held (H.Local 0)) (Constant (pos 16)) GivesNull) ∷ (Statement-F.Alloc (Held (H.Local 2)) (Constant (pos 32)) GivesNull) ∷ (Statement-F.Free (Held (H.Local 0))) ∷ (Statement-F.Free (Held (H.Local 1))) ∷ (Statement-F.Free (Held (H.Local 2))) ∷ []) } }) ∷ []; operations = []; literals = []; main = 0 }
+script_tail_of_a_shrunk_cell_is_reused_run = record { classes = []; procedures = (record { line = 1; parameters = []; body = record { locals = (OfPointer None) ∷ (OfPointer None) ∷ (OfPointer None) ∷ []; statements = (on 5 (Statement-F.Alloc (Held (H.Local 0)) (Constant (pos 64)) GivesNull)) ∷ (on 6 (Statement-F.Alloc (Held (H.Local 1)) (Constant (pos 1)) GivesNull)) ∷ (on 7 (Statement-F.Realloc (Held (H.Local 0)) (Held (H.Local 0)) (Constant (pos 16)) GivesNull)) ∷ (on 8 (Statement-F.Alloc (Held (H.Local 2)) (Constant (pos 32)) GivesNull)) ∷ (on 9 (Statement-F.Free (Held (H.Local 0)))) ∷ (on 10 (Statement-F.Free (Held (H.Local 1)))) ∷ (on 11 (Statement-F.Free (Held (H.Local 2)))) ∷ [] } }) ∷ []; operations = []; literals = []; main = 0 }
 
 tail_of_a_shrunk_cell_is_reused_run : run script_tail_of_a_shrunk_cell_is_reused_run R.Unlimited 10000 (shaped 4096 4096) ≡ record { outcome = Ended None []; trace = (line 1 144 0 Granted) ∷ (line 2 80 144 Granted) ∷ (line 3 32 224 Granted) ∷ (line 4 48 176 Granted) ∷ []; lines = []; notes = []; steps = 7 }
 unfolding everything
 tail_of_a_shrunk_cell_is_reused_run = refl
 
 abbrev script_two_pointers_name_one_cell_run : Script
-script_two_pointers_name_one_cell_run = record { classes = []; procedures = (record { parameters = []; body = record { locals = (OfPointer None) ∷ (OfPointer None) ∷ OfNumber ∷ []; statements = rolled ((Statement-F.Alloc (Held (H.Local 0)) (Constant (pos 8)) GivesNull) ∷ (Statement-F.Set (Held (H.Local 1)) (Held (H.Local 0))) ∷ (Statement-F.Store (Held (H.Local 1)) (Constant (pos 0)) (Constant (negsuc 4))) ∷ (Statement-F.Load 2 (Held (H.Local 0)) (Constant (pos 0))) ∷ (Statement-F.PrintNumber (Variable 2)) ∷ (Statement-F.Free (Held (H.Local 1))) ∷ (Statement-F.Load 2 (Held (H.Local 0)) (Constant (pos 0))) ∷ []) } }) ∷ []; operations = []; literals = []; main = 0 }
+script_two_pointers_name_one_cell_run = record { classes = []; procedures = (record { line = 1; parameters = []; body = record { locals = (OfPointer None) ∷ (OfPointer None) ∷ OfNumber ∷ []; statements = (on 5 (Statement-F.Alloc (Held (H.Local 0)) (Constant (pos 8)) GivesNull)) ∷ (on 6 (Statement-F.Set (Held (H.Local 1)) (Held (H.Local 0)))) ∷ (on 7 (Statement-F.Store (Held (H.Local 1)) (Constant (pos 0)) (Constant (negsuc 4)))) ∷ (on 8 (Statement-F.Load 2 (Held (H.Local 0)) (Constant (pos 0)))) ∷ (on 9 (Statement-F.PrintNumber (Variable 2))) ∷ (on 10 (Statement-F.Free (Held (H.Local 1)))) ∷ (on 11 (Statement-F.Load 2 (Held (H.Local 0)) (Constant (pos 0)))) ∷ [] } }) ∷ []; operations = []; literals = []; main = 0 }
 
 two_pointers_name_one_cell_run : run script_two_pointers_name_one_cell_run R.Unlimited 10000 (shaped 4096 4096) ≡ record { outcome = Panicked (P.Workbench 1); trace = (line 1 144 0 Granted) ∷ (line 2 32 144 Granted) ∷ []; lines = (45 ∷ 53 ∷ []) ∷ []; notes = []; steps = 7 }
 unfolding everything
 two_pointers_name_one_cell_run = refl
 
 abbrev script_usable_length_is_rounded_up_run : Script
-script_usable_length_is_rounded_up_run = record { classes = []; procedures = (record { parameters = []; body = record { locals = (OfPointer None) ∷ OfNumber ∷ []; statements = rolled ((Statement-F.Alloc (Held (H.Local 0)) (Constant (pos 1)) GivesNull) ∷ (Statement-F.AllocLen 1 (Held (H.Local 0))) ∷ (Statement-F.PrintNumber (Variable 1)) ∷ (Statement-F.Realloc (Held (H.Local 0)) (Held (H.Local 0)) (Constant (pos 17)) GivesNull) ∷ (Statement-F.AllocLen 1 (Held (H.Local 0))) ∷ (Statement-F.PrintNumber (Variable 1)) ∷ (Statement-F.Realloc (Held (H.Local 0)) (Held (H.Local 0)) (Constant (pos 16)) GivesNull) ∷ (Statement-F.AllocLen 1 (Held (H.Local 0))) ∷ (Statement-F.PrintNumber (Variable 1)) ∷ (Statement-F.Realloc (Held (H.Local 0)) (Held (H.Local 0)) (Constant (pos 0)) GivesNull) ∷ (Statement-F.AllocLen 1 (Held (H.Local 0))) ∷ (Statement-F.PrintNumber (Variable 1)) ∷ (Statement-F.Free (Held (H.Local 0))) ∷ []) } }) ∷ []; operations = []; literals = []; main = 0 }
+script_usable_length_is_rounded_up_run = record { classes = []; procedures = (record { line = 1; parameters = []; body = record { locals = (OfPointer None) ∷ OfNumber ∷ []; statements = (on 4 (Statement-F.Alloc (Held (H.Local 0)) (Constant (pos 1)) GivesNull)) ∷ (on 5 (Statement-F.AllocLen 1 (Held (H.Local 0)))) ∷ (on 6 (Statement-F.PrintNumber (Variable 1))) ∷ (on 7 (Statement-F.Realloc (Held (H.Local 0)) (Held (H.Local 0)) (Constant (pos 17)) GivesNull)) ∷ (on 8 (Statement-F.AllocLen 1 (Held (H.Local 0)))) ∷ (on 9 (Statement-F.PrintNumber (Variable 1))) ∷ (on 10 (Statement-F.Realloc (Held (H.Local 0)) (Held (H.Local 0)) (Constant (pos 16)) GivesNull)) ∷ (on 11 (Statement-F.AllocLen 1 (Held (H.Local 0)))) ∷ (on 12 (Statement-F.PrintNumber (Variable 1))) ∷ (on 13 (Statement-F.Realloc (Held (H.Local 0)) (Held (H.Local 0)) (Constant (pos 0)) GivesNull)) ∷ (on 14 (Statement-F.AllocLen 1 (Held (H.Local 0)))) ∷ (on 15 (Statement-F.PrintNumber (Variable 1))) ∷ (on 16 (Statement-F.Free (Held (H.Local 0)))) ∷ [] } }) ∷ []; operations = []; literals = []; main = 0 }
 
 usable_length_is_rounded_up_run : run script_usable_length_is_rounded_up_run R.Unlimited 10000 (shaped 4096 4096) ≡ record { outcome = Ended None []; trace = (line 1 144 0 Granted) ∷ (line 2 32 144 Granted) ∷ (line 3 48 144 Granted) ∷ []; lines = (49 ∷ 54 ∷ []) ∷ (51 ∷ 50 ∷ []) ∷ (49 ∷ 54 ∷ []) ∷ (48 ∷ []) ∷ []; notes = []; steps = 13 }
 unfolding everything
 usable_length_is_rounded_up_run = refl
 
 abbrev script_usable_length_of_a_freed_cell_run : Script
-script_usable_length_of_a_freed_cell_run = record { classes = []; procedures = (record { parameters = []; body = record { locals = (OfPointer None) ∷ OfNumber ∷ []; statements = rolled ((Statement-F.Alloc (Held (H.Local 0)) (Constant (pos 1)) GivesNull) ∷ (Statement-F.Free (Held (H.Local 0))) ∷ (Statement-F.AllocLen 1 (Held (H.Local 0))) ∷ []) } }) ∷ []; operations = []; literals = []; main = 0 }
+script_usable_length_of_a_freed_cell_run = record { classes = []; procedures = (record { line = 1; parameters = []; body = record { locals = (OfPointer None) ∷ OfNumber ∷ []; statements = (on 4 (Statement-F.Alloc (Held (H.Local 0)) (Constant (pos 1)) GivesNull)) ∷ (on 5 (Statement-F.Free (Held (H.Local 0)))) ∷ (on 6 (Statement-F.AllocLen 1 (Held (H.Local 0)))) ∷ [] } }) ∷ []; operations = []; literals = []; main = 0 }
 
 usable_length_of_a_freed_cell_run : run script_usable_length_of_a_freed_cell_run R.Unlimited 10000 (shaped 4096 4096) ≡ record { outcome = Panicked (P.User 42); trace = (line 1 144 0 Granted) ∷ (line 2 32 144 Granted) ∷ []; lines = []; notes = []; steps = 3 }
 unfolding everything
 usable_length_of_a_freed_cell_run = refl
 
 abbrev script_usable_length_of_null_run : Script
-script_usable_length_of_null_run = record { classes = []; procedures = (record { parameters = []; body = record { locals = (OfPointer None) ∷ OfNumber ∷ []; statements = rolled ((Statement-F.AllocLen 1 (Held (H.Local 0))) ∷ []) } }) ∷ []; operations = []; literals = []; main = 0 }
+script_usable_length_of_null_run = record { classes = []; procedures = (record { line = 1; parameters = []; body = record { locals = (OfPointer None) ∷ OfNumber ∷ []; statements = (on 4 (Statement-F.AllocLen 1 (Held (H.Local 0)))) ∷ [] } }) ∷ []; operations = []; literals = []; main = 0 }
 
 usable_length_of_null_run : run script_usable_length_of_null_run R.Unlimited 10000 (shaped 4096 4096) ≡ record { outcome = Panicked (P.User 42); trace = (line 1 144 0 Granted) ∷ []; lines = []; notes = []; steps = 1 }
 unfolding everything
 usable_length_of_null_run = refl
 
 abbrev script_word_before_the_first_run : Script
-script_word_before_the_first_run = record { classes = []; procedures = (record { parameters = []; body = record { locals = (OfPointer None) ∷ OfNumber ∷ []; statements = rolled ((Statement-F.Alloc (Held (H.Local 0)) (Constant (pos 1)) GivesNull) ∷ (Statement-F.SetNumber 1 (Constant (negsuc 0))) ∷ (Statement-F.Store (Held (H.Local 0)) (Variable 1) (Constant (pos 1))) ∷ []) } }) ∷ []; operations = []; literals = []; main = 0 }
+script_word_before_the_first_run = record { classes = []; procedures = (record { line = 1; parameters = []; body = record { locals = (OfPointer None) ∷ OfNumber ∷ []; statements = (on 4 (Statement-F.Alloc (Held (H.Local 0)) (Constant (pos 1)) GivesNull)) ∷ (on 5 (Statement-F.SetNumber 1 (Constant (negsuc 0)))) ∷ (on 6 (Statement-F.Store (Held (H.Local 0)) (Variable 1) (Constant (pos 1)))) ∷ [] } }) ∷ []; operations = []; literals = []; main = 0 }
 
 word_before_the_first_run : run script_word_before_the_first_run R.Unlimited 10000 (shaped 4096 4096) ≡ record { outcome = Panicked (P.Workbench 9); trace = (line 1 144 0 Granted) ∷ (line 2 32 144 Granted) ∷ []; lines = []; notes = []; steps = 3 }
 unfolding everything
 word_before_the_first_run = refl
 
 abbrev script_word_behind_the_last_run : Script
-script_word_behind_the_last_run = record { classes = []; procedures = (record { parameters = []; body = record { locals = (OfPointer None) ∷ OfNumber ∷ []; statements = rolled ((Statement-F.Alloc (Held (H.Local 0)) (Constant (pos 1)) GivesNull) ∷ (Statement-F.Load 1 (Held (H.Local 0)) (Constant (pos 3))) ∷ (Statement-F.Load 1 (Held (H.Local 0)) (Constant (pos 4))) ∷ []) } }) ∷ []; operations = []; literals = []; main = 0 }
+script_word_behind_the_last_run = record { classes = []; procedures = (record { line = 1; parameters = []; body = record { locals = (OfPointer None) ∷ OfNumber ∷ []; statements = (on 4 (Statement-F.Alloc (Held (H.Local 0)) (Constant (pos 1)) GivesNull)) ∷ (on 5 (Statement-F.Load 1 (Held (H.Local 0)) (Constant (pos 3)))) ∷ (on 6 (Statement-F.Load 1 (Held (H.Local 0)) (Constant (pos 4)))) ∷ [] } }) ∷ []; operations = []; literals = []; main = 0 }
 
 word_behind_the_last_run : run script_word_behind_the_last_run R.Unlimited 10000 (shaped 4096 4096) ≡ record { outcome = Panicked (P.Workbench 9); trace = (line 1 144 0 Granted) ∷ (line 2 32 144 Granted) ∷ []; lines = []; notes = []; steps = 3 }
 unfolding everything
 word_behind_the_last_run = refl
 
 abbrev script_word_of_no_cell_run : Script
-script_word_of_no_cell_run = record { classes = []; procedures = (record { parameters = []; body = record { locals = (OfPointer None) ∷ OfNumber ∷ []; statements = rolled ((Statement-F.Load 1 (Held (H.Local 0)) (Constant (negsuc 0))) ∷ []) } }) ∷ []; operations = []; literals = []; main = 0 }
+script_word_of_no_cell_run = record { classes = []; procedures = (record { line = 1; parameters = []; body = record { locals = (OfPointer None) ∷ OfNumber ∷ []; statements = (on 4 (Statement-F.Load 1 (Held (H.Local 0)) (Constant (negsuc 0)))) ∷ [] } }) ∷ []; operations = []; literals = []; main = 0 }
 
 word_of_no_cell_run : run script_word_of_no_cell_run R.Unlimited 10000 (shaped 4096 4096) ≡ record { outcome = Panicked (P.Workbench 1); trace = (line 1 144 0 Granted) ∷ []; lines = []; notes = []; steps = 1 }
 unfolding everything
 word_of_no_cell_run = refl
 
 abbrev script_words_of_a_grown_cell_are_zero_run : Script
-script_words_of_a_grown_cell_are_zero_run = record { classes = []; procedures = (record { parameters = []; body = record { locals = (OfPointer None) ∷ (OfPointer None) ∷ OfNumber ∷ []; statements = rolled ((Statement-F.Alloc (Held (H.Local 0)) (Constant (pos 16)) GivesNull) ∷ (Statement-F.Alloc (Held (H.Local 1)) (Constant (pos 32)) GivesNull) ∷ (Statement-F.Store (Held (H.Local 1)) (Constant (pos 3)) (Constant (pos 7))) ∷ (Statement-F.Store (Held (H.Local 0)) (Constant (pos 3)) (Constant (negsuc 0))) ∷ (Statement-F.Free (Held (H.Local 1))) ∷ (Statement-F.Realloc (Held (H.Local 0)) (Held (H.Local 0)) (Constant (pos 64)) GivesNull) ∷ (Statement-F.Load 2 (Held (H.Local 0)) (Constant (pos 3))) ∷ (Statement-F.PrintNumber (Variable 2)) ∷ (Statement-F.Load 2 (Held (H.Local 0)) (Constant (pos 11))) ∷ (Statement-F.PrintNumber (Variable 2)) ∷ (Statement-F.Free (Held (H.Local 0))) ∷ []) } }) ∷ []; operations = []; literals = []; main = 0 }
+script_words_of_a_grown_cell_are_zero_run = record { classes = []; procedures = (record { line = 1; parameters = []; body = record { locals = (OfPointer None) ∷ (OfPointer None) ∷ OfNumber ∷ []; statements = (on 5 (Statement-F.Alloc (Held (H.Local 0)) (Constant (pos 16)) GivesNull)) ∷ (on 6 (Statement-F.Alloc (Held (H.Local 1)) (Constant (pos 32)) GivesNull)) ∷ (on 7 (Statement-F.Store (Held (H.Local 1)) (Constant (pos 3)) (Constant (pos 7)))) ∷ (on 8 (Statement-F.Store (Held (H.Local 0)) (Constant (pos 3)) (Constant (negsuc 0)))) ∷ (on 9 (Statement-F.Free (Held (H.Local 1)))) ∷ (on 10 (Statement-F.Realloc (Held (H.Local 0)) (Held (H.Local 0)) (Constant (pos 64)) GivesNull)) ∷ (on 11 (Statement-F.Load 2 (Held (H.Local 0)) (Constant (pos 3)))) ∷ (on 12 (Statement-F.PrintNumber (Variable 2))) ∷ (on 13 (Statement-F.Load 2 (Held (H.Local 0)) (Constant (pos 11)))) ∷ (on 14 (Statement-F.PrintNumber (Variable 2))) ∷ (on 15 (Statement-F.Free (Held (H.Local 0)))) ∷ [] } }) ∷ []; operations = []; literals = []; main = 0 }
 
 words_of_a_grown_cell_are_zero_run : run script_words_of_a_grown_cell_are_zero_run R.Unlimited 10000 (shaped 4096 4096) ≡ record { outcome = Ended None []; trace = (line 1 144 0 Granted) ∷ (line 2 32 144 Granted) ∷ (line 3 48 176 Granted) ∷ (line 4 80 144 Granted) ∷ []; lines = (45 ∷ 49 ∷ []) ∷ (48 ∷ []) ∷ []; notes = []; steps = 11 }
 unfolding everything
 words_of_a_grown_cell_are_zero_run = refl
 
 abbrev script_words_of_a_shrunk_cell_are_gone_run : Script
-script_words_of_a_shrunk_cell_are_gone_run = record { classes = []; procedures = (record { parameters = []; body = record { locals = (OfPointer None) ∷ OfNumber ∷ []; statements = rolled ((Statement-F.Alloc (Held (H.Local 0)) (Constant (pos 32)) GivesNull) ∷ (Statement-F.Store (Held (H.Local 0)) (Constant (pos 7)) (Constant (pos 5))) ∷ (Statement-F.Realloc (Held (H.Local 0)) (Held (H.Local 0)) (Constant (pos 16)) GivesNull) ∷ (Statement-F.Realloc (Held (H.Local 0)) (Held (H.Local 0)) (Constant (pos 32)) GivesNull) ∷ (Statement-F.Load 1 (Held (H.Local 0)) (Constant (pos 7))) ∷ (Statement-F.PrintNumber (Variable 1)) ∷ (Statement-F.Free (Held (H.Local 0))) ∷ []) } }) ∷ []; operations = []; literals = []; main = 0 }
+script_words_of_a_shrunk_cell_are_gone_run = record { classes = []; procedures = (record { line = 1; parameters = []; body = record { locals = (OfPointer None) ∷ OfNumber ∷ []; statements = (on 4 (Statement-F.Alloc (Held (H.Local 0)) (Constant (pos 32)) GivesNull)) ∷ (on 5 (Statement-F.Store (Held (H.Local 0)) (Constant (pos 7)) (Constant (pos 5)))) ∷ (on 6 (Statement-F.Realloc (Held (H.Local 0)) (Held (H.Local 0)) (Constant (pos 16)) GivesNull)) ∷ (on 7 (Statement-F.Realloc (Held (H.Local 0)) (Held (H.Local 0)) (Constant (pos 32)) GivesNull)) ∷ (on 8 (Statement-F.Load 1 (Held (H.Local 0)) (Constant (pos 7)))) ∷ (on 9 (Statement-F.PrintNumber (Variable 1))) ∷ (on 10 (Statement-F.Free (Held (H.Local 0)))) ∷ [] } }) ∷ []; operations = []; literals = []; main = 0 }
 
 words_of_a_shrunk_cell_are_gone_run : run script_words_of_a_shrunk_cell_are_gone_run R.Unlimited 10000 (shaped 4096 4096) ≡ record { outcome = Ended None []; trace = (line 1 144 0 Granted) ∷ (line 2 48 144 Granted) ∷ (line 3 48 144 Granted) ∷ []; lines = (48 ∷ []) ∷ []; notes = []; steps = 7 }
 unfolding everything
 words_of_a_shrunk_cell_are_gone_run = refl
 
 abbrev script_callee_appends_to_a_text_that_it_was_passed_run : Script
-script_callee_appends_to_a_text_that_it_was_passed_run = record { classes = []; procedures = (record { parameters = (Par.OfPointer None) ∷ []; body = record { locals = []; statements = rolled ((Statement-F.Append (InCell (Held (H.Local 0))) (Quoted 0)) ∷ (Statement-F.Append (InCell (Held (H.Local 0))) (Of (InCell (Held (H.Local 0))))) ∷ []) } }) ∷ (record { parameters = []; body = record { locals = (OfPointer None) ∷ OfNumber ∷ []; statements = rolled ((Statement-F.NewText (Held (H.Local 0)) (Constant (pos 6)) Leaves) ∷ (Statement-F.Call 0 ((Passed (Held (H.Local 0))) ∷ [])) ∷ (Statement-F.GetLength 1 (Of (InCell (Held (H.Local 0))))) ∷ (Statement-F.PrintNumber (Variable 1)) ∷ (Statement-F.PrintText (Of (InCell (Held (H.Local 0))))) ∷ (Statement-F.Free (Held (H.Local 0))) ∷ []) } }) ∷ []; operations = []; literals = (97 ∷ 98 ∷ []) ∷ []; main = 1 }
+script_callee_appends_to_a_text_that_it_was_passed_run = record { classes = []; procedures = (record { line = 1; parameters = (Par.OfPointer None) ∷ []; body = record { locals = []; statements = (on 2 (Statement-F.Append (InCell (Held (H.Local 0))) (Quoted 0))) ∷ (on 3 (Statement-F.Append (InCell (Held (H.Local 0))) (Of (InCell (Held (H.Local 0)))))) ∷ [] } }) ∷ (record { line = 5; parameters = []; body = record { locals = (OfPointer None) ∷ OfNumber ∷ []; statements = (on 8 (Statement-F.NewText (Held (H.Local 0)) (Constant (pos 6)) Leaves)) ∷ (on 9 (Statement-F.Call 0 ((Passed (Held (H.Local 0))) ∷ []))) ∷ (on 10 (Statement-F.GetLength 1 (Of (InCell (Held (H.Local 0)))))) ∷ (on 11 (Statement-F.PrintNumber (Variable 1))) ∷ (on 12 (Statement-F.PrintText (Of (InCell (Held (H.Local 0)))))) ∷ (on 13 (Statement-F.Free (Held (H.Local 0)))) ∷ [] } }) ∷ []; operations = []; literals = (97 ∷ 98 ∷ []) ∷ []; main = 1 }
 
 callee_appends_to_a_text_that_it_was_passed_run : run script_callee_appends_to_a_text_that_it_was_passed_run R.Unlimited 10000 (shaped 4096 4096) ≡ record { outcome = Ended None []; trace = (line 1 144 0 Granted) ∷ (line 2 32 144 Granted) ∷ []; lines = (52 ∷ []) ∷ (97 ∷ 98 ∷ 97 ∷ 98 ∷ []) ∷ []; notes = []; steps = 8 }
 unfolding everything
 callee_appends_to_a_text_that_it_was_passed_run = refl
 
 abbrev script_callee_frees_what_it_was_passed_run : Script
-script_callee_frees_what_it_was_passed_run = record { classes = []; procedures = (record { parameters = (Par.OfPointer None) ∷ []; body = record { locals = []; statements = rolled ((Statement-F.Free (Held (H.Local 0))) ∷ (Statement-F.SetNull (Held (H.Local 0))) ∷ []) } }) ∷ (record { parameters = []; body = record { locals = (OfPointer None) ∷ OfNumber ∷ []; statements = rolled ((Statement-F.Alloc (Held (H.Local 0)) (Constant (pos 8)) Leaves) ∷ (Statement-F.Call 0 ((Passed (Held (H.Local 0))) ∷ [])) ∷ (Statement-F.If (NotNull (Held (H.Local 0))) (rolled ((Statement-F.PrintText (Quoted 0)) ∷ []))) ∷ (Statement-F.Load 1 (Held (H.Local 0)) (Constant (pos 0))) ∷ []) } }) ∷ []; operations = []; literals = (107 ∷ 101 ∷ 112 ∷ 116 ∷ []) ∷ []; main = 1 }
+script_callee_frees_what_it_was_passed_run = record { classes = []; procedures = (record { line = 1; parameters = (Par.OfPointer None) ∷ []; body = record { locals = []; statements = (on 2 (Statement-F.Free (Held (H.Local 0)))) ∷ (on 3 (Statement-F.SetNull (Held (H.Local 0)))) ∷ [] } }) ∷ (record { line = 5; parameters = []; body = record { locals = (OfPointer None) ∷ OfNumber ∷ []; statements = (on 8 (Statement-F.Alloc (Held (H.Local 0)) (Constant (pos 8)) Leaves)) ∷ (on 9 (Statement-F.Call 0 ((Passed (Held (H.Local 0))) ∷ []))) ∷ (on 10 (Statement-F.If (NotNull (Held (H.Local 0))) ((on 11 (Statement-F.PrintText (Quoted 0))) ∷ []))) ∷ (on 13 (Statement-F.Load 1 (Held (H.Local 0)) (Constant (pos 0)))) ∷ [] } }) ∷ []; operations = []; literals = (107 ∷ 101 ∷ 112 ∷ 116 ∷ []) ∷ []; main = 1 }
 
 callee_frees_what_it_was_passed_run : run script_callee_frees_what_it_was_passed_run R.Unlimited 10000 (shaped 4096 4096) ≡ record { outcome = Panicked (P.Workbench 1); trace = (line 1 144 0 Granted) ∷ (line 2 32 144 Granted) ∷ []; lines = (107 ∷ 101 ∷ 112 ∷ 116 ∷ []) ∷ []; notes = []; steps = 7 }
 unfolding everything
 callee_frees_what_it_was_passed_run = refl
 
 abbrev script_callee_pops_an_item_of_its_caller_run : Script
-script_callee_pops_an_item_of_its_caller_run = record { classes = []; procedures = (record { parameters = []; body = record { locals = []; statements = rolled ((Statement-F.Pop (Constant (pos 1))) ∷ []) } }) ∷ (record { parameters = []; body = record { locals = (OfPointer None) ∷ []; statements = rolled ((Statement-F.Push (Held (H.Local 0))) ∷ (Statement-F.Call 0 []) ∷ []) } }) ∷ []; operations = []; literals = []; main = 1 }
+script_callee_pops_an_item_of_its_caller_run = record { classes = []; procedures = (record { line = 1; parameters = []; body = record { locals = []; statements = (on 2 (Statement-F.Pop (Constant (pos 1)))) ∷ [] } }) ∷ (record { line = 4; parameters = []; body = record { locals = (OfPointer None) ∷ []; statements = (on 6 (Statement-F.Push (Held (H.Local 0)))) ∷ (on 7 (Statement-F.Call 0 [])) ∷ [] } }) ∷ []; operations = []; literals = []; main = 1 }
 
 callee_pops_an_item_of_its_caller_run : run script_callee_pops_an_item_of_its_caller_run R.Unlimited 10000 (shaped 4096 4096) ≡ record { outcome = Ended None []; trace = (line 1 144 0 Granted) ∷ []; lines = []; notes = []; steps = 3 }
 unfolding everything
 callee_pops_an_item_of_its_caller_run = refl
 
 abbrev script_callee_writes_into_what_it_was_passed_run : Script
-script_callee_writes_into_what_it_was_passed_run = record { classes = []; procedures = (record { parameters = (Par.OfPointer None) ∷ Par.OfNumber ∷ []; body = record { locals = []; statements = rolled ((Statement-F.Store (Held (H.Local 0)) (Constant (pos 0)) (Variable 1)) ∷ (Statement-F.Add 1 (Constant (pos 1))) ∷ (Statement-F.Store (Held (H.Local 0)) (Constant (pos 1)) (Variable 1)) ∷ (Statement-F.SetNull (Held (H.Local 0))) ∷ []) } }) ∷ (record { parameters = []; body = record { locals = (OfPointer None) ∷ OfNumber ∷ []; statements = rolled ((Statement-F.Alloc (Held (H.Local 0)) (Constant (pos 8)) Leaves) ∷ (Statement-F.SetNumber 1 (Constant (pos 41))) ∷ (Statement-F.Call 0 ((Passed (Held (H.Local 0))) ∷ (Given (Variable 1)) ∷ [])) ∷ (Statement-F.PrintNumber (Variable 1)) ∷ (Statement-F.Load 1 (Held (H.Local 0)) (Constant (pos 0))) ∷ (Statement-F.PrintNumber (Variable 1)) ∷ (Statement-F.Load 1 (Held (H.Local 0)) (Constant (pos 1))) ∷ (Statement-F.PrintNumber (Variable 1)) ∷ (Statement-F.Free (Held (H.Local 0))) ∷ []) } }) ∷ []; operations = []; literals = []; main = 1 }
+script_callee_writes_into_what_it_was_passed_run = record { classes = []; procedures = (record { line = 1; parameters = (Par.OfPointer None) ∷ Par.OfNumber ∷ []; body = record { locals = []; statements = (on 2 (Statement-F.Store (Held (H.Local 0)) (Constant (pos 0)) (Variable 1))) ∷ (on 3 (Statement-F.Add 1 (Constant (pos 1)))) ∷ (on 4 (Statement-F.Store (Held (H.Local 0)) (Constant (pos 1)) (Variable 1))) ∷ (on 5 (Statement-F.SetNull (Held (H.Local 0)))) ∷ [] } }) ∷ (record { line = 7; parameters = []; body = record { locals = (OfPointer None) ∷ OfNumber ∷ []; statements = (on 10 (Statement-F.Alloc (Held (H.Local 0)) (Constant (pos 8)) Leaves)) ∷ (on 11 (Statement-F.SetNumber 1 (Constant (pos 41)))) ∷ (on 12 (Statement-F.Call 0 ((Passed (Held (H.Local 0))) ∷ (Given (Variable 1)) ∷ []))) ∷ (on 13 (Statement-F.PrintNumber (Variable 1))) ∷ (on 14 (Statement-F.Load 1 (Held (H.Local 0)) (Constant (pos 0)))) ∷ (on 15 (Statement-F.PrintNumber (Variable 1))) ∷ (on 16 (Statement-F.Load 1 (Held (H.Local 0)) (Constant (pos 1)))) ∷ (on 17 (Statement-F.PrintNumber (Variable 1))) ∷ (on 18 (Statement-F.Free (Held (H.Local 0)))) ∷ [] } }) ∷ []; operations = []; literals = []; main = 1 }
 
 callee_writes_into_what_it_was_passed_run : run script_callee_writes_into_what_it_was_passed_run R.Unlimited 10000 (shaped 4096 4096) ≡ record { outcome = Ended None []; trace = (line 1 144 0 Granted) ∷ (line 2 32 144 Granted) ∷ []; lines = (52 ∷ 49 ∷ []) ∷ (52 ∷ 49 ∷ []) ∷ (52 ∷ 50 ∷ []) ∷ []; notes = []; steps = 13 }
 unfolding everything
 callee_writes_into_what_it_was_passed_run = refl
 
 abbrev script_null_leaves_with_no_memory_run : Script
-script_null_leaves_with_no_memory_run = record { classes = []; procedures = (record { parameters = []; body = record { locals = (OfPointer None) ∷ OfNumber ∷ []; statements = rolled ((Statement-F.Alloc (Held (H.Local 0)) (Constant (pos 0)) GivesNull) ∷ (Statement-F.LeaveIfNull (Held (H.Local 0))) ∷ (Statement-F.PrintText (Quoted 0)) ∷ (Statement-F.Free (Held (H.Local 0))) ∷ (Statement-F.SetNull (Held (H.Local 0))) ∷ (Statement-F.Trap 1 (rolled ((Statement-F.LeaveIfNull (Held (H.Local 0))) ∷ (Statement-F.PrintText (Quoted 1)) ∷ []))) ∷ (Statement-F.PrintNumber (Variable 1)) ∷ (Statement-F.LeaveIfNull (Held (H.Local 0))) ∷ (Statement-F.PrintText (Quoted 2)) ∷ []) } }) ∷ []; operations = []; literals = (116 ∷ 104 ∷ 101 ∷ 114 ∷ 101 ∷ []) ∷ (110 ∷ 101 ∷ 118 ∷ 101 ∷ 114 ∷ []) ∷ (110 ∷ 101 ∷ 118 ∷ 101 ∷ 114 ∷ []) ∷ []; main = 0 }
+script_null_leaves_with_no_memory_run = record { classes = []; procedures = (record { line = 1; parameters = []; body = record { locals = (OfPointer None) ∷ OfNumber ∷ []; statements = (on 4 (Statement-F.Alloc (Held (H.Local 0)) (Constant (pos 0)) GivesNull)) ∷ (on 5 (Statement-F.LeaveIfNull (Held (H.Local 0)))) ∷ (on 6 (Statement-F.PrintText (Quoted 0))) ∷ (on 7 (Statement-F.Free (Held (H.Local 0)))) ∷ (on 8 (Statement-F.SetNull (Held (H.Local 0)))) ∷ (on 9 (Statement-F.Trap 1 ((on 10 (Statement-F.LeaveIfNull (Held (H.Local 0)))) ∷ (on 11 (Statement-F.PrintText (Quoted 1))) ∷ []))) ∷ (on 13 (Statement-F.PrintNumber (Variable 1))) ∷ (on 14 (Statement-F.LeaveIfNull (Held (H.Local 0)))) ∷ (on 15 (Statement-F.PrintText (Quoted 2))) ∷ [] } }) ∷ []; operations = []; literals = (116 ∷ 104 ∷ 101 ∷ 114 ∷ 101 ∷ []) ∷ (110 ∷ 101 ∷ 118 ∷ 101 ∷ 114 ∷ []) ∷ (110 ∷ 101 ∷ 118 ∷ 101 ∷ 114 ∷ []) ∷ []; main = 0 }
 
 null_leaves_with_no_memory_run : run script_null_leaves_with_no_memory_run R.Unlimited 10000 (shaped 4096 4096) ≡ record { outcome = Ended (Some (negsuc 3)) []; trace = (line 1 144 0 Granted) ∷ (line 2 16 144 Granted) ∷ []; lines = (116 ∷ 104 ∷ 101 ∷ 114 ∷ 101 ∷ []) ∷ (45 ∷ 52 ∷ []) ∷ []; notes = []; steps = 9 }
 unfolding everything
 null_leaves_with_no_memory_run = refl
 
 abbrev script_return_ends_main_run : Script
-script_return_ends_main_run = record { classes = []; procedures = (record { parameters = []; body = record { locals = []; statements = rolled ((Statement-F.PrintText (Quoted 0)) ∷ Statement-F.Return ∷ (Statement-F.PrintText (Quoted 1)) ∷ []) } }) ∷ []; operations = []; literals = (111 ∷ 110 ∷ 101 ∷ []) ∷ (116 ∷ 119 ∷ 111 ∷ []) ∷ []; main = 0 }
+script_return_ends_main_run = record { classes = []; procedures = (record { line = 1; parameters = []; body = record { locals = []; statements = (on 2 (Statement-F.PrintText (Quoted 0))) ∷ (on 3 Statement-F.Return) ∷ (on 4 (Statement-F.PrintText (Quoted 1))) ∷ [] } }) ∷ []; operations = []; literals = (111 ∷ 110 ∷ 101 ∷ []) ∷ (116 ∷ 119 ∷ 111 ∷ []) ∷ []; main = 0 }
 
 return_ends_main_run : run script_return_ends_main_run R.Unlimited 10000 (shaped 4096 4096) ≡ record { outcome = Ended None []; trace = (line 1 144 0 Granted) ∷ []; lines = (111 ∷ 110 ∷ 101 ∷ []) ∷ []; notes = []; steps = 2 }
 unfolding everything
 return_ends_main_run = refl
 
 abbrev script_return_ends_the_body_at_once_run : Script
-script_return_ends_the_body_at_once_run = record { classes = []; procedures = (record { parameters = (Par.OfPointer None) ∷ Par.OfNumber ∷ []; body = record { locals = []; statements = rolled ((Statement-F.If (Less (Variable 1) (Constant (pos 1))) (rolled (Statement-F.Return ∷ []))) ∷ (Statement-F.PrintNumber (Variable 1)) ∷ (Statement-F.Free (Held (H.Local 0))) ∷ []) } }) ∷ (record { parameters = Par.OfNumber ∷ []; body = record { locals = (OfPointer None) ∷ []; statements = rolled ((Statement-F.If (Equal (Variable 0) (Constant (pos 0))) (rolled (Statement-F.Return ∷ []))) ∷ (Statement-F.Alloc (Held (H.Local 1)) (Variable 0) Leaves) ∷ (Statement-F.ReturnPointer (Held (H.Local 1))) ∷ []) } }) ∷ (record { parameters = []; body = record { locals = (OfPointer None) ∷ (OfPointer None) ∷ []; statements = rolled ((Statement-F.CallTo 0 1 ((Given (Constant (pos 20))) ∷ [])) ∷ (Statement-F.CallTo 1 1 ((Given (Constant (pos 0))) ∷ [])) ∷ (Statement-F.If (NotNull (Held (H.Local 1))) (rolled ((Statement-F.PrintText (Quoted 0)) ∷ []))) ∷ (Statement-F.Call 0 ((Passed (Held (H.Local 0))) ∷ (Given (Constant (pos 0))) ∷ [])) ∷ (Statement-F.Call 0 ((Passed (Held (H.Local 0))) ∷ (Given (Constant (pos 7))) ∷ [])) ∷ []) } }) ∷ []; operations = []; literals = (110 ∷ 101 ∷ 118 ∷ 101 ∷ 114 ∷ []) ∷ []; main = 2 }
+script_return_ends_the_body_at_once_run = record { classes = []; procedures = (record { line = 1; parameters = (Par.OfPointer None) ∷ Par.OfNumber ∷ []; body = record { locals = []; statements = (on 2 (Statement-F.If (Less (Variable 1) (Constant (pos 1))) ((on 3 Statement-F.Return) ∷ []))) ∷ (on 5 (Statement-F.PrintNumber (Variable 1))) ∷ (on 6 (Statement-F.Free (Held (H.Local 0)))) ∷ [] } }) ∷ (record { line = 8; parameters = Par.OfNumber ∷ []; body = record { locals = (OfPointer None) ∷ []; statements = (on 10 (Statement-F.If (Equal (Variable 0) (Constant (pos 0))) ((on 11 Statement-F.Return) ∷ []))) ∷ (on 13 (Statement-F.Alloc (Held (H.Local 1)) (Variable 0) Leaves)) ∷ (on 14 (Statement-F.ReturnPointer (Held (H.Local 1)))) ∷ [] } }) ∷ (record { line = 16; parameters = []; body = record { locals = (OfPointer None) ∷ (OfPointer None) ∷ []; statements = (on 19 (Statement-F.CallTo 0 1 ((Given (Constant (pos 20))) ∷ []))) ∷ (on 20 (Statement-F.CallTo 1 1 ((Given (Constant (pos 0))) ∷ []))) ∷ (on 21 (Statement-F.If (NotNull (Held (H.Local 1))) ((on 22 (Statement-F.PrintText (Quoted 0))) ∷ []))) ∷ (on 24 (Statement-F.Call 0 ((Passed (Held (H.Local 0))) ∷ (Given (Constant (pos 0))) ∷ []))) ∷ (on 25 (Statement-F.Call 0 ((Passed (Held (H.Local 0))) ∷ (Given (Constant (pos 7))) ∷ []))) ∷ [] } }) ∷ []; operations = []; literals = (110 ∷ 101 ∷ 118 ∷ 101 ∷ 114 ∷ []) ∷ []; main = 2 }
 
 return_ends_the_body_at_once_run : run script_return_ends_the_body_at_once_run R.Unlimited 10000 (shaped 4096 4096) ≡ record { outcome = Ended None []; trace = (line 1 144 0 Granted) ∷ (line 2 48 144 Granted) ∷ []; lines = (55 ∷ []) ∷ []; notes = []; steps = 15 }
 unfolding everything
 return_ends_the_body_at_once_run = refl
 
 abbrev script_return_from_main_with_an_item_run : Script
-script_return_from_main_with_an_item_run = record { classes = []; procedures = (record { parameters = []; body = record { locals = (OfPointer None) ∷ []; statements = rolled ((Statement-F.Push (Held (H.Local 0))) ∷ Statement-F.Return ∷ []) } }) ∷ []; operations = []; literals = []; main = 0 }
+script_return_from_main_with_an_item_run = record { classes = []; procedures = (record { line = 1; parameters = []; body = record { locals = (OfPointer None) ∷ []; statements = (on 3 (Statement-F.Push (Held (H.Local 0)))) ∷ (on 4 Statement-F.Return) ∷ [] } }) ∷ []; operations = []; literals = []; main = 0 }
 
 return_from_main_with_an_item_run : run script_return_from_main_with_an_item_run R.Unlimited 10000 (shaped 4096 4096) ≡ record { outcome = Panicked (P.Workbench 5); trace = (line 1 144 0 Granted) ∷ []; lines = []; notes = []; steps = 2 }
 unfolding everything
 return_from_main_with_an_item_run = refl
 
 abbrev script_empty_main_json_run : Script
-script_empty_main_json_run = record { classes = []; procedures = (record { parameters = []; body = record { locals = []; statements = [] } }) ∷ []; operations = []; literals = []; main = 0 }
+script_empty_main_json_run = record { classes = []; procedures = (record { line = 1; parameters = []; body = record { locals = []; statements = [] } }) ∷ []; operations = []; literals = []; main = 0 }
 
 empty_main_json_run : run script_empty_main_json_run R.Unlimited 10000 (shaped 4096 4096) ≡ record { outcome = Ended None []; trace = (line 1 144 0 Granted) ∷ []; lines = []; notes = []; steps = 0 }
 unfolding everything
 empty_main_json_run = refl
 
 abbrev script_field_is_passed_run : Script
-script_field_is_passed_run = record { classes = (record { extra = 0; fields = None ∷ []; construct = None; destroy = None }) ∷ []; procedures = (record { parameters = (Par.OfPointer None) ∷ []; body = record { locals = []; statements = rolled ((Statement-F.Store (Held (H.Local 0)) (Constant (pos 0)) (Constant (pos 9))) ∷ (Statement-F.Free (Held (H.Local 0))) ∷ []) } }) ∷ (record { parameters = []; body = record { locals = (OfPointer (Some 0)) ∷ []; statements = rolled ((Statement-F.New (Held (H.Local 0)) 0 Leaves) ∷ (Statement-F.Alloc (Field (H.Local 0) 0 0) (Constant (pos 4)) GivesNull) ∷ (Statement-F.Call 0 ((Passed (Field (H.Local 0) 0 0)) ∷ [])) ∷ (Statement-F.Delete (Held (H.Local 0))) ∷ []) } }) ∷ []; operations = []; literals = []; main = 1 }
+script_field_is_passed_run = record { classes = (record { line = 1; extra = 0; fields = None ∷ []; construct = None; destroy = None }) ∷ []; procedures = (record { line = 4; parameters = (Par.OfPointer None) ∷ []; body = record { locals = []; statements = (on 5 (Statement-F.Store (Held (H.Local 0)) (Constant (pos 0)) (Constant (pos 9)))) ∷ (on 6 (Statement-F.Free (Held (H.Local 0)))) ∷ [] } }) ∷ (record { line = 8; parameters = []; body = record { locals = (OfPointer (Some 0)) ∷ []; statements = (on 10 (Statement-F.New (Held (H.Local 0)) 0 Leaves)) ∷ (on 11 (Statement-F.Alloc (Field (H.Local 0) 0 0) (Constant (pos 4)) GivesNull)) ∷ (on 12 (Statement-F.Call 0 ((Passed (Field (H.Local 0) 0 0)) ∷ []))) ∷ (on 13 (Statement-F.Delete (Held (H.Local 0)))) ∷ [] } }) ∷ []; operations = []; literals = []; main = 1 }
 
 field_is_passed_run : run script_field_is_passed_run R.Unlimited 10000 (shaped 4096 4096) ≡ record { outcome = Ended None []; trace = (line 1 144 0 Granted) ∷ (line 2 32 144 Granted) ∷ (line 3 32 176 Granted) ∷ []; lines = []; notes = []; steps = 7 }
 unfolding everything
 field_is_passed_run = refl
 
 abbrev script_leave_runs_a_cleanup_operation_run : Script
-script_leave_runs_a_cleanup_operation_run = record { classes = []; procedures = (record { parameters = []; body = record { locals = (OfPointer None) ∷ OfNumber ∷ []; statements = rolled ((Statement-F.Alloc (Held (H.Local 0)) (Constant (pos 4)) Leaves) ∷ (Statement-F.PushOperation (Held (H.Local 0)) 0) ∷ (Statement-F.Trap 1 (rolled ((Statement-F.Leave (Constant (negsuc 6))) ∷ []))) ∷ (Statement-F.PrintNumber (Variable 1)) ∷ (Statement-F.LeaveIfError (Variable 1)) ∷ []) } }) ∷ []; operations = (record { locals = []; statements = rolled ((Statement-F.PrintText (Quoted 0)) ∷ (Statement-F.Free (Held (H.Local 0))) ∷ []) }) ∷ []; literals = (111 ∷ 112 ∷ []) ∷ []; main = 0 }
+script_leave_runs_a_cleanup_operation_run = record { classes = []; procedures = (record { line = 5; parameters = []; body = record { locals = (OfPointer None) ∷ OfNumber ∷ []; statements = (on 8 (Statement-F.Alloc (Held (H.Local 0)) (Constant (pos 4)) Leaves)) ∷ (on 9 (Statement-F.PushOperation (Held (H.Local 0)) 0)) ∷ (on 10 (Statement-F.Trap 1 ((on 11 (Statement-F.Leave (Constant (negsuc 6)))) ∷ []))) ∷ (on 13 (Statement-F.PrintNumber (Variable 1))) ∷ (on 14 (Statement-F.LeaveIfError (Variable 1))) ∷ [] } }) ∷ []; operations = (record { line = 1; body = record { locals = []; statements = (on 2 (Statement-F.PrintText (Quoted 0))) ∷ (on 3 (Statement-F.Free (Held (H.Local 0)))) ∷ [] } }) ∷ []; literals = (111 ∷ 112 ∷ []) ∷ []; main = 0 }
 
 leave_runs_a_cleanup_operation_run : run script_leave_runs_a_cleanup_operation_run R.Unlimited 10000 (shaped 4096 4096) ≡ record { outcome = Ended (Some (negsuc 6)) []; trace = (line 1 144 0 Granted) ∷ (line 2 32 144 Granted) ∷ []; lines = (45 ∷ 55 ∷ []) ∷ (111 ∷ 112 ∷ []) ∷ []; notes = []; steps = 9 }
 unfolding everything
 leave_runs_a_cleanup_operation_run = refl
 
 abbrev script_newest_item_is_destroyed_first_run : Script
-script_newest_item_is_destroyed_first_run = record { classes = []; procedures = (record { parameters = []; body = record { locals = (OfPointer None) ∷ (OfPointer None) ∷ []; statements = rolled ((Statement-F.Alloc (Held (H.Local 0)) (Constant (pos 4)) GivesNull) ∷ (Statement-F.Alloc (Held (H.Local 1)) (Constant (pos 4)) GivesNull) ∷ (Statement-F.PushOperation (Held (H.Local 0)) 0) ∷ (Statement-F.PushOperation (Held (H.Local 1)) 1) ∷ (Statement-F.Leave (Constant (negsuc 0))) ∷ []) } }) ∷ []; operations = (record { locals = []; statements = rolled ((Statement-F.PrintText (Quoted 0)) ∷ (Statement-F.Free (Held (H.Local 0))) ∷ []) }) ∷ (record { locals = []; statements = rolled ((Statement-F.PrintText (Quoted 1)) ∷ (Statement-F.Free (Held (H.Local 0))) ∷ []) }) ∷ []; literals = (49 ∷ []) ∷ (50 ∷ []) ∷ []; main = 0 }
+script_newest_item_is_destroyed_first_run = record { classes = []; procedures = (record { line = 9; parameters = []; body = record { locals = (OfPointer None) ∷ (OfPointer None) ∷ []; statements = (on 12 (Statement-F.Alloc (Held (H.Local 0)) (Constant (pos 4)) GivesNull)) ∷ (on 13 (Statement-F.Alloc (Held (H.Local 1)) (Constant (pos 4)) GivesNull)) ∷ (on 14 (Statement-F.PushOperation (Held (H.Local 0)) 0)) ∷ (on 15 (Statement-F.PushOperation (Held (H.Local 1)) 1)) ∷ (on 16 (Statement-F.Leave (Constant (negsuc 0)))) ∷ [] } }) ∷ []; operations = (record { line = 1; body = record { locals = []; statements = (on 2 (Statement-F.PrintText (Quoted 0))) ∷ (on 3 (Statement-F.Free (Held (H.Local 0)))) ∷ [] } }) ∷ (record { line = 5; body = record { locals = []; statements = (on 6 (Statement-F.PrintText (Quoted 1))) ∷ (on 7 (Statement-F.Free (Held (H.Local 0)))) ∷ [] } }) ∷ []; literals = (49 ∷ []) ∷ (50 ∷ []) ∷ []; main = 0 }
 
 newest_item_is_destroyed_first_run : run script_newest_item_is_destroyed_first_run R.Unlimited 10000 (shaped 4096 4096) ≡ record { outcome = Ended (Some (negsuc 0)) []; trace = (line 1 144 0 Granted) ∷ (line 2 32 144 Granted) ∷ (line 3 32 176 Granted) ∷ []; lines = (50 ∷ []) ∷ (49 ∷ []) ∷ []; notes = []; steps = 11 }
 unfolding everything
 newest_item_is_destroyed_first_run = refl
 
 abbrev script_object_made_and_deleted_run : Script
-script_object_made_and_deleted_run = record { classes = (record { extra = 16; fields = None ∷ []; construct = Some (record { locals = []; statements = rolled ((Statement-F.NewText (Field H.This 0 0) (Constant (pos 4)) Leaves) ∷ []) }); destroy = Some (record { locals = []; statements = rolled ((Statement-F.Free (Field H.This 0 0)) ∷ []) }) }) ∷ []; procedures = (record { parameters = []; body = record { locals = (OfPointer (Some 0)) ∷ []; statements = rolled ((Statement-F.New (Held (H.Local 0)) 0 Leaves) ∷ (Statement-F.Construct (Held (H.Local 0))) ∷ (Statement-F.Delete (Held (H.Local 0))) ∷ []) } }) ∷ []; operations = []; literals = []; main = 0 }
+script_object_made_and_deleted_run = record { classes = (record { line = 1; extra = 16; fields = None ∷ []; construct = Some (record { locals = []; statements = (on 4 (Statement-F.NewText (Field H.This 0 0) (Constant (pos 4)) Leaves)) ∷ [] }); destroy = Some (record { locals = []; statements = (on 7 (Statement-F.Free (Field H.This 0 0))) ∷ [] }) }) ∷ []; procedures = (record { line = 10; parameters = []; body = record { locals = (OfPointer (Some 0)) ∷ []; statements = (on 12 (Statement-F.New (Held (H.Local 0)) 0 Leaves)) ∷ (on 13 (Statement-F.Construct (Held (H.Local 0)))) ∷ (on 14 (Statement-F.Delete (Held (H.Local 0)))) ∷ [] } }) ∷ []; operations = []; literals = []; main = 0 }
 
 object_made_and_deleted_run : run script_object_made_and_deleted_run R.Unlimited 10000 (shaped 4096 4096) ≡ record { outcome = Ended None []; trace = (line 1 144 0 Granted) ∷ (line 2 48 144 Granted) ∷ (line 3 32 192 Granted) ∷ []; lines = []; notes = []; steps = 6 }
 unfolding everything
 object_made_and_deleted_run = refl
 
 abbrev script_objects_that_delete_each_other_budget_just_enough_run : Script
-script_objects_that_delete_each_other_budget_just_enough_run = record { classes = (record { extra = 0; fields = (Some 0) ∷ []; construct = None; destroy = Some (record { locals = []; statements = rolled ((Statement-F.Delete (Field H.This 0 0)) ∷ []) }) }) ∷ []; procedures = (record { parameters = []; body = record { locals = (OfPointer (Some 0)) ∷ (OfPointer (Some 0)) ∷ []; statements = rolled ((Statement-F.New (Held (H.Local 0)) 0 Leaves) ∷ (Statement-F.New (Held (H.Local 1)) 0 Leaves) ∷ (Statement-F.Set (Field (H.Local 0) 0 0) (Held (H.Local 1))) ∷ (Statement-F.Set (Field (H.Local 1) 0 0) (Held (H.Local 0))) ∷ (Statement-F.Delete (Held (H.Local 0))) ∷ []) } }) ∷ []; operations = []; literals = []; main = 0 }
+script_objects_that_delete_each_other_budget_just_enough_run = record { classes = (record { line = 1; extra = 0; fields = (Some 0) ∷ []; construct = None; destroy = Some (record { locals = []; statements = (on 4 (Statement-F.Delete (Field H.This 0 0))) ∷ [] }) }) ∷ []; procedures = (record { line = 7; parameters = []; body = record { locals = (OfPointer (Some 0)) ∷ (OfPointer (Some 0)) ∷ []; statements = (on 10 (Statement-F.New (Held (H.Local 0)) 0 Leaves)) ∷ (on 11 (Statement-F.New (Held (H.Local 1)) 0 Leaves)) ∷ (on 12 (Statement-F.Set (Field (H.Local 0) 0 0) (Held (H.Local 1)))) ∷ (on 13 (Statement-F.Set (Field (H.Local 1) 0 0) (Held (H.Local 0)))) ∷ (on 14 (Statement-F.Delete (Held (H.Local 0)))) ∷ [] } }) ∷ []; operations = []; literals = []; main = 0 }
 
 objects_that_delete_each_other_budget_just_enough_run : run script_objects_that_delete_each_other_budget_just_enough_run R.Unlimited 260 (shaped 4096 4096) ≡ record { outcome = Panicked (P.Workbench 7); trace = (line 1 144 0 Granted) ∷ (line 2 32 144 Granted) ∷ (line 3 32 176 Granted) ∷ []; lines = []; notes = []; steps = 260 }
 unfolding everything
 objects_that_delete_each_other_budget_just_enough_run = refl
 
 abbrev script_objects_that_delete_each_other_one_step_short_run : Script
-script_objects_that_delete_each_other_one_step_short_run = record { classes = (record { extra = 0; fields = (Some 0) ∷ []; construct = None; destroy = Some (record { locals = []; statements = rolled ((Statement-F.Delete (Field H.This 0 0)) ∷ []) }) }) ∷ []; procedures = (record { parameters = []; body = record { locals = (OfPointer (Some 0)) ∷ (OfPointer (Some 0)) ∷ []; statements = rolled ((Statement-F.New (Held (H.Local 0)) 0 Leaves) ∷ (Statement-F.New (Held (H.Local 1)) 0 Leaves) ∷ (Statement-F.Set (Field (H.Local 0) 0 0) (Held (H.Local 1))) ∷ (Statement-F.Set (Field (H.Local 1) 0 0) (Held (H.Local 0))) ∷ (Statement-F.Delete (Held (H.Local 0))) ∷ []) } }) ∷ []; operations = []; literals = []; main = 0 }
+script_objects_that_delete_each_other_one_step_short_run = record { classes = (record { line = 1; extra = 0; fields = (Some 0) ∷ []; construct = None; destroy = Some (record { locals = []; statements = (on 4 (Statement-F.Delete (Field H.This 0 0))) ∷ [] }) }) ∷ []; procedures = (record { line = 7; parameters = []; body = record { locals = (OfPointer (Some 0)) ∷ (OfPointer (Some 0)) ∷ []; statements = (on 10 (Statement-F.New (Held (H.Local 0)) 0 Leaves)) ∷ (on 11 (Statement-F.New (Held (H.Local 1)) 0 Leaves)) ∷ (on 12 (Statement-F.Set (Field (H.Local 0) 0 0) (Held (H.Local 1)))) ∷ (on 13 (Statement-F.Set (Field (H.Local 1) 0 0) (Held (H.Local 0)))) ∷ (on 14 (Statement-F.Delete (Held (H.Local 0)))) ∷ [] } }) ∷ []; operations = []; literals = []; main = 0 }
 
 objects_that_delete_each_other_one_step_short_run : run script_objects_that_delete_each_other_one_step_short_run R.Unlimited 259 (shaped 4096 4096) ≡ record { outcome = Cut Budget; trace = (line 1 144 0 Granted) ∷ (line 2 32 144 Granted) ∷ (line 3 32 176 Granted) ∷ []; lines = []; notes = []; steps = 259 }
 unfolding everything
 objects_that_delete_each_other_one_step_short_run = refl
 
 abbrev script_objects_that_delete_each_other_small_budget_run : Script
-script_objects_that_delete_each_other_small_budget_run = record { classes = (record { extra = 0; fields = (Some 0) ∷ []; construct = None; destroy = Some (record { locals = []; statements = rolled ((Statement-F.Delete (Field H.This 0 0)) ∷ []) }) }) ∷ []; procedures = (record { parameters = []; body = record { locals = (OfPointer (Some 0)) ∷ (OfPointer (Some 0)) ∷ []; statements = rolled ((Statement-F.New (Held (H.Local 0)) 0 Leaves) ∷ (Statement-F.New (Held (H.Local 1)) 0 Leaves) ∷ (Statement-F.Set (Field (H.Local 0) 0 0) (Held (H.Local 1))) ∷ (Statement-F.Set (Field (H.Local 1) 0 0) (Held (H.Local 0))) ∷ (Statement-F.Delete (Held (H.Local 0))) ∷ []) } }) ∷ []; operations = []; literals = []; main = 0 }
+script_objects_that_delete_each_other_small_budget_run = record { classes = (record { line = 1; extra = 0; fields = (Some 0) ∷ []; construct = None; destroy = Some (record { locals = []; statements = (on 4 (Statement-F.Delete (Field H.This 0 0))) ∷ [] }) }) ∷ []; procedures = (record { line = 7; parameters = []; body = record { locals = (OfPointer (Some 0)) ∷ (OfPointer (Some 0)) ∷ []; statements = (on 10 (Statement-F.New (Held (H.Local 0)) 0 Leaves)) ∷ (on 11 (Statement-F.New (Held (H.Local 1)) 0 Leaves)) ∷ (on 12 (Statement-F.Set (Field (H.Local 0) 0 0) (Held (H.Local 1)))) ∷ (on 13 (Statement-F.Set (Field (H.Local 1) 0 0) (Held (H.Local 0)))) ∷ (on 14 (Statement-F.Delete (Held (H.Local 0)))) ∷ [] } }) ∷ []; operations = []; literals = []; main = 0 }
 
 objects_that_delete_each_other_small_budget_run : run script_objects_that_delete_each_other_small_budget_run R.Unlimited 20 (shaped 4096 4096) ≡ record { outcome = Cut Budget; trace = (line 1 144 0 Granted) ∷ (line 2 32 144 Granted) ∷ (line 3 32 176 Granted) ∷ []; lines = []; notes = []; steps = 20 }
 unfolding everything
 objects_that_delete_each_other_small_budget_run = refl
 
 abbrev script_objects_that_delete_each_other_run : Script
-script_objects_that_delete_each_other_run = record { classes = (record { extra = 0; fields = (Some 0) ∷ []; construct = None; destroy = Some (record { locals = []; statements = rolled ((Statement-F.Delete (Field H.This 0 0)) ∷ []) }) }) ∷ []; procedures = (record { parameters = []; body = record { locals = (OfPointer (Some 0)) ∷ (OfPointer (Some 0)) ∷ []; statements = rolled ((Statement-F.New (Held (H.Local 0)) 0 Leaves) ∷ (Statement-F.New (Held (H.Local 1)) 0 Leaves) ∷ (Statement-F.Set (Field (H.Local 0) 0 0) (Held (H.Local 1))) ∷ (Statement-F.Set (Field (H.Local 1) 0 0) (Held (H.Local 0))) ∷ (Statement-F.Delete (Held (H.Local 0))) ∷ []) } }) ∷ []; operations = []; literals = []; main = 0 }
+script_objects_that_delete_each_other_run = record { classes = (record { line = 1; extra = 0; fields = (Some 0) ∷ []; construct = None; destroy = Some (record { locals = []; statements = (on 4 (Statement-F.Delete (Field H.This 0 0))) ∷ [] }) }) ∷ []; procedures = (record { line = 7; parameters = []; body = record { locals = (OfPointer (Some 0)) ∷ (OfPointer (Some 0)) ∷ []; statements = (on 10 (Statement-F.New (Held (H.Local 0)) 0 Leaves)) ∷ (on 11 (Statement-F.New (Held (H.Local 1)) 0 Leaves)) ∷ (on 12 (Statement-F.Set (Field (H.Local 0) 0 0) (Held (H.Local 1)))) ∷ (on 13 (Statement-F.Set (Field (H.Local 1) 0 0) (Held (H.Local 0)))) ∷ (on 14 (Statement-F.Delete (Held (H.Local 0)))) ∷ [] } }) ∷ []; operations = []; literals = []; main = 0 }
 
 objects_that_delete_each_other_run : run script_objects_that_delete_each_other_run R.Unlimited 10000 (shaped 4096 4096) ≡ record { outcome = Panicked (P.Workbench 7); trace = (line 1 144 0 Granted) ∷ (line 2 32 144 Granted) ∷ (line 3 32 176 Granted) ∷ []; lines = []; notes = []; steps = 260 }
 unfolding everything
 objects_that_delete_each_other_run = refl
 
 abbrev script_pushed_object_made_and_deleted_run : Script
-script_pushed_object_made_and_deleted_run = record { classes = (record { extra = 16; fields = None ∷ []; construct = Some (record { locals = []; statements = rolled ((Statement-F.NewText (Field H.This 0 0) (Constant (pos 4)) Leaves) ∷ []) }); destroy = Some (record { locals = []; statements = rolled ((Statement-F.Free (Field H.This 0 0)) ∷ []) }) }) ∷ []; procedures = (record { parameters = []; body = record { locals = (OfPointer (Some 0)) ∷ []; statements = rolled ((Statement-F.New (Held (H.Local 0)) 0 Leaves) ∷ (Statement-F.PushObject (Held (H.Local 0))) ∷ (Statement-F.Construct (Held (H.Local 0))) ∷ (Statement-F.Pop (Constant (pos 1))) ∷ (Statement-F.Delete (Held (H.Local 0))) ∷ []) } }) ∷ []; operations = []; literals = []; main = 0 }
+script_pushed_object_made_and_deleted_run = record { classes = (record { line = 1; extra = 16; fields = None ∷ []; construct = Some (record { locals = []; statements = (on 4 (Statement-F.NewText (Field H.This 0 0) (Constant (pos 4)) Leaves)) ∷ [] }); destroy = Some (record { locals = []; statements = (on 7 (Statement-F.Free (Field H.This 0 0))) ∷ [] }) }) ∷ []; procedures = (record { line = 10; parameters = []; body = record { locals = (OfPointer (Some 0)) ∷ []; statements = (on 12 (Statement-F.New (Held (H.Local 0)) 0 Leaves)) ∷ (on 13 (Statement-F.PushObject (Held (H.Local 0)))) ∷ (on 14 (Statement-F.Construct (Held (H.Local 0)))) ∷ (on 15 (Statement-F.Pop (Constant (pos 1)))) ∷ (on 16 (Statement-F.Delete (Held (H.Local 0)))) ∷ [] } }) ∷ []; operations = []; literals = []; main = 0 }
 
 pushed_object_made_and_deleted_run : run script_pushed_object_made_and_deleted_run R.Unlimited 10000 (shaped 4096 4096) ≡ record { outcome = Ended None []; trace = (line 1 144 0 Granted) ∷ (line 2 48 144 Granted) ∷ (line 3 32 192 Granted) ∷ []; lines = []; notes = []; steps = 8 }
 unfolding everything
 pushed_object_made_and_deleted_run = refl
 
 abbrev script_return_ends_a_construct_body_run : Script
-script_return_ends_a_construct_body_run = record { classes = (record { extra = 4; fields = []; construct = Some (record { locals = []; statements = rolled ((Statement-F.PrintText (Quoted 0)) ∷ Statement-F.Return ∷ (Statement-F.PrintText (Quoted 1)) ∷ []) }); destroy = None }) ∷ []; procedures = (record { parameters = []; body = record { locals = (OfPointer (Some 0)) ∷ []; statements = rolled ((Statement-F.New (Held (H.Local 0)) 0 Leaves) ∷ (Statement-F.Construct (Held (H.Local 0))) ∷ (Statement-F.Delete (Held (H.Local 0))) ∷ []) } }) ∷ []; operations = []; literals = (111 ∷ 110 ∷ 101 ∷ []) ∷ (116 ∷ 119 ∷ 111 ∷ []) ∷ []; main = 0 }
+script_return_ends_a_construct_body_run = record { classes = (record { line = 1; extra = 4; fields = []; construct = Some (record { locals = []; statements = (on 3 (Statement-F.PrintText (Quoted 0))) ∷ (on 4 Statement-F.Return) ∷ (on 5 (Statement-F.PrintText (Quoted 1))) ∷ [] }); destroy = None }) ∷ []; procedures = (record { line = 8; parameters = []; body = record { locals = (OfPointer (Some 0)) ∷ []; statements = (on 10 (Statement-F.New (Held (H.Local 0)) 0 Leaves)) ∷ (on 11 (Statement-F.Construct (Held (H.Local 0)))) ∷ (on 12 (Statement-F.Delete (Held (H.Local 0)))) ∷ [] } }) ∷ []; operations = []; literals = (111 ∷ 110 ∷ 101 ∷ []) ∷ (116 ∷ 119 ∷ 111 ∷ []) ∷ []; main = 0 }
 
 return_ends_a_construct_body_run : run script_return_ends_a_construct_body_run R.Unlimited 10000 (shaped 4096 4096) ≡ record { outcome = Ended None []; trace = (line 1 144 0 Granted) ∷ (line 2 32 144 Granted) ∷ []; lines = (111 ∷ 110 ∷ 101 ∷ []) ∷ []; notes = []; steps = 6 }
 unfolding everything
 return_ends_a_construct_body_run = refl
 
 abbrev script_unpushed_object_leaks_when_construction_fails_run : Script
-script_unpushed_object_leaks_when_construction_fails_run = record { classes = (record { extra = 16; fields = None ∷ []; construct = Some (record { locals = []; statements = rolled ((Statement-F.NewText (Field H.This 0 0) (Constant (pos 4)) Leaves) ∷ []) }); destroy = Some (record { locals = []; statements = rolled ((Statement-F.Free (Field H.This 0 0)) ∷ []) }) }) ∷ []; procedures = (record { parameters = []; body = record { locals = (OfPointer (Some 0)) ∷ []; statements = rolled ((Statement-F.New (Held (H.Local 0)) 0 Leaves) ∷ (Statement-F.Construct (Held (H.Local 0))) ∷ (Statement-F.Delete (Held (H.Local 0))) ∷ []) } }) ∷ []; operations = []; literals = []; main = 0 }
+script_unpushed_object_leaks_when_construction_fails_run = record { classes = (record { line = 1; extra = 16; fields = None ∷ []; construct = Some (record { locals = []; statements = (on 4 (Statement-F.NewText (Field H.This 0 0) (Constant (pos 4)) Leaves)) ∷ [] }); destroy = Some (record { locals = []; statements = (on 7 (Statement-F.Free (Field H.This 0 0))) ∷ [] }) }) ∷ []; procedures = (record { line = 10; parameters = []; body = record { locals = (OfPointer (Some 0)) ∷ []; statements = (on 12 (Statement-F.New (Held (H.Local 0)) 0 Leaves)) ∷ (on 13 (Statement-F.Construct (Held (H.Local 0)))) ∷ (on 14 (Statement-F.Delete (Held (H.Local 0)))) ∷ [] } }) ∷ []; operations = []; literals = []; main = 0 }
 
 unpushed_object_leaks_when_construction_fails_run : run script_unpushed_object_leaks_when_construction_fails_run (R.Number 3) 10000 (shaped 4096 4096) ≡ record { outcome = Ended (Some (negsuc 3)) ((record { number = 2; length = 48; place = 144 }) ∷ []); trace = (line 1 144 0 Granted) ∷ (line 2 48 144 Granted) ∷ (line 3 32 192 Simulated) ∷ []; lines = []; notes = []; steps = 3 }
 unfolding everything
 unpushed_object_leaks_when_construction_fails_run = refl
 
 abbrev script_check_names_a_cell_after_the_stack_moved_run : Script
-script_check_names_a_cell_after_the_stack_moved_run = record { classes = []; procedures = (record { parameters = []; body = record { locals = (OfPointer None) ∷ (OfPointer None) ∷ []; statements = rolled ((Statement-F.Alloc (Held (H.Local 0)) (Constant (pos 1)) GivesNull) ∷ (Statement-F.Push (Held (H.Local 0))) ∷ (Statement-F.Push (Held (H.Local 0))) ∷ (Statement-F.Push (Held (H.Local 0))) ∷ (Statement-F.Push (Held (H.Local 0))) ∷ (Statement-F.Push (Held (H.Local 0))) ∷ (Statement-F.Push (Held (H.Local 0))) ∷ (Statement-F.Push (Held (H.Local 0))) ∷ (Statement-F.Push (Held (H.Local 0))) ∷ (Statement-F.Alloc (Held (H.Local 1)) (Constant (pos 100)) GivesNull) ∷ (Statement-F.Pop (Constant (pos 8))) ∷ Statement-F.Mark ∷ (Statement-F.Alloc (Held (H.Local 1)) (Constant (pos 4)) GivesNull) ∷ (Statement-F.Check (Constant (pos 0))) ∷ []) } }) ∷ []; operations = []; literals = []; main = 0 }
+script_check_names_a_cell_after_the_stack_moved_run = record { classes = []; procedures = (record { line = 1; parameters = []; body = record { locals = (OfPointer None) ∷ (OfPointer None) ∷ []; statements = (on 4 (Statement-F.Alloc (Held (H.Local 0)) (Constant (pos 1)) GivesNull)) ∷ (on 5 (Statement-F.Push (Held (H.Local 0)))) ∷ (on 6 (Statement-F.Push (Held (H.Local 0)))) ∷ (on 7 (Statement-F.Push (Held (H.Local 0)))) ∷ (on 8 (Statement-F.Push (Held (H.Local 0)))) ∷ (on 9 (Statement-F.Push (Held (H.Local 0)))) ∷ (on 10 (Statement-F.Push (Held (H.Local 0)))) ∷ (on 11 (Statement-F.Push (Held (H.Local 0)))) ∷ (on 12 (Statement-F.Push (Held (H.Local 0)))) ∷ (on 13 (Statement-F.Alloc (Held (H.Local 1)) (Constant (pos 100)) GivesNull)) ∷ (on 14 (Statement-F.Pop (Constant (pos 8)))) ∷ (on 15 Statement-F.Mark) ∷ (on 16 (Statement-F.Alloc (Held (H.Local 1)) (Constant (pos 4)) GivesNull)) ∷ (on 17 (Statement-F.Check (Constant (pos 0)))) ∷ [] } }) ∷ []; operations = []; literals = []; main = 0 }
 
 check_names_a_cell_after_the_stack_moved_run : run script_check_names_a_cell_after_the_stack_moved_run R.Unlimited 10000 (shaped 4096 4096) ≡ record { outcome = Panicked (P.Alloc 384); trace = (line 1 144 0 Granted) ∷ (line 2 32 144 Granted) ∷ (line 3 208 176 Granted) ∷ (line 4 128 0 Granted) ∷ (line 5 32 384 Granted) ∷ []; lines = []; notes = []; steps = 14 }
 unfolding everything
 check_names_a_cell_after_the_stack_moved_run = refl
 
 abbrev script_check_names_the_cell_at_place_zero_run : Script
-script_check_names_the_cell_at_place_zero_run = record { classes = []; procedures = (record { parameters = []; body = record { locals = (OfPointer None) ∷ (OfPointer None) ∷ []; statements = rolled ((Statement-F.Alloc (Held (H.Local 0)) (Constant (pos 1)) GivesNull) ∷ (Statement-F.Push (Held (H.Local 0))) ∷ (Statement-F.Push (Held (H.Local 0))) ∷ (Statement-F.Push (Held (H.Local 0))) ∷ (Statement-F.Push (Held (H.Local 0))) ∷ (Statement-F.Push (Held (H.Local 0))) ∷ (Statement-F.Push (Held (H.Local 0))) ∷ (Statement-F.Push (Held (H.Local 0))) ∷ (Statement-F.Push (Held (H.Local 0))) ∷ Statement-F.Mark ∷ (Statement-F.Alloc (Held (H.Local 1)) (Constant (pos 100)) GivesNull) ∷ (Statement-F.Check (Constant (pos 0))) ∷ []) } }) ∷ []; operations = []; literals = []; main = 0 }
+script_check_names_the_cell_at_place_zero_run = record { classes = []; procedures = (record { line = 1; parameters = []; body = record { locals = (OfPointer None) ∷ (OfPointer None) ∷ []; statements = (on 4 (Statement-F.Alloc (Held (H.Local 0)) (Constant (pos 1)) GivesNull)) ∷ (on 5 (Statement-F.Push (Held (H.Local 0)))) ∷ (on 6 (Statement-F.Push (Held (H.Local 0)))) ∷ (on 7 (Statement-F.Push (Held (H.Local 0)))) ∷ (on 8 (Statement-F.Push (Held (H.Local 0)))) ∷ (on 9 (Statement-F.Push (Held (H.Local 0)))) ∷ (on 10 (Statement-F.Push (Held (H.Local 0)))) ∷ (on 11 (Statement-F.Push (Held (H.Local 0)))) ∷ (on 12 (Statement-F.Push (Held (H.Local 0)))) ∷ (on 13 Statement-F.Mark) ∷ (on 14 (Statement-F.Alloc (Held (H.Local 1)) (Constant (pos 100)) GivesNull)) ∷ (on 15 (Statement-F.Check (Constant (pos 0)))) ∷ [] } }) ∷ []; operations = []; literals = []; main = 0 }
 
 check_names_the_cell_at_place_zero_run : run script_check_names_the_cell_at_place_zero_run R.Unlimited 10000 (shaped 4096 4096) ≡ record { outcome = Panicked (P.Alloc 0); trace = (line 1 144 0 Granted) ∷ (line 2 32 144 Granted) ∷ (line 3 208 176 Granted) ∷ (line 4 128 0 Granted) ∷ []; lines = []; notes = []; steps = 12 }
 unfolding everything
 check_names_the_cell_at_place_zero_run = refl
 
 abbrev script_eighth_push_grows_the_cleanup_cell_run : Script
-script_eighth_push_grows_the_cleanup_cell_run = record { classes = []; procedures = (record { parameters = []; body = record { locals = (OfPointer None) ∷ []; statements = rolled ((Statement-F.Repeat (Constant (pos 8)) (rolled ((Statement-F.Alloc (Held (H.Local 0)) (Constant (pos 16)) Leaves) ∷ (Statement-F.Push (Held (H.Local 0))) ∷ []))) ∷ (Statement-F.PopDestroy (Constant (pos 8))) ∷ []) } }) ∷ []; operations = []; literals = []; main = 0 }
+script_eighth_push_grows_the_cleanup_cell_run = record { classes = []; procedures = (record { line = 1; parameters = []; body = record { locals = (OfPointer None) ∷ []; statements = (on 3 (Statement-F.Repeat (Constant (pos 8)) ((on 4 (Statement-F.Alloc (Held (H.Local 0)) (Constant (pos 16)) Leaves)) ∷ (on 5 (Statement-F.Push (Held (H.Local 0)))) ∷ []))) ∷ (on 7 (Statement-F.PopDestroy (Constant (pos 8)))) ∷ [] } }) ∷ []; operations = []; literals = []; main = 0 }
 
 eighth_push_grows_the_cleanup_cell_run : run script_eighth_push_grows_the_cleanup_cell_run R.Unlimited 10000 (shaped 4096 4096) ≡ record { outcome = Ended None []; trace = (line 1 144 0 Granted) ∷ (line 2 32 144 Granted) ∷ (line 3 32 176 Granted) ∷ (line 4 32 208 Granted) ∷ (line 5 32 240 Granted) ∷ (line 6 32 272 Granted) ∷ (line 7 32 304 Granted) ∷ (line 8 32 336 Granted) ∷ (line 9 32 368 Granted) ∷ (line 10 208 400 Granted) ∷ []; lines = []; notes = []; steps = 34 }
 unfolding everything
 eighth_push_grows_the_cleanup_cell_run = refl
 
 abbrev script_item_left_at_the_end_of_a_trap_run : Script
-script_item_left_at_the_end_of_a_trap_run = record { classes = []; procedures = (record { parameters = []; body = record { locals = (OfPointer None) ∷ OfNumber ∷ []; statements = rolled ((Statement-F.Trap 1 (rolled ((Statement-F.Push (Held (H.Local 0))) ∷ []))) ∷ []) } }) ∷ []; operations = []; literals = []; main = 0 }
+script_item_left_at_the_end_of_a_trap_run = record { classes = []; procedures = (record { line = 1; parameters = []; body = record { locals = (OfPointer None) ∷ OfNumber ∷ []; statements = (on 4 (Statement-F.Trap 1 ((on 5 (Statement-F.Push (Held (H.Local 0)))) ∷ []))) ∷ [] } }) ∷ []; operations = []; literals = []; main = 0 }
 
 item_left_at_the_end_of_a_trap_run : run script_item_left_at_the_end_of_a_trap_run R.Unlimited 10000 (shaped 4096 4096) ≡ record { outcome = Panicked (P.Workbench 5); trace = (line 1 144 0 Granted) ∷ []; lines = []; notes = []; steps = 2 }
 unfolding everything
 item_left_at_the_end_of_a_trap_run = refl
 
 abbrev script_marks_never_count_the_cleanup_cell_run : Script
-script_marks_never_count_the_cleanup_cell_run = record { classes = []; procedures = (record { parameters = []; body = record { locals = (OfPointer None) ∷ []; statements = rolled (Statement-F.Mark ∷ (Statement-F.Repeat (Constant (pos 8)) (rolled ((Statement-F.Push (Held (H.Local 0))) ∷ []))) ∷ (Statement-F.Pop (Constant (pos 8))) ∷ (Statement-F.MarkEnd (Constant (pos 0))) ∷ []) } }) ∷ []; operations = []; literals = []; main = 0 }
+script_marks_never_count_the_cleanup_cell_run = record { classes = []; procedures = (record { line = 1; parameters = []; body = record { locals = (OfPointer None) ∷ []; statements = (on 3 Statement-F.Mark) ∷ (on 4 (Statement-F.Repeat (Constant (pos 8)) ((on 5 (Statement-F.Push (Held (H.Local 0)))) ∷ []))) ∷ (on 7 (Statement-F.Pop (Constant (pos 8)))) ∷ (on 8 (Statement-F.MarkEnd (Constant (pos 0)))) ∷ [] } }) ∷ []; operations = []; literals = []; main = 0 }
 
 marks_never_count_the_cleanup_cell_run : run script_marks_never_count_the_cleanup_cell_run R.Unlimited 10000 (shaped 4096 4096) ≡ record { outcome = Ended None []; trace = (line 1 144 0 Granted) ∷ (line 2 208 0 Granted) ∷ []; lines = []; notes = []; steps = 20 }
 unfolding everything
 marks_never_count_the_cleanup_cell_run = refl
 
 abbrev script_pop_below_the_trap_run : Script
-script_pop_below_the_trap_run = record { classes = []; procedures = (record { parameters = []; body = record { locals = (OfPointer None) ∷ OfNumber ∷ []; statements = rolled ((Statement-F.Push (Held (H.Local 0))) ∷ (Statement-F.Trap 1 (rolled ((Statement-F.Pop (Constant (pos 1))) ∷ []))) ∷ []) } }) ∷ []; operations = []; literals = []; main = 0 }
+script_pop_below_the_trap_run = record { classes = []; procedures = (record { line = 1; parameters = []; body = record { locals = (OfPointer None) ∷ OfNumber ∷ []; statements = (on 4 (Statement-F.Push (Held (H.Local 0)))) ∷ (on 5 (Statement-F.Trap 1 ((on 6 (Statement-F.Pop (Constant (pos 1)))) ∷ []))) ∷ [] } }) ∷ []; operations = []; literals = []; main = 0 }
 
 pop_below_the_trap_run : run script_pop_below_the_trap_run R.Unlimited 10000 (shaped 4096 4096) ≡ record { outcome = Panicked (P.Workbench 3); trace = (line 1 144 0 Granted) ∷ []; lines = []; notes = []; steps = 3 }
 unfolding everything
 pop_below_the_trap_run = refl
 
 abbrev script_pop_expects_a_new_cell_at_an_old_place_run : Script
-script_pop_expects_a_new_cell_at_an_old_place_run = record { classes = []; procedures = (record { parameters = []; body = record { locals = (OfPointer None) ∷ (OfPointer None) ∷ []; statements = rolled ((Statement-F.Alloc (Held (H.Local 0)) (Constant (pos 16)) Leaves) ∷ (Statement-F.Push (Held (H.Local 0))) ∷ (Statement-F.Free (Held (H.Local 0))) ∷ (Statement-F.Alloc (Held (H.Local 1)) (Constant (pos 16)) Leaves) ∷ (Statement-F.PopCheck (Held (H.Local 1))) ∷ []) } }) ∷ []; operations = []; literals = []; main = 0 }
+script_pop_expects_a_new_cell_at_an_old_place_run = record { classes = []; procedures = (record { line = 1; parameters = []; body = record { locals = (OfPointer None) ∷ (OfPointer None) ∷ []; statements = (on 4 (Statement-F.Alloc (Held (H.Local 0)) (Constant (pos 16)) Leaves)) ∷ (on 5 (Statement-F.Push (Held (H.Local 0)))) ∷ (on 6 (Statement-F.Free (Held (H.Local 0)))) ∷ (on 7 (Statement-F.Alloc (Held (H.Local 1)) (Constant (pos 16)) Leaves)) ∷ (on 8 (Statement-F.PopCheck (Held (H.Local 1)))) ∷ [] } }) ∷ []; operations = []; literals = []; main = 0 }
 
 pop_expects_a_new_cell_at_an_old_place_run : run script_pop_expects_a_new_cell_at_an_old_place_run R.Unlimited 10000 (shaped 4096 4096) ≡ record { outcome = Panicked (P.Workbench 4); trace = (line 1 144 0 Granted) ∷ (line 2 32 144 Granted) ∷ (line 3 32 144 Granted) ∷ []; lines = []; notes = []; steps = 5 }
 unfolding everything
 pop_expects_a_new_cell_at_an_old_place_run = refl
 
 abbrev script_pop_expects_an_item_below_the_trap_run : Script
-script_pop_expects_an_item_below_the_trap_run = record { classes = []; procedures = (record { parameters = []; body = record { locals = (OfPointer None) ∷ OfNumber ∷ []; statements = rolled ((Statement-F.Push (Held (H.Local 0))) ∷ (Statement-F.Trap 1 (rolled ((Statement-F.PopCheck (Held (H.Local 0))) ∷ []))) ∷ []) } }) ∷ []; operations = []; literals = []; main = 0 }
+script_pop_expects_an_item_below_the_trap_run = record { classes = []; procedures = (record { line = 1; parameters = []; body = record { locals = (OfPointer None) ∷ OfNumber ∷ []; statements = (on 4 (Statement-F.Push (Held (H.Local 0)))) ∷ (on 5 (Statement-F.Trap 1 ((on 6 (Statement-F.PopCheck (Held (H.Local 0)))) ∷ []))) ∷ [] } }) ∷ []; operations = []; literals = []; main = 0 }
 
 pop_expects_an_item_below_the_trap_run : run script_pop_expects_an_item_below_the_trap_run R.Unlimited 10000 (shaped 4096 4096) ≡ record { outcome = Panicked (P.Workbench 3); trace = (line 1 144 0 Granted) ∷ []; lines = []; notes = []; steps = 3 }
 unfolding everything
 pop_expects_an_item_below_the_trap_run = refl
 
 abbrev script_pop_expects_an_item_of_an_empty_stack_run : Script
-script_pop_expects_an_item_of_an_empty_stack_run = record { classes = []; procedures = (record { parameters = []; body = record { locals = (OfPointer None) ∷ []; statements = rolled ((Statement-F.PopCheck (Held (H.Local 0))) ∷ []) } }) ∷ []; operations = []; literals = []; main = 0 }
+script_pop_expects_an_item_of_an_empty_stack_run = record { classes = []; procedures = (record { line = 1; parameters = []; body = record { locals = (OfPointer None) ∷ []; statements = (on 3 (Statement-F.PopCheck (Held (H.Local 0)))) ∷ [] } }) ∷ []; operations = []; literals = []; main = 0 }
 
 pop_expects_an_item_of_an_empty_stack_run : run script_pop_expects_an_item_of_an_empty_stack_run R.Unlimited 10000 (shaped 4096 4096) ≡ record { outcome = Panicked (P.Workbench 3); trace = (line 1 144 0 Granted) ∷ []; lines = []; notes = []; steps = 1 }
 unfolding everything
 pop_expects_an_item_of_an_empty_stack_run = refl
 
 abbrev script_pop_expects_another_item_run : Script
-script_pop_expects_another_item_run = record { classes = []; procedures = (record { parameters = []; body = record { locals = (OfPointer None) ∷ (OfPointer None) ∷ []; statements = rolled ((Statement-F.Alloc (Held (H.Local 0)) (Constant (pos 16)) Leaves) ∷ (Statement-F.Push (Held (H.Local 1))) ∷ (Statement-F.PopCheck (Held (H.Local 0))) ∷ []) } }) ∷ []; operations = []; literals = []; main = 0 }
+script_pop_expects_another_item_run = record { classes = []; procedures = (record { line = 1; parameters = []; body = record { locals = (OfPointer None) ∷ (OfPointer None) ∷ []; statements = (on 4 (Statement-F.Alloc (Held (H.Local 0)) (Constant (pos 16)) Leaves)) ∷ (on 5 (Statement-F.Push (Held (H.Local 1)))) ∷ (on 6 (Statement-F.PopCheck (Held (H.Local 0)))) ∷ [] } }) ∷ []; operations = []; literals = []; main = 0 }
 
 pop_expects_another_item_run : run script_pop_expects_another_item_run R.Unlimited 10000 (shaped 4096 4096) ≡ record { outcome = Panicked (P.Workbench 4); trace = (line 1 144 0 Granted) ∷ (line 2 32 144 Granted) ∷ []; lines = []; notes = []; steps = 3 }
 unfolding everything
 pop_expects_another_item_run = refl
 
 abbrev script_pop_expects_the_item_below_the_top_run : Script
-script_pop_expects_the_item_below_the_top_run = record { classes = []; procedures = (record { parameters = []; body = record { locals = (OfPointer None) ∷ (OfPointer None) ∷ []; statements = rolled ((Statement-F.Alloc (Held (H.Local 0)) (Constant (pos 16)) Leaves) ∷ (Statement-F.Alloc (Held (H.Local 1)) (Constant (pos 16)) Leaves) ∷ (Statement-F.Push (Held (H.Local 0))) ∷ (Statement-F.Push (Held (H.Local 1))) ∷ (Statement-F.PopCheck (Held (H.Local 1))) ∷ (Statement-F.Push (Held (H.Local 1))) ∷ (Statement-F.PopCheck (Held (H.Local 0))) ∷ []) } }) ∷ []; operations = []; literals = []; main = 0 }
+script_pop_expects_the_item_below_the_top_run = record { classes = []; procedures = (record { line = 1; parameters = []; body = record { locals = (OfPointer None) ∷ (OfPointer None) ∷ []; statements = (on 4 (Statement-F.Alloc (Held (H.Local 0)) (Constant (pos 16)) Leaves)) ∷ (on 5 (Statement-F.Alloc (Held (H.Local 1)) (Constant (pos 16)) Leaves)) ∷ (on 6 (Statement-F.Push (Held (H.Local 0)))) ∷ (on 7 (Statement-F.Push (Held (H.Local 1)))) ∷ (on 8 (Statement-F.PopCheck (Held (H.Local 1)))) ∷ (on 9 (Statement-F.Push (Held (H.Local 1)))) ∷ (on 10 (Statement-F.PopCheck (Held (H.Local 0)))) ∷ [] } }) ∷ []; operations = []; literals = []; main = 0 }
 
 pop_expects_the_item_below_the_top_run : run script_pop_expects_the_item_below_the_top_run R.Unlimited 10000 (shaped 4096 4096) ≡ record { outcome = Panicked (P.Workbench 4); trace = (line 1 144 0 Granted) ∷ (line 2 32 144 Granted) ∷ (line 3 32 176 Granted) ∷ []; lines = []; notes = []; steps = 7 }
 unfolding everything
 pop_expects_the_item_below_the_top_run = refl
 
 abbrev script_procedure_returns_a_pushed_cell_run : Script
-script_procedure_returns_a_pushed_cell_run = record { classes = []; procedures = (record { parameters = Par.OfNumber ∷ []; body = record { locals = (OfPointer None) ∷ []; statements = rolled ((Statement-F.Alloc (Held (H.Local 1)) (Variable 0) Leaves) ∷ (Statement-F.Push (Held (H.Local 1))) ∷ (Statement-F.ReturnPointer (Held (H.Local 1))) ∷ []) } }) ∷ (record { parameters = []; body = record { locals = (OfPointer None) ∷ []; statements = rolled ((Statement-F.CallTo 0 0 ((Given (Constant (pos 40))) ∷ [])) ∷ (Statement-F.PopDestroy (Constant (pos 1))) ∷ []) } }) ∷ []; operations = []; literals = []; main = 1 }
+script_procedure_returns_a_pushed_cell_run = record { classes = []; procedures = (record { line = 1; parameters = Par.OfNumber ∷ []; body = record { locals = (OfPointer None) ∷ []; statements = (on 3 (Statement-F.Alloc (Held (H.Local 1)) (Variable 0) Leaves)) ∷ (on 4 (Statement-F.Push (Held (H.Local 1)))) ∷ (on 5 (Statement-F.ReturnPointer (Held (H.Local 1)))) ∷ [] } }) ∷ (record { line = 7; parameters = []; body = record { locals = (OfPointer None) ∷ []; statements = (on 9 (Statement-F.CallTo 0 0 ((Given (Constant (pos 40))) ∷ []))) ∷ (on 10 (Statement-F.PopDestroy (Constant (pos 1)))) ∷ [] } }) ∷ []; operations = []; literals = []; main = 1 }
 
 procedure_returns_a_pushed_cell_run : run script_procedure_returns_a_pushed_cell_run R.Unlimited 10000 (shaped 4096 4096) ≡ record { outcome = Ended None []; trace = (line 1 144 0 Granted) ∷ (line 2 64 144 Granted) ∷ []; lines = []; notes = []; steps = 6 }
 unfolding everything
 procedure_returns_a_pushed_cell_run = refl
 
 abbrev script_push_that_cannot_grow_keeps_its_item_run : Script
-script_push_that_cannot_grow_keeps_its_item_run = record { classes = []; procedures = (record { parameters = []; body = record { locals = (OfPointer None) ∷ []; statements = rolled ((Statement-F.Repeat (Constant (pos 8)) (rolled ((Statement-F.Alloc (Held (H.Local 0)) (Constant (pos 16)) Leaves) ∷ (Statement-F.Push (Held (H.Local 0))) ∷ []))) ∷ (Statement-F.PopDestroy (Constant (pos 8))) ∷ []) } }) ∷ []; operations = []; literals = []; main = 0 }
+script_push_that_cannot_grow_keeps_its_item_run = record { classes = []; procedures = (record { line = 1; parameters = []; body = record { locals = (OfPointer None) ∷ []; statements = (on 3 (Statement-F.Repeat (Constant (pos 8)) ((on 4 (Statement-F.Alloc (Held (H.Local 0)) (Constant (pos 16)) Leaves)) ∷ (on 5 (Statement-F.Push (Held (H.Local 0)))) ∷ []))) ∷ (on 7 (Statement-F.PopDestroy (Constant (pos 8)))) ∷ [] } }) ∷ []; operations = []; literals = []; main = 0 }
 
 push_that_cannot_grow_keeps_its_item_run : run script_push_that_cannot_grow_keeps_its_item_run (R.Number 10) 10000 (shaped 4096 4096) ≡ record { outcome = Ended (Some (negsuc 3)) []; trace = (line 1 144 0 Granted) ∷ (line 2 32 144 Granted) ∷ (line 3 32 176 Granted) ∷ (line 4 32 208 Granted) ∷ (line 5 32 240 Granted) ∷ (line 6 32 272 Granted) ∷ (line 7 32 304 Granted) ∷ (line 8 32 336 Granted) ∷ (line 9 32 368 Granted) ∷ (line 10 208 400 Simulated) ∷ []; lines = []; notes = []; steps = 33 }
 unfolding everything
 push_that_cannot_grow_keeps_its_item_run = refl
 
 abbrev script_too_many_items_to_destroy_destroys_none_run : Script
-script_too_many_items_to_destroy_destroys_none_run = record { classes = []; procedures = (record { parameters = []; body = record { locals = (OfPointer None) ∷ (OfPointer None) ∷ OfNumber ∷ []; statements = rolled ((Statement-F.Alloc (Held (H.Local 0)) (Constant (pos 16)) Leaves) ∷ (Statement-F.Push (Held (H.Local 0))) ∷ (Statement-F.Trap 2 (rolled ((Statement-F.Alloc (Held (H.Local 1)) (Constant (pos 16)) Leaves) ∷ (Statement-F.Push (Held (H.Local 1))) ∷ (Statement-F.PopDestroy (Constant (pos 2))) ∷ []))) ∷ []) } }) ∷ []; operations = []; literals = []; main = 0 }
+script_too_many_items_to_destroy_destroys_none_run = record { classes = []; procedures = (record { line = 1; parameters = []; body = record { locals = (OfPointer None) ∷ (OfPointer None) ∷ OfNumber ∷ []; statements = (on 5 (Statement-F.Alloc (Held (H.Local 0)) (Constant (pos 16)) Leaves)) ∷ (on 6 (Statement-F.Push (Held (H.Local 0)))) ∷ (on 7 (Statement-F.Trap 2 ((on 8 (Statement-F.Alloc (Held (H.Local 1)) (Constant (pos 16)) Leaves)) ∷ (on 9 (Statement-F.Push (Held (H.Local 1)))) ∷ (on 10 (Statement-F.PopDestroy (Constant (pos 2)))) ∷ []))) ∷ [] } }) ∷ []; operations = []; literals = []; main = 0 }
 
 too_many_items_to_destroy_destroys_none_run : run script_too_many_items_to_destroy_destroys_none_run R.Unlimited 10000 (shaped 4096 4096) ≡ record { outcome = Panicked (P.Workbench 3); trace = (line 1 144 0 Granted) ∷ (line 2 32 144 Granted) ∷ (line 3 32 176 Granted) ∷ []; lines = []; notes = []; steps = 6 }
 unfolding everything
 too_many_items_to_destroy_destroys_none_run = refl
 
 abbrev script_freed_pointer_is_not_null_run : Script
-script_freed_pointer_is_not_null_run = record { classes = []; procedures = (record { parameters = []; body = record { locals = (OfPointer None) ∷ []; statements = rolled ((Statement-F.If (NotNull (Held (H.Local 0))) (rolled ((Statement-F.PrintText (Quoted 0)) ∷ []))) ∷ (Statement-F.Alloc (Held (H.Local 0)) (Constant (pos 5)) GivesNull) ∷ (Statement-F.IfElse (NotNull (Held (H.Local 0))) (rolled ((Statement-F.PrintText (Quoted 1)) ∷ [])) (rolled ((Statement-F.PrintText (Quoted 2)) ∷ []))) ∷ (Statement-F.Free (Held (H.Local 0))) ∷ (Statement-F.If (NotNull (Held (H.Local 0))) (rolled ((Statement-F.PrintText (Quoted 3)) ∷ []))) ∷ (Statement-F.SetNull (Held (H.Local 0))) ∷ (Statement-F.IfElse (NotNull (Held (H.Local 0))) (rolled ((Statement-F.PrintText (Quoted 4)) ∷ [])) (rolled ((Statement-F.PrintText (Quoted 5)) ∷ []))) ∷ []) } }) ∷ []; operations = []; literals = (110 ∷ 101 ∷ 118 ∷ 101 ∷ 114 ∷ []) ∷ (115 ∷ 111 ∷ 109 ∷ 101 ∷ []) ∷ (110 ∷ 101 ∷ 118 ∷ 101 ∷ 114 ∷ []) ∷ (115 ∷ 116 ∷ 105 ∷ 108 ∷ 108 ∷ []) ∷ (110 ∷ 101 ∷ 118 ∷ 101 ∷ 114 ∷ []) ∷ (110 ∷ 117 ∷ 108 ∷ 108 ∷ []) ∷ []; main = 0 }
+script_freed_pointer_is_not_null_run = record { classes = []; procedures = (record { line = 1; parameters = []; body = record { locals = (OfPointer None) ∷ []; statements = (on 3 (Statement-F.If (NotNull (Held (H.Local 0))) ((on 4 (Statement-F.PrintText (Quoted 0))) ∷ []))) ∷ (on 6 (Statement-F.Alloc (Held (H.Local 0)) (Constant (pos 5)) GivesNull)) ∷ (on 7 (Statement-F.IfElse (NotNull (Held (H.Local 0))) ((on 8 (Statement-F.PrintText (Quoted 1))) ∷ []) ((on 10 (Statement-F.PrintText (Quoted 2))) ∷ []))) ∷ (on 12 (Statement-F.Free (Held (H.Local 0)))) ∷ (on 13 (Statement-F.If (NotNull (Held (H.Local 0))) ((on 14 (Statement-F.PrintText (Quoted 3))) ∷ []))) ∷ (on 16 (Statement-F.SetNull (Held (H.Local 0)))) ∷ (on 17 (Statement-F.IfElse (NotNull (Held (H.Local 0))) ((on 18 (Statement-F.PrintText (Quoted 4))) ∷ []) ((on 20 (Statement-F.PrintText (Quoted 5))) ∷ []))) ∷ [] } }) ∷ []; operations = []; literals = (110 ∷ 101 ∷ 118 ∷ 101 ∷ 114 ∷ []) ∷ (115 ∷ 111 ∷ 109 ∷ 101 ∷ []) ∷ (110 ∷ 101 ∷ 118 ∷ 101 ∷ 114 ∷ []) ∷ (115 ∷ 116 ∷ 105 ∷ 108 ∷ 108 ∷ []) ∷ (110 ∷ 101 ∷ 118 ∷ 101 ∷ 114 ∷ []) ∷ (110 ∷ 117 ∷ 108 ∷ 108 ∷ []) ∷ []; main = 0 }
 
 freed_pointer_is_not_null_run : run script_freed_pointer_is_not_null_run R.Unlimited 10000 (shaped 4096 4096) ≡ record { outcome = Ended None []; trace = (line 1 144 0 Granted) ∷ (line 2 32 144 Granted) ∷ []; lines = (115 ∷ 111 ∷ 109 ∷ 101 ∷ []) ∷ (115 ∷ 116 ∷ 105 ∷ 108 ∷ 108 ∷ []) ∷ (110 ∷ 117 ∷ 108 ∷ 108 ∷ []) ∷ []; notes = []; steps = 10 }
 unfolding everything
 freed_pointer_is_not_null_run = refl
 
 abbrev script_if_without_else_leaves_its_turn_out_run : Script
-script_if_without_else_leaves_its_turn_out_run = record { classes = []; procedures = (record { parameters = []; body = record { locals = OfNumber ∷ []; statements = rolled ((Statement-F.Repeat (Constant (pos 3)) (rolled ((Statement-F.Add 0 (Constant (pos 1))) ∷ (Statement-F.If (Equal (Variable 0) (Constant (pos 2))) (rolled ((Statement-F.PrintNumber (Variable 0)) ∷ []))) ∷ []))) ∷ []) } }) ∷ []; operations = []; literals = []; main = 0 }
+script_if_without_else_leaves_its_turn_out_run = record { classes = []; procedures = (record { line = 1; parameters = []; body = record { locals = OfNumber ∷ []; statements = (on 3 (Statement-F.Repeat (Constant (pos 3)) ((on 4 (Statement-F.Add 0 (Constant (pos 1)))) ∷ (on 5 (Statement-F.If (Equal (Variable 0) (Constant (pos 2))) ((on 6 (Statement-F.PrintNumber (Variable 0))) ∷ []))) ∷ []))) ∷ [] } }) ∷ []; operations = []; literals = []; main = 0 }
 
 if_without_else_leaves_its_turn_out_run : run script_if_without_else_leaves_its_turn_out_run R.Unlimited 10000 (shaped 4096 4096) ≡ record { outcome = Ended None []; trace = (line 1 144 0 Granted) ∷ []; lines = (50 ∷ []) ∷ []; notes = []; steps = 11 }
 unfolding everything
 if_without_else_leaves_its_turn_out_run = refl
 
 abbrev script_numbers_are_compared_run : Script
-script_numbers_are_compared_run = record { classes = []; procedures = (record { parameters = []; body = record { locals = OfNumber ∷ OfNumber ∷ []; statements = rolled ((Statement-F.SetNumber 0 (Constant (pos 3))) ∷ (Statement-F.SetNumber 1 (Constant (negsuc 2))) ∷ (Statement-F.If (Less (Variable 1) (Variable 0)) (rolled ((Statement-F.PrintText (Quoted 0)) ∷ []))) ∷ (Statement-F.If (Less (Variable 0) (Variable 0)) (rolled ((Statement-F.PrintText (Quoted 1)) ∷ []))) ∷ (Statement-F.IfElse (Equal (Variable 0) (Constant (pos 3))) (rolled ((Statement-F.PrintText (Quoted 2)) ∷ [])) (rolled ((Statement-F.PrintText (Quoted 3)) ∷ []))) ∷ (Statement-F.IfElse (Equal (Variable 0) (Variable 1)) (rolled ((Statement-F.PrintText (Quoted 4)) ∷ [])) (rolled ((Statement-F.PrintText (Quoted 5)) ∷ []))) ∷ []) } }) ∷ []; operations = []; literals = (108 ∷ 101 ∷ 115 ∷ 115 ∷ []) ∷ (110 ∷ 101 ∷ 118 ∷ 101 ∷ 114 ∷ []) ∷ (101 ∷ 113 ∷ 117 ∷ 97 ∷ 108 ∷ []) ∷ (110 ∷ 101 ∷ 118 ∷ 101 ∷ 114 ∷ []) ∷ (110 ∷ 101 ∷ 118 ∷ 101 ∷ 114 ∷ []) ∷ (111 ∷ 116 ∷ 104 ∷ 101 ∷ 114 ∷ []) ∷ []; main = 0 }
+script_numbers_are_compared_run = record { classes = []; procedures = (record { line = 1; parameters = []; body = record { locals = OfNumber ∷ OfNumber ∷ []; statements = (on 4 (Statement-F.SetNumber 0 (Constant (pos 3)))) ∷ (on 5 (Statement-F.SetNumber 1 (Constant (negsuc 2)))) ∷ (on 6 (Statement-F.If (Less (Variable 1) (Variable 0)) ((on 7 (Statement-F.PrintText (Quoted 0))) ∷ []))) ∷ (on 9 (Statement-F.If (Less (Variable 0) (Variable 0)) ((on 10 (Statement-F.PrintText (Quoted 1))) ∷ []))) ∷ (on 12 (Statement-F.IfElse (Equal (Variable 0) (Constant (pos 3))) ((on 13 (Statement-F.PrintText (Quoted 2))) ∷ []) ((on 15 (Statement-F.PrintText (Quoted 3))) ∷ []))) ∷ (on 17 (Statement-F.IfElse (Equal (Variable 0) (Variable 1)) ((on 18 (Statement-F.PrintText (Quoted 4))) ∷ []) ((on 20 (Statement-F.PrintText (Quoted 5))) ∷ []))) ∷ [] } }) ∷ []; operations = []; literals = (108 ∷ 101 ∷ 115 ∷ 115 ∷ []) ∷ (110 ∷ 101 ∷ 118 ∷ 101 ∷ 114 ∷ []) ∷ (101 ∷ 113 ∷ 117 ∷ 97 ∷ 108 ∷ []) ∷ (110 ∷ 101 ∷ 118 ∷ 101 ∷ 114 ∷ []) ∷ (110 ∷ 101 ∷ 118 ∷ 101 ∷ 114 ∷ []) ∷ (111 ∷ 116 ∷ 104 ∷ 101 ∷ 114 ∷ []) ∷ []; main = 0 }
 
 numbers_are_compared_run : run script_numbers_are_compared_run R.Unlimited 10000 (shaped 4096 4096) ≡ record { outcome = Ended None []; trace = (line 1 144 0 Granted) ∷ []; lines = (108 ∷ 101 ∷ 115 ∷ 115 ∷ []) ∷ (101 ∷ 113 ∷ 117 ∷ 97 ∷ 108 ∷ []) ∷ (111 ∷ 116 ∷ 104 ∷ 101 ∷ 114 ∷ []) ∷ []; notes = []; steps = 9 }
 unfolding everything
 numbers_are_compared_run = refl
 
 abbrev script_budget_ends_before_the_frames_do_run : Script
-script_budget_ends_before_the_frames_do_run = record { classes = []; procedures = (record { parameters = []; body = record { locals = []; statements = rolled ((Statement-F.Call 0 []) ∷ []) } }) ∷ (record { parameters = []; body = record { locals = []; statements = rolled ((Statement-F.Call 0 []) ∷ []) } }) ∷ []; operations = []; literals = []; main = 1 }
+script_budget_ends_before_the_frames_do_run = record { classes = []; procedures = (record { line = 1; parameters = []; body = record { locals = []; statements = (on 2 (Statement-F.Call 0 [])) ∷ [] } }) ∷ (record { line = 4; parameters = []; body = record { locals = []; statements = (on 5 (Statement-F.Call 0 [])) ∷ [] } }) ∷ []; operations = []; literals = []; main = 1 }
 
 budget_ends_before_the_frames_do_run : run script_budget_ends_before_the_frames_do_run R.Unlimited 127 (shaped 4096 4096) ≡ record { outcome = Cut Budget; trace = (line 1 144 0 Granted) ∷ []; lines = []; notes = []; steps = 127 }
 unfolding everything
 budget_ends_before_the_frames_do_run = refl
 
 abbrev script_budget_exactly_enough_run : Script
-script_budget_exactly_enough_run = record { classes = []; procedures = (record { parameters = []; body = record { locals = (OfPointer None) ∷ (OfPointer None) ∷ (OfPointer None) ∷ []; statements = rolled ((Statement-F.Alloc (Held (H.Local 0)) (Constant (pos 10)) GivesNull) ∷ (Statement-F.Alloc (Held (H.Local 1)) (Constant (pos 100)) GivesNull) ∷ (Statement-F.Free (Held (H.Local 0))) ∷ (Statement-F.Alloc (Held (H.Local 2)) (Constant (pos 16)) GivesNull) ∷ (Statement-F.Free (Held (H.Local 1))) ∷ (Statement-F.Free (Held (H.Local 2))) ∷ []) } }) ∷ []; operations = []; literals = []; main = 0 }
+script_budget_exactly_enough_run = record { classes = []; procedures = (record { line = 1; parameters = []; body = record { locals = (OfPointer None) ∷ (OfPointer None) ∷ (OfPointer None) ∷ []; statements = (on 5 (Statement-F.Alloc (Held (H.Local 0)) (Constant (pos 10)) GivesNull)) ∷ (on 6 (Statement-F.Alloc (Held (H.Local 1)) (Constant (pos 100)) GivesNull)) ∷ (on 7 (Statement-F.Free (Held (H.Local 0)))) ∷ (on 8 (Statement-F.Alloc (Held (H.Local 2)) (Constant (pos 16)) GivesNull)) ∷ (on 9 (Statement-F.Free (Held (H.Local 1)))) ∷ (on 10 (Statement-F.Free (Held (H.Local 2)))) ∷ [] } }) ∷ []; operations = []; literals = []; main = 0 }
 
 budget_exactly_enough_run : run script_budget_exactly_enough_run R.Unlimited 6 (shaped 4096 4096) ≡ record { outcome = Ended None []; trace = (line 1 144 0 Granted) ∷ (line 2 32 144 Granted) ∷ (line 3 128 176 Granted) ∷ (line 4 32 144 Granted) ∷ []; lines = []; notes = []; steps = 6 }
 unfolding everything
 budget_exactly_enough_run = refl
 
 abbrev script_budget_one_step_short_run : Script
-script_budget_one_step_short_run = record { classes = []; procedures = (record { parameters = []; body = record { locals = (OfPointer None) ∷ (OfPointer None) ∷ (OfPointer None) ∷ []; statements = rolled ((Statement-F.Alloc (Held (H.Local 0)) (Constant (pos 10)) GivesNull) ∷ (Statement-F.Alloc (Held (H.Local 1)) (Constant (pos 100)) GivesNull) ∷ (Statement-F.Free (Held (H.Local 0))) ∷ (Statement-F.Alloc (Held (H.Local 2)) (Constant (pos 16)) GivesNull) ∷ (Statement-F.Free (Held (H.Local 1))) ∷ (Statement-F.Free (Held (H.Local 2))) ∷ []) } }) ∷ []; operations = []; literals = []; main = 0 }
+script_budget_one_step_short_run = record { classes = []; procedures = (record { line = 1; parameters = []; body = record { locals = (OfPointer None) ∷ (OfPointer None) ∷ (OfPointer None) ∷ []; statements = (on 5 (Statement-F.Alloc (Held (H.Local 0)) (Constant (pos 10)) GivesNull)) ∷ (on 6 (Statement-F.Alloc (Held (H.Local 1)) (Constant (pos 100)) GivesNull)) ∷ (on 7 (Statement-F.Free (Held (H.Local 0)))) ∷ (on 8 (Statement-F.Alloc (Held (H.Local 2)) (Constant (pos 16)) GivesNull)) ∷ (on 9 (Statement-F.Free (Held (H.Local 1)))) ∷ (on 10 (Statement-F.Free (Held (H.Local 2)))) ∷ [] } }) ∷ []; operations = []; literals = []; main = 0 }
 
 budget_one_step_short_run : run script_budget_one_step_short_run R.Unlimited 5 (shaped 4096 4096) ≡ record { outcome = Cut Budget; trace = (line 1 144 0 Granted) ∷ (line 2 32 144 Granted) ∷ (line 3 128 176 Granted) ∷ (line 4 32 144 Granted) ∷ []; lines = []; notes = []; steps = 5 }
 unfolding everything
 budget_one_step_short_run = refl
 
 abbrev script_endless_calls_run_out_of_frames_run : Script
-script_endless_calls_run_out_of_frames_run = record { classes = []; procedures = (record { parameters = []; body = record { locals = []; statements = rolled ((Statement-F.Call 0 []) ∷ []) } }) ∷ (record { parameters = []; body = record { locals = []; statements = rolled ((Statement-F.Call 0 []) ∷ []) } }) ∷ []; operations = []; literals = []; main = 1 }
+script_endless_calls_run_out_of_frames_run = record { classes = []; procedures = (record { line = 1; parameters = []; body = record { locals = []; statements = (on 2 (Statement-F.Call 0 [])) ∷ [] } }) ∷ (record { line = 4; parameters = []; body = record { locals = []; statements = (on 5 (Statement-F.Call 0 [])) ∷ [] } }) ∷ []; operations = []; literals = []; main = 1 }
 
 endless_calls_run_out_of_frames_run : run script_endless_calls_run_out_of_frames_run R.Unlimited 10000 (shaped 4096 4096) ≡ record { outcome = Panicked (P.Workbench 7); trace = (line 1 144 0 Granted) ∷ []; lines = []; notes = []; steps = 128 }
 unfolding everything
 endless_calls_run_out_of_frames_run = refl
 
 abbrev script_every_second_attempt_fails_run : Script
-script_every_second_attempt_fails_run = record { classes = []; procedures = (record { parameters = []; body = record { locals = (OfPointer None) ∷ []; statements = rolled ((Statement-F.FailEvery (Constant (pos 2))) ∷ (Statement-F.Repeat (Constant (pos 4)) (rolled ((Statement-F.Alloc (Held (H.Local 0)) (Constant (pos 16)) GivesNull) ∷ (Statement-F.Free (Held (H.Local 0))) ∷ []))) ∷ []) } }) ∷ []; operations = []; literals = []; main = 0 }
+script_every_second_attempt_fails_run = record { classes = []; procedures = (record { line = 1; parameters = []; body = record { locals = (OfPointer None) ∷ []; statements = (on 3 (Statement-F.FailEvery (Constant (pos 2)))) ∷ (on 4 (Statement-F.Repeat (Constant (pos 4)) ((on 5 (Statement-F.Alloc (Held (H.Local 0)) (Constant (pos 16)) GivesNull)) ∷ (on 6 (Statement-F.Free (Held (H.Local 0)))) ∷ []))) ∷ [] } }) ∷ []; operations = []; literals = []; main = 0 }
 
 every_second_attempt_fails_run : run script_every_second_attempt_fails_run R.Unlimited 10000 (shaped 4096 4096) ≡ record { outcome = Ended None []; trace = (line 1 144 0 Granted) ∷ (line 2 32 144 Granted) ∷ (line 3 32 144 Simulated) ∷ (line 4 32 144 Granted) ∷ (line 5 32 144 Simulated) ∷ []; lines = []; notes = []; steps = 14 }
 unfolding everything
 every_second_attempt_fails_run = refl
 
 abbrev script_last_cell_passes_the_ceiling_run : Script
-script_last_cell_passes_the_ceiling_run = record { classes = []; procedures = (record { parameters = []; body = record { locals = (OfPointer None) ∷ []; statements = rolled ((Statement-F.Repeat (Constant (pos 15)) (rolled ((Statement-F.Alloc (Held (H.Local 0)) (Constant (pos 1048560)) GivesNull) ∷ []))) ∷ (Statement-F.Alloc (Held (H.Local 0)) (Constant (pos 1048417)) GivesNull) ∷ []) } }) ∷ []; operations = []; literals = []; main = 0 }
+script_last_cell_passes_the_ceiling_run = record { classes = []; procedures = (record { line = 1; parameters = []; body = record { locals = (OfPointer None) ∷ []; statements = (on 3 (Statement-F.Repeat (Constant (pos 15)) ((on 4 (Statement-F.Alloc (Held (H.Local 0)) (Constant (pos 1048560)) GivesNull)) ∷ []))) ∷ (on 6 (Statement-F.Alloc (Held (H.Local 0)) (Constant (pos 1048417)) GivesNull)) ∷ [] } }) ∷ []; operations = []; literals = []; main = 0 }
 
 last_cell_passes_the_ceiling_run : run script_last_cell_passes_the_ceiling_run R.Unlimited 10000 (shaped 4096 4096) ≡ record { outcome = Cut Ceiling; trace = (line 1 144 0 Granted) ∷ (line 2 1048576 144 Granted) ∷ (line 3 1048576 1048720 Granted) ∷ (line 4 1048576 2097296 Granted) ∷ (line 5 1048576 3145872 Granted) ∷ (line 6 1048576 4194448 Granted) ∷ (line 7 1048576 5243024 Granted) ∷ (line 8 1048576 6291600 Granted) ∷ (line 9 1048576 7340176 Granted) ∷ (line 10 1048576 8388752 Granted) ∷ (line 11 1048576 9437328 Granted) ∷ (line 12 1048576 10485904 Granted) ∷ (line 13 1048576 11534480 Granted) ∷ (line 14 1048576 12583056 Granted) ∷ (line 15 1048576 13631632 Granted) ∷ (line 16 1048576 14680208 Granted) ∷ []; lines = []; notes = []; steps = 32 }
 unfolding everything
 last_cell_passes_the_ceiling_run = refl
 
 abbrev script_limit_at_the_ceiling_refuses_instead_of_cutting_run : Script
-script_limit_at_the_ceiling_refuses_instead_of_cutting_run = record { classes = []; procedures = (record { parameters = []; body = record { locals = (OfPointer None) ∷ []; statements = rolled ((Statement-F.Repeat (Constant (pos 15)) (rolled ((Statement-F.Alloc (Held (H.Local 0)) (Constant (pos 1048560)) GivesNull) ∷ []))) ∷ (Statement-F.Alloc (Held (H.Local 0)) (Constant (pos 1048417)) GivesNull) ∷ []) } }) ∷ []; operations = []; literals = []; main = 0 }
+script_limit_at_the_ceiling_refuses_instead_of_cutting_run = record { classes = []; procedures = (record { line = 1; parameters = []; body = record { locals = (OfPointer None) ∷ []; statements = (on 3 (Statement-F.Repeat (Constant (pos 15)) ((on 4 (Statement-F.Alloc (Held (H.Local 0)) (Constant (pos 1048560)) GivesNull)) ∷ []))) ∷ (on 6 (Statement-F.Alloc (Held (H.Local 0)) (Constant (pos 1048417)) GivesNull)) ∷ [] } }) ∷ []; operations = []; literals = []; main = 0 }
 
 limit_at_the_ceiling_refuses_instead_of_cutting_run : run script_limit_at_the_ceiling_refuses_instead_of_cutting_run (R.Limit 16777216) 10000 (shaped 4096 4096) ≡ record { outcome = Ended None ((record { number = 2; length = 1048576; place = 144 }) ∷ (record { number = 3; length = 1048576; place = 1048720 }) ∷ (record { number = 4; length = 1048576; place = 2097296 }) ∷ (record { number = 5; length = 1048576; place = 3145872 }) ∷ (record { number = 6; length = 1048576; place = 4194448 }) ∷ (record { number = 7; length = 1048576; place = 5243024 }) ∷ (record { number = 8; length = 1048576; place = 6291600 }) ∷ (record { number = 9; length = 1048576; place = 7340176 }) ∷ (record { number = 10; length = 1048576; place = 8388752 }) ∷ (record { number = 11; length = 1048576; place = 9437328 }) ∷ (record { number = 12; length = 1048576; place = 10485904 }) ∷ (record { number = 13; length = 1048576; place = 11534480 }) ∷ (record { number = 14; length = 1048576; place = 12583056 }) ∷ (record { number = 15; length = 1048576; place = 13631632 }) ∷ (record { number = 16; length = 1048576; place = 14680208 }) ∷ []); trace = (line 1 144 0 Granted) ∷ (line 2 1048576 144 Granted) ∷ (line 3 1048576 1048720 Granted) ∷ (line 4 1048576 2097296 Granted) ∷ (line 5 1048576 3145872 Granted) ∷ (line 6 1048576 4194448 Granted) ∷ (line 7 1048576 5243024 Granted) ∷ (line 8 1048576 6291600 Granted) ∷ (line 9 1048576 7340176 Granted) ∷ (line 10 1048576 8388752 Granted) ∷ (line 11 1048576 9437328 Granted) ∷ (line 12 1048576 10485904 Granted) ∷ (line 13 1048576 11534480 Granted) ∷ (line 14 1048576 12583056 Granted) ∷ (line 15 1048576 13631632 Granted) ∷ (line 16 1048576 14680208 Granted) ∷ (line 17 1048448 15728784 Refused) ∷ []; lines = []; notes = []; steps = 32 }
 unfolding everything
 limit_at_the_ceiling_refuses_instead_of_cutting_run = refl
 
 abbrev script_limit_just_enough_run : Script
-script_limit_just_enough_run = record { classes = []; procedures = (record { parameters = []; body = record { locals = (OfPointer None) ∷ (OfPointer None) ∷ (OfPointer None) ∷ []; statements = rolled ((Statement-F.Alloc (Held (H.Local 0)) (Constant (pos 48)) GivesNull) ∷ (Statement-F.Alloc (Held (H.Local 1)) (Constant (pos 16)) GivesNull) ∷ (Statement-F.Free (Held (H.Local 0))) ∷ (Statement-F.Realloc (Held (H.Local 2)) (Held (H.Local 1)) (Constant (pos 48)) GivesNull) ∷ (Statement-F.IfElse (IsNull (Held (H.Local 2))) (rolled ((Statement-F.Free (Held (H.Local 1))) ∷ [])) (rolled ((Statement-F.Free (Held (H.Local 2))) ∷ []))) ∷ []) } }) ∷ []; operations = []; literals = []; main = 0 }
+script_limit_just_enough_run = record { classes = []; procedures = (record { line = 1; parameters = []; body = record { locals = (OfPointer None) ∷ (OfPointer None) ∷ (OfPointer None) ∷ []; statements = (on 5 (Statement-F.Alloc (Held (H.Local 0)) (Constant (pos 48)) GivesNull)) ∷ (on 6 (Statement-F.Alloc (Held (H.Local 1)) (Constant (pos 16)) GivesNull)) ∷ (on 7 (Statement-F.Free (Held (H.Local 0)))) ∷ (on 8 (Statement-F.Realloc (Held (H.Local 2)) (Held (H.Local 1)) (Constant (pos 48)) GivesNull)) ∷ (on 9 (Statement-F.IfElse (IsNull (Held (H.Local 2))) ((on 10 (Statement-F.Free (Held (H.Local 1)))) ∷ []) ((on 12 (Statement-F.Free (Held (H.Local 2)))) ∷ []))) ∷ [] } }) ∷ []; operations = []; literals = []; main = 0 }
 
 limit_just_enough_run : run script_limit_just_enough_run (R.Limit 272) 10000 (shaped 4096 4096) ≡ record { outcome = Ended None []; trace = (line 1 144 0 Granted) ∷ (line 2 64 144 Granted) ∷ (line 3 32 208 Granted) ∷ (line 4 64 208 Granted) ∷ []; lines = []; notes = []; steps = 6 }
 unfolding everything
 limit_just_enough_run = refl
 
 abbrev script_limit_one_byte_short_of_enough_run : Script
-script_limit_one_byte_short_of_enough_run = record { classes = []; procedures = (record { parameters = []; body = record { locals = (OfPointer None) ∷ (OfPointer None) ∷ (OfPointer None) ∷ []; statements = rolled ((Statement-F.Alloc (Held (H.Local 0)) (Constant (pos 48)) GivesNull) ∷ (Statement-F.Alloc (Held (H.Local 1)) (Constant (pos 16)) GivesNull) ∷ (Statement-F.Free (Held (H.Local 0))) ∷ (Statement-F.Realloc (Held (H.Local 2)) (Held (H.Local 1)) (Constant (pos 48)) GivesNull) ∷ (Statement-F.IfElse (IsNull (Held (H.Local 2))) (rolled ((Statement-F.Free (Held (H.Local 1))) ∷ [])) (rolled ((Statement-F.Free (Held (H.Local 2))) ∷ []))) ∷ []) } }) ∷ []; operations = []; literals = []; main = 0 }
+script_limit_one_byte_short_of_enough_run = record { classes = []; procedures = (record { line = 1; parameters = []; body = record { locals = (OfPointer None) ∷ (OfPointer None) ∷ (OfPointer None) ∷ []; statements = (on 5 (Statement-F.Alloc (Held (H.Local 0)) (Constant (pos 48)) GivesNull)) ∷ (on 6 (Statement-F.Alloc (Held (H.Local 1)) (Constant (pos 16)) GivesNull)) ∷ (on 7 (Statement-F.Free (Held (H.Local 0)))) ∷ (on 8 (Statement-F.Realloc (Held (H.Local 2)) (Held (H.Local 1)) (Constant (pos 48)) GivesNull)) ∷ (on 9 (Statement-F.IfElse (IsNull (Held (H.Local 2))) ((on 10 (Statement-F.Free (Held (H.Local 1)))) ∷ []) ((on 12 (Statement-F.Free (Held (H.Local 2)))) ∷ []))) ∷ [] } }) ∷ []; operations = []; literals = []; main = 0 }
 
 limit_one_byte_short_of_enough_run : run script_limit_one_byte_short_of_enough_run (R.Limit 271) 10000 (shaped 4096 4096) ≡ record { outcome = Ended None []; trace = (line 1 144 0 Granted) ∷ (line 2 64 144 Granted) ∷ (line 3 32 208 Granted) ∷ (line 4 64 208 Refused) ∷ []; lines = []; notes = []; steps = 6 }
 unfolding everything
 limit_one_byte_short_of_enough_run = refl
 
 abbrev script_limit_stops_top_cell_growth_run : Script
-script_limit_stops_top_cell_growth_run = record { classes = []; procedures = (record { parameters = []; body = record { locals = (OfPointer None) ∷ (OfPointer None) ∷ (OfPointer None) ∷ []; statements = rolled ((Statement-F.Alloc (Held (H.Local 0)) (Constant (pos 48)) GivesNull) ∷ (Statement-F.Alloc (Held (H.Local 1)) (Constant (pos 16)) GivesNull) ∷ (Statement-F.Free (Held (H.Local 0))) ∷ (Statement-F.Realloc (Held (H.Local 2)) (Held (H.Local 1)) (Constant (pos 48)) GivesNull) ∷ (Statement-F.IfElse (IsNull (Held (H.Local 2))) (rolled ((Statement-F.Free (Held (H.Local 1))) ∷ [])) (rolled ((Statement-F.Free (Held (H.Local 2))) ∷ []))) ∷ []) } }) ∷ []; operations = []; literals = []; main = 0 }
+script_limit_stops_top_cell_growth_run = record { classes = []; procedures = (record { line = 1; parameters = []; body = record { locals = (OfPointer None) ∷ (OfPointer None) ∷ (OfPointer None) ∷ []; statements = (on 5 (Statement-F.Alloc (Held (H.Local 0)) (Constant (pos 48)) GivesNull)) ∷ (on 6 (Statement-F.Alloc (Held (H.Local 1)) (Constant (pos 16)) GivesNull)) ∷ (on 7 (Statement-F.Free (Held (H.Local 0)))) ∷ (on 8 (Statement-F.Realloc (Held (H.Local 2)) (Held (H.Local 1)) (Constant (pos 48)) GivesNull)) ∷ (on 9 (Statement-F.IfElse (IsNull (Held (H.Local 2))) ((on 10 (Statement-F.Free (Held (H.Local 1)))) ∷ []) ((on 12 (Statement-F.Free (Held (H.Local 2)))) ∷ []))) ∷ [] } }) ∷ []; operations = []; literals = []; main = 0 }
 
 limit_stops_top_cell_growth_run : run script_limit_stops_top_cell_growth_run (R.Limit 256) 10000 (shaped 4096 4096) ≡ record { outcome = Ended None []; trace = (line 1 144 0 Granted) ∷ (line 2 64 144 Granted) ∷ (line 3 32 208 Granted) ∷ (line 4 64 208 Refused) ∷ []; lines = []; notes = []; steps = 6 }
 unfolding everything
 limit_stops_top_cell_growth_run = refl
 
 abbrev script_refused_text_growth_after_leaving_allocation_run : Script
-script_refused_text_growth_after_leaving_allocation_run = record { classes = []; procedures = (record { parameters = []; body = record { locals = (OfPointer None) ∷ (OfPointer None) ∷ []; statements = rolled ((Statement-F.NewText (Held (H.Local 0)) (Constant (pos 4)) Leaves) ∷ (Statement-F.Append (InCell (Held (H.Local 0))) (Quoted 0)) ∷ (Statement-F.FailNext (Constant (pos 1))) ∷ (Statement-F.ReallocText (Held (H.Local 1)) (Held (H.Local 0)) (Constant (pos 20))) ∷ (Statement-F.PrintText (Of (InCell (Held (H.Local 0))))) ∷ (Statement-F.Free (Held (H.Local 0))) ∷ []) } }) ∷ []; operations = []; literals = (97 ∷ 98 ∷ 99 ∷ []) ∷ []; main = 0 }
+script_refused_text_growth_after_leaving_allocation_run = record { classes = []; procedures = (record { line = 1; parameters = []; body = record { locals = (OfPointer None) ∷ (OfPointer None) ∷ []; statements = (on 4 (Statement-F.NewText (Held (H.Local 0)) (Constant (pos 4)) Leaves)) ∷ (on 5 (Statement-F.Append (InCell (Held (H.Local 0))) (Quoted 0))) ∷ (on 6 (Statement-F.FailNext (Constant (pos 1)))) ∷ (on 7 (Statement-F.ReallocText (Held (H.Local 1)) (Held (H.Local 0)) (Constant (pos 20)))) ∷ (on 8 (Statement-F.PrintText (Of (InCell (Held (H.Local 0)))))) ∷ (on 9 (Statement-F.Free (Held (H.Local 0)))) ∷ [] } }) ∷ []; operations = []; literals = (97 ∷ 98 ∷ 99 ∷ []) ∷ []; main = 0 }
 
 refused_text_growth_after_leaving_allocation_run : run script_refused_text_growth_after_leaving_allocation_run R.Unlimited 10000 (shaped 4096 4096) ≡ record { outcome = Ended None []; trace = (line 1 144 0 Granted) ∷ (line 2 32 144 Granted) ∷ (line 3 64 144 Simulated) ∷ []; lines = (97 ∷ 98 ∷ 99 ∷ []) ∷ []; notes = []; steps = 6 }
 unfolding everything
 refused_text_growth_after_leaving_allocation_run = refl
 
 abbrev script_sixteen_nested_blocks_run : Script
-script_sixteen_nested_blocks_run = record { classes = []; procedures = (record { parameters = []; body = record { locals = []; statements = rolled ((Statement-F.Repeat (Constant (pos 1)) (rolled ((Statement-F.Repeat (Constant (pos 1)) (rolled ((Statement-F.Repeat (Constant (pos 1)) (rolled ((Statement-F.Repeat (Constant (pos 1)) (rolled ((Statement-F.Repeat (Constant (pos 1)) (rolled ((Statement-F.Repeat (Constant (pos 1)) (rolled ((Statement-F.Repeat (Constant (pos 1)) (rolled ((Statement-F.Repeat (Constant (pos 1)) (rolled ((Statement-F.Repeat (Constant (pos 1)) (rolled ((Statement-F.Repeat (Constant (pos 1)) (rolled ((Statement-F.Repeat (Constant (pos 1)) (rolled ((Statement-F.Repeat (Constant (pos 1)) (rolled ((Statement-F.Repeat (Constant (pos 1)) (rolled ((Statement-F.Repeat (Constant (pos 1)) (rolled ((Statement-F.Repeat (Constant (pos 1)) (rolled ((Statement-F.Repeat (Constant (pos 1)) []) ∷ []))) ∷ []))) ∷ []))) ∷ []))) ∷ []))) ∷ []))) ∷ []))) ∷ []))) ∷ []))) ∷ []))) ∷ []))) ∷ []))) ∷ []))) ∷ []))) ∷ []))) ∷ []) } }) ∷ []; operations = []; literals = []; main = 0 }
+script_sixteen_nested_blocks_run = record { classes = []; procedures = (record { line = 1; parameters = []; body = record { locals = []; statements = (on 2 (Statement-F.Repeat (Constant (pos 1)) ((on 3 (Statement-F.Repeat (Constant (pos 1)) ((on 4 (Statement-F.Repeat (Constant (pos 1)) ((on 5 (Statement-F.Repeat (Constant (pos 1)) ((on 6 (Statement-F.Repeat (Constant (pos 1)) ((on 7 (Statement-F.Repeat (Constant (pos 1)) ((on 8 (Statement-F.Repeat (Constant (pos 1)) ((on 9 (Statement-F.Repeat (Constant (pos 1)) ((on 10 (Statement-F.Repeat (Constant (pos 1)) ((on 11 (Statement-F.Repeat (Constant (pos 1)) ((on 12 (Statement-F.Repeat (Constant (pos 1)) ((on 13 (Statement-F.Repeat (Constant (pos 1)) ((on 14 (Statement-F.Repeat (Constant (pos 1)) ((on 15 (Statement-F.Repeat (Constant (pos 1)) ((on 16 (Statement-F.Repeat (Constant (pos 1)) ((on 17 (Statement-F.Repeat (Constant (pos 1)) [])) ∷ []))) ∷ []))) ∷ []))) ∷ []))) ∷ []))) ∷ []))) ∷ []))) ∷ []))) ∷ []))) ∷ []))) ∷ []))) ∷ []))) ∷ []))) ∷ []))) ∷ []))) ∷ [] } }) ∷ []; operations = []; literals = []; main = 0 }
 
 sixteen_nested_blocks_run : run script_sixteen_nested_blocks_run R.Unlimited 10000 (shaped 4096 4096) ≡ record { outcome = Ended None []; trace = (line 1 144 0 Granted) ∷ []; lines = []; notes = []; steps = 32 }
 unfolding everything
 sixteen_nested_blocks_run = refl
 
 abbrev script_text_from_leaving_allocation_too_long_run : Script
-script_text_from_leaving_allocation_too_long_run = record { classes = []; procedures = (record { parameters = []; body = record { locals = (OfPointer None) ∷ OfNumber ∷ OfView ∷ []; statements = rolled ((Statement-F.NewText (Held (H.Local 0)) (Constant (pos 4)) Leaves) ∷ (Statement-F.GetMaximum 1 (InCell (Held (H.Local 0)))) ∷ (Statement-F.PrintNumber (Variable 1)) ∷ (Statement-F.Append (InCell (Held (H.Local 0))) (Quoted 0)) ∷ (Statement-F.Append (InCell (Held (H.Local 0))) (Quoted 1)) ∷ []) } }) ∷ []; operations = []; literals = (97 ∷ 98 ∷ 99 ∷ 100 ∷ 101 ∷ 102 ∷ []) ∷ (103 ∷ []) ∷ []; main = 0 }
+script_text_from_leaving_allocation_too_long_run = record { classes = []; procedures = (record { line = 1; parameters = []; body = record { locals = (OfPointer None) ∷ OfNumber ∷ OfView ∷ []; statements = (on 5 (Statement-F.NewText (Held (H.Local 0)) (Constant (pos 4)) Leaves)) ∷ (on 6 (Statement-F.GetMaximum 1 (InCell (Held (H.Local 0))))) ∷ (on 7 (Statement-F.PrintNumber (Variable 1))) ∷ (on 8 (Statement-F.Append (InCell (Held (H.Local 0))) (Quoted 0))) ∷ (on 9 (Statement-F.Append (InCell (Held (H.Local 0))) (Quoted 1))) ∷ [] } }) ∷ []; operations = []; literals = (97 ∷ 98 ∷ 99 ∷ 100 ∷ 101 ∷ 102 ∷ []) ∷ (103 ∷ []) ∷ []; main = 0 }
 
 text_from_leaving_allocation_too_long_run : run script_text_from_leaving_allocation_too_long_run R.Unlimited 10000 (shaped 4096 4096) ≡ record { outcome = Panicked (P.User 11); trace = (line 1 144 0 Granted) ∷ (line 2 32 144 Granted) ∷ []; lines = (54 ∷ []) ∷ []; notes = []; steps = 5 }
 unfolding everything
 text_from_leaving_allocation_too_long_run = refl
 
 abbrev script_top_cell_grows_in_place_run : Script
-script_top_cell_grows_in_place_run = record { classes = []; procedures = (record { parameters = []; body = record { locals = (OfPointer None) ∷ (OfPointer None) ∷ (OfPointer None) ∷ []; statements = rolled ((Statement-F.Alloc (Held (H.Local 0)) (Constant (pos 48)) GivesNull) ∷ (Statement-F.Alloc (Held (H.Local 1)) (Constant (pos 16)) GivesNull) ∷ (Statement-F.Free (Held (H.Local 0))) ∷ (Statement-F.Realloc (Held (H.Local 2)) (Held (H.Local 1)) (Constant (pos 48)) GivesNull) ∷ (Statement-F.IfElse (IsNull (Held (H.Local 2))) (rolled ((Statement-F.Free (Held (H.Local 1))) ∷ [])) (rolled ((Statement-F.Free (Held (H.Local 2))) ∷ []))) ∷ []) } }) ∷ []; operations = []; literals = []; main = 0 }
+script_top_cell_grows_in_place_run = record { classes = []; procedures = (record { line = 1; parameters = []; body = record { locals = (OfPointer None) ∷ (OfPointer None) ∷ (OfPointer None) ∷ []; statements = (on 5 (Statement-F.Alloc (Held (H.Local 0)) (Constant (pos 48)) GivesNull)) ∷ (on 6 (Statement-F.Alloc (Held (H.Local 1)) (Constant (pos 16)) GivesNull)) ∷ (on 7 (Statement-F.Free (Held (H.Local 0)))) ∷ (on 8 (Statement-F.Realloc (Held (H.Local 2)) (Held (H.Local 1)) (Constant (pos 48)) GivesNull)) ∷ (on 9 (Statement-F.IfElse (IsNull (Held (H.Local 2))) ((on 10 (Statement-F.Free (Held (H.Local 1)))) ∷ []) ((on 12 (Statement-F.Free (Held (H.Local 2)))) ∷ []))) ∷ [] } }) ∷ []; operations = []; literals = []; main = 0 }
 
 top_cell_grows_in_place_run : run script_top_cell_grows_in_place_run R.Unlimited 10000 (shaped 4096 4096) ≡ record { outcome = Ended None []; trace = (line 1 144 0 Granted) ∷ (line 2 64 144 Granted) ∷ (line 3 32 208 Granted) ∷ (line 4 64 208 Granted) ∷ []; lines = []; notes = []; steps = 6 }
 unfolding everything
 top_cell_grows_in_place_run = refl
 
 abbrev script_trapped_leave_leaves_again_run : Script
-script_trapped_leave_leaves_again_run = record { classes = []; procedures = (record { parameters = []; body = record { locals = OfNumber ∷ []; statements = rolled ((Statement-F.Trap 0 (rolled ((Statement-F.Leave (Constant (negsuc 6))) ∷ []))) ∷ (Statement-F.PrintNumber (Variable 0)) ∷ (Statement-F.LeaveIfError (Variable 0)) ∷ []) } }) ∷ []; operations = []; literals = []; main = 0 }
+script_trapped_leave_leaves_again_run = record { classes = []; procedures = (record { line = 1; parameters = []; body = record { locals = OfNumber ∷ []; statements = (on 3 (Statement-F.Trap 0 ((on 4 (Statement-F.Leave (Constant (negsuc 6)))) ∷ []))) ∷ (on 6 (Statement-F.PrintNumber (Variable 0))) ∷ (on 7 (Statement-F.LeaveIfError (Variable 0))) ∷ [] } }) ∷ []; operations = []; literals = []; main = 0 }
 
 trapped_leave_leaves_again_run : run script_trapped_leave_leaves_again_run R.Unlimited 10000 (shaped 4096 4096) ≡ record { outcome = Ended (Some (negsuc 6)) []; trace = (line 1 144 0 Granted) ∷ []; lines = (45 ∷ 55 ∷ []) ∷ []; notes = []; steps = 4 }
 unfolding everything
 trapped_leave_leaves_again_run = refl
 
 abbrev script_view_past_text_from_leaving_allocation_run : Script
-script_view_past_text_from_leaving_allocation_run = record { classes = []; procedures = (record { parameters = []; body = record { locals = (OfPointer None) ∷ OfNumber ∷ OfView ∷ []; statements = rolled ((Statement-F.NewText (Held (H.Local 0)) (Constant (pos 4)) Leaves) ∷ (Statement-F.GetMaximum 1 (InCell (Held (H.Local 0)))) ∷ (Statement-F.PrintNumber (Variable 1)) ∷ (Statement-F.Append (InCell (Held (H.Local 0))) (Quoted 0)) ∷ (Statement-F.Mid 2 (Of (InCell (Held (H.Local 0)))) (Constant (pos 7)) (Constant (pos 0))) ∷ []) } }) ∷ []; operations = []; literals = (97 ∷ 98 ∷ 99 ∷ 100 ∷ 101 ∷ 102 ∷ []) ∷ []; main = 0 }
+script_view_past_text_from_leaving_allocation_run = record { classes = []; procedures = (record { line = 1; parameters = []; body = record { locals = (OfPointer None) ∷ OfNumber ∷ OfView ∷ []; statements = (on 5 (Statement-F.NewText (Held (H.Local 0)) (Constant (pos 4)) Leaves)) ∷ (on 6 (Statement-F.GetMaximum 1 (InCell (Held (H.Local 0))))) ∷ (on 7 (Statement-F.PrintNumber (Variable 1))) ∷ (on 8 (Statement-F.Append (InCell (Held (H.Local 0))) (Quoted 0))) ∷ (on 9 (Statement-F.Mid 2 (Of (InCell (Held (H.Local 0)))) (Constant (pos 7)) (Constant (pos 0)))) ∷ [] } }) ∷ []; operations = []; literals = (97 ∷ 98 ∷ 99 ∷ 100 ∷ 101 ∷ 102 ∷ []) ∷ []; main = 0 }
 
 view_past_text_from_leaving_allocation_run : run script_view_past_text_from_leaving_allocation_run R.Unlimited 10000 (shaped 4096 4096) ≡ record { outcome = Panicked (P.User 10); trace = (line 1 144 0 Granted) ∷ (line 2 32 144 Granted) ∷ []; lines = (54 ∷ []) ∷ []; notes = []; steps = 5 }
 unfolding everything
 view_past_text_from_leaving_allocation_run = refl
 
 abbrev script_missing_mark_is_told_before_the_count_run : Script
-script_missing_mark_is_told_before_the_count_run = record { classes = []; procedures = (record { parameters = []; body = record { locals = (OfPointer None) ∷ []; statements = rolled ((Statement-F.Alloc (Held (H.Local 0)) (Constant (pos 1)) GivesNull) ∷ (Statement-F.MarkEnd (Constant (pos 5))) ∷ []) } }) ∷ []; operations = []; literals = []; main = 0 }
+script_missing_mark_is_told_before_the_count_run = record { classes = []; procedures = (record { line = 1; parameters = []; body = record { locals = (OfPointer None) ∷ []; statements = (on 3 (Statement-F.Alloc (Held (H.Local 0)) (Constant (pos 1)) GivesNull)) ∷ (on 4 (Statement-F.MarkEnd (Constant (pos 5)))) ∷ [] } }) ∷ []; operations = []; literals = []; main = 0 }
 
 missing_mark_is_told_before_the_count_run : run script_missing_mark_is_told_before_the_count_run R.Unlimited 10000 (shaped 4096 4096) ≡ record { outcome = Panicked (P.Workbench 6); trace = (line 1 144 0 Granted) ∷ (line 2 32 144 Granted) ∷ []; lines = []; notes = []; steps = 2 }
 unfolding everything
 missing_mark_is_told_before_the_count_run = refl
 
 abbrev script_negative_count_is_told_before_a_missing_mark_run : Script
-script_negative_count_is_told_before_a_missing_mark_run = record { classes = []; procedures = (record { parameters = []; body = record { locals = []; statements = rolled ((Statement-F.MarkEnd (Constant (negsuc 0))) ∷ []) } }) ∷ []; operations = []; literals = []; main = 0 }
+script_negative_count_is_told_before_a_missing_mark_run = record { classes = []; procedures = (record { line = 1; parameters = []; body = record { locals = []; statements = (on 2 (Statement-F.MarkEnd (Constant (negsuc 0)))) ∷ [] } }) ∷ []; operations = []; literals = []; main = 0 }
 
 negative_count_is_told_before_a_missing_mark_run : run script_negative_count_is_told_before_a_missing_mark_run R.Unlimited 10000 (shaped 4096 4096) ≡ record { outcome = Panicked (P.Workbench 9); trace = (line 1 144 0 Granted) ∷ []; lines = []; notes = []; steps = 1 }
 unfolding everything
 negative_count_is_told_before_a_missing_mark_run = refl
 
 abbrev script_one_mark_end_more_than_marks_run : Script
-script_one_mark_end_more_than_marks_run = record { classes = []; procedures = (record { parameters = []; body = record { locals = []; statements = rolled (Statement-F.Mark ∷ Statement-F.Mark ∷ (Statement-F.MarkEnd (Constant (pos 0))) ∷ (Statement-F.MarkEnd (Constant (pos 0))) ∷ (Statement-F.MarkEnd (Constant (pos 0))) ∷ []) } }) ∷ []; operations = []; literals = []; main = 0 }
+script_one_mark_end_more_than_marks_run = record { classes = []; procedures = (record { line = 1; parameters = []; body = record { locals = []; statements = (on 2 Statement-F.Mark) ∷ (on 3 Statement-F.Mark) ∷ (on 4 (Statement-F.MarkEnd (Constant (pos 0)))) ∷ (on 5 (Statement-F.MarkEnd (Constant (pos 0)))) ∷ (on 6 (Statement-F.MarkEnd (Constant (pos 0)))) ∷ [] } }) ∷ []; operations = []; literals = []; main = 0 }
 
 one_mark_end_more_than_marks_run : run script_one_mark_end_more_than_marks_run R.Unlimited 10000 (shaped 4096 4096) ≡ record { outcome = Panicked (P.Workbench 6); trace = (line 1 144 0 Granted) ∷ []; lines = []; notes = []; steps = 5 }
 unfolding everything
 one_mark_end_more_than_marks_run = refl
 
 abbrev script_items_left_at_the_plain_end_of_a_trap_run : Script
-script_items_left_at_the_plain_end_of_a_trap_run = record { classes = []; procedures = (record { parameters = []; body = record { locals = (OfPointer None) ∷ OfNumber ∷ []; statements = rolled ((Statement-F.Alloc (Held (H.Local 0)) (Constant (pos 10)) GivesNull) ∷ (Statement-F.Trap 1 (rolled ((Statement-F.Push (Held (H.Local 0))) ∷ []))) ∷ (Statement-F.PrintNumber (Constant (pos 1))) ∷ []) } }) ∷ []; operations = []; literals = []; main = 0 }
+script_items_left_at_the_plain_end_of_a_trap_run = record { classes = []; procedures = (record { line = 1; parameters = []; body = record { locals = (OfPointer None) ∷ OfNumber ∷ []; statements = (on 4 (Statement-F.Alloc (Held (H.Local 0)) (Constant (pos 10)) GivesNull)) ∷ (on 5 (Statement-F.Trap 1 ((on 6 (Statement-F.Push (Held (H.Local 0)))) ∷ []))) ∷ (on 8 (Statement-F.PrintNumber (Constant (pos 1)))) ∷ [] } }) ∷ []; operations = []; literals = []; main = 0 }
 
 items_left_at_the_plain_end_of_a_trap_run : run script_items_left_at_the_plain_end_of_a_trap_run R.Unlimited 10000 (shaped 4096 4096) ≡ record { outcome = Panicked (P.Workbench 5); trace = (line 1 144 0 Granted) ∷ (line 2 32 144 Granted) ∷ []; lines = []; notes = []; steps = 3 }
 unfolding everything
 items_left_at_the_plain_end_of_a_trap_run = refl
 
 abbrev script_cell_for_zero_bytes_size : Script
-script_cell_for_zero_bytes_size = record { classes = []; procedures = (record { parameters = []; body = record { locals = (OfPointer None) ∷ OfNumber ∷ []; statements = rolled ((Statement-F.Alloc (Held (H.Local 0)) (Constant (pos 0)) GivesNull) ∷ (Statement-F.AllocLen 1 (Held (H.Local 0))) ∷ (Statement-F.PrintNumber (Variable 1)) ∷ (Statement-F.Free (Held (H.Local 0))) ∷ []) } }) ∷ []; operations = []; literals = []; main = 0 }
+script_cell_for_zero_bytes_size = record { classes = []; procedures = (record { line = 1; parameters = []; body = record { locals = (OfPointer None) ∷ OfNumber ∷ []; statements = (on 4 (Statement-F.Alloc (Held (H.Local 0)) (Constant (pos 0)) GivesNull)) ∷ (on 5 (Statement-F.AllocLen 1 (Held (H.Local 0)))) ∷ (on 6 (Statement-F.PrintNumber (Variable 1))) ∷ (on 7 (Statement-F.Free (Held (H.Local 0)))) ∷ [] } }) ∷ []; operations = []; literals = []; main = 0 }
 
 cell_for_zero_bytes_size : (required script_cell_for_zero_bytes_size 10000 (shaped 4096 4096) ≡ 160) × (rises script_cell_for_zero_bytes_size 10000 (shaped 4096 4096) ≡ (rise 1 144) ∷ (rise 2 160) ∷ [])
 unfolding everything
 cell_for_zero_bytes_size = (refl, refl)
 
 abbrev script_eighth_push_grows_the_cleanup_cell_size : Script
-script_eighth_push_grows_the_cleanup_cell_size = record { classes = []; procedures = (record { parameters = []; body = record { locals = (OfPointer None) ∷ []; statements = rolled ((Statement-F.Repeat (Constant (pos 8)) (rolled ((Statement-F.Alloc (Held (H.Local 0)) (Constant (pos 16)) Leaves) ∷ (Statement-F.Push (Held (H.Local 0))) ∷ []))) ∷ (Statement-F.PopDestroy (Constant (pos 8))) ∷ []) } }) ∷ []; operations = []; literals = []; main = 0 }
+script_eighth_push_grows_the_cleanup_cell_size = record { classes = []; procedures = (record { line = 1; parameters = []; body = record { locals = (OfPointer None) ∷ []; statements = (on 3 (Statement-F.Repeat (Constant (pos 8)) ((on 4 (Statement-F.Alloc (Held (H.Local 0)) (Constant (pos 16)) Leaves)) ∷ (on 5 (Statement-F.Push (Held (H.Local 0)))) ∷ []))) ∷ (on 7 (Statement-F.PopDestroy (Constant (pos 8)))) ∷ [] } }) ∷ []; operations = []; literals = []; main = 0 }
 
 eighth_push_grows_the_cleanup_cell_size : (required script_eighth_push_grows_the_cleanup_cell_size 10000 (shaped 4096 4096) ≡ 608) × (rises script_eighth_push_grows_the_cleanup_cell_size 10000 (shaped 4096 4096) ≡ (rise 1 144) ∷ (rise 2 176) ∷ (rise 3 208) ∷ (rise 4 240) ∷ (rise 5 272) ∷ (rise 6 304) ∷ (rise 7 336) ∷ (rise 8 368) ∷ (rise 9 400) ∷ (rise 10 608) ∷ [])
 unfolding everything
 eighth_push_grows_the_cleanup_cell_size = (refl, refl)
 
 abbrev script_empty_main_json_size : Script
-script_empty_main_json_size = record { classes = []; procedures = (record { parameters = []; body = record { locals = []; statements = [] } }) ∷ []; operations = []; literals = []; main = 0 }
+script_empty_main_json_size = record { classes = []; procedures = (record { line = 1; parameters = []; body = record { locals = []; statements = [] } }) ∷ []; operations = []; literals = []; main = 0 }
 
 empty_main_json_size : (required script_empty_main_json_size 10000 (shaped 4096 4096) ≡ 144) × (rises script_empty_main_json_size 10000 (shaped 4096 4096) ≡ (rise 1 144) ∷ [])
 unfolding everything
 empty_main_json_size = (refl, refl)
 
 abbrev script_empty_main_size : Script
-script_empty_main_size = record { classes = []; procedures = (record { parameters = []; body = record { locals = []; statements = [] } }) ∷ []; operations = []; literals = []; main = 0 }
+script_empty_main_size = record { classes = []; procedures = (record { line = 1; parameters = []; body = record { locals = []; statements = [] } }) ∷ []; operations = []; literals = []; main = 0 }
 
 empty_main_size : (required script_empty_main_size 10000 (shaped 4096 4096) ≡ 144) × (rises script_empty_main_size 10000 (shaped 4096 4096) ≡ (rise 1 144) ∷ [])
 unfolding everything
 empty_main_size = (refl, refl)
 
 abbrev script_first_fit_reuses_hole_size : Script
-script_first_fit_reuses_hole_size = record { classes = []; procedures = (record { parameters = []; body = record { locals = (OfPointer None) ∷ (OfPointer None) ∷ (OfPointer None) ∷ []; statements = rolled ((Statement-F.Alloc (Held (H.Local 0)) (Constant (pos 10)) GivesNull) ∷ (Statement-F.Alloc (Held (H.Local 1)) (Constant (pos 100)) GivesNull) ∷ (Statement-F.Free (Held (H.Local 0))) ∷ (Statement-F.Alloc (Held (H.Local 2)) (Constant (pos 16)) GivesNull) ∷ (Statement-F.Free (Held (H.Local 1))) ∷ (Statement-F.Free (Held (H.Local 2))) ∷ []) } }) ∷ []; operations = []; literals = []; main = 0 }
+script_first_fit_reuses_hole_size = record { classes = []; procedures = (record { line = 1; parameters = []; body = record { locals = (OfPointer None) ∷ (OfPointer None) ∷ (OfPointer None) ∷ []; statements = (on 5 (Statement-F.Alloc (Held (H.Local 0)) (Constant (pos 10)) GivesNull)) ∷ (on 6 (Statement-F.Alloc (Held (H.Local 1)) (Constant (pos 100)) GivesNull)) ∷ (on 7 (Statement-F.Free (Held (H.Local 0)))) ∷ (on 8 (Statement-F.Alloc (Held (H.Local 2)) (Constant (pos 16)) GivesNull)) ∷ (on 9 (Statement-F.Free (Held (H.Local 1)))) ∷ (on 10 (Statement-F.Free (Held (H.Local 2)))) ∷ [] } }) ∷ []; operations = []; literals = []; main = 0 }
 
 first_fit_reuses_hole_size : (required script_first_fit_reuses_hole_size 10000 (shaped 4096 4096) ≡ 304) × (rises script_first_fit_reuses_hole_size 10000 (shaped 4096 4096) ≡ (rise 1 144) ∷ (rise 2 176) ∷ (rise 3 304) ∷ [])
 unfolding everything
 first_fit_reuses_hole_size = (refl, refl)
 
 abbrev script_freed_neighbours_merge_size : Script
-script_freed_neighbours_merge_size = record { classes = []; procedures = (record { parameters = []; body = record { locals = (OfPointer None) ∷ (OfPointer None) ∷ (OfPointer None) ∷ (OfPointer None) ∷ (OfPointer None) ∷ []; statements = rolled ((Statement-F.Alloc (Held (H.Local 0)) (Constant (pos 16)) GivesNull) ∷ (Statement-F.Alloc (Held (H.Local 1)) (Constant (pos 16)) GivesNull) ∷ (Statement-F.Alloc (Held (H.Local 2)) (Constant (pos 16)) GivesNull) ∷ (Statement-F.Alloc (Held (H.Local 3)) (Constant (pos 16)) GivesNull) ∷ (Statement-F.Free (Held (H.Local 1))) ∷ (Statement-F.Free (Held (H.Local 0))) ∷ (Statement-F.Free (Held (H.Local 2))) ∷ (Statement-F.Alloc (Held (H.Local 4)) (Constant (pos 80)) GivesNull) ∷ (Statement-F.Free (Held (H.Local 3))) ∷ (Statement-F.Free (Held (H.Local 4))) ∷ []) } }) ∷ []; operations = []; literals = []; main = 0 }
+script_freed_neighbours_merge_size = record { classes = []; procedures = (record { line = 1; parameters = []; body = record { locals = (OfPointer None) ∷ (OfPointer None) ∷ (OfPointer None) ∷ (OfPointer None) ∷ (OfPointer None) ∷ []; statements = (on 7 (Statement-F.Alloc (Held (H.Local 0)) (Constant (pos 16)) GivesNull)) ∷ (on 8 (Statement-F.Alloc (Held (H.Local 1)) (Constant (pos 16)) GivesNull)) ∷ (on 9 (Statement-F.Alloc (Held (H.Local 2)) (Constant (pos 16)) GivesNull)) ∷ (on 10 (Statement-F.Alloc (Held (H.Local 3)) (Constant (pos 16)) GivesNull)) ∷ (on 11 (Statement-F.Free (Held (H.Local 1)))) ∷ (on 12 (Statement-F.Free (Held (H.Local 0)))) ∷ (on 13 (Statement-F.Free (Held (H.Local 2)))) ∷ (on 14 (Statement-F.Alloc (Held (H.Local 4)) (Constant (pos 80)) GivesNull)) ∷ (on 15 (Statement-F.Free (Held (H.Local 3)))) ∷ (on 16 (Statement-F.Free (Held (H.Local 4)))) ∷ [] } }) ∷ []; operations = []; literals = []; main = 0 }
 
 freed_neighbours_merge_size : (required script_freed_neighbours_merge_size 10000 (shaped 4096 4096) ≡ 272) × (rises script_freed_neighbours_merge_size 10000 (shaped 4096 4096) ≡ (rise 1 144) ∷ (rise 2 176) ∷ (rise 3 208) ∷ (rise 4 240) ∷ (rise 5 272) ∷ [])
 unfolding everything
 freed_neighbours_merge_size = (refl, refl)
 
 abbrev script_last_cell_ends_at_the_ceiling_size : Script
-script_last_cell_ends_at_the_ceiling_size = record { classes = []; procedures = (record { parameters = []; body = record { locals = (OfPointer None) ∷ []; statements = rolled ((Statement-F.Repeat (Constant (pos 15)) (rolled ((Statement-F.Alloc (Held (H.Local 0)) (Constant (pos 1048560)) GivesNull) ∷ []))) ∷ (Statement-F.Alloc (Held (H.Local 0)) (Constant (pos 1048416)) GivesNull) ∷ []) } }) ∷ []; operations = []; literals = []; main = 0 }
+script_last_cell_ends_at_the_ceiling_size = record { classes = []; procedures = (record { line = 1; parameters = []; body = record { locals = (OfPointer None) ∷ []; statements = (on 3 (Statement-F.Repeat (Constant (pos 15)) ((on 4 (Statement-F.Alloc (Held (H.Local 0)) (Constant (pos 1048560)) GivesNull)) ∷ []))) ∷ (on 6 (Statement-F.Alloc (Held (H.Local 0)) (Constant (pos 1048416)) GivesNull)) ∷ [] } }) ∷ []; operations = []; literals = []; main = 0 }
 
 last_cell_ends_at_the_ceiling_size : (required script_last_cell_ends_at_the_ceiling_size 10000 (shaped 4096 4096) ≡ 16777216) × (rises script_last_cell_ends_at_the_ceiling_size 10000 (shaped 4096 4096) ≡ (rise 1 144) ∷ (rise 2 1048720) ∷ (rise 3 2097296) ∷ (rise 4 3145872) ∷ (rise 5 4194448) ∷ (rise 6 5243024) ∷ (rise 7 6291600) ∷ (rise 8 7340176) ∷ (rise 9 8388752) ∷ (rise 10 9437328) ∷ (rise 11 10485904) ∷ (rise 12 11534480) ∷ (rise 13 12583056) ∷ (rise 14 13631632) ∷ (rise 15 14680208) ∷ (rise 16 15728784) ∷ (rise 17 16777216) ∷ [])
 unfolding everything
 last_cell_ends_at_the_ceiling_size = (refl, refl)
 
 abbrev script_last_cell_passes_the_ceiling_size : Script
-script_last_cell_passes_the_ceiling_size = record { classes = []; procedures = (record { parameters = []; body = record { locals = (OfPointer None) ∷ []; statements = rolled ((Statement-F.Repeat (Constant (pos 15)) (rolled ((Statement-F.Alloc (Held (H.Local 0)) (Constant (pos 1048560)) GivesNull) ∷ []))) ∷ (Statement-F.Alloc (Held (H.Local 0)) (Constant (pos 1048417)) GivesNull) ∷ []) } }) ∷ []; operations = []; literals = []; main = 0 }
+script_last_cell_passes_the_ceiling_size = record { classes = []; procedures = (record { line = 1; parameters = []; body = record { locals = (OfPointer None) ∷ []; statements = (on 3 (Statement-F.Repeat (Constant (pos 15)) ((on 4 (Statement-F.Alloc (Held (H.Local 0)) (Constant (pos 1048560)) GivesNull)) ∷ []))) ∷ (on 6 (Statement-F.Alloc (Held (H.Local 0)) (Constant (pos 1048417)) GivesNull)) ∷ [] } }) ∷ []; operations = []; literals = []; main = 0 }
 
 last_cell_passes_the_ceiling_size : (run script_last_cell_passes_the_ceiling_size R.Unlimited 10000 (shaped 4096 4096)).outcome ≡ Cut Ceiling
 unfolding everything
 last_cell_passes_the_ceiling_size = refl
 
 abbrev script_marks_never_count_the_cleanup_cell_size : Script
-script_marks_never_count_the_cleanup_cell_size = record { classes = []; procedures = (record { parameters = []; body = record { locals = (OfPointer None) ∷ []; statements = rolled (Statement-F.Mark ∷ (Statement-F.Repeat (Constant (pos 8)) (rolled ((Statement-F.Push (Held (H.Local 0))) ∷ []))) ∷ (Statement-F.Pop (Constant (pos 8))) ∷ (Statement-F.MarkEnd (Constant (pos 0))) ∷ []) } }) ∷ []; operations = []; literals = []; main = 0 }
+script_marks_never_count_the_cleanup_cell_size = record { classes = []; procedures = (record { line = 1; parameters = []; body = record { locals = (OfPointer None) ∷ []; statements = (on 3 Statement-F.Mark) ∷ (on 4 (Statement-F.Repeat (Constant (pos 8)) ((on 5 (Statement-F.Push (Held (H.Local 0)))) ∷ []))) ∷ (on 7 (Statement-F.Pop (Constant (pos 8)))) ∷ (on 8 (Statement-F.MarkEnd (Constant (pos 0)))) ∷ [] } }) ∷ []; operations = []; literals = []; main = 0 }
 
 marks_never_count_the_cleanup_cell_size : (required script_marks_never_count_the_cleanup_cell_size 10000 (shaped 4096 4096) ≡ 208) × (rises script_marks_never_count_the_cleanup_cell_size 10000 (shaped 4096 4096) ≡ (rise 1 144) ∷ (rise 2 208) ∷ [])
 unfolding everything
 marks_never_count_the_cleanup_cell_size = (refl, refl)
 
 abbrev script_objects_that_delete_each_other_small_budget_size : Script
-script_objects_that_delete_each_other_small_budget_size = record { classes = (record { extra = 0; fields = (Some 0) ∷ []; construct = None; destroy = Some (record { locals = []; statements = rolled ((Statement-F.Delete (Field H.This 0 0)) ∷ []) }) }) ∷ []; procedures = (record { parameters = []; body = record { locals = (OfPointer (Some 0)) ∷ (OfPointer (Some 0)) ∷ []; statements = rolled ((Statement-F.New (Held (H.Local 0)) 0 Leaves) ∷ (Statement-F.New (Held (H.Local 1)) 0 Leaves) ∷ (Statement-F.Set (Field (H.Local 0) 0 0) (Held (H.Local 1))) ∷ (Statement-F.Set (Field (H.Local 1) 0 0) (Held (H.Local 0))) ∷ (Statement-F.Delete (Held (H.Local 0))) ∷ []) } }) ∷ []; operations = []; literals = []; main = 0 }
+script_objects_that_delete_each_other_small_budget_size = record { classes = (record { line = 1; extra = 0; fields = (Some 0) ∷ []; construct = None; destroy = Some (record { locals = []; statements = (on 4 (Statement-F.Delete (Field H.This 0 0))) ∷ [] }) }) ∷ []; procedures = (record { line = 7; parameters = []; body = record { locals = (OfPointer (Some 0)) ∷ (OfPointer (Some 0)) ∷ []; statements = (on 10 (Statement-F.New (Held (H.Local 0)) 0 Leaves)) ∷ (on 11 (Statement-F.New (Held (H.Local 1)) 0 Leaves)) ∷ (on 12 (Statement-F.Set (Field (H.Local 0) 0 0) (Held (H.Local 1)))) ∷ (on 13 (Statement-F.Set (Field (H.Local 1) 0 0) (Held (H.Local 0)))) ∷ (on 14 (Statement-F.Delete (Held (H.Local 0)))) ∷ [] } }) ∷ []; operations = []; literals = []; main = 0 }
 
 objects_that_delete_each_other_small_budget_size : (run script_objects_that_delete_each_other_small_budget_size R.Unlimited 20 (shaped 4096 4096)).outcome ≡ Cut Budget
 unfolding everything
 objects_that_delete_each_other_small_budget_size = refl
 
 abbrev script_procedure_returns_a_pushed_cell_size : Script
-script_procedure_returns_a_pushed_cell_size = record { classes = []; procedures = (record { parameters = Par.OfNumber ∷ []; body = record { locals = (OfPointer None) ∷ []; statements = rolled ((Statement-F.Alloc (Held (H.Local 1)) (Variable 0) Leaves) ∷ (Statement-F.Push (Held (H.Local 1))) ∷ (Statement-F.ReturnPointer (Held (H.Local 1))) ∷ []) } }) ∷ (record { parameters = []; body = record { locals = (OfPointer None) ∷ []; statements = rolled ((Statement-F.CallTo 0 0 ((Given (Constant (pos 40))) ∷ [])) ∷ (Statement-F.PopDestroy (Constant (pos 1))) ∷ []) } }) ∷ []; operations = []; literals = []; main = 1 }
+script_procedure_returns_a_pushed_cell_size = record { classes = []; procedures = (record { line = 1; parameters = Par.OfNumber ∷ []; body = record { locals = (OfPointer None) ∷ []; statements = (on 3 (Statement-F.Alloc (Held (H.Local 1)) (Variable 0) Leaves)) ∷ (on 4 (Statement-F.Push (Held (H.Local 1)))) ∷ (on 5 (Statement-F.ReturnPointer (Held (H.Local 1)))) ∷ [] } }) ∷ (record { line = 7; parameters = []; body = record { locals = (OfPointer None) ∷ []; statements = (on 9 (Statement-F.CallTo 0 0 ((Given (Constant (pos 40))) ∷ []))) ∷ (on 10 (Statement-F.PopDestroy (Constant (pos 1)))) ∷ [] } }) ∷ []; operations = []; literals = []; main = 1 }
 
 procedure_returns_a_pushed_cell_size : (required script_procedure_returns_a_pushed_cell_size 10000 (shaped 4096 4096) ≡ 208) × (rises script_procedure_returns_a_pushed_cell_size 10000 (shaped 4096 4096) ≡ (rise 1 144) ∷ (rise 2 208) ∷ [])
 unfolding everything
 procedure_returns_a_pushed_cell_size = (refl, refl)
 
 abbrev script_pushed_object_made_and_deleted_size : Script
-script_pushed_object_made_and_deleted_size = record { classes = (record { extra = 16; fields = None ∷ []; construct = Some (record { locals = []; statements = rolled ((Statement-F.NewText (Field H.This 0 0) (Constant (pos 4)) Leaves) ∷ []) }); destroy = Some (record { locals = []; statements = rolled ((Statement-F.Free (Field H.This 0 0)) ∷ []) }) }) ∷ []; procedures = (record { parameters = []; body = record { locals = (OfPointer (Some 0)) ∷ []; statements = rolled ((Statement-F.New (Held (H.Local 0)) 0 Leaves) ∷ (Statement-F.PushObject (Held (H.Local 0))) ∷ (Statement-F.Construct (Held (H.Local 0))) ∷ (Statement-F.Pop (Constant (pos 1))) ∷ (Statement-F.Delete (Held (H.Local 0))) ∷ []) } }) ∷ []; operations = []; literals = []; main = 0 }
+script_pushed_object_made_and_deleted_size = record { classes = (record { line = 1; extra = 16; fields = None ∷ []; construct = Some (record { locals = []; statements = (on 4 (Statement-F.NewText (Field H.This 0 0) (Constant (pos 4)) Leaves)) ∷ [] }); destroy = Some (record { locals = []; statements = (on 7 (Statement-F.Free (Field H.This 0 0))) ∷ [] }) }) ∷ []; procedures = (record { line = 10; parameters = []; body = record { locals = (OfPointer (Some 0)) ∷ []; statements = (on 12 (Statement-F.New (Held (H.Local 0)) 0 Leaves)) ∷ (on 13 (Statement-F.PushObject (Held (H.Local 0)))) ∷ (on 14 (Statement-F.Construct (Held (H.Local 0)))) ∷ (on 15 (Statement-F.Pop (Constant (pos 1)))) ∷ (on 16 (Statement-F.Delete (Held (H.Local 0)))) ∷ [] } }) ∷ []; operations = []; literals = []; main = 0 }
 
 pushed_object_made_and_deleted_size : (required script_pushed_object_made_and_deleted_size 10000 (shaped 4096 4096) ≡ 224) × (rises script_pushed_object_made_and_deleted_size 10000 (shaped 4096 4096) ≡ (rise 1 144) ∷ (rise 2 192) ∷ (rise 3 224) ∷ [])
 unfolding everything
 pushed_object_made_and_deleted_size = (refl, refl)
 
 abbrev script_simulated_refusal_needs_no_room_size : Script
-script_simulated_refusal_needs_no_room_size = record { classes = []; procedures = (record { parameters = []; body = record { locals = (OfPointer None) ∷ (OfPointer None) ∷ []; statements = rolled ((Statement-F.NewText (Held (H.Local 0)) (Constant (pos 4)) Leaves) ∷ (Statement-F.Append (InCell (Held (H.Local 0))) (Quoted 0)) ∷ (Statement-F.FailNext (Constant (pos 1))) ∷ (Statement-F.ReallocText (Held (H.Local 1)) (Held (H.Local 0)) (Constant (pos 20))) ∷ (Statement-F.PrintText (Of (InCell (Held (H.Local 0))))) ∷ (Statement-F.Free (Held (H.Local 0))) ∷ []) } }) ∷ []; operations = []; literals = (97 ∷ 98 ∷ 99 ∷ []) ∷ []; main = 0 }
+script_simulated_refusal_needs_no_room_size = record { classes = []; procedures = (record { line = 1; parameters = []; body = record { locals = (OfPointer None) ∷ (OfPointer None) ∷ []; statements = (on 4 (Statement-F.NewText (Held (H.Local 0)) (Constant (pos 4)) Leaves)) ∷ (on 5 (Statement-F.Append (InCell (Held (H.Local 0))) (Quoted 0))) ∷ (on 6 (Statement-F.FailNext (Constant (pos 1)))) ∷ (on 7 (Statement-F.ReallocText (Held (H.Local 1)) (Held (H.Local 0)) (Constant (pos 20)))) ∷ (on 8 (Statement-F.PrintText (Of (InCell (Held (H.Local 0)))))) ∷ (on 9 (Statement-F.Free (Held (H.Local 0)))) ∷ [] } }) ∷ []; operations = []; literals = (97 ∷ 98 ∷ 99 ∷ []) ∷ []; main = 0 }
 
 simulated_refusal_needs_no_room_size : (required script_simulated_refusal_needs_no_room_size 10000 (shaped 4096 4096) ≡ 176) × (rises script_simulated_refusal_needs_no_room_size 10000 (shaped 4096 4096) ≡ (rise 1 144) ∷ (rise 2 176) ∷ [])
 unfolding everything
 simulated_refusal_needs_no_room_size = (refl, refl)
 
 abbrev script_top_cell_grows_in_place_size : Script
-script_top_cell_grows_in_place_size = record { classes = []; procedures = (record { parameters = []; body = record { locals = (OfPointer None) ∷ (OfPointer None) ∷ (OfPointer None) ∷ []; statements = rolled ((Statement-F.Alloc (Held (H.Local 0)) (Constant (pos 48)) GivesNull) ∷ (Statement-F.Alloc (Held (H.Local 1)) (Constant (pos 16)) GivesNull) ∷ (Statement-F.Free (Held (H.Local 0))) ∷ (Statement-F.Realloc (Held (H.Local 2)) (Held (H.Local 1)) (Constant (pos 48)) GivesNull) ∷ (Statement-F.IfElse (IsNull (Held (H.Local 2))) (rolled ((Statement-F.Free (Held (H.Local 1))) ∷ [])) (rolled ((Statement-F.Free (Held (H.Local 2))) ∷ []))) ∷ []) } }) ∷ []; operations = []; literals = []; main = 0 }
+script_top_cell_grows_in_place_size = record { classes = []; procedures = (record { line = 1; parameters = []; body = record { locals = (OfPointer None) ∷ (OfPointer None) ∷ (OfPointer None) ∷ []; statements = (on 5 (Statement-F.Alloc (Held (H.Local 0)) (Constant (pos 48)) GivesNull)) ∷ (on 6 (Statement-F.Alloc (Held (H.Local 1)) (Constant (pos 16)) GivesNull)) ∷ (on 7 (Statement-F.Free (Held (H.Local 0)))) ∷ (on 8 (Statement-F.Realloc (Held (H.Local 2)) (Held (H.Local 1)) (Constant (pos 48)) GivesNull)) ∷ (on 9 (Statement-F.IfElse (IsNull (Held (H.Local 2))) ((on 10 (Statement-F.Free (Held (H.Local 1)))) ∷ []) ((on 12 (Statement-F.Free (Held (H.Local 2)))) ∷ []))) ∷ [] } }) ∷ []; operations = []; literals = []; main = 0 }
 
 top_cell_grows_in_place_size : (required script_top_cell_grows_in_place_size 10000 (shaped 4096 4096) ≡ 272) × (rises script_top_cell_grows_in_place_size 10000 (shaped 4096 4096) ≡ (rise 1 144) ∷ (rise 2 208) ∷ (rise 3 240) ∷ (rise 4 272) ∷ [])
 unfolding everything
 top_cell_grows_in_place_size = (refl, refl)
 
 abbrev script_eighth_push_grows_the_cleanup_cell_check : Script
-script_eighth_push_grows_the_cleanup_cell_check = record { classes = []; procedures = (record { parameters = []; body = record { locals = (OfPointer None) ∷ []; statements = rolled ((Statement-F.Repeat (Constant (pos 8)) (rolled ((Statement-F.Alloc (Held (H.Local 0)) (Constant (pos 16)) Leaves) ∷ (Statement-F.Push (Held (H.Local 0))) ∷ []))) ∷ (Statement-F.PopDestroy (Constant (pos 8))) ∷ []) } }) ∷ []; operations = []; literals = []; main = 0 }
+script_eighth_push_grows_the_cleanup_cell_check = record { classes = []; procedures = (record { line = 1; parameters = []; body = record { locals = (OfPointer None) ∷ []; statements = (on 3 (Statement-F.Repeat (Constant (pos 8)) ((on 4 (Statement-F.Alloc (Held (H.Local 0)) (Constant (pos 16)) Leaves)) ∷ (on 5 (Statement-F.Push (Held (H.Local 0)))) ∷ []))) ∷ (on 7 (Statement-F.PopDestroy (Constant (pos 8)))) ∷ [] } }) ∷ []; operations = []; literals = []; main = 0 }
 
 eighth_push_grows_the_cleanup_cell_check : (required script_eighth_push_grows_the_cleanup_cell_check 10000 (shaped 4096 4096) ≡ 608) × (rises script_eighth_push_grows_the_cleanup_cell_check 10000 (shaped 4096 4096) ≡ (rise 1 144) ∷ (rise 2 176) ∷ (rise 3 208) ∷ (rise 4 240) ∷ (rise 5 272) ∷ (rise 6 304) ∷ (rise 7 336) ∷ (rise 8 368) ∷ (rise 9 400) ∷ (rise 10 608) ∷ []) × (length (run_at script_eighth_push_grows_the_cleanup_cell_check 10000 (shaped 4096 4096) 0).trace ≡ 10) × (least_bad_or_cut script_eighth_push_grows_the_cleanup_cell_check 10000 (shaped 4096 4096) ≡ None)
 unfolding everything
 eighth_push_grows_the_cleanup_cell_check = (refl, refl, refl, refl)
 
 abbrev script_eighth_push_grows_the_cleanup_cell_sweep : Script
-script_eighth_push_grows_the_cleanup_cell_sweep = record { classes = []; procedures = (record { parameters = []; body = record { locals = (OfPointer None) ∷ []; statements = rolled ((Statement-F.Repeat (Constant (pos 8)) (rolled ((Statement-F.Alloc (Held (H.Local 0)) (Constant (pos 16)) Leaves) ∷ (Statement-F.Push (Held (H.Local 0))) ∷ []))) ∷ (Statement-F.PopDestroy (Constant (pos 8))) ∷ []) } }) ∷ []; operations = []; literals = []; main = 0 }
+script_eighth_push_grows_the_cleanup_cell_sweep = record { classes = []; procedures = (record { line = 1; parameters = []; body = record { locals = (OfPointer None) ∷ []; statements = (on 3 (Statement-F.Repeat (Constant (pos 8)) ((on 4 (Statement-F.Alloc (Held (H.Local 0)) (Constant (pos 16)) Leaves)) ∷ (on 5 (Statement-F.Push (Held (H.Local 0)))) ∷ []))) ∷ (on 7 (Statement-F.PopDestroy (Constant (pos 8)))) ∷ [] } }) ∷ []; operations = []; literals = []; main = 0 }
 
 eighth_push_grows_the_cleanup_cell_sweep : (length (run_at script_eighth_push_grows_the_cleanup_cell_sweep 10000 (shaped 4096 4096) 0).trace ≡ 10) × (least_bad_or_cut script_eighth_push_grows_the_cleanup_cell_sweep 10000 (shaped 4096 4096) ≡ None)
 unfolding everything
 eighth_push_grows_the_cleanup_cell_sweep = (refl, refl)
 
 abbrev script_empty_main_json_check : Script
-script_empty_main_json_check = record { classes = []; procedures = (record { parameters = []; body = record { locals = []; statements = [] } }) ∷ []; operations = []; literals = []; main = 0 }
+script_empty_main_json_check = record { classes = []; procedures = (record { line = 1; parameters = []; body = record { locals = []; statements = [] } }) ∷ []; operations = []; literals = []; main = 0 }
 
 empty_main_json_check : (required script_empty_main_json_check 10000 (shaped 4096 4096) ≡ 144) × (rises script_empty_main_json_check 10000 (shaped 4096 4096) ≡ (rise 1 144) ∷ []) × (length (run_at script_empty_main_json_check 10000 (shaped 4096 4096) 0).trace ≡ 1) × (least_bad_or_cut script_empty_main_json_check 10000 (shaped 4096 4096) ≡ None)
 unfolding everything
 empty_main_json_check = (refl, refl, refl, refl)
 
 abbrev script_empty_main_check : Script
-script_empty_main_check = record { classes = []; procedures = (record { parameters = []; body = record { locals = []; statements = [] } }) ∷ []; operations = []; literals = []; main = 0 }
+script_empty_main_check = record { classes = []; procedures = (record { line = 1; parameters = []; body = record { locals = []; statements = [] } }) ∷ []; operations = []; literals = []; main = 0 }
 
 empty_main_check : (required script_empty_main_check 10000 (shaped 4096 4096) ≡ 144) × (rises script_empty_main_check 10000 (shaped 4096 4096) ≡ (rise 1 144) ∷ []) × (length (run_at script_empty_main_check 10000 (shaped 4096 4096) 0).trace ≡ 1) × (least_bad_or_cut script_empty_main_check 10000 (shaped 4096 4096) ≡ None)
 unfolding everything
 empty_main_check = (refl, refl, refl, refl)
 
 abbrev script_failure_that_outruns_the_budget_json_check : Script
-script_failure_that_outruns_the_budget_json_check = record { classes = []; procedures = (record { parameters = []; body = record { locals = (OfPointer None) ∷ []; statements = rolled ((Statement-F.Alloc (Held (H.Local 0)) (Constant (pos 16)) GivesNull) ∷ (Statement-F.If (IsNull (Held (H.Local 0))) (rolled ((Statement-F.Repeat (Constant (pos 20000)) []) ∷ []))) ∷ (Statement-F.Free (Held (H.Local 0))) ∷ []) } }) ∷ []; operations = []; literals = []; main = 0 }
+script_failure_that_outruns_the_budget_json_check = record { classes = []; procedures = (record { line = 1; parameters = []; body = record { locals = (OfPointer None) ∷ []; statements = (on 3 (Statement-F.Alloc (Held (H.Local 0)) (Constant (pos 16)) GivesNull)) ∷ (on 4 (Statement-F.If (IsNull (Held (H.Local 0))) ((on 5 (Statement-F.Repeat (Constant (pos 20000)) [])) ∷ []))) ∷ (on 8 (Statement-F.Free (Held (H.Local 0)))) ∷ [] } }) ∷ []; operations = []; literals = []; main = 0 }
 
 failure_that_outruns_the_budget_json_check : (required script_failure_that_outruns_the_budget_json_check 10000 (shaped 4096 4096) ≡ 176) × (rises script_failure_that_outruns_the_budget_json_check 10000 (shaped 4096 4096) ≡ (rise 1 144) ∷ (rise 2 176) ∷ []) × (least_bad_or_cut script_failure_that_outruns_the_budget_json_check 10000 (shaped 4096 4096) ≡ Some 2) × ((run_at script_failure_that_outruns_the_budget_json_check 10000 (shaped 4096 4096) 2).outcome ≡ Cut Budget)
 unfolding everything
 failure_that_outruns_the_budget_json_check = (refl, refl, refl, refl)
 
 abbrev script_failure_that_outruns_the_budget_check : Script
-script_failure_that_outruns_the_budget_check = record { classes = []; procedures = (record { parameters = []; body = record { locals = (OfPointer None) ∷ []; statements = rolled ((Statement-F.Alloc (Held (H.Local 0)) (Constant (pos 16)) GivesNull) ∷ (Statement-F.If (IsNull (Held (H.Local 0))) (rolled ((Statement-F.Repeat (Constant (pos 20000)) []) ∷ []))) ∷ (Statement-F.Free (Held (H.Local 0))) ∷ []) } }) ∷ []; operations = []; literals = []; main = 0 }
+script_failure_that_outruns_the_budget_check = record { classes = []; procedures = (record { line = 1; parameters = []; body = record { locals = (OfPointer None) ∷ []; statements = (on 3 (Statement-F.Alloc (Held (H.Local 0)) (Constant (pos 16)) GivesNull)) ∷ (on 4 (Statement-F.If (IsNull (Held (H.Local 0))) ((on 5 (Statement-F.Repeat (Constant (pos 20000)) [])) ∷ []))) ∷ (on 8 (Statement-F.Free (Held (H.Local 0)))) ∷ [] } }) ∷ []; operations = []; literals = []; main = 0 }
 
 failure_that_outruns_the_budget_check : (required script_failure_that_outruns_the_budget_check 10000 (shaped 4096 4096) ≡ 176) × (rises script_failure_that_outruns_the_budget_check 10000 (shaped 4096 4096) ≡ (rise 1 144) ∷ (rise 2 176) ∷ []) × (least_bad_or_cut script_failure_that_outruns_the_budget_check 10000 (shaped 4096 4096) ≡ Some 2) × ((run_at script_failure_that_outruns_the_budget_check 10000 (shaped 4096 4096) 2).outcome ≡ Cut Budget)
 unfolding everything
 failure_that_outruns_the_budget_check = (refl, refl, refl, refl)
 
 abbrev script_failure_that_outruns_the_budget_sweep : Script
-script_failure_that_outruns_the_budget_sweep = record { classes = []; procedures = (record { parameters = []; body = record { locals = (OfPointer None) ∷ []; statements = rolled ((Statement-F.Alloc (Held (H.Local 0)) (Constant (pos 16)) GivesNull) ∷ (Statement-F.If (IsNull (Held (H.Local 0))) (rolled ((Statement-F.Repeat (Constant (pos 20000)) []) ∷ []))) ∷ (Statement-F.Free (Held (H.Local 0))) ∷ []) } }) ∷ []; operations = []; literals = []; main = 0 }
+script_failure_that_outruns_the_budget_sweep = record { classes = []; procedures = (record { line = 1; parameters = []; body = record { locals = (OfPointer None) ∷ []; statements = (on 3 (Statement-F.Alloc (Held (H.Local 0)) (Constant (pos 16)) GivesNull)) ∷ (on 4 (Statement-F.If (IsNull (Held (H.Local 0))) ((on 5 (Statement-F.Repeat (Constant (pos 20000)) [])) ∷ []))) ∷ (on 8 (Statement-F.Free (Held (H.Local 0)))) ∷ [] } }) ∷ []; operations = []; literals = []; main = 0 }
 
 failure_that_outruns_the_budget_sweep : (least_bad_or_cut script_failure_that_outruns_the_budget_sweep 10000 (shaped 4096 4096) ≡ Some 2) × ((run_at script_failure_that_outruns_the_budget_sweep 10000 (shaped 4096 4096) 2).outcome ≡ Cut Budget)
 unfolding everything
 failure_that_outruns_the_budget_sweep = (refl, refl)
 
 abbrev script_first_fit_reuses_hole_check : Script
-script_first_fit_reuses_hole_check = record { classes = []; procedures = (record { parameters = []; body = record { locals = (OfPointer None) ∷ (OfPointer None) ∷ (OfPointer None) ∷ []; statements = rolled ((Statement-F.Alloc (Held (H.Local 0)) (Constant (pos 10)) GivesNull) ∷ (Statement-F.Alloc (Held (H.Local 1)) (Constant (pos 100)) GivesNull) ∷ (Statement-F.Free (Held (H.Local 0))) ∷ (Statement-F.Alloc (Held (H.Local 2)) (Constant (pos 16)) GivesNull) ∷ (Statement-F.Free (Held (H.Local 1))) ∷ (Statement-F.Free (Held (H.Local 2))) ∷ []) } }) ∷ []; operations = []; literals = []; main = 0 }
+script_first_fit_reuses_hole_check = record { classes = []; procedures = (record { line = 1; parameters = []; body = record { locals = (OfPointer None) ∷ (OfPointer None) ∷ (OfPointer None) ∷ []; statements = (on 5 (Statement-F.Alloc (Held (H.Local 0)) (Constant (pos 10)) GivesNull)) ∷ (on 6 (Statement-F.Alloc (Held (H.Local 1)) (Constant (pos 100)) GivesNull)) ∷ (on 7 (Statement-F.Free (Held (H.Local 0)))) ∷ (on 8 (Statement-F.Alloc (Held (H.Local 2)) (Constant (pos 16)) GivesNull)) ∷ (on 9 (Statement-F.Free (Held (H.Local 1)))) ∷ (on 10 (Statement-F.Free (Held (H.Local 2)))) ∷ [] } }) ∷ []; operations = []; literals = []; main = 0 }
 
 first_fit_reuses_hole_check : (required script_first_fit_reuses_hole_check 10000 (shaped 4096 4096) ≡ 304) × (rises script_first_fit_reuses_hole_check 10000 (shaped 4096 4096) ≡ (rise 1 144) ∷ (rise 2 176) ∷ (rise 3 304) ∷ []) × (length (run_at script_first_fit_reuses_hole_check 10000 (shaped 4096 4096) 0).trace ≡ 4) × (least_bad_or_cut script_first_fit_reuses_hole_check 10000 (shaped 4096 4096) ≡ None)
 unfolding everything
 first_fit_reuses_hole_check = (refl, refl, refl, refl)
 
 abbrev script_leak_that_needs_two_failures_sweep : Script
-script_leak_that_needs_two_failures_sweep = record { classes = []; procedures = (record { parameters = []; body = record { locals = (OfPointer None) ∷ (OfPointer None) ∷ (OfPointer None) ∷ []; statements = rolled ((Statement-F.Alloc (Held (H.Local 0)) (Constant (pos 16)) GivesNull) ∷ (Statement-F.Alloc (Held (H.Local 1)) (Constant (pos 16)) GivesNull) ∷ (Statement-F.Alloc (Held (H.Local 2)) (Constant (pos 16)) GivesNull) ∷ (Statement-F.If (IsNull (Held (H.Local 0))) (rolled ((Statement-F.If (IsNull (Held (H.Local 2))) (rolled ((Statement-F.Leave (Constant (negsuc 3))) ∷ []))) ∷ []))) ∷ (Statement-F.Free (Held (H.Local 0))) ∷ (Statement-F.Free (Held (H.Local 1))) ∷ (Statement-F.Free (Held (H.Local 2))) ∷ []) } }) ∷ []; operations = []; literals = []; main = 0 }
+script_leak_that_needs_two_failures_sweep = record { classes = []; procedures = (record { line = 1; parameters = []; body = record { locals = (OfPointer None) ∷ (OfPointer None) ∷ (OfPointer None) ∷ []; statements = (on 5 (Statement-F.Alloc (Held (H.Local 0)) (Constant (pos 16)) GivesNull)) ∷ (on 6 (Statement-F.Alloc (Held (H.Local 1)) (Constant (pos 16)) GivesNull)) ∷ (on 7 (Statement-F.Alloc (Held (H.Local 2)) (Constant (pos 16)) GivesNull)) ∷ (on 8 (Statement-F.If (IsNull (Held (H.Local 0))) ((on 9 (Statement-F.If (IsNull (Held (H.Local 2))) ((on 10 (Statement-F.Leave (Constant (negsuc 3)))) ∷ []))) ∷ []))) ∷ (on 13 (Statement-F.Free (Held (H.Local 0)))) ∷ (on 14 (Statement-F.Free (Held (H.Local 1)))) ∷ (on 15 (Statement-F.Free (Held (H.Local 2)))) ∷ [] } }) ∷ []; operations = []; literals = []; main = 0 }
 
 leak_that_needs_two_failures_sweep : (length (run_at script_leak_that_needs_two_failures_sweep 10000 (shaped 4096 4096) 0).trace ≡ 4) × (least_bad_or_cut script_leak_that_needs_two_failures_sweep 10000 (shaped 4096 4096) ≡ None)
 unfolding everything
 leak_that_needs_two_failures_sweep = (refl, refl)
 
 abbrev script_leak_without_any_failure_json_sweep : Script
-script_leak_without_any_failure_json_sweep = record { classes = []; procedures = (record { parameters = []; body = record { locals = (OfPointer None) ∷ []; statements = rolled ((Statement-F.Alloc (Held (H.Local 0)) (Constant (pos 16)) GivesNull) ∷ []) } }) ∷ []; operations = []; literals = []; main = 0 }
+script_leak_without_any_failure_json_sweep = record { classes = []; procedures = (record { line = 1; parameters = []; body = record { locals = (OfPointer None) ∷ []; statements = (on 3 (Statement-F.Alloc (Held (H.Local 0)) (Constant (pos 16)) GivesNull)) ∷ [] } }) ∷ []; operations = []; literals = []; main = 0 }
 
 leak_without_any_failure_json_sweep : (length (run_at script_leak_without_any_failure_json_sweep 10000 (shaped 4096 4096) 0).trace ≡ 2) × (least_bad_or_cut script_leak_without_any_failure_json_sweep 10000 (shaped 4096 4096) ≡ Some 0) × (run_at script_leak_without_any_failure_json_sweep 10000 (shaped 4096 4096) 0 ≡ record { outcome = Ended None ((record { number = 2; length = 32; place = 144 }) ∷ []); trace = (line 1 144 0 Granted) ∷ (line 2 32 144 Granted) ∷ []; lines = []; notes = []; steps = 1 })
 unfolding everything
 leak_without_any_failure_json_sweep = (refl, refl, refl)
 
 abbrev script_leak_without_any_failure_sweep : Script
-script_leak_without_any_failure_sweep = record { classes = []; procedures = (record { parameters = []; body = record { locals = (OfPointer None) ∷ []; statements = rolled ((Statement-F.Alloc (Held (H.Local 0)) (Constant (pos 16)) GivesNull) ∷ []) } }) ∷ []; operations = []; literals = []; main = 0 }
+script_leak_without_any_failure_sweep = record { classes = []; procedures = (record { line = 1; parameters = []; body = record { locals = (OfPointer None) ∷ []; statements = (on 3 (Statement-F.Alloc (Held (H.Local 0)) (Constant (pos 16)) GivesNull)) ∷ [] } }) ∷ []; operations = []; literals = []; main = 0 }
 
 leak_without_any_failure_sweep : (length (run_at script_leak_without_any_failure_sweep 10000 (shaped 4096 4096) 0).trace ≡ 2) × (least_bad_or_cut script_leak_without_any_failure_sweep 10000 (shaped 4096 4096) ≡ Some 0) × (run_at script_leak_without_any_failure_sweep 10000 (shaped 4096 4096) 0 ≡ record { outcome = Ended None ((record { number = 2; length = 32; place = 144 }) ∷ []); trace = (line 1 144 0 Granted) ∷ (line 2 32 144 Granted) ∷ []; lines = []; notes = []; steps = 1 })
 unfolding everything
 leak_without_any_failure_sweep = (refl, refl, refl)
 
 abbrev script_marks_never_count_the_cleanup_cell_check : Script
-script_marks_never_count_the_cleanup_cell_check = record { classes = []; procedures = (record { parameters = []; body = record { locals = (OfPointer None) ∷ []; statements = rolled (Statement-F.Mark ∷ (Statement-F.Repeat (Constant (pos 8)) (rolled ((Statement-F.Push (Held (H.Local 0))) ∷ []))) ∷ (Statement-F.Pop (Constant (pos 8))) ∷ (Statement-F.MarkEnd (Constant (pos 0))) ∷ []) } }) ∷ []; operations = []; literals = []; main = 0 }
+script_marks_never_count_the_cleanup_cell_check = record { classes = []; procedures = (record { line = 1; parameters = []; body = record { locals = (OfPointer None) ∷ []; statements = (on 3 Statement-F.Mark) ∷ (on 4 (Statement-F.Repeat (Constant (pos 8)) ((on 5 (Statement-F.Push (Held (H.Local 0)))) ∷ []))) ∷ (on 7 (Statement-F.Pop (Constant (pos 8)))) ∷ (on 8 (Statement-F.MarkEnd (Constant (pos 0)))) ∷ [] } }) ∷ []; operations = []; literals = []; main = 0 }
 
 marks_never_count_the_cleanup_cell_check : (required script_marks_never_count_the_cleanup_cell_check 10000 (shaped 4096 4096) ≡ 208) × (rises script_marks_never_count_the_cleanup_cell_check 10000 (shaped 4096 4096) ≡ (rise 1 144) ∷ (rise 2 208) ∷ []) × (length (run_at script_marks_never_count_the_cleanup_cell_check 10000 (shaped 4096 4096) 0).trace ≡ 2) × (least_bad_or_cut script_marks_never_count_the_cleanup_cell_check 10000 (shaped 4096 4096) ≡ None)
 unfolding everything
 marks_never_count_the_cleanup_cell_check = (refl, refl, refl, refl)
 
 abbrev script_panic_without_any_failure_sweep : Script
-script_panic_without_any_failure_sweep = record { classes = []; procedures = (record { parameters = []; body = record { locals = (OfPointer None) ∷ (OfPointer None) ∷ []; statements = rolled ((Statement-F.Alloc (Held (H.Local 0)) (Constant (pos 16)) GivesNull) ∷ (Statement-F.Free (Held (H.Local 0))) ∷ (Statement-F.Alloc (Held (H.Local 1)) (Constant (pos 16)) GivesNull) ∷ (Statement-F.Free (Held (H.Local 0))) ∷ []) } }) ∷ []; operations = []; literals = []; main = 0 }
+script_panic_without_any_failure_sweep = record { classes = []; procedures = (record { line = 1; parameters = []; body = record { locals = (OfPointer None) ∷ (OfPointer None) ∷ []; statements = (on 4 (Statement-F.Alloc (Held (H.Local 0)) (Constant (pos 16)) GivesNull)) ∷ (on 5 (Statement-F.Free (Held (H.Local 0)))) ∷ (on 6 (Statement-F.Alloc (Held (H.Local 1)) (Constant (pos 16)) GivesNull)) ∷ (on 7 (Statement-F.Free (Held (H.Local 0)))) ∷ [] } }) ∷ []; operations = []; literals = []; main = 0 }
 
 panic_without_any_failure_sweep : (length (run_at script_panic_without_any_failure_sweep 10000 (shaped 4096 4096) 0).trace ≡ 3) × (least_bad_or_cut script_panic_without_any_failure_sweep 10000 (shaped 4096 4096) ≡ Some 0) × (run_at script_panic_without_any_failure_sweep 10000 (shaped 4096 4096) 0 ≡ record { outcome = Panicked (P.User 42); trace = (line 1 144 0 Granted) ∷ (line 2 32 144 Granted) ∷ (line 3 32 144 Granted) ∷ []; lines = []; notes = []; steps = 4 })
 unfolding everything
 panic_without_any_failure_sweep = (refl, refl, refl)
 
 abbrev script_procedure_returns_a_pushed_cell_check : Script
-script_procedure_returns_a_pushed_cell_check = record { classes = []; procedures = (record { parameters = Par.OfNumber ∷ []; body = record { locals = (OfPointer None) ∷ []; statements = rolled ((Statement-F.Alloc (Held (H.Local 1)) (Variable 0) Leaves) ∷ (Statement-F.Push (Held (H.Local 1))) ∷ (Statement-F.ReturnPointer (Held (H.Local 1))) ∷ []) } }) ∷ (record { parameters = []; body = record { locals = (OfPointer None) ∷ []; statements = rolled ((Statement-F.CallTo 0 0 ((Given (Constant (pos 40))) ∷ [])) ∷ (Statement-F.PopDestroy (Constant (pos 1))) ∷ []) } }) ∷ []; operations = []; literals = []; main = 1 }
+script_procedure_returns_a_pushed_cell_check = record { classes = []; procedures = (record { line = 1; parameters = Par.OfNumber ∷ []; body = record { locals = (OfPointer None) ∷ []; statements = (on 3 (Statement-F.Alloc (Held (H.Local 1)) (Variable 0) Leaves)) ∷ (on 4 (Statement-F.Push (Held (H.Local 1)))) ∷ (on 5 (Statement-F.ReturnPointer (Held (H.Local 1)))) ∷ [] } }) ∷ (record { line = 7; parameters = []; body = record { locals = (OfPointer None) ∷ []; statements = (on 9 (Statement-F.CallTo 0 0 ((Given (Constant (pos 40))) ∷ []))) ∷ (on 10 (Statement-F.PopDestroy (Constant (pos 1)))) ∷ [] } }) ∷ []; operations = []; literals = []; main = 1 }
 
 procedure_returns_a_pushed_cell_check : (required script_procedure_returns_a_pushed_cell_check 10000 (shaped 4096 4096) ≡ 208) × (rises script_procedure_returns_a_pushed_cell_check 10000 (shaped 4096 4096) ≡ (rise 1 144) ∷ (rise 2 208) ∷ []) × (length (run_at script_procedure_returns_a_pushed_cell_check 10000 (shaped 4096 4096) 0).trace ≡ 2) × (least_bad_or_cut script_procedure_returns_a_pushed_cell_check 10000 (shaped 4096 4096) ≡ None)
 unfolding everything
 procedure_returns_a_pushed_cell_check = (refl, refl, refl, refl)
 
 abbrev script_pushed_object_survives_every_failure_sweep : Script
-script_pushed_object_survives_every_failure_sweep = record { classes = (record { extra = 16; fields = None ∷ []; construct = Some (record { locals = []; statements = rolled ((Statement-F.NewText (Field H.This 0 0) (Constant (pos 4)) Leaves) ∷ []) }); destroy = Some (record { locals = []; statements = rolled ((Statement-F.Free (Field H.This 0 0)) ∷ []) }) }) ∷ []; procedures = (record { parameters = []; body = record { locals = (OfPointer (Some 0)) ∷ []; statements = rolled ((Statement-F.New (Held (H.Local 0)) 0 Leaves) ∷ (Statement-F.PushObject (Held (H.Local 0))) ∷ (Statement-F.Construct (Held (H.Local 0))) ∷ (Statement-F.Pop (Constant (pos 1))) ∷ (Statement-F.Delete (Held (H.Local 0))) ∷ []) } }) ∷ []; operations = []; literals = []; main = 0 }
+script_pushed_object_survives_every_failure_sweep = record { classes = (record { line = 1; extra = 16; fields = None ∷ []; construct = Some (record { locals = []; statements = (on 4 (Statement-F.NewText (Field H.This 0 0) (Constant (pos 4)) Leaves)) ∷ [] }); destroy = Some (record { locals = []; statements = (on 7 (Statement-F.Free (Field H.This 0 0))) ∷ [] }) }) ∷ []; procedures = (record { line = 10; parameters = []; body = record { locals = (OfPointer (Some 0)) ∷ []; statements = (on 12 (Statement-F.New (Held (H.Local 0)) 0 Leaves)) ∷ (on 13 (Statement-F.PushObject (Held (H.Local 0)))) ∷ (on 14 (Statement-F.Construct (Held (H.Local 0)))) ∷ (on 15 (Statement-F.Pop (Constant (pos 1)))) ∷ (on 16 (Statement-F.Delete (Held (H.Local 0)))) ∷ [] } }) ∷ []; operations = []; literals = []; main = 0 }
 
 pushed_object_survives_every_failure_sweep : (length (run_at script_pushed_object_survives_every_failure_sweep 10000 (shaped 4096 4096) 0).trace ≡ 3) × (least_bad_or_cut script_pushed_object_survives_every_failure_sweep 10000 (shaped 4096 4096) ≡ None)
 unfolding everything
 pushed_object_survives_every_failure_sweep = (refl, refl)
 
 abbrev script_retry_that_fails_again_sweep : Script
-script_retry_that_fails_again_sweep = record { classes = []; procedures = (record { parameters = []; body = record { locals = (OfPointer None) ∷ (OfPointer None) ∷ []; statements = rolled ((Statement-F.Alloc (Held (H.Local 1)) (Constant (pos 16)) GivesNull) ∷ (Statement-F.Alloc (Held (H.Local 0)) (Constant (pos 16)) GivesNull) ∷ (Statement-F.If (IsNull (Held (H.Local 0))) (rolled ((Statement-F.Alloc (Held (H.Local 0)) (Constant (pos 16)) GivesNull) ∷ (Statement-F.If (IsNull (Held (H.Local 0))) (rolled ((Statement-F.Leave (Constant (negsuc 3))) ∷ []))) ∷ []))) ∷ (Statement-F.Free (Held (H.Local 0))) ∷ (Statement-F.Free (Held (H.Local 1))) ∷ []) } }) ∷ []; operations = []; literals = []; main = 0 }
+script_retry_that_fails_again_sweep = record { classes = []; procedures = (record { line = 1; parameters = []; body = record { locals = (OfPointer None) ∷ (OfPointer None) ∷ []; statements = (on 4 (Statement-F.Alloc (Held (H.Local 1)) (Constant (pos 16)) GivesNull)) ∷ (on 5 (Statement-F.Alloc (Held (H.Local 0)) (Constant (pos 16)) GivesNull)) ∷ (on 6 (Statement-F.If (IsNull (Held (H.Local 0))) ((on 7 (Statement-F.Alloc (Held (H.Local 0)) (Constant (pos 16)) GivesNull)) ∷ (on 8 (Statement-F.If (IsNull (Held (H.Local 0))) ((on 9 (Statement-F.Leave (Constant (negsuc 3)))) ∷ []))) ∷ []))) ∷ (on 12 (Statement-F.Free (Held (H.Local 0)))) ∷ (on 13 (Statement-F.Free (Held (H.Local 1)))) ∷ [] } }) ∷ []; operations = []; literals = []; main = 0 }
 
 retry_that_fails_again_sweep : (length (run_at script_retry_that_fails_again_sweep 10000 (shaped 4096 4096) 0).trace ≡ 3) × (least_bad_or_cut script_retry_that_fails_again_sweep 10000 (shaped 4096 4096) ≡ None)
 unfolding everything
 retry_that_fails_again_sweep = (refl, refl)
 
 abbrev script_top_cell_grows_in_place_check : Script
-script_top_cell_grows_in_place_check = record { classes = []; procedures = (record { parameters = []; body = record { locals = (OfPointer None) ∷ (OfPointer None) ∷ (OfPointer None) ∷ []; statements = rolled ((Statement-F.Alloc (Held (H.Local 0)) (Constant (pos 48)) GivesNull) ∷ (Statement-F.Alloc (Held (H.Local 1)) (Constant (pos 16)) GivesNull) ∷ (Statement-F.Free (Held (H.Local 0))) ∷ (Statement-F.Realloc (Held (H.Local 2)) (Held (H.Local 1)) (Constant (pos 48)) GivesNull) ∷ (Statement-F.IfElse (IsNull (Held (H.Local 2))) (rolled ((Statement-F.Free (Held (H.Local 1))) ∷ [])) (rolled ((Statement-F.Free (Held (H.Local 2))) ∷ []))) ∷ []) } }) ∷ []; operations = []; literals = []; main = 0 }
+script_top_cell_grows_in_place_check = record { classes = []; procedures = (record { line = 1; parameters = []; body = record { locals = (OfPointer None) ∷ (OfPointer None) ∷ (OfPointer None) ∷ []; statements = (on 5 (Statement-F.Alloc (Held (H.Local 0)) (Constant (pos 48)) GivesNull)) ∷ (on 6 (Statement-F.Alloc (Held (H.Local 1)) (Constant (pos 16)) GivesNull)) ∷ (on 7 (Statement-F.Free (Held (H.Local 0)))) ∷ (on 8 (Statement-F.Realloc (Held (H.Local 2)) (Held (H.Local 1)) (Constant (pos 48)) GivesNull)) ∷ (on 9 (Statement-F.IfElse (IsNull (Held (H.Local 2))) ((on 10 (Statement-F.Free (Held (H.Local 1)))) ∷ []) ((on 12 (Statement-F.Free (Held (H.Local 2)))) ∷ []))) ∷ [] } }) ∷ []; operations = []; literals = []; main = 0 }
 
 top_cell_grows_in_place_check : (required script_top_cell_grows_in_place_check 10000 (shaped 4096 4096) ≡ 272) × (rises script_top_cell_grows_in_place_check 10000 (shaped 4096 4096) ≡ (rise 1 144) ∷ (rise 2 208) ∷ (rise 3 240) ∷ (rise 4 272) ∷ []) × (length (run_at script_top_cell_grows_in_place_check 10000 (shaped 4096 4096) 0).trace ≡ 4) × (least_bad_or_cut script_top_cell_grows_in_place_check 10000 (shaped 4096 4096) ≡ None)
 unfolding everything
 top_cell_grows_in_place_check = (refl, refl, refl, refl)
 
 abbrev script_unpushed_object_leaks_when_construction_fails_check : Script
-script_unpushed_object_leaks_when_construction_fails_check = record { classes = (record { extra = 16; fields = None ∷ []; construct = Some (record { locals = []; statements = rolled ((Statement-F.NewText (Field H.This 0 0) (Constant (pos 4)) Leaves) ∷ []) }); destroy = Some (record { locals = []; statements = rolled ((Statement-F.Free (Field H.This 0 0)) ∷ []) }) }) ∷ []; procedures = (record { parameters = []; body = record { locals = (OfPointer (Some 0)) ∷ []; statements = rolled ((Statement-F.New (Held (H.Local 0)) 0 Leaves) ∷ (Statement-F.Construct (Held (H.Local 0))) ∷ (Statement-F.Delete (Held (H.Local 0))) ∷ []) } }) ∷ []; operations = []; literals = []; main = 0 }
+script_unpushed_object_leaks_when_construction_fails_check = record { classes = (record { line = 1; extra = 16; fields = None ∷ []; construct = Some (record { locals = []; statements = (on 4 (Statement-F.NewText (Field H.This 0 0) (Constant (pos 4)) Leaves)) ∷ [] }); destroy = Some (record { locals = []; statements = (on 7 (Statement-F.Free (Field H.This 0 0))) ∷ [] }) }) ∷ []; procedures = (record { line = 10; parameters = []; body = record { locals = (OfPointer (Some 0)) ∷ []; statements = (on 12 (Statement-F.New (Held (H.Local 0)) 0 Leaves)) ∷ (on 13 (Statement-F.Construct (Held (H.Local 0)))) ∷ (on 14 (Statement-F.Delete (Held (H.Local 0)))) ∷ [] } }) ∷ []; operations = []; literals = []; main = 0 }
 
 unpushed_object_leaks_when_construction_fails_check : (required script_unpushed_object_leaks_when_construction_fails_check 10000 (shaped 4096 4096) ≡ 224) × (rises script_unpushed_object_leaks_when_construction_fails_check 10000 (shaped 4096 4096) ≡ (rise 1 144) ∷ (rise 2 192) ∷ (rise 3 224) ∷ []) × (length (run_at script_unpushed_object_leaks_when_construction_fails_check 10000 (shaped 4096 4096) 0).trace ≡ 3) × (least_bad_or_cut script_unpushed_object_leaks_when_construction_fails_check 10000 (shaped 4096 4096) ≡ Some 3) × (run_at script_unpushed_object_leaks_when_construction_fails_check 10000 (shaped 4096 4096) 3 ≡ record { outcome = Ended (Some (negsuc 3)) ((record { number = 2; length = 48; place = 144 }) ∷ []); trace = (line 1 144 0 Granted) ∷ (line 2 48 144 Granted) ∷ (line 3 32 192 Simulated) ∷ []; lines = []; notes = []; steps = 3 })
 unfolding everything
 unpushed_object_leaks_when_construction_fails_check = (refl, refl, refl, refl, refl)
 
 abbrev script_unpushed_object_leaks_when_construction_fails_sweep : Script
-script_unpushed_object_leaks_when_construction_fails_sweep = record { classes = (record { extra = 16; fields = None ∷ []; construct = Some (record { locals = []; statements = rolled ((Statement-F.NewText (Field H.This 0 0) (Constant (pos 4)) Leaves) ∷ []) }); destroy = Some (record { locals = []; statements = rolled ((Statement-F.Free (Field H.This 0 0)) ∷ []) }) }) ∷ []; procedures = (record { parameters = []; body = record { locals = (OfPointer (Some 0)) ∷ []; statements = rolled ((Statement-F.New (Held (H.Local 0)) 0 Leaves) ∷ (Statement-F.Construct (Held (H.Local 0))) ∷ (Statement-F.Delete (Held (H.Local 0))) ∷ []) } }) ∷ []; operations = []; literals = []; main = 0 }
+script_unpushed_object_leaks_when_construction_fails_sweep = record { classes = (record { line = 1; extra = 16; fields = None ∷ []; construct = Some (record { locals = []; statements = (on 4 (Statement-F.NewText (Field H.This 0 0) (Constant (pos 4)) Leaves)) ∷ [] }); destroy = Some (record { locals = []; statements = (on 7 (Statement-F.Free (Field H.This 0 0))) ∷ [] }) }) ∷ []; procedures = (record { line = 10; parameters = []; body = record { locals = (OfPointer (Some 0)) ∷ []; statements = (on 12 (Statement-F.New (Held (H.Local 0)) 0 Leaves)) ∷ (on 13 (Statement-F.Construct (Held (H.Local 0)))) ∷ (on 14 (Statement-F.Delete (Held (H.Local 0)))) ∷ [] } }) ∷ []; operations = []; literals = []; main = 0 }
 
 unpushed_object_leaks_when_construction_fails_sweep : (length (run_at script_unpushed_object_leaks_when_construction_fails_sweep 10000 (shaped 4096 4096) 0).trace ≡ 3) × (least_bad_or_cut script_unpushed_object_leaks_when_construction_fails_sweep 10000 (shaped 4096 4096) ≡ Some 3) × (run_at script_unpushed_object_leaks_when_construction_fails_sweep 10000 (shaped 4096 4096) 3 ≡ record { outcome = Ended (Some (negsuc 3)) ((record { number = 2; length = 48; place = 144 }) ∷ []); trace = (line 1 144 0 Granted) ∷ (line 2 48 144 Granted) ∷ (line 3 32 192 Simulated) ∷ []; lines = []; notes = []; steps = 3 })
 unfolding everything
 unpushed_object_leaks_when_construction_fails_sweep = (refl, refl, refl)
 
 abbrev script_shortened_text_still_needs_its_units_run : Script
-script_shortened_text_still_needs_its_units_run = record { classes = []; procedures = (record { parameters = []; body = record { locals = (OfPointer None) ∷ []; statements = rolled ((Statement-F.NewText (Held (H.Local 0)) (Constant (pos 3)) Leaves) ∷ (Statement-F.Copy (InCell (Held (H.Local 0))) (Quoted 0)) ∷ (Statement-F.SetLength (InCell (Held (H.Local 0))) (Constant (pos 1))) ∷ (Statement-F.ReallocText (Held (H.Local 0)) (Held (H.Local 0)) (Constant (pos 1))) ∷ (Statement-F.PrintText (Of (InCell (Held (H.Local 0))))) ∷ (Statement-F.ReallocText (Held (H.Local 0)) (Held (H.Local 0)) (Constant (pos 0))) ∷ []) } }) ∷ []; operations = []; literals = (97 ∷ 98 ∷ 99 ∷ []) ∷ []; main = 0 }
+script_shortened_text_still_needs_its_units_run = record { classes = []; procedures = (record { line = 1; parameters = []; body = record { locals = (OfPointer None) ∷ []; statements = (on 3 (Statement-F.NewText (Held (H.Local 0)) (Constant (pos 3)) Leaves)) ∷ (on 4 (Statement-F.Copy (InCell (Held (H.Local 0))) (Quoted 0))) ∷ (on 5 (Statement-F.SetLength (InCell (Held (H.Local 0))) (Constant (pos 1)))) ∷ (on 6 (Statement-F.ReallocText (Held (H.Local 0)) (Held (H.Local 0)) (Constant (pos 1)))) ∷ (on 7 (Statement-F.PrintText (Of (InCell (Held (H.Local 0)))))) ∷ (on 8 (Statement-F.ReallocText (Held (H.Local 0)) (Held (H.Local 0)) (Constant (pos 0)))) ∷ [] } }) ∷ []; operations = []; literals = (97 ∷ 98 ∷ 99 ∷ []) ∷ []; main = 0 }
 
 shortened_text_still_needs_its_units_run : run script_shortened_text_still_needs_its_units_run R.Unlimited 10000 (shaped 4096 4096) ≡ record { outcome = Panicked (P.Workbench 8); trace = (line 1 144 0 Granted) ∷ (line 2 32 144 Granted) ∷ []; lines = (97 ∷ []) ∷ []; notes = []; steps = 6 }
 unfolding everything
 shortened_text_still_needs_its_units_run = refl
 
 abbrev script_text_cell_is_made_as_long_as_its_text_run : Script
-script_text_cell_is_made_as_long_as_its_text_run = record { classes = []; procedures = (record { parameters = []; body = record { locals = (OfPointer None) ∷ []; statements = rolled ((Statement-F.NewText (Held (H.Local 0)) (Constant (pos 6)) Leaves) ∷ (Statement-F.Copy (InCell (Held (H.Local 0))) (Quoted 0)) ∷ (Statement-F.ReallocText (Held (H.Local 0)) (Held (H.Local 0)) (Constant (pos 3))) ∷ (Statement-F.PrintText (Of (InCell (Held (H.Local 0))))) ∷ (Statement-F.ReallocText (Held (H.Local 0)) (Held (H.Local 0)) (Constant (pos 2))) ∷ []) } }) ∷ []; operations = []; literals = (97 ∷ 98 ∷ 99 ∷ []) ∷ []; main = 0 }
+script_text_cell_is_made_as_long_as_its_text_run = record { classes = []; procedures = (record { line = 1; parameters = []; body = record { locals = (OfPointer None) ∷ []; statements = (on 3 (Statement-F.NewText (Held (H.Local 0)) (Constant (pos 6)) Leaves)) ∷ (on 4 (Statement-F.Copy (InCell (Held (H.Local 0))) (Quoted 0))) ∷ (on 5 (Statement-F.ReallocText (Held (H.Local 0)) (Held (H.Local 0)) (Constant (pos 3)))) ∷ (on 6 (Statement-F.PrintText (Of (InCell (Held (H.Local 0)))))) ∷ (on 7 (Statement-F.ReallocText (Held (H.Local 0)) (Held (H.Local 0)) (Constant (pos 2)))) ∷ [] } }) ∷ []; operations = []; literals = (97 ∷ 98 ∷ 99 ∷ []) ∷ []; main = 0 }
 
 text_cell_is_made_as_long_as_its_text_run : run script_text_cell_is_made_as_long_as_its_text_run R.Unlimited 10000 (shaped 4096 4096) ≡ record { outcome = Panicked (P.Workbench 8); trace = (line 1 144 0 Granted) ∷ (line 2 32 144 Granted) ∷ []; lines = (97 ∷ 98 ∷ 99 ∷ []) ∷ []; notes = []; steps = 5 }
 unfolding everything
 text_cell_is_made_as_long_as_its_text_run = refl
 
 abbrev script_committed_length_notes_run : Script
-script_committed_length_notes_run = record { classes = []; procedures = (record { parameters = []; body = record { locals = (OfPointer None) ∷ []; statements = rolled ((Statement-F.Alloc (Held (H.Local 0)) (Constant (pos 200)) GivesNull) ∷ Statement-F.NoteAvailable ∷ Statement-F.NoteHeap ∷ (Statement-F.Free (Held (H.Local 0))) ∷ Statement-F.NoteAvailable ∷ Statement-F.NoteCompress ∷ Statement-F.NoteHeap ∷ []) } }) ∷ []; operations = []; literals = []; main = 0 }
+script_committed_length_notes_run = record { classes = []; procedures = (record { line = 1; parameters = []; body = record { locals = (OfPointer None) ∷ []; statements = (on 3 (Statement-F.Alloc (Held (H.Local 0)) (Constant (pos 200)) GivesNull)) ∷ (on 4 Statement-F.NoteAvailable) ∷ (on 5 Statement-F.NoteHeap) ∷ (on 6 (Statement-F.Free (Held (H.Local 0)))) ∷ (on 7 Statement-F.NoteAvailable) ∷ (on 8 Statement-F.NoteCompress) ∷ (on 9 Statement-F.NoteHeap) ∷ [] } }) ∷ []; operations = []; literals = []; main = 0 }
 
 committed_length_notes_run : run script_committed_length_notes_run R.Unlimited 10000 (shaped 256 64) ≡ record { outcome = Ended None []; trace = (line 1 144 0 Granted) ∷ (line 2 224 144 Granted) ∷ []; lines = []; notes = (Available 16 16) ∷ (Heap 2 368 384) ∷ (Available 240 240) ∷ (Compress 128) ∷ (Heap 1 144 256) ∷ []; steps = 7 }
 unfolding everything
 committed_length_notes_run = refl
 
 abbrev script_compress_never_grows_run : Script
-script_compress_never_grows_run = record { classes = []; procedures = (record { parameters = []; body = record { locals = (OfPointer None) ∷ []; statements = rolled ((Statement-F.Alloc (Held (H.Local 0)) (Constant (pos 3900)) GivesNull) ∷ Statement-F.NoteCompress ∷ Statement-F.NoteHeap ∷ (Statement-F.Free (Held (H.Local 0))) ∷ []) } }) ∷ []; operations = []; literals = []; main = 0 }
+script_compress_never_grows_run = record { classes = []; procedures = (record { line = 1; parameters = []; body = record { locals = (OfPointer None) ∷ []; statements = (on 3 (Statement-F.Alloc (Held (H.Local 0)) (Constant (pos 3900)) GivesNull)) ∷ (on 4 Statement-F.NoteCompress) ∷ (on 5 Statement-F.NoteHeap) ∷ (on 6 (Statement-F.Free (Held (H.Local 0)))) ∷ [] } }) ∷ []; operations = []; literals = []; main = 0 }
 
 compress_never_grows_run : run script_compress_never_grows_run R.Unlimited 10000 (shaped 4096 4112) ≡ record { outcome = Ended None []; trace = (line 1 144 0 Granted) ∷ (line 2 3920 144 Granted) ∷ []; lines = []; notes = (Compress 0) ∷ (Heap 2 4064 4096) ∷ []; steps = 4 }
 unfolding everything
 compress_never_grows_run = refl
 
 abbrev script_forged_header_in_a_payload_run : Script
-script_forged_header_in_a_payload_run = record { classes = []; procedures = (record { parameters = []; body = record { locals = (OfPointer None) ∷ (OfPointer None) ∷ (OfPointer None) ∷ []; statements = rolled ((Statement-F.Alloc (Held (H.Local 0)) (Constant (pos 16)) GivesNull) ∷ (Statement-F.Alloc (Held (H.Local 1)) (Constant (pos 16)) GivesNull) ∷ (Statement-F.Free (Held (H.Local 0))) ∷ (Statement-F.Free (Held (H.Local 1))) ∷ (Statement-F.Alloc (Held (H.Local 2)) (Constant (pos 64)) GivesNull) ∷ (Statement-F.Store (Held (H.Local 2)) (Constant (pos 4)) (Constant (pos 32))) ∷ (Statement-F.Store (Held (H.Local 2)) (Constant (pos 5)) (Constant (pos 1))) ∷ (Statement-F.Store (Held (H.Local 2)) (Constant (pos 6)) (Constant (pos 0))) ∷ (Statement-F.Store (Held (H.Local 2)) (Constant (pos 7)) (Constant (pos 3))) ∷ (Statement-F.Free (Held (H.Local 1))) ∷ []) } }) ∷ []; operations = []; literals = []; main = 0 }
+script_forged_header_in_a_payload_run = record { classes = []; procedures = (record { line = 1; parameters = []; body = record { locals = (OfPointer None) ∷ (OfPointer None) ∷ (OfPointer None) ∷ []; statements = (on 5 (Statement-F.Alloc (Held (H.Local 0)) (Constant (pos 16)) GivesNull)) ∷ (on 6 (Statement-F.Alloc (Held (H.Local 1)) (Constant (pos 16)) GivesNull)) ∷ (on 7 (Statement-F.Free (Held (H.Local 0)))) ∷ (on 8 (Statement-F.Free (Held (H.Local 1)))) ∷ (on 9 (Statement-F.Alloc (Held (H.Local 2)) (Constant (pos 64)) GivesNull)) ∷ (on 10 (Statement-F.Store (Held (H.Local 2)) (Constant (pos 4)) (Constant (pos 32)))) ∷ (on 11 (Statement-F.Store (Held (H.Local 2)) (Constant (pos 5)) (Constant (pos 1)))) ∷ (on 12 (Statement-F.Store (Held (H.Local 2)) (Constant (pos 6)) (Constant (pos 0)))) ∷ (on 13 (Statement-F.Store (Held (H.Local 2)) (Constant (pos 7)) (Constant (pos 3)))) ∷ (on 14 (Statement-F.Free (Held (H.Local 1)))) ∷ [] } }) ∷ []; operations = []; literals = []; main = 0 }
 
 forged_header_in_a_payload_run : run script_forged_header_in_a_payload_run R.Unlimited 10000 (shaped 4096 4096) ≡ record { outcome = Panicked (P.User 42); trace = (line 1 144 0 Granted) ∷ (line 2 32 144 Granted) ∷ (line 3 32 176 Granted) ∷ (line 4 80 144 Granted) ∷ []; lines = []; notes = []; steps = 10 }
 unfolding everything
 forged_header_in_a_payload_run = refl
 
 abbrev script_limit_not_a_multiple_of_sixteen_run : Script
-script_limit_not_a_multiple_of_sixteen_run = record { classes = []; procedures = (record { parameters = []; body = record { locals = (OfPointer None) ∷ []; statements = rolled ((Statement-F.Alloc (Held (H.Local 0)) (Constant (pos 9)) GivesNull) ∷ Statement-F.NoteAvailable ∷ Statement-F.NoteHeap ∷ Statement-F.NoteCompress ∷ (Statement-F.Alloc (Held (H.Local 0)) (Constant (pos 1)) GivesNull) ∷ []) } }) ∷ []; operations = []; literals = []; main = 0 }
+script_limit_not_a_multiple_of_sixteen_run = record { classes = []; procedures = (record { line = 1; parameters = []; body = record { locals = (OfPointer None) ∷ []; statements = (on 3 (Statement-F.Alloc (Held (H.Local 0)) (Constant (pos 9)) GivesNull)) ∷ (on 4 Statement-F.NoteAvailable) ∷ (on 5 Statement-F.NoteHeap) ∷ (on 6 Statement-F.NoteCompress) ∷ (on 7 (Statement-F.Alloc (Held (H.Local 0)) (Constant (pos 1)) GivesNull)) ∷ [] } }) ∷ []; operations = []; literals = []; main = 0 }
 
 limit_not_a_multiple_of_sixteen_run : run script_limit_not_a_multiple_of_sixteen_run (R.Limit 190) 10000 (shaped 176 16) ≡ record { outcome = Ended None ((record { number = 2; length = 32; place = 144 }) ∷ []); trace = (line 1 144 0 Granted) ∷ (line 2 32 144 Granted) ∷ (line 3 32 176 Refused) ∷ []; lines = []; notes = (Available 0 0) ∷ (Heap 2 176 176) ∷ (Compress 0) ∷ []; steps = 5 }
 unfolding everything
 limit_not_a_multiple_of_sixteen_run = refl
 
 abbrev script_limit_one_byte_below_the_cleanup_cell_run : Script
-script_limit_one_byte_below_the_cleanup_cell_run = record { classes = []; procedures = (record { parameters = []; body = record { locals = []; statements = [] } }) ∷ []; operations = []; literals = []; main = 0 }
+script_limit_one_byte_below_the_cleanup_cell_run = record { classes = []; procedures = (record { line = 1; parameters = []; body = record { locals = []; statements = [] } }) ∷ []; operations = []; literals = []; main = 0 }
 
 limit_one_byte_below_the_cleanup_cell_run : run script_limit_one_byte_below_the_cleanup_cell_run (R.Limit 143) 10000 (shaped 4096 4096) ≡ record { outcome = NoCleanup; trace = (line 1 144 0 Refused) ∷ []; lines = []; notes = []; steps = 0 }
 unfolding everything
 limit_one_byte_below_the_cleanup_cell_run = refl
 
 abbrev script_limit_refuses_one_cell_run : Script
-script_limit_refuses_one_cell_run = record { classes = []; procedures = (record { parameters = []; body = record { locals = (OfPointer None) ∷ (OfPointer None) ∷ (OfPointer None) ∷ []; statements = rolled ((Statement-F.Alloc (Held (H.Local 0)) (Constant (pos 10)) GivesNull) ∷ (Statement-F.Alloc (Held (H.Local 1)) (Constant (pos 100)) GivesNull) ∷ (Statement-F.Free (Held (H.Local 0))) ∷ (Statement-F.Alloc (Held (H.Local 2)) (Constant (pos 16)) GivesNull) ∷ (Statement-F.Free (Held (H.Local 1))) ∷ (Statement-F.Free (Held (H.Local 2))) ∷ []) } }) ∷ []; operations = []; literals = []; main = 0 }
+script_limit_refuses_one_cell_run = record { classes = []; procedures = (record { line = 1; parameters = []; body = record { locals = (OfPointer None) ∷ (OfPointer None) ∷ (OfPointer None) ∷ []; statements = (on 5 (Statement-F.Alloc (Held (H.Local 0)) (Constant (pos 10)) GivesNull)) ∷ (on 6 (Statement-F.Alloc (Held (H.Local 1)) (Constant (pos 100)) GivesNull)) ∷ (on 7 (Statement-F.Free (Held (H.Local 0)))) ∷ (on 8 (Statement-F.Alloc (Held (H.Local 2)) (Constant (pos 16)) GivesNull)) ∷ (on 9 (Statement-F.Free (Held (H.Local 1)))) ∷ (on 10 (Statement-F.Free (Held (H.Local 2)))) ∷ [] } }) ∷ []; operations = []; literals = []; main = 0 }
 
 limit_refuses_one_cell_run : run script_limit_refuses_one_cell_run (R.Limit 303) 10000 (shaped 4096 4096) ≡ record { outcome = Ended None []; trace = (line 1 144 0 Granted) ∷ (line 2 32 144 Granted) ∷ (line 3 128 176 Refused) ∷ (line 4 32 144 Granted) ∷ []; lines = []; notes = []; steps = 6 }
 unfolding everything
 limit_refuses_one_cell_run = refl
 
 abbrev script_limit_zero_run : Script
-script_limit_zero_run = record { classes = []; procedures = (record { parameters = []; body = record { locals = (OfPointer None) ∷ (OfPointer None) ∷ (OfPointer None) ∷ []; statements = rolled ((Statement-F.Alloc (Held (H.Local 0)) (Constant (pos 10)) GivesNull) ∷ (Statement-F.Alloc (Held (H.Local 1)) (Constant (pos 100)) GivesNull) ∷ (Statement-F.Free (Held (H.Local 0))) ∷ (Statement-F.Alloc (Held (H.Local 2)) (Constant (pos 16)) GivesNull) ∷ (Statement-F.Free (Held (H.Local 1))) ∷ (Statement-F.Free (Held (H.Local 2))) ∷ []) } }) ∷ []; operations = []; literals = []; main = 0 }
+script_limit_zero_run = record { classes = []; procedures = (record { line = 1; parameters = []; body = record { locals = (OfPointer None) ∷ (OfPointer None) ∷ (OfPointer None) ∷ []; statements = (on 5 (Statement-F.Alloc (Held (H.Local 0)) (Constant (pos 10)) GivesNull)) ∷ (on 6 (Statement-F.Alloc (Held (H.Local 1)) (Constant (pos 100)) GivesNull)) ∷ (on 7 (Statement-F.Free (Held (H.Local 0)))) ∷ (on 8 (Statement-F.Alloc (Held (H.Local 2)) (Constant (pos 16)) GivesNull)) ∷ (on 9 (Statement-F.Free (Held (H.Local 1)))) ∷ (on 10 (Statement-F.Free (Held (H.Local 2)))) ∷ [] } }) ∷ []; operations = []; literals = []; main = 0 }
 
 limit_zero_run : run script_limit_zero_run (R.Limit 0) 10000 (shaped 4096 4096) ≡ record { outcome = NoCleanup; trace = (line 1 144 0 Refused) ∷ []; lines = []; notes = []; steps = 0 }
 unfolding everything
 limit_zero_run = refl
 
 abbrev script_cell_for_zero_bytes_run : Script
-script_cell_for_zero_bytes_run = record { classes = []; procedures = (record { parameters = []; body = record { locals = (OfPointer None) ∷ OfNumber ∷ []; statements = rolled ((Statement-F.Alloc (Held (H.Local 0)) (Constant (pos 0)) GivesNull) ∷ (Statement-F.AllocLen 1 (Held (H.Local 0))) ∷ (Statement-F.PrintNumber (Variable 1)) ∷ (Statement-F.Free (Held (H.Local 0))) ∷ []) } }) ∷ []; operations = []; literals = []; main = 0 }
+script_cell_for_zero_bytes_run = record { classes = []; procedures = (record { line = 1; parameters = []; body = record { locals = (OfPointer None) ∷ OfNumber ∷ []; statements = (on 4 (Statement-F.Alloc (Held (H.Local 0)) (Constant (pos 0)) GivesNull)) ∷ (on 5 (Statement-F.AllocLen 1 (Held (H.Local 0)))) ∷ (on 6 (Statement-F.PrintNumber (Variable 1))) ∷ (on 7 (Statement-F.Free (Held (H.Local 0)))) ∷ [] } }) ∷ []; operations = []; literals = []; main = 0 }
 
 cell_for_zero_bytes_run : run script_cell_for_zero_bytes_run R.Unlimited 10000 (shaped 4096 4096) ≡ record { outcome = Ended None []; trace = (line 1 144 0 Granted) ∷ (line 2 16 144 Granted) ∷ []; lines = (48 ∷ []) ∷ []; notes = []; steps = 4 }
 unfolding everything
 cell_for_zero_bytes_run = refl
 
 abbrev script_fail_next_fires_once_run : Script
-script_fail_next_fires_once_run = record { classes = []; procedures = (record { parameters = []; body = record { locals = (OfPointer None) ∷ []; statements = rolled ((Statement-F.FailNext (Constant (pos 1))) ∷ (Statement-F.Alloc (Held (H.Local 0)) (Constant (pos 16)) GivesNull) ∷ (Statement-F.Alloc (Held (H.Local 0)) (Constant (pos 16)) GivesNull) ∷ (Statement-F.Free (Held (H.Local 0))) ∷ []) } }) ∷ []; operations = []; literals = []; main = 0 }
+script_fail_next_fires_once_run = record { classes = []; procedures = (record { line = 1; parameters = []; body = record { locals = (OfPointer None) ∷ []; statements = (on 3 (Statement-F.FailNext (Constant (pos 1)))) ∷ (on 4 (Statement-F.Alloc (Held (H.Local 0)) (Constant (pos 16)) GivesNull)) ∷ (on 5 (Statement-F.Alloc (Held (H.Local 0)) (Constant (pos 16)) GivesNull)) ∷ (on 6 (Statement-F.Free (Held (H.Local 0)))) ∷ [] } }) ∷ []; operations = []; literals = []; main = 0 }
 
 fail_next_fires_once_run : run script_fail_next_fires_once_run R.Unlimited 10000 (shaped 4096 4096) ≡ record { outcome = Ended None []; trace = (line 1 144 0 Granted) ∷ (line 2 32 144 Simulated) ∷ (line 3 32 144 Granted) ∷ []; lines = []; notes = []; steps = 4 }
 unfolding everything
 fail_next_fires_once_run = refl
 
 abbrev script_growth_past_the_hole_moves_run : Script
-script_growth_past_the_hole_moves_run = record { classes = []; procedures = (record { parameters = []; body = record { locals = (OfPointer None) ∷ (OfPointer None) ∷ (OfPointer None) ∷ []; statements = rolled ((Statement-F.Alloc (Held (H.Local 0)) (Constant (pos 16)) GivesNull) ∷ (Statement-F.Alloc (Held (H.Local 1)) (Constant (pos 16)) GivesNull) ∷ (Statement-F.Alloc (Held (H.Local 2)) (Constant (pos 16)) GivesNull) ∷ (Statement-F.Free (Held (H.Local 1))) ∷ (Statement-F.Realloc (Held (H.Local 0)) (Held (H.Local 0)) (Constant (pos 49)) GivesNull) ∷ Statement-F.NoteHeap ∷ []) } }) ∷ []; operations = []; literals = []; main = 0 }
+script_growth_past_the_hole_moves_run = record { classes = []; procedures = (record { line = 1; parameters = []; body = record { locals = (OfPointer None) ∷ (OfPointer None) ∷ (OfPointer None) ∷ []; statements = (on 5 (Statement-F.Alloc (Held (H.Local 0)) (Constant (pos 16)) GivesNull)) ∷ (on 6 (Statement-F.Alloc (Held (H.Local 1)) (Constant (pos 16)) GivesNull)) ∷ (on 7 (Statement-F.Alloc (Held (H.Local 2)) (Constant (pos 16)) GivesNull)) ∷ (on 8 (Statement-F.Free (Held (H.Local 1)))) ∷ (on 9 (Statement-F.Realloc (Held (H.Local 0)) (Held (H.Local 0)) (Constant (pos 49)) GivesNull)) ∷ (on 10 Statement-F.NoteHeap) ∷ [] } }) ∷ []; operations = []; literals = []; main = 0 }
 
 growth_past_the_hole_moves_run : run script_growth_past_the_hole_moves_run R.Unlimited 10000 (shaped 4096 4096) ≡ record { outcome = Ended None ((record { number = 4; length = 32; place = 208 }) ∷ (record { number = 5; length = 80; place = 240 }) ∷ []); trace = (line 1 144 0 Granted) ∷ (line 2 32 144 Granted) ∷ (line 3 32 176 Granted) ∷ (line 4 32 208 Granted) ∷ (line 5 80 240 Granted) ∷ []; lines = []; notes = (Heap 3 256 4096) ∷ []; steps = 6 }
 unfolding everything
 growth_past_the_hole_moves_run = refl
 
 abbrev script_growth_that_exactly_fills_the_hole_run : Script
-script_growth_that_exactly_fills_the_hole_run = record { classes = []; procedures = (record { parameters = []; body = record { locals = (OfPointer None) ∷ (OfPointer None) ∷ (OfPointer None) ∷ []; statements = rolled ((Statement-F.Alloc (Held (H.Local 0)) (Constant (pos 16)) GivesNull) ∷ (Statement-F.Alloc (Held (H.Local 1)) (Constant (pos 16)) GivesNull) ∷ (Statement-F.Alloc (Held (H.Local 2)) (Constant (pos 16)) GivesNull) ∷ (Statement-F.Free (Held (H.Local 1))) ∷ (Statement-F.Store (Held (H.Local 0)) (Constant (pos 3)) (Constant (pos 7))) ∷ (Statement-F.Realloc (Held (H.Local 0)) (Held (H.Local 0)) (Constant (pos 48)) GivesNull) ∷ Statement-F.NoteHeap ∷ []) } }) ∷ []; operations = []; literals = []; main = 0 }
+script_growth_that_exactly_fills_the_hole_run = record { classes = []; procedures = (record { line = 1; parameters = []; body = record { locals = (OfPointer None) ∷ (OfPointer None) ∷ (OfPointer None) ∷ []; statements = (on 5 (Statement-F.Alloc (Held (H.Local 0)) (Constant (pos 16)) GivesNull)) ∷ (on 6 (Statement-F.Alloc (Held (H.Local 1)) (Constant (pos 16)) GivesNull)) ∷ (on 7 (Statement-F.Alloc (Held (H.Local 2)) (Constant (pos 16)) GivesNull)) ∷ (on 8 (Statement-F.Free (Held (H.Local 1)))) ∷ (on 9 (Statement-F.Store (Held (H.Local 0)) (Constant (pos 3)) (Constant (pos 7)))) ∷ (on 10 (Statement-F.Realloc (Held (H.Local 0)) (Held (H.Local 0)) (Constant (pos 48)) GivesNull)) ∷ (on 11 Statement-F.NoteHeap) ∷ [] } }) ∷ []; operations = []; literals = []; main = 0 }
 
 growth_that_exactly_fills_the_hole_run : run script_growth_that_exactly_fills_the_hole_run R.Unlimited 10000 (shaped 4096 4096) ≡ record { outcome = Ended None ((record { number = 2; length = 64; place = 144 }) ∷ (record { number = 4; length = 32; place = 208 }) ∷ []); trace = (line 1 144 0 Granted) ∷ (line 2 32 144 Granted) ∷ (line 3 32 176 Granted) ∷ (line 4 32 208 Granted) ∷ (line 5 64 144 Granted) ∷ []; lines = []; notes = (Heap 3 240 4096) ∷ []; steps = 7 }
 unfolding everything
 growth_that_exactly_fills_the_hole_run = refl
 
 abbrev script_mark_end_finds_live_cells_run : Script
-script_mark_end_finds_live_cells_run = record { classes = []; procedures = (record { parameters = []; body = record { locals = (OfPointer None) ∷ (OfPointer None) ∷ []; statements = rolled (Statement-F.Mark ∷ (Statement-F.Alloc (Held (H.Local 0)) (Constant (pos 16)) GivesNull) ∷ (Statement-F.Alloc (Held (H.Local 1)) (Constant (pos 16)) GivesNull) ∷ (Statement-F.MarkEnd (Constant (pos 0))) ∷ []) } }) ∷ []; operations = []; literals = []; main = 0 }
+script_mark_end_finds_live_cells_run = record { classes = []; procedures = (record { line = 1; parameters = []; body = record { locals = (OfPointer None) ∷ (OfPointer None) ∷ []; statements = (on 4 Statement-F.Mark) ∷ (on 5 (Statement-F.Alloc (Held (H.Local 0)) (Constant (pos 16)) GivesNull)) ∷ (on 6 (Statement-F.Alloc (Held (H.Local 1)) (Constant (pos 16)) GivesNull)) ∷ (on 7 (Statement-F.MarkEnd (Constant (pos 0)))) ∷ [] } }) ∷ []; operations = []; literals = []; main = 0 }
 
 mark_end_finds_live_cells_run : run script_mark_end_finds_live_cells_run R.Unlimited 10000 (shaped 4096 4096) ≡ record { outcome = Panicked (P.Alloc 144); trace = (line 1 144 0 Granted) ∷ (line 2 32 144 Granted) ∷ (line 3 32 176 Granted) ∷ []; lines = []; notes = []; steps = 4 }
 unfolding everything
 mark_end_finds_live_cells_run = refl
 
 abbrev script_mark_end_hands_cells_to_the_outer_level_run : Script
-script_mark_end_hands_cells_to_the_outer_level_run = record { classes = []; procedures = (record { parameters = []; body = record { locals = (OfPointer None) ∷ (OfPointer None) ∷ []; statements = rolled (Statement-F.Mark ∷ (Statement-F.Alloc (Held (H.Local 0)) (Constant (pos 16)) GivesNull) ∷ (Statement-F.Alloc (Held (H.Local 1)) (Constant (pos 16)) GivesNull) ∷ (Statement-F.MarkEnd (Constant (pos 2))) ∷ (Statement-F.Check (Constant (pos 2))) ∷ (Statement-F.Free (Held (H.Local 0))) ∷ (Statement-F.Free (Held (H.Local 1))) ∷ []) } }) ∷ []; operations = []; literals = []; main = 0 }
+script_mark_end_hands_cells_to_the_outer_level_run = record { classes = []; procedures = (record { line = 1; parameters = []; body = record { locals = (OfPointer None) ∷ (OfPointer None) ∷ []; statements = (on 4 Statement-F.Mark) ∷ (on 5 (Statement-F.Alloc (Held (H.Local 0)) (Constant (pos 16)) GivesNull)) ∷ (on 6 (Statement-F.Alloc (Held (H.Local 1)) (Constant (pos 16)) GivesNull)) ∷ (on 7 (Statement-F.MarkEnd (Constant (pos 2)))) ∷ (on 8 (Statement-F.Check (Constant (pos 2)))) ∷ (on 9 (Statement-F.Free (Held (H.Local 0)))) ∷ (on 10 (Statement-F.Free (Held (H.Local 1)))) ∷ [] } }) ∷ []; operations = []; literals = []; main = 0 }
 
 mark_end_hands_cells_to_the_outer_level_run : run script_mark_end_hands_cells_to_the_outer_level_run R.Unlimited 10000 (shaped 4096 4096) ≡ record { outcome = Ended None []; trace = (line 1 144 0 Granted) ∷ (line 2 32 144 Granted) ∷ (line 3 32 176 Granted) ∷ []; lines = []; notes = []; steps = 7 }
 unfolding everything
 mark_end_hands_cells_to_the_outer_level_run = refl
 
 abbrev script_moved_cell_leaves_a_stale_pointer_run : Script
-script_moved_cell_leaves_a_stale_pointer_run = record { classes = []; procedures = (record { parameters = []; body = record { locals = (OfPointer None) ∷ (OfPointer None) ∷ (OfPointer None) ∷ OfNumber ∷ []; statements = rolled ((Statement-F.Alloc (Held (H.Local 0)) (Constant (pos 16)) GivesNull) ∷ (Statement-F.Store (Held (H.Local 0)) (Constant (pos 0)) (Constant (pos 77))) ∷ (Statement-F.Alloc (Held (H.Local 1)) (Constant (pos 16)) GivesNull) ∷ (Statement-F.Realloc (Held (H.Local 2)) (Held (H.Local 0)) (Constant (pos 32)) GivesNull) ∷ (Statement-F.Load 3 (Held (H.Local 2)) (Constant (pos 0))) ∷ (Statement-F.PrintNumber (Variable 3)) ∷ (Statement-F.Load 3 (Held (H.Local 0)) (Constant (pos 0))) ∷ []) } }) ∷ []; operations = []; literals = []; main = 0 }
+script_moved_cell_leaves_a_stale_pointer_run = record { classes = []; procedures = (record { line = 1; parameters = []; body = record { locals = (OfPointer None) ∷ (OfPointer None) ∷ (OfPointer None) ∷ OfNumber ∷ []; statements = (on 6 (Statement-F.Alloc (Held (H.Local 0)) (Constant (pos 16)) GivesNull)) ∷ (on 7 (Statement-F.Store (Held (H.Local 0)) (Constant (pos 0)) (Constant (pos 77)))) ∷ (on 8 (Statement-F.Alloc (Held (H.Local 1)) (Constant (pos 16)) GivesNull)) ∷ (on 9 (Statement-F.Realloc (Held (H.Local 2)) (Held (H.Local 0)) (Constant (pos 32)) GivesNull)) ∷ (on 10 (Statement-F.Load 3 (Held (H.Local 2)) (Constant (pos 0)))) ∷ (on 11 (Statement-F.PrintNumber (Variable 3))) ∷ (on 12 (Statement-F.Load 3 (Held (H.Local 0)) (Constant (pos 0)))) ∷ [] } }) ∷ []; operations = []; literals = []; main = 0 }
 
 moved_cell_leaves_a_stale_pointer_run : run script_moved_cell_leaves_a_stale_pointer_run R.Unlimited 10000 (shaped 4096 4096) ≡ record { outcome = Panicked (P.Workbench 1); trace = (line 1 144 0 Granted) ∷ (line 2 32 144 Granted) ∷ (line 3 32 176 Granted) ∷ (line 4 48 208 Granted) ∷ []; lines = (55 ∷ 55 ∷ []) ∷ []; notes = []; steps = 7 }
 unfolding everything
 moved_cell_leaves_a_stale_pointer_run = refl
 
 abbrev script_nested_marks_hand_cells_outward_run : Script
-script_nested_marks_hand_cells_outward_run = record { classes = []; procedures = (record { parameters = []; body = record { locals = (OfPointer None) ∷ (OfPointer None) ∷ []; statements = rolled (Statement-F.Mark ∷ Statement-F.Mark ∷ (Statement-F.Alloc (Held (H.Local 0)) (Constant (pos 1)) GivesNull) ∷ (Statement-F.MarkEnd (Constant (pos 1))) ∷ (Statement-F.Check (Constant (pos 1))) ∷ (Statement-F.Alloc (Held (H.Local 1)) (Constant (pos 1)) GivesNull) ∷ (Statement-F.MarkEnd (Constant (pos 2))) ∷ (Statement-F.Check (Constant (pos 2))) ∷ []) } }) ∷ []; operations = []; literals = []; main = 0 }
+script_nested_marks_hand_cells_outward_run = record { classes = []; procedures = (record { line = 1; parameters = []; body = record { locals = (OfPointer None) ∷ (OfPointer None) ∷ []; statements = (on 4 Statement-F.Mark) ∷ (on 5 Statement-F.Mark) ∷ (on 6 (Statement-F.Alloc (Held (H.Local 0)) (Constant (pos 1)) GivesNull)) ∷ (on 7 (Statement-F.MarkEnd (Constant (pos 1)))) ∷ (on 8 (Statement-F.Check (Constant (pos 1)))) ∷ (on 9 (Statement-F.Alloc (Held (H.Local 1)) (Constant (pos 1)) GivesNull)) ∷ (on 10 (Statement-F.MarkEnd (Constant (pos 2)))) ∷ (on 11 (Statement-F.Check (Constant (pos 2)))) ∷ [] } }) ∷ []; operations = []; literals = []; main = 0 }
 
 nested_marks_hand_cells_outward_run : run script_nested_marks_hand_cells_outward_run R.Unlimited 10000 (shaped 4096 4096) ≡ record { outcome = Ended None ((record { number = 2; length = 32; place = 144 }) ∷ (record { number = 3; length = 32; place = 176 }) ∷ []); trace = (line 1 144 0 Granted) ∷ (line 2 32 144 Granted) ∷ (line 3 32 176 Granted) ∷ []; lines = []; notes = []; steps = 8 }
 unfolding everything
 nested_marks_hand_cells_outward_run = refl
 
 abbrev script_refused_top_cell_stays_and_leaks_run : Script
-script_refused_top_cell_stays_and_leaks_run = record { classes = []; procedures = (record { parameters = []; body = record { locals = (OfPointer None) ∷ (OfPointer None) ∷ (OfPointer None) ∷ []; statements = rolled ((Statement-F.Alloc (Held (H.Local 0)) (Constant (pos 48)) GivesNull) ∷ (Statement-F.Alloc (Held (H.Local 1)) (Constant (pos 16)) GivesNull) ∷ (Statement-F.Free (Held (H.Local 0))) ∷ (Statement-F.Realloc (Held (H.Local 2)) (Held (H.Local 1)) (Constant (pos 48)) GivesNull) ∷ (Statement-F.Free (Held (H.Local 2))) ∷ []) } }) ∷ []; operations = []; literals = []; main = 0 }
+script_refused_top_cell_stays_and_leaks_run = record { classes = []; procedures = (record { line = 1; parameters = []; body = record { locals = (OfPointer None) ∷ (OfPointer None) ∷ (OfPointer None) ∷ []; statements = (on 5 (Statement-F.Alloc (Held (H.Local 0)) (Constant (pos 48)) GivesNull)) ∷ (on 6 (Statement-F.Alloc (Held (H.Local 1)) (Constant (pos 16)) GivesNull)) ∷ (on 7 (Statement-F.Free (Held (H.Local 0)))) ∷ (on 8 (Statement-F.Realloc (Held (H.Local 2)) (Held (H.Local 1)) (Constant (pos 48)) GivesNull)) ∷ (on 9 (Statement-F.Free (Held (H.Local 2)))) ∷ [] } }) ∷ []; operations = []; literals = []; main = 0 }
 
 refused_top_cell_stays_and_leaks_run : run script_refused_top_cell_stays_and_leaks_run (R.Limit 256) 10000 (shaped 4096 4096) ≡ record { outcome = Ended None ((record { number = 3; length = 32; place = 208 }) ∷ []); trace = (line 1 144 0 Granted) ∷ (line 2 64 144 Granted) ∷ (line 3 32 208 Granted) ∷ (line 4 64 208 Refused) ∷ []; lines = []; notes = []; steps = 5 }
 unfolding everything
 refused_top_cell_stays_and_leaks_run = refl
 
 abbrev script_second_attempt_fails_run : Script
-script_second_attempt_fails_run = record { classes = []; procedures = (record { parameters = []; body = record { locals = (OfPointer None) ∷ (OfPointer None) ∷ (OfPointer None) ∷ []; statements = rolled ((Statement-F.Alloc (Held (H.Local 0)) (Constant (pos 10)) GivesNull) ∷ (Statement-F.Alloc (Held (H.Local 1)) (Constant (pos 100)) GivesNull) ∷ (Statement-F.Free (Held (H.Local 0))) ∷ (Statement-F.Alloc (Held (H.Local 2)) (Constant (pos 16)) GivesNull) ∷ (Statement-F.Free (Held (H.Local 1))) ∷ (Statement-F.Free (Held (H.Local 2))) ∷ []) } }) ∷ []; operations = []; literals = []; main = 0 }
+script_second_attempt_fails_run = record { classes = []; procedures = (record { line = 1; parameters = []; body = record { locals = (OfPointer None) ∷ (OfPointer None) ∷ (OfPointer None) ∷ []; statements = (on 5 (Statement-F.Alloc (Held (H.Local 0)) (Constant (pos 10)) GivesNull)) ∷ (on 6 (Statement-F.Alloc (Held (H.Local 1)) (Constant (pos 100)) GivesNull)) ∷ (on 7 (Statement-F.Free (Held (H.Local 0)))) ∷ (on 8 (Statement-F.Alloc (Held (H.Local 2)) (Constant (pos 16)) GivesNull)) ∷ (on 9 (Statement-F.Free (Held (H.Local 1)))) ∷ (on 10 (Statement-F.Free (Held (H.Local 2)))) ∷ [] } }) ∷ []; operations = []; literals = []; main = 0 }
 
 second_attempt_fails_run : run script_second_attempt_fails_run (R.Number 2) 10000 (shaped 4096 4096) ≡ record { outcome = Ended None []; trace = (line 1 144 0 Granted) ∷ (line 2 32 144 Simulated) ∷ (line 3 128 144 Granted) ∷ (line 4 32 272 Granted) ∷ []; lines = []; notes = []; steps = 6 }
 unfolding everything
 second_attempt_fails_run = refl
 
 abbrev script_append_past_the_end_of_the_buffer_run : Script
-script_append_past_the_end_of_the_buffer_run = record { classes = []; procedures = (record { parameters = []; body = record { locals = (OfBuffer 3) ∷ []; statements = rolled ((Statement-F.Append (OwnBuffer 0) (Quoted 0)) ∷ (Statement-F.Append (OwnBuffer 0) (Quoted 1)) ∷ []) } }) ∷ []; operations = []; literals = (97 ∷ 98 ∷ []) ∷ (99 ∷ 100 ∷ []) ∷ []; main = 0 }
+script_append_past_the_end_of_the_buffer_run = record { classes = []; procedures = (record { line = 1; parameters = []; body = record { locals = (OfBuffer 3) ∷ []; statements = (on 3 (Statement-F.Append (OwnBuffer 0) (Quoted 0))) ∷ (on 4 (Statement-F.Append (OwnBuffer 0) (Quoted 1))) ∷ [] } }) ∷ []; operations = []; literals = (97 ∷ 98 ∷ []) ∷ (99 ∷ 100 ∷ []) ∷ []; main = 0 }
 
 append_past_the_end_of_the_buffer_run : run script_append_past_the_end_of_the_buffer_run R.Unlimited 10000 (shaped 4096 4096) ≡ record { outcome = Panicked (P.User 11); trace = (line 1 144 0 Granted) ∷ []; lines = []; notes = []; steps = 2 }
 unfolding everything
 append_past_the_end_of_the_buffer_run = refl
 
 abbrev script_buffer_is_copied_appended_and_inserted_run : Script
-script_buffer_is_copied_appended_and_inserted_run = record { classes = []; procedures = (record { parameters = []; body = record { locals = (OfBuffer 10) ∷ OfNumber ∷ []; statements = rolled ((Statement-F.GetMaximum 1 (OwnBuffer 0)) ∷ (Statement-F.PrintNumber (Variable 1)) ∷ (Statement-F.PrintText (Of (OwnBuffer 0))) ∷ (Statement-F.Copy (OwnBuffer 0) (Quoted 0)) ∷ (Statement-F.Insert (OwnBuffer 0) (Constant (pos 0)) (Quoted 1)) ∷ (Statement-F.Insert (OwnBuffer 0) (Constant (pos 4)) (Quoted 2)) ∷ (Statement-F.Append (OwnBuffer 0) (Quoted 3)) ∷ (Statement-F.GetLength 1 (Of (OwnBuffer 0))) ∷ (Statement-F.PrintNumber (Variable 1)) ∷ (Statement-F.PrintText (Of (OwnBuffer 0))) ∷ (Statement-F.Copy (OwnBuffer 0) (Quoted 4)) ∷ (Statement-F.GetLength 1 (Of (OwnBuffer 0))) ∷ (Statement-F.PrintNumber (Variable 1)) ∷ []) } }) ∷ []; operations = []; literals = (98 ∷ 99 ∷ 100 ∷ []) ∷ (97 ∷ []) ∷ (122 ∷ []) ∷ (33 ∷ []) ∷ [] ∷ []; main = 0 }
+script_buffer_is_copied_appended_and_inserted_run = record { classes = []; procedures = (record { line = 1; parameters = []; body = record { locals = (OfBuffer 10) ∷ OfNumber ∷ []; statements = (on 4 (Statement-F.GetMaximum 1 (OwnBuffer 0))) ∷ (on 5 (Statement-F.PrintNumber (Variable 1))) ∷ (on 6 (Statement-F.PrintText (Of (OwnBuffer 0)))) ∷ (on 7 (Statement-F.Copy (OwnBuffer 0) (Quoted 0))) ∷ (on 8 (Statement-F.Insert (OwnBuffer 0) (Constant (pos 0)) (Quoted 1))) ∷ (on 9 (Statement-F.Insert (OwnBuffer 0) (Constant (pos 4)) (Quoted 2))) ∷ (on 10 (Statement-F.Append (OwnBuffer 0) (Quoted 3))) ∷ (on 11 (Statement-F.GetLength 1 (Of (OwnBuffer 0)))) ∷ (on 12 (Statement-F.PrintNumber (Variable 1))) ∷ (on 13 (Statement-F.PrintText (Of (OwnBuffer 0)))) ∷ (on 14 (Statement-F.Copy (OwnBuffer 0) (Quoted 4))) ∷ (on 15 (Statement-F.GetLength 1 (Of (OwnBuffer 0)))) ∷ (on 16 (Statement-F.PrintNumber (Variable 1))) ∷ [] } }) ∷ []; operations = []; literals = (98 ∷ 99 ∷ 100 ∷ []) ∷ (97 ∷ []) ∷ (122 ∷ []) ∷ (33 ∷ []) ∷ [] ∷ []; main = 0 }
 
 buffer_is_copied_appended_and_inserted_run : run script_buffer_is_copied_appended_and_inserted_run R.Unlimited 10000 (shaped 4096 4096) ≡ record { outcome = Ended None []; trace = (line 1 144 0 Granted) ∷ []; lines = (49 ∷ 48 ∷ []) ∷ [] ∷ (54 ∷ []) ∷ (97 ∷ 98 ∷ 99 ∷ 100 ∷ 122 ∷ 33 ∷ []) ∷ (48 ∷ []) ∷ []; notes = []; steps = 13 }
 unfolding everything
 buffer_is_copied_appended_and_inserted_run = refl
 
 abbrev script_cell_text_appended_to_itself_run : Script
-script_cell_text_appended_to_itself_run = record { classes = []; procedures = (record { parameters = []; body = record { locals = (OfPointer None) ∷ OfView ∷ []; statements = rolled ((Statement-F.NewText (Held (H.Local 0)) (Constant (pos 6)) GivesNull) ∷ (Statement-F.Copy (InCell (Held (H.Local 0))) (Quoted 0)) ∷ (Statement-F.Append (InCell (Held (H.Local 0))) (Of (InCell (Held (H.Local 0))))) ∷ (Statement-F.PrintText (Of (InCell (Held (H.Local 0))))) ∷ (Statement-F.Right 1 (Of (InCell (Held (H.Local 0)))) (Constant (pos 2))) ∷ (Statement-F.Copy (InCell (Held (H.Local 0))) (ViewOf 1)) ∷ (Statement-F.PrintText (Of (InCell (Held (H.Local 0))))) ∷ (Statement-F.Free (Held (H.Local 0))) ∷ []) } }) ∷ []; operations = []; literals = (97 ∷ 98 ∷ 99 ∷ []) ∷ []; main = 0 }
+script_cell_text_appended_to_itself_run = record { classes = []; procedures = (record { line = 1; parameters = []; body = record { locals = (OfPointer None) ∷ OfView ∷ []; statements = (on 4 (Statement-F.NewText (Held (H.Local 0)) (Constant (pos 6)) GivesNull)) ∷ (on 5 (Statement-F.Copy (InCell (Held (H.Local 0))) (Quoted 0))) ∷ (on 6 (Statement-F.Append (InCell (Held (H.Local 0))) (Of (InCell (Held (H.Local 0)))))) ∷ (on 7 (Statement-F.PrintText (Of (InCell (Held (H.Local 0)))))) ∷ (on 8 (Statement-F.Right 1 (Of (InCell (Held (H.Local 0)))) (Constant (pos 2)))) ∷ (on 9 (Statement-F.Copy (InCell (Held (H.Local 0))) (ViewOf 1))) ∷ (on 10 (Statement-F.PrintText (Of (InCell (Held (H.Local 0)))))) ∷ (on 11 (Statement-F.Free (Held (H.Local 0)))) ∷ [] } }) ∷ []; operations = []; literals = (97 ∷ 98 ∷ 99 ∷ []) ∷ []; main = 0 }
 
 cell_text_appended_to_itself_run : run script_cell_text_appended_to_itself_run R.Unlimited 10000 (shaped 4096 4096) ≡ record { outcome = Ended None []; trace = (line 1 144 0 Granted) ∷ (line 2 32 144 Granted) ∷ []; lines = (97 ∷ 98 ∷ 99 ∷ 97 ∷ 98 ∷ 99 ∷ []) ∷ (98 ∷ 99 ∷ []) ∷ []; notes = []; steps = 8 }
 unfolding everything
 cell_text_appended_to_itself_run = refl
 
 abbrev script_copy_longer_than_the_buffer_run : Script
-script_copy_longer_than_the_buffer_run = record { classes = []; procedures = (record { parameters = []; body = record { locals = (OfBuffer 3) ∷ []; statements = rolled ((Statement-F.Copy (OwnBuffer 0) (Quoted 0)) ∷ (Statement-F.PrintText (Of (OwnBuffer 0))) ∷ (Statement-F.Copy (OwnBuffer 0) (Quoted 1)) ∷ []) } }) ∷ []; operations = []; literals = (97 ∷ 98 ∷ 99 ∷ []) ∷ (97 ∷ 98 ∷ 99 ∷ 100 ∷ []) ∷ []; main = 0 }
+script_copy_longer_than_the_buffer_run = record { classes = []; procedures = (record { line = 1; parameters = []; body = record { locals = (OfBuffer 3) ∷ []; statements = (on 3 (Statement-F.Copy (OwnBuffer 0) (Quoted 0))) ∷ (on 4 (Statement-F.PrintText (Of (OwnBuffer 0)))) ∷ (on 5 (Statement-F.Copy (OwnBuffer 0) (Quoted 1))) ∷ [] } }) ∷ []; operations = []; literals = (97 ∷ 98 ∷ 99 ∷ []) ∷ (97 ∷ 98 ∷ 99 ∷ 100 ∷ []) ∷ []; main = 0 }
 
 copy_longer_than_the_buffer_run : run script_copy_longer_than_the_buffer_run R.Unlimited 10000 (shaped 4096 4096) ≡ record { outcome = Panicked (P.User 11); trace = (line 1 144 0 Granted) ∷ []; lines = (97 ∷ 98 ∷ 99 ∷ []) ∷ []; notes = []; steps = 3 }
 unfolding everything
 copy_longer_than_the_buffer_run = refl
 
 abbrev script_deletion_of_fewer_than_none_run : Script
-script_deletion_of_fewer_than_none_run = record { classes = []; procedures = (record { parameters = []; body = record { locals = (OfBuffer 8) ∷ []; statements = rolled ((Statement-F.Copy (OwnBuffer 0) (Quoted 0)) ∷ (Statement-F.DeleteText (OwnBuffer 0) (Constant (pos 9)) (Constant (negsuc 0))) ∷ []) } }) ∷ []; operations = []; literals = (97 ∷ 98 ∷ 99 ∷ []) ∷ []; main = 0 }
+script_deletion_of_fewer_than_none_run = record { classes = []; procedures = (record { line = 1; parameters = []; body = record { locals = (OfBuffer 8) ∷ []; statements = (on 3 (Statement-F.Copy (OwnBuffer 0) (Quoted 0))) ∷ (on 4 (Statement-F.DeleteText (OwnBuffer 0) (Constant (pos 9)) (Constant (negsuc 0)))) ∷ [] } }) ∷ []; operations = []; literals = (97 ∷ 98 ∷ 99 ∷ []) ∷ []; main = 0 }
 
 deletion_of_fewer_than_none_run : run script_deletion_of_fewer_than_none_run R.Unlimited 10000 (shaped 4096 4096) ≡ record { outcome = Panicked (P.Workbench 9); trace = (line 1 144 0 Granted) ∷ []; lines = []; notes = []; steps = 2 }
 unfolding everything
 deletion_of_fewer_than_none_run = refl
 
 abbrev script_deletion_stops_at_the_end_run : Script
-script_deletion_stops_at_the_end_run = record { classes = []; procedures = (record { parameters = []; body = record { locals = (OfBuffer 8) ∷ []; statements = rolled ((Statement-F.Copy (OwnBuffer 0) (Quoted 0)) ∷ (Statement-F.DeleteText (OwnBuffer 0) (Constant (pos 1)) (Constant (pos 2))) ∷ (Statement-F.PrintText (Of (OwnBuffer 0))) ∷ (Statement-F.DeleteText (OwnBuffer 0) (Constant (pos 4)) (Constant (pos 5))) ∷ (Statement-F.PrintText (Of (OwnBuffer 0))) ∷ (Statement-F.DeleteText (OwnBuffer 0) (Constant (pos 2)) (Constant (pos 99))) ∷ (Statement-F.PrintText (Of (OwnBuffer 0))) ∷ (Statement-F.DeleteText (OwnBuffer 0) (Constant (pos 3)) (Constant (pos 0))) ∷ []) } }) ∷ []; operations = []; literals = (97 ∷ 98 ∷ 99 ∷ 100 ∷ 101 ∷ 102 ∷ []) ∷ []; main = 0 }
+script_deletion_stops_at_the_end_run = record { classes = []; procedures = (record { line = 1; parameters = []; body = record { locals = (OfBuffer 8) ∷ []; statements = (on 3 (Statement-F.Copy (OwnBuffer 0) (Quoted 0))) ∷ (on 4 (Statement-F.DeleteText (OwnBuffer 0) (Constant (pos 1)) (Constant (pos 2)))) ∷ (on 5 (Statement-F.PrintText (Of (OwnBuffer 0)))) ∷ (on 6 (Statement-F.DeleteText (OwnBuffer 0) (Constant (pos 4)) (Constant (pos 5)))) ∷ (on 7 (Statement-F.PrintText (Of (OwnBuffer 0)))) ∷ (on 8 (Statement-F.DeleteText (OwnBuffer 0) (Constant (pos 2)) (Constant (pos 99)))) ∷ (on 9 (Statement-F.PrintText (Of (OwnBuffer 0)))) ∷ (on 10 (Statement-F.DeleteText (OwnBuffer 0) (Constant (pos 3)) (Constant (pos 0)))) ∷ [] } }) ∷ []; operations = []; literals = (97 ∷ 98 ∷ 99 ∷ 100 ∷ 101 ∷ 102 ∷ []) ∷ []; main = 0 }
 
 deletion_stops_at_the_end_run : run script_deletion_stops_at_the_end_run R.Unlimited 10000 (shaped 4096 4096) ≡ record { outcome = Panicked (P.User 10); trace = (line 1 144 0 Granted) ∷ []; lines = (97 ∷ 100 ∷ 101 ∷ 102 ∷ []) ∷ (97 ∷ 100 ∷ 101 ∷ 102 ∷ []) ∷ (97 ∷ 100 ∷ []) ∷ []; notes = []; steps = 8 }
 unfolding everything
 deletion_stops_at_the_end_run = refl
 
 abbrev script_growing_a_cell_as_a_text_run : Script
-script_growing_a_cell_as_a_text_run = record { classes = []; procedures = (record { parameters = []; body = record { locals = (OfPointer None) ∷ []; statements = rolled ((Statement-F.Alloc (Held (H.Local 0)) (Constant (pos 1)) GivesNull) ∷ (Statement-F.ReallocText (Held (H.Local 0)) (Held (H.Local 0)) (Constant (pos 9))) ∷ []) } }) ∷ []; operations = []; literals = []; main = 0 }
+script_growing_a_cell_as_a_text_run = record { classes = []; procedures = (record { line = 1; parameters = []; body = record { locals = (OfPointer None) ∷ []; statements = (on 3 (Statement-F.Alloc (Held (H.Local 0)) (Constant (pos 1)) GivesNull)) ∷ (on 4 (Statement-F.ReallocText (Held (H.Local 0)) (Held (H.Local 0)) (Constant (pos 9)))) ∷ [] } }) ∷ []; operations = []; literals = []; main = 0 }
 
 growing_a_cell_as_a_text_run : run script_growing_a_cell_as_a_text_run R.Unlimited 10000 (shaped 4096 4096) ≡ record { outcome = Panicked (P.Workbench 2); trace = (line 1 144 0 Granted) ∷ (line 2 32 144 Granted) ∷ []; lines = []; notes = []; steps = 2 }
 unfolding everything
 growing_a_cell_as_a_text_run = refl
 
 abbrev script_growing_a_text_as_a_cell_run : Script
-script_growing_a_text_as_a_cell_run = record { classes = []; procedures = (record { parameters = []; body = record { locals = (OfPointer None) ∷ []; statements = rolled ((Statement-F.NewText (Held (H.Local 0)) (Constant (pos 1)) GivesNull) ∷ (Statement-F.Realloc (Held (H.Local 0)) (Held (H.Local 0)) (Constant (negsuc 0)) GivesNull) ∷ []) } }) ∷ []; operations = []; literals = []; main = 0 }
+script_growing_a_text_as_a_cell_run = record { classes = []; procedures = (record { line = 1; parameters = []; body = record { locals = (OfPointer None) ∷ []; statements = (on 3 (Statement-F.NewText (Held (H.Local 0)) (Constant (pos 1)) GivesNull)) ∷ (on 4 (Statement-F.Realloc (Held (H.Local 0)) (Held (H.Local 0)) (Constant (negsuc 0)) GivesNull)) ∷ [] } }) ∷ []; operations = []; literals = []; main = 0 }
 
 growing_a_text_as_a_cell_run : run script_growing_a_text_as_a_cell_run R.Unlimited 10000 (shaped 4096 4096) ≡ record { outcome = Panicked (P.Workbench 2); trace = (line 1 144 0 Granted) ∷ (line 2 32 144 Granted) ∷ []; lines = []; notes = []; steps = 2 }
 unfolding everything
 growing_a_text_as_a_cell_run = refl
 
 abbrev script_growing_a_text_past_one_mebibyte_run : Script
-script_growing_a_text_past_one_mebibyte_run = record { classes = []; procedures = (record { parameters = []; body = record { locals = (OfPointer None) ∷ []; statements = rolled ((Statement-F.NewText (Held (H.Local 0)) (Constant (pos 1)) GivesNull) ∷ (Statement-F.ReallocText (Held (H.Local 0)) (Held (H.Local 0)) (Constant (pos 524287))) ∷ []) } }) ∷ []; operations = []; literals = []; main = 0 }
+script_growing_a_text_past_one_mebibyte_run = record { classes = []; procedures = (record { line = 1; parameters = []; body = record { locals = (OfPointer None) ∷ []; statements = (on 3 (Statement-F.NewText (Held (H.Local 0)) (Constant (pos 1)) GivesNull)) ∷ (on 4 (Statement-F.ReallocText (Held (H.Local 0)) (Held (H.Local 0)) (Constant (pos 524287)))) ∷ [] } }) ∷ []; operations = []; literals = []; main = 0 }
 
 growing_a_text_past_one_mebibyte_run : run script_growing_a_text_past_one_mebibyte_run R.Unlimited 10000 (shaped 4096 4096) ≡ record { outcome = Panicked (P.Workbench 9); trace = (line 1 144 0 Granted) ∷ (line 2 32 144 Granted) ∷ []; lines = []; notes = []; steps = 2 }
 unfolding everything
 growing_a_text_past_one_mebibyte_run = refl
 
 abbrev script_growing_no_text_run : Script
-script_growing_no_text_run = record { classes = []; procedures = (record { parameters = []; body = record { locals = (OfPointer None) ∷ []; statements = rolled ((Statement-F.ReallocText (Held (H.Local 0)) (Held (H.Local 0)) (Constant (negsuc 0))) ∷ []) } }) ∷ []; operations = []; literals = []; main = 0 }
+script_growing_no_text_run = record { classes = []; procedures = (record { line = 1; parameters = []; body = record { locals = (OfPointer None) ∷ []; statements = (on 3 (Statement-F.ReallocText (Held (H.Local 0)) (Held (H.Local 0)) (Constant (negsuc 0)))) ∷ [] } }) ∷ []; operations = []; literals = []; main = 0 }
 
 growing_no_text_run : run script_growing_no_text_run R.Unlimited 10000 (shaped 4096 4096) ≡ record { outcome = Panicked (P.Workbench 1); trace = (line 1 144 0 Granted) ∷ []; lines = []; notes = []; steps = 1 }
 unfolding everything
 growing_no_text_run = refl
 
 abbrev script_grown_text_moves_with_its_units_run : Script
-script_grown_text_moves_with_its_units_run = record { classes = []; procedures = (record { parameters = []; body = record { locals = (OfPointer None) ∷ (OfPointer None) ∷ OfNumber ∷ []; statements = rolled ((Statement-F.NewText (Held (H.Local 0)) (Constant (pos 4)) GivesNull) ∷ (Statement-F.Alloc (Held (H.Local 1)) (Constant (pos 1)) GivesNull) ∷ (Statement-F.Append (InCell (Held (H.Local 0))) (Quoted 0)) ∷ (Statement-F.ReallocText (Held (H.Local 0)) (Held (H.Local 0)) (Constant (pos 20))) ∷ (Statement-F.Append (InCell (Held (H.Local 0))) (Quoted 1)) ∷ (Statement-F.PrintText (Of (InCell (Held (H.Local 0))))) ∷ (Statement-F.GetMaximum 2 (InCell (Held (H.Local 0)))) ∷ (Statement-F.PrintNumber (Variable 2)) ∷ (Statement-F.Free (Held (H.Local 1))) ∷ (Statement-F.Free (Held (H.Local 0))) ∷ []) } }) ∷ []; operations = []; literals = (97 ∷ 98 ∷ 99 ∷ []) ∷ (100 ∷ 101 ∷ 102 ∷ 103 ∷ []) ∷ []; main = 0 }
+script_grown_text_moves_with_its_units_run = record { classes = []; procedures = (record { line = 1; parameters = []; body = record { locals = (OfPointer None) ∷ (OfPointer None) ∷ OfNumber ∷ []; statements = (on 5 (Statement-F.NewText (Held (H.Local 0)) (Constant (pos 4)) GivesNull)) ∷ (on 6 (Statement-F.Alloc (Held (H.Local 1)) (Constant (pos 1)) GivesNull)) ∷ (on 7 (Statement-F.Append (InCell (Held (H.Local 0))) (Quoted 0))) ∷ (on 8 (Statement-F.ReallocText (Held (H.Local 0)) (Held (H.Local 0)) (Constant (pos 20)))) ∷ (on 9 (Statement-F.Append (InCell (Held (H.Local 0))) (Quoted 1))) ∷ (on 10 (Statement-F.PrintText (Of (InCell (Held (H.Local 0)))))) ∷ (on 11 (Statement-F.GetMaximum 2 (InCell (Held (H.Local 0))))) ∷ (on 12 (Statement-F.PrintNumber (Variable 2))) ∷ (on 13 (Statement-F.Free (Held (H.Local 1)))) ∷ (on 14 (Statement-F.Free (Held (H.Local 0)))) ∷ [] } }) ∷ []; operations = []; literals = (97 ∷ 98 ∷ 99 ∷ []) ∷ (100 ∷ 101 ∷ 102 ∷ 103 ∷ []) ∷ []; main = 0 }
 
 grown_text_moves_with_its_units_run : run script_grown_text_moves_with_its_units_run R.Unlimited 10000 (shaped 4096 4096) ≡ record { outcome = Ended None []; trace = (line 1 144 0 Granted) ∷ (line 2 32 144 Granted) ∷ (line 3 32 176 Granted) ∷ (line 4 64 208 Granted) ∷ []; lines = (97 ∷ 98 ∷ 99 ∷ 100 ∷ 101 ∷ 102 ∷ 103 ∷ []) ∷ (50 ∷ 50 ∷ []) ∷ []; notes = []; steps = 10 }
 unfolding everything
 grown_text_moves_with_its_units_run = refl
 
 abbrev script_insert_asks_for_the_position_first_run : Script
-script_insert_asks_for_the_position_first_run = record { classes = []; procedures = (record { parameters = []; body = record { locals = (OfBuffer 3) ∷ []; statements = rolled ((Statement-F.Copy (OwnBuffer 0) (Quoted 0)) ∷ (Statement-F.Insert (OwnBuffer 0) (Constant (pos 4)) (Quoted 1)) ∷ []) } }) ∷ []; operations = []; literals = (97 ∷ 98 ∷ 99 ∷ []) ∷ (102 ∷ 97 ∷ 114 ∷ 32 ∷ 116 ∷ 111 ∷ 111 ∷ 32 ∷ 108 ∷ 111 ∷ 110 ∷ 103 ∷ []) ∷ []; main = 0 }
+script_insert_asks_for_the_position_first_run = record { classes = []; procedures = (record { line = 1; parameters = []; body = record { locals = (OfBuffer 3) ∷ []; statements = (on 3 (Statement-F.Copy (OwnBuffer 0) (Quoted 0))) ∷ (on 4 (Statement-F.Insert (OwnBuffer 0) (Constant (pos 4)) (Quoted 1))) ∷ [] } }) ∷ []; operations = []; literals = (97 ∷ 98 ∷ 99 ∷ []) ∷ (102 ∷ 97 ∷ 114 ∷ 32 ∷ 116 ∷ 111 ∷ 111 ∷ 32 ∷ 108 ∷ 111 ∷ 110 ∷ 103 ∷ []) ∷ []; main = 0 }
 
 insert_asks_for_the_position_first_run : run script_insert_asks_for_the_position_first_run R.Unlimited 10000 (shaped 4096 4096) ≡ record { outcome = Panicked (P.User 10); trace = (line 1 144 0 Granted) ∷ []; lines = []; notes = []; steps = 2 }
 unfolding everything
 insert_asks_for_the_position_first_run = refl
 
 abbrev script_insert_before_the_first_unit_run : Script
-script_insert_before_the_first_unit_run = record { classes = []; procedures = (record { parameters = []; body = record { locals = (OfBuffer 3) ∷ []; statements = rolled ((Statement-F.Insert (OwnBuffer 0) (Constant (negsuc 0)) (Quoted 0)) ∷ []) } }) ∷ []; operations = []; literals = (97 ∷ []) ∷ []; main = 0 }
+script_insert_before_the_first_unit_run = record { classes = []; procedures = (record { line = 1; parameters = []; body = record { locals = (OfBuffer 3) ∷ []; statements = (on 3 (Statement-F.Insert (OwnBuffer 0) (Constant (negsuc 0)) (Quoted 0))) ∷ [] } }) ∷ []; operations = []; literals = (97 ∷ []) ∷ []; main = 0 }
 
 insert_before_the_first_unit_run : run script_insert_before_the_first_unit_run R.Unlimited 10000 (shaped 4096 4096) ≡ record { outcome = Panicked (P.Workbench 9); trace = (line 1 144 0 Granted) ∷ []; lines = []; notes = []; steps = 1 }
 unfolding everything
 insert_before_the_first_unit_run = refl
 
 abbrev script_insert_of_a_text_into_itself_run : Script
-script_insert_of_a_text_into_itself_run = record { classes = []; procedures = (record { parameters = []; body = record { locals = (OfBuffer 8) ∷ []; statements = rolled ((Statement-F.Copy (OwnBuffer 0) (Quoted 0)) ∷ (Statement-F.Insert (OwnBuffer 0) (Constant (pos 99)) (Of (OwnBuffer 0))) ∷ []) } }) ∷ []; operations = []; literals = (97 ∷ 98 ∷ []) ∷ []; main = 0 }
+script_insert_of_a_text_into_itself_run = record { classes = []; procedures = (record { line = 1; parameters = []; body = record { locals = (OfBuffer 8) ∷ []; statements = (on 3 (Statement-F.Copy (OwnBuffer 0) (Quoted 0))) ∷ (on 4 (Statement-F.Insert (OwnBuffer 0) (Constant (pos 99)) (Of (OwnBuffer 0)))) ∷ [] } }) ∷ []; operations = []; literals = (97 ∷ 98 ∷ []) ∷ []; main = 0 }
 
 insert_of_a_text_into_itself_run : run script_insert_of_a_text_into_itself_run R.Unlimited 10000 (shaped 4096 4096) ≡ record { outcome = Panicked (P.Workbench 9); trace = (line 1 144 0 Granted) ∷ []; lines = []; notes = []; steps = 2 }
 unfolding everything
 insert_of_a_text_into_itself_run = refl
 
 abbrev script_insert_of_a_text_under_another_name_run : Script
-script_insert_of_a_text_under_another_name_run = record { classes = []; procedures = (record { parameters = []; body = record { locals = (OfPointer None) ∷ (OfPointer None) ∷ []; statements = rolled ((Statement-F.NewText (Held (H.Local 0)) (Constant (pos 4)) GivesNull) ∷ (Statement-F.Set (Held (H.Local 1)) (Held (H.Local 0))) ∷ (Statement-F.Insert (InCell (Held (H.Local 0))) (Constant (pos 0)) (Of (InCell (Held (H.Local 1))))) ∷ []) } }) ∷ []; operations = []; literals = []; main = 0 }
+script_insert_of_a_text_under_another_name_run = record { classes = []; procedures = (record { line = 1; parameters = []; body = record { locals = (OfPointer None) ∷ (OfPointer None) ∷ []; statements = (on 4 (Statement-F.NewText (Held (H.Local 0)) (Constant (pos 4)) GivesNull)) ∷ (on 5 (Statement-F.Set (Held (H.Local 1)) (Held (H.Local 0)))) ∷ (on 6 (Statement-F.Insert (InCell (Held (H.Local 0))) (Constant (pos 0)) (Of (InCell (Held (H.Local 1)))))) ∷ [] } }) ∷ []; operations = []; literals = []; main = 0 }
 
 insert_of_a_text_under_another_name_run : run script_insert_of_a_text_under_another_name_run R.Unlimited 10000 (shaped 4096 4096) ≡ record { outcome = Panicked (P.Workbench 9); trace = (line 1 144 0 Granted) ∷ (line 2 32 144 Granted) ∷ []; lines = []; notes = []; steps = 3 }
 unfolding everything
 insert_of_a_text_under_another_name_run = refl
 
 abbrev script_insert_past_the_maximum_run : Script
-script_insert_past_the_maximum_run = record { classes = []; procedures = (record { parameters = []; body = record { locals = (OfBuffer 3) ∷ []; statements = rolled ((Statement-F.Copy (OwnBuffer 0) (Quoted 0)) ∷ (Statement-F.Insert (OwnBuffer 0) (Constant (pos 3)) (Quoted 1)) ∷ []) } }) ∷ []; operations = []; literals = (97 ∷ 98 ∷ 99 ∷ []) ∷ (100 ∷ []) ∷ []; main = 0 }
+script_insert_past_the_maximum_run = record { classes = []; procedures = (record { line = 1; parameters = []; body = record { locals = (OfBuffer 3) ∷ []; statements = (on 3 (Statement-F.Copy (OwnBuffer 0) (Quoted 0))) ∷ (on 4 (Statement-F.Insert (OwnBuffer 0) (Constant (pos 3)) (Quoted 1))) ∷ [] } }) ∷ []; operations = []; literals = (97 ∷ 98 ∷ 99 ∷ []) ∷ (100 ∷ []) ∷ []; main = 0 }
 
 insert_past_the_maximum_run : run script_insert_past_the_maximum_run R.Unlimited 10000 (shaped 4096 4096) ≡ record { outcome = Panicked (P.User 11); trace = (line 1 144 0 Granted) ∷ []; lines = []; notes = []; steps = 2 }
 unfolding everything
 insert_past_the_maximum_run = refl
 
 abbrev script_left_longer_than_the_text_run : Script
-script_left_longer_than_the_text_run = record { classes = []; procedures = (record { parameters = []; body = record { locals = OfView ∷ []; statements = rolled ((Statement-F.Left 0 (Quoted 0) (Constant (pos 3))) ∷ (Statement-F.PrintText (ViewOf 0)) ∷ (Statement-F.Left 0 (Quoted 1) (Constant (pos 4))) ∷ []) } }) ∷ []; operations = []; literals = (97 ∷ 98 ∷ 99 ∷ []) ∷ (97 ∷ 98 ∷ 99 ∷ []) ∷ []; main = 0 }
+script_left_longer_than_the_text_run = record { classes = []; procedures = (record { line = 1; parameters = []; body = record { locals = OfView ∷ []; statements = (on 3 (Statement-F.Left 0 (Quoted 0) (Constant (pos 3)))) ∷ (on 4 (Statement-F.PrintText (ViewOf 0))) ∷ (on 5 (Statement-F.Left 0 (Quoted 1) (Constant (pos 4)))) ∷ [] } }) ∷ []; operations = []; literals = (97 ∷ 98 ∷ 99 ∷ []) ∷ (97 ∷ 98 ∷ 99 ∷ []) ∷ []; main = 0 }
 
 left_longer_than_the_text_run : run script_left_longer_than_the_text_run R.Unlimited 10000 (shaped 4096 4096) ≡ record { outcome = Panicked (P.User 10); trace = (line 1 144 0 Granted) ∷ []; lines = (97 ∷ 98 ∷ 99 ∷ []) ∷ []; notes = []; steps = 3 }
 unfolding everything
 left_longer_than_the_text_run = refl
 
 abbrev script_length_below_zero_run : Script
-script_length_below_zero_run = record { classes = []; procedures = (record { parameters = []; body = record { locals = (OfBuffer 4) ∷ []; statements = rolled ((Statement-F.SetLength (OwnBuffer 0) (Constant (negsuc 0))) ∷ []) } }) ∷ []; operations = []; literals = []; main = 0 }
+script_length_below_zero_run = record { classes = []; procedures = (record { line = 1; parameters = []; body = record { locals = (OfBuffer 4) ∷ []; statements = (on 3 (Statement-F.SetLength (OwnBuffer 0) (Constant (negsuc 0)))) ∷ [] } }) ∷ []; operations = []; literals = []; main = 0 }
 
 length_below_zero_run : run script_length_below_zero_run R.Unlimited 10000 (shaped 4096 4096) ≡ record { outcome = Panicked (P.Workbench 9); trace = (line 1 144 0 Granted) ∷ []; lines = []; notes = []; steps = 1 }
 unfolding everything
 length_below_zero_run = refl
 
 abbrev script_maximum_of_a_freed_text_run : Script
-script_maximum_of_a_freed_text_run = record { classes = []; procedures = (record { parameters = []; body = record { locals = (OfPointer None) ∷ OfNumber ∷ []; statements = rolled ((Statement-F.NewText (Held (H.Local 0)) (Constant (pos 4)) GivesNull) ∷ (Statement-F.Free (Held (H.Local 0))) ∷ (Statement-F.GetMaximum 1 (InCell (Held (H.Local 0)))) ∷ []) } }) ∷ []; operations = []; literals = []; main = 0 }
+script_maximum_of_a_freed_text_run = record { classes = []; procedures = (record { line = 1; parameters = []; body = record { locals = (OfPointer None) ∷ OfNumber ∷ []; statements = (on 4 (Statement-F.NewText (Held (H.Local 0)) (Constant (pos 4)) GivesNull)) ∷ (on 5 (Statement-F.Free (Held (H.Local 0)))) ∷ (on 6 (Statement-F.GetMaximum 1 (InCell (Held (H.Local 0))))) ∷ [] } }) ∷ []; operations = []; literals = []; main = 0 }
 
 maximum_of_a_freed_text_run : run script_maximum_of_a_freed_text_run R.Unlimited 10000 (shaped 4096 4096) ≡ record { outcome = Panicked (P.Workbench 1); trace = (line 1 144 0 Granted) ∷ (line 2 32 144 Granted) ∷ []; lines = []; notes = []; steps = 3 }
 unfolding everything
 maximum_of_a_freed_text_run = refl
 
 abbrev script_mid_before_the_beginning_run : Script
-script_mid_before_the_beginning_run = record { classes = []; procedures = (record { parameters = []; body = record { locals = OfView ∷ []; statements = rolled ((Statement-F.Mid 0 (Quoted 0) (Constant (negsuc 0)) (Constant (pos 1))) ∷ []) } }) ∷ []; operations = []; literals = (97 ∷ 98 ∷ 99 ∷ []) ∷ []; main = 0 }
+script_mid_before_the_beginning_run = record { classes = []; procedures = (record { line = 1; parameters = []; body = record { locals = OfView ∷ []; statements = (on 3 (Statement-F.Mid 0 (Quoted 0) (Constant (negsuc 0)) (Constant (pos 1)))) ∷ [] } }) ∷ []; operations = []; literals = (97 ∷ 98 ∷ 99 ∷ []) ∷ []; main = 0 }
 
 mid_before_the_beginning_run : run script_mid_before_the_beginning_run R.Unlimited 10000 (shaped 4096 4096) ≡ record { outcome = Panicked (P.Workbench 9); trace = (line 1 144 0 Granted) ∷ []; lines = []; notes = []; steps = 1 }
 unfolding everything
 mid_before_the_beginning_run = refl
 
 abbrev script_mid_past_the_end_run : Script
-script_mid_past_the_end_run = record { classes = []; procedures = (record { parameters = []; body = record { locals = OfView ∷ []; statements = rolled ((Statement-F.Mid 0 (Quoted 0) (Constant (pos 3)) (Constant (pos 0))) ∷ (Statement-F.Mid 0 (Quoted 1) (Constant (pos 2)) (Constant (pos 2))) ∷ []) } }) ∷ []; operations = []; literals = (97 ∷ 98 ∷ 99 ∷ []) ∷ (97 ∷ 98 ∷ 99 ∷ []) ∷ []; main = 0 }
+script_mid_past_the_end_run = record { classes = []; procedures = (record { line = 1; parameters = []; body = record { locals = OfView ∷ []; statements = (on 3 (Statement-F.Mid 0 (Quoted 0) (Constant (pos 3)) (Constant (pos 0)))) ∷ (on 4 (Statement-F.Mid 0 (Quoted 1) (Constant (pos 2)) (Constant (pos 2)))) ∷ [] } }) ∷ []; operations = []; literals = (97 ∷ 98 ∷ 99 ∷ []) ∷ (97 ∷ 98 ∷ 99 ∷ []) ∷ []; main = 0 }
 
 mid_past_the_end_run : run script_mid_past_the_end_run R.Unlimited 10000 (shaped 4096 4096) ≡ record { outcome = Panicked (P.User 10); trace = (line 1 144 0 Granted) ∷ []; lines = []; notes = []; steps = 2 }
 unfolding everything
 mid_past_the_end_run = refl
 
 abbrev script_print_stops_at_eighty_units_run : Script
-script_print_stops_at_eighty_units_run = record { classes = []; procedures = (record { parameters = []; body = record { locals = (OfBuffer 90) ∷ []; statements = rolled ((Statement-F.PrintText (Quoted 0)) ∷ (Statement-F.SetLength (OwnBuffer 0) (Constant (pos 90))) ∷ (Statement-F.PrintText (Of (OwnBuffer 0))) ∷ []) } }) ∷ []; operations = []; literals = (48 ∷ 49 ∷ 50 ∷ 51 ∷ 52 ∷ 53 ∷ 54 ∷ 55 ∷ 56 ∷ 57 ∷ 48 ∷ 49 ∷ 50 ∷ 51 ∷ 52 ∷ 53 ∷ 54 ∷ 55 ∷ 56 ∷ 57 ∷ 48 ∷ 49 ∷ 50 ∷ 51 ∷ 52 ∷ 53 ∷ 54 ∷ 55 ∷ 56 ∷ 57 ∷ 48 ∷ 49 ∷ 50 ∷ 51 ∷ 52 ∷ 53 ∷ 54 ∷ 55 ∷ 56 ∷ 57 ∷ 48 ∷ 49 ∷ 50 ∷ 51 ∷ 52 ∷ 53 ∷ 54 ∷ 55 ∷ 56 ∷ 57 ∷ 48 ∷ 49 ∷ 50 ∷ 51 ∷ 52 ∷ 53 ∷ 54 ∷ 55 ∷ 56 ∷ 57 ∷ 48 ∷ 49 ∷ 50 ∷ 51 ∷ 52 ∷ 53 ∷ 54 ∷ 55 ∷ 56 ∷ 57 ∷ 48 ∷ 49 ∷ 50 ∷ 51 ∷ 52 ∷ 53 ∷ 54 ∷ 55 ∷ 56 ∷ 57 ∷ 48 ∷ 49 ∷ 50 ∷ 51 ∷ 52 ∷ []) ∷ []; main = 0 }
+script_print_stops_at_eighty_units_run = record { classes = []; procedures = (record { line = 1; parameters = []; body = record { locals = (OfBuffer 90) ∷ []; statements = (on 3 (Statement-F.PrintText (Quoted 0))) ∷ (on 4 (Statement-F.SetLength (OwnBuffer 0) (Constant (pos 90)))) ∷ (on 5 (Statement-F.PrintText (Of (OwnBuffer 0)))) ∷ [] } }) ∷ []; operations = []; literals = (48 ∷ 49 ∷ 50 ∷ 51 ∷ 52 ∷ 53 ∷ 54 ∷ 55 ∷ 56 ∷ 57 ∷ 48 ∷ 49 ∷ 50 ∷ 51 ∷ 52 ∷ 53 ∷ 54 ∷ 55 ∷ 56 ∷ 57 ∷ 48 ∷ 49 ∷ 50 ∷ 51 ∷ 52 ∷ 53 ∷ 54 ∷ 55 ∷ 56 ∷ 57 ∷ 48 ∷ 49 ∷ 50 ∷ 51 ∷ 52 ∷ 53 ∷ 54 ∷ 55 ∷ 56 ∷ 57 ∷ 48 ∷ 49 ∷ 50 ∷ 51 ∷ 52 ∷ 53 ∷ 54 ∷ 55 ∷ 56 ∷ 57 ∷ 48 ∷ 49 ∷ 50 ∷ 51 ∷ 52 ∷ 53 ∷ 54 ∷ 55 ∷ 56 ∷ 57 ∷ 48 ∷ 49 ∷ 50 ∷ 51 ∷ 52 ∷ 53 ∷ 54 ∷ 55 ∷ 56 ∷ 57 ∷ 48 ∷ 49 ∷ 50 ∷ 51 ∷ 52 ∷ 53 ∷ 54 ∷ 55 ∷ 56 ∷ 57 ∷ 48 ∷ 49 ∷ 50 ∷ 51 ∷ 52 ∷ []) ∷ []; main = 0 }
 
 print_stops_at_eighty_units_run : run script_print_stops_at_eighty_units_run R.Unlimited 10000 (shaped 4096 4096) ≡ record { outcome = Ended None []; trace = (line 1 144 0 Granted) ∷ []; lines = (48 ∷ 49 ∷ 50 ∷ 51 ∷ 52 ∷ 53 ∷ 54 ∷ 55 ∷ 56 ∷ 57 ∷ 48 ∷ 49 ∷ 50 ∷ 51 ∷ 52 ∷ 53 ∷ 54 ∷ 55 ∷ 56 ∷ 57 ∷ 48 ∷ 49 ∷ 50 ∷ 51 ∷ 52 ∷ 53 ∷ 54 ∷ 55 ∷ 56 ∷ 57 ∷ 48 ∷ 49 ∷ 50 ∷ 51 ∷ 52 ∷ 53 ∷ 54 ∷ 55 ∷ 56 ∷ 57 ∷ 48 ∷ 49 ∷ 50 ∷ 51 ∷ 52 ∷ 53 ∷ 54 ∷ 55 ∷ 56 ∷ 57 ∷ 48 ∷ 49 ∷ 50 ∷ 51 ∷ 52 ∷ 53 ∷ 54 ∷ 55 ∷ 56 ∷ 57 ∷ 48 ∷ 49 ∷ 50 ∷ 51 ∷ 52 ∷ 53 ∷ 54 ∷ 55 ∷ 56 ∷ 57 ∷ 48 ∷ 49 ∷ 50 ∷ 51 ∷ 52 ∷ 53 ∷ 54 ∷ 55 ∷ 56 ∷ 57 ∷ []) ∷ (46 ∷ 46 ∷ 46 ∷ 46 ∷ 46 ∷ 46 ∷ 46 ∷ 46 ∷ 46 ∷ 46 ∷ 46 ∷ 46 ∷ 46 ∷ 46 ∷ 46 ∷ 46 ∷ 46 ∷ 46 ∷ 46 ∷ 46 ∷ 46 ∷ 46 ∷ 46 ∷ 46 ∷ 46 ∷ 46 ∷ 46 ∷ 46 ∷ 46 ∷ 46 ∷ 46 ∷ 46 ∷ 46 ∷ 46 ∷ 46 ∷ 46 ∷ 46 ∷ 46 ∷ 46 ∷ 46 ∷ 46 ∷ 46 ∷ 46 ∷ 46 ∷ 46 ∷ 46 ∷ 46 ∷ 46 ∷ 46 ∷ 46 ∷ 46 ∷ 46 ∷ 46 ∷ 46 ∷ 46 ∷ 46 ∷ 46 ∷ 46 ∷ 46 ∷ 46 ∷ 46 ∷ 46 ∷ 46 ∷ 46 ∷ 46 ∷ 46 ∷ 46 ∷ 46 ∷ 46 ∷ 46 ∷ 46 ∷ 46 ∷ 46 ∷ 46 ∷ 46 ∷ 46 ∷ 46 ∷ 46 ∷ 46 ∷ 46 ∷ []) ∷ []; notes = []; steps = 3 }
 unfolding everything
 print_stops_at_eighty_units_run = refl
 
 abbrev script_refused_growth_of_a_text_in_place_run : Script
-script_refused_growth_of_a_text_in_place_run = record { classes = []; procedures = (record { parameters = []; body = record { locals = (OfPointer None) ∷ (OfPointer None) ∷ []; statements = rolled ((Statement-F.NewText (Held (H.Local 0)) (Constant (pos 4)) GivesNull) ∷ (Statement-F.Append (InCell (Held (H.Local 0))) (Quoted 0)) ∷ (Statement-F.ReallocText (Held (H.Local 1)) (Held (H.Local 0)) (Constant (pos 20))) ∷ (Statement-F.PrintText (Of (InCell (Held (H.Local 0))))) ∷ (Statement-F.Free (Held (H.Local 0))) ∷ (Statement-F.Free (Held (H.Local 1))) ∷ []) } }) ∷ []; operations = []; literals = (97 ∷ 98 ∷ 99 ∷ []) ∷ []; main = 0 }
+script_refused_growth_of_a_text_in_place_run = record { classes = []; procedures = (record { line = 1; parameters = []; body = record { locals = (OfPointer None) ∷ (OfPointer None) ∷ []; statements = (on 4 (Statement-F.NewText (Held (H.Local 0)) (Constant (pos 4)) GivesNull)) ∷ (on 5 (Statement-F.Append (InCell (Held (H.Local 0))) (Quoted 0))) ∷ (on 6 (Statement-F.ReallocText (Held (H.Local 1)) (Held (H.Local 0)) (Constant (pos 20)))) ∷ (on 7 (Statement-F.PrintText (Of (InCell (Held (H.Local 0)))))) ∷ (on 8 (Statement-F.Free (Held (H.Local 0)))) ∷ (on 9 (Statement-F.Free (Held (H.Local 1)))) ∷ [] } }) ∷ []; operations = []; literals = (97 ∷ 98 ∷ 99 ∷ []) ∷ []; main = 0 }
 
 refused_growth_of_a_text_in_place_run : run script_refused_growth_of_a_text_in_place_run (R.Number 3) 10000 (shaped 4096 4096) ≡ record { outcome = Ended None []; trace = (line 1 144 0 Granted) ∷ (line 2 32 144 Granted) ∷ (line 3 64 144 Simulated) ∷ []; lines = (97 ∷ 98 ∷ 99 ∷ []) ∷ []; notes = []; steps = 6 }
 unfolding everything
 refused_growth_of_a_text_in_place_run = refl
 
 abbrev script_refused_text_is_null_run : Script
-script_refused_text_is_null_run = record { classes = []; procedures = (record { parameters = []; body = record { locals = (OfPointer None) ∷ OfNumber ∷ []; statements = rolled ((Statement-F.FailNext (Constant (pos 1))) ∷ (Statement-F.NewText (Held (H.Local 0)) (Constant (pos 4)) GivesNull) ∷ (Statement-F.GetLength 1 (Of (InCell (Held (H.Local 0))))) ∷ []) } }) ∷ []; operations = []; literals = []; main = 0 }
+script_refused_text_is_null_run = record { classes = []; procedures = (record { line = 1; parameters = []; body = record { locals = (OfPointer None) ∷ OfNumber ∷ []; statements = (on 4 (Statement-F.FailNext (Constant (pos 1)))) ∷ (on 5 (Statement-F.NewText (Held (H.Local 0)) (Constant (pos 4)) GivesNull)) ∷ (on 6 (Statement-F.GetLength 1 (Of (InCell (Held (H.Local 0)))))) ∷ [] } }) ∷ []; operations = []; literals = []; main = 0 }
 
 refused_text_is_null_run : run script_refused_text_is_null_run R.Unlimited 10000 (shaped 4096 4096) ≡ record { outcome = Panicked (P.Workbench 1); trace = (line 1 144 0 Granted) ∷ (line 2 32 144 Simulated) ∷ []; lines = []; notes = []; steps = 3 }
 unfolding everything
 refused_text_is_null_run = refl
 
 abbrev script_right_longer_than_the_text_run : Script
-script_right_longer_than_the_text_run = record { classes = []; procedures = (record { parameters = []; body = record { locals = OfView ∷ []; statements = rolled ((Statement-F.Right 0 (Quoted 0) (Constant (pos 3))) ∷ (Statement-F.Right 0 (ViewOf 0) (Constant (pos 4))) ∷ []) } }) ∷ []; operations = []; literals = (97 ∷ 98 ∷ 99 ∷ []) ∷ []; main = 0 }
+script_right_longer_than_the_text_run = record { classes = []; procedures = (record { line = 1; parameters = []; body = record { locals = OfView ∷ []; statements = (on 3 (Statement-F.Right 0 (Quoted 0) (Constant (pos 3)))) ∷ (on 4 (Statement-F.Right 0 (ViewOf 0) (Constant (pos 4)))) ∷ [] } }) ∷ []; operations = []; literals = (97 ∷ 98 ∷ 99 ∷ []) ∷ []; main = 0 }
 
 right_longer_than_the_text_run : run script_right_longer_than_the_text_run R.Unlimited 10000 (shaped 4096 4096) ≡ record { outcome = Panicked (P.User 10); trace = (line 1 144 0 Granted) ∷ []; lines = []; notes = []; steps = 2 }
 unfolding everything
 right_longer_than_the_text_run = refl
 
 abbrev script_shortened_text_keeps_no_unit_run : Script
-script_shortened_text_keeps_no_unit_run = record { classes = []; procedures = (record { parameters = []; body = record { locals = (OfBuffer 4) ∷ []; statements = rolled ((Statement-F.Copy (OwnBuffer 0) (Quoted 0)) ∷ (Statement-F.SetLength (OwnBuffer 0) (Constant (pos 1))) ∷ (Statement-F.SetLength (OwnBuffer 0) (Constant (pos 3))) ∷ (Statement-F.PrintText (Of (OwnBuffer 0))) ∷ (Statement-F.SetLength (OwnBuffer 0) (Constant (pos 5))) ∷ []) } }) ∷ []; operations = []; literals = (97 ∷ 98 ∷ 99 ∷ 100 ∷ []) ∷ []; main = 0 }
+script_shortened_text_keeps_no_unit_run = record { classes = []; procedures = (record { line = 1; parameters = []; body = record { locals = (OfBuffer 4) ∷ []; statements = (on 3 (Statement-F.Copy (OwnBuffer 0) (Quoted 0))) ∷ (on 4 (Statement-F.SetLength (OwnBuffer 0) (Constant (pos 1)))) ∷ (on 5 (Statement-F.SetLength (OwnBuffer 0) (Constant (pos 3)))) ∷ (on 6 (Statement-F.PrintText (Of (OwnBuffer 0)))) ∷ (on 7 (Statement-F.SetLength (OwnBuffer 0) (Constant (pos 5)))) ∷ [] } }) ∷ []; operations = []; literals = (97 ∷ 98 ∷ 99 ∷ 100 ∷ []) ∷ []; main = 0 }
 
 shortened_text_keeps_no_unit_run : run script_shortened_text_keeps_no_unit_run R.Unlimited 10000 (shaped 4096 4096) ≡ record { outcome = Panicked (P.User 11); trace = (line 1 144 0 Granted) ∷ []; lines = (97 ∷ 46 ∷ 46 ∷ []) ∷ []; notes = []; steps = 5 }
 unfolding everything
 shortened_text_keeps_no_unit_run = refl
 
 abbrev script_shrunk_text_loses_room_run : Script
-script_shrunk_text_loses_room_run = record { classes = []; procedures = (record { parameters = []; body = record { locals = (OfPointer None) ∷ OfNumber ∷ []; statements = rolled ((Statement-F.NewText (Held (H.Local 0)) (Constant (pos 20)) GivesNull) ∷ (Statement-F.Copy (InCell (Held (H.Local 0))) (Quoted 0)) ∷ (Statement-F.ReallocText (Held (H.Local 0)) (Held (H.Local 0)) (Constant (pos 6))) ∷ (Statement-F.GetMaximum 1 (InCell (Held (H.Local 0)))) ∷ (Statement-F.PrintNumber (Variable 1)) ∷ (Statement-F.Append (InCell (Held (H.Local 0))) (Quoted 1)) ∷ []) } }) ∷ []; operations = []; literals = (97 ∷ 98 ∷ 99 ∷ 100 ∷ 101 ∷ 102 ∷ []) ∷ (103 ∷ []) ∷ []; main = 0 }
+script_shrunk_text_loses_room_run = record { classes = []; procedures = (record { line = 1; parameters = []; body = record { locals = (OfPointer None) ∷ OfNumber ∷ []; statements = (on 4 (Statement-F.NewText (Held (H.Local 0)) (Constant (pos 20)) GivesNull)) ∷ (on 5 (Statement-F.Copy (InCell (Held (H.Local 0))) (Quoted 0))) ∷ (on 6 (Statement-F.ReallocText (Held (H.Local 0)) (Held (H.Local 0)) (Constant (pos 6)))) ∷ (on 7 (Statement-F.GetMaximum 1 (InCell (Held (H.Local 0))))) ∷ (on 8 (Statement-F.PrintNumber (Variable 1))) ∷ (on 9 (Statement-F.Append (InCell (Held (H.Local 0))) (Quoted 1))) ∷ [] } }) ∷ []; operations = []; literals = (97 ∷ 98 ∷ 99 ∷ 100 ∷ 101 ∷ 102 ∷ []) ∷ (103 ∷ []) ∷ []; main = 0 }
 
 shrunk_text_loses_room_run : run script_shrunk_text_loses_room_run R.Unlimited 10000 (shaped 4096 4096) ≡ record { outcome = Panicked (P.User 11); trace = (line 1 144 0 Granted) ∷ (line 2 64 144 Granted) ∷ []; lines = (54 ∷ []) ∷ []; notes = []; steps = 6 }
 unfolding everything
 shrunk_text_loses_room_run = refl
 
 abbrev script_source_is_looked_at_before_the_position_run : Script
-script_source_is_looked_at_before_the_position_run = record { classes = []; procedures = (record { parameters = []; body = record { locals = (OfPointer None) ∷ (OfBuffer 4) ∷ []; statements = rolled ((Statement-F.Insert (OwnBuffer 1) (Constant (negsuc 0)) (Of (InCell (Held (H.Local 0))))) ∷ []) } }) ∷ []; operations = []; literals = []; main = 0 }
+script_source_is_looked_at_before_the_position_run = record { classes = []; procedures = (record { line = 1; parameters = []; body = record { locals = (OfPointer None) ∷ (OfBuffer 4) ∷ []; statements = (on 4 (Statement-F.Insert (OwnBuffer 1) (Constant (negsuc 0)) (Of (InCell (Held (H.Local 0)))))) ∷ [] } }) ∷ []; operations = []; literals = []; main = 0 }
 
 source_is_looked_at_before_the_position_run : run script_source_is_looked_at_before_the_position_run R.Unlimited 10000 (shaped 4096 4096) ≡ record { outcome = Panicked (P.Workbench 1); trace = (line 1 144 0 Granted) ∷ []; lines = []; notes = []; steps = 1 }
 unfolding everything
 source_is_looked_at_before_the_position_run = refl
 
 abbrev script_target_is_looked_at_before_the_source_run : Script
-script_target_is_looked_at_before_the_source_run = record { classes = []; procedures = (record { parameters = []; body = record { locals = (OfPointer None) ∷ (OfPointer None) ∷ []; statements = rolled ((Statement-F.Alloc (Held (H.Local 0)) (Constant (pos 1)) GivesNull) ∷ (Statement-F.Copy (InCell (Held (H.Local 0))) (Of (InCell (Held (H.Local 1))))) ∷ []) } }) ∷ []; operations = []; literals = []; main = 0 }
+script_target_is_looked_at_before_the_source_run = record { classes = []; procedures = (record { line = 1; parameters = []; body = record { locals = (OfPointer None) ∷ (OfPointer None) ∷ []; statements = (on 4 (Statement-F.Alloc (Held (H.Local 0)) (Constant (pos 1)) GivesNull)) ∷ (on 5 (Statement-F.Copy (InCell (Held (H.Local 0))) (Of (InCell (Held (H.Local 1)))))) ∷ [] } }) ∷ []; operations = []; literals = []; main = 0 }
 
 target_is_looked_at_before_the_source_run : run script_target_is_looked_at_before_the_source_run R.Unlimited 10000 (shaped 4096 4096) ≡ record { outcome = Panicked (P.Workbench 2); trace = (line 1 144 0 Granted) ∷ (line 2 32 144 Granted) ∷ []; lines = []; notes = []; steps = 2 }
 unfolding everything
 target_is_looked_at_before_the_source_run = refl
 
 abbrev script_text_appended_to_itself_run : Script
-script_text_appended_to_itself_run = record { classes = []; procedures = (record { parameters = []; body = record { locals = (OfBuffer 8) ∷ OfView ∷ []; statements = rolled ((Statement-F.Copy (OwnBuffer 0) (Quoted 0)) ∷ (Statement-F.Append (OwnBuffer 0) (Of (OwnBuffer 0))) ∷ (Statement-F.PrintText (Of (OwnBuffer 0))) ∷ (Statement-F.Mid 1 (Of (OwnBuffer 0)) (Constant (pos 1)) (Constant (pos 2))) ∷ (Statement-F.Copy (OwnBuffer 0) (ViewOf 1)) ∷ (Statement-F.PrintText (Of (OwnBuffer 0))) ∷ (Statement-F.Append (OwnBuffer 0) (ViewOf 1)) ∷ (Statement-F.PrintText (Of (OwnBuffer 0))) ∷ []) } }) ∷ []; operations = []; literals = (97 ∷ 98 ∷ []) ∷ []; main = 0 }
+script_text_appended_to_itself_run = record { classes = []; procedures = (record { line = 1; parameters = []; body = record { locals = (OfBuffer 8) ∷ OfView ∷ []; statements = (on 4 (Statement-F.Copy (OwnBuffer 0) (Quoted 0))) ∷ (on 5 (Statement-F.Append (OwnBuffer 0) (Of (OwnBuffer 0)))) ∷ (on 6 (Statement-F.PrintText (Of (OwnBuffer 0)))) ∷ (on 7 (Statement-F.Mid 1 (Of (OwnBuffer 0)) (Constant (pos 1)) (Constant (pos 2)))) ∷ (on 8 (Statement-F.Copy (OwnBuffer 0) (ViewOf 1))) ∷ (on 9 (Statement-F.PrintText (Of (OwnBuffer 0)))) ∷ (on 10 (Statement-F.Append (OwnBuffer 0) (ViewOf 1))) ∷ (on 11 (Statement-F.PrintText (Of (OwnBuffer 0)))) ∷ [] } }) ∷ []; operations = []; literals = (97 ∷ 98 ∷ []) ∷ []; main = 0 }
 
 text_appended_to_itself_run : run script_text_appended_to_itself_run R.Unlimited 10000 (shaped 4096 4096) ≡ record { outcome = Ended None []; trace = (line 1 144 0 Granted) ∷ []; lines = (97 ∷ 98 ∷ 97 ∷ 98 ∷ []) ∷ (98 ∷ 97 ∷ []) ∷ (98 ∷ 97 ∷ 97 ∷ 46 ∷ []) ∷ []; notes = []; steps = 8 }
 unfolding everything
 text_appended_to_itself_run = refl
 
 abbrev script_text_at_null_run : Script
-script_text_at_null_run = record { classes = []; procedures = (record { parameters = []; body = record { locals = (OfPointer None) ∷ []; statements = rolled ((Statement-F.Append (InCell (Held (H.Local 0))) (Quoted 0)) ∷ []) } }) ∷ []; operations = []; literals = (97 ∷ []) ∷ []; main = 0 }
+script_text_at_null_run = record { classes = []; procedures = (record { line = 1; parameters = []; body = record { locals = (OfPointer None) ∷ []; statements = (on 3 (Statement-F.Append (InCell (Held (H.Local 0))) (Quoted 0))) ∷ [] } }) ∷ []; operations = []; literals = (97 ∷ []) ∷ []; main = 0 }
 
 text_at_null_run : run script_text_at_null_run R.Unlimited 10000 (shaped 4096 4096) ≡ record { outcome = Panicked (P.Workbench 1); trace = (line 1 144 0 Granted) ∷ []; lines = []; notes = []; steps = 1 }
 unfolding everything
 text_at_null_run = refl
 
 abbrev script_text_copied_between_cells_and_buffers_run : Script
-script_text_copied_between_cells_and_buffers_run = record { classes = []; procedures = (record { parameters = []; body = record { locals = (OfPointer None) ∷ (OfPointer None) ∷ (OfBuffer 4) ∷ []; statements = rolled ((Statement-F.NewText (Held (H.Local 0)) (Constant (pos 6)) GivesNull) ∷ (Statement-F.NewText (Held (H.Local 1)) (Constant (pos 6)) GivesNull) ∷ (Statement-F.Copy (InCell (Held (H.Local 0))) (Quoted 0)) ∷ (Statement-F.Copy (InCell (Held (H.Local 1))) (Of (InCell (Held (H.Local 0))))) ∷ (Statement-F.DeleteText (InCell (Held (H.Local 1))) (Constant (pos 0)) (Constant (pos 2))) ∷ (Statement-F.Copy (OwnBuffer 2) (Of (InCell (Held (H.Local 1))))) ∷ (Statement-F.Append (InCell (Held (H.Local 1))) (Of (OwnBuffer 2))) ∷ []) } }) ∷ []; operations = []; literals = (97 ∷ 98 ∷ 99 ∷ 100 ∷ 101 ∷ 102 ∷ []) ∷ []; main = 0 }
+script_text_copied_between_cells_and_buffers_run = record { classes = []; procedures = (record { line = 1; parameters = []; body = record { locals = (OfPointer None) ∷ (OfPointer None) ∷ (OfBuffer 4) ∷ []; statements = (on 5 (Statement-F.NewText (Held (H.Local 0)) (Constant (pos 6)) GivesNull)) ∷ (on 6 (Statement-F.NewText (Held (H.Local 1)) (Constant (pos 6)) GivesNull)) ∷ (on 7 (Statement-F.Copy (InCell (Held (H.Local 0))) (Quoted 0))) ∷ (on 8 (Statement-F.Copy (InCell (Held (H.Local 1))) (Of (InCell (Held (H.Local 0)))))) ∷ (on 9 (Statement-F.DeleteText (InCell (Held (H.Local 1))) (Constant (pos 0)) (Constant (pos 2)))) ∷ (on 10 (Statement-F.Copy (OwnBuffer 2) (Of (InCell (Held (H.Local 1)))))) ∷ (on 11 (Statement-F.Append (InCell (Held (H.Local 1))) (Of (OwnBuffer 2)))) ∷ [] } }) ∷ []; operations = []; literals = (97 ∷ 98 ∷ 99 ∷ 100 ∷ 101 ∷ 102 ∷ []) ∷ []; main = 0 }
 
 text_copied_between_cells_and_buffers_run : run script_text_copied_between_cells_and_buffers_run R.Unlimited 10000 (shaped 4096 4096) ≡ record { outcome = Panicked (P.User 11); trace = (line 1 144 0 Granted) ∷ (line 2 32 144 Granted) ∷ (line 3 32 176 Granted) ∷ []; lines = []; notes = []; steps = 7 }
 unfolding everything
 text_copied_between_cells_and_buffers_run = refl
 
 abbrev script_text_counts_in_marks_and_leaks_run : Script
-script_text_counts_in_marks_and_leaks_run = record { classes = []; procedures = (record { parameters = []; body = record { locals = (OfPointer None) ∷ []; statements = rolled (Statement-F.Mark ∷ (Statement-F.NewText (Held (H.Local 0)) (Constant (pos 4)) GivesNull) ∷ (Statement-F.MarkEnd (Constant (pos 1))) ∷ (Statement-F.SetNull (Held (H.Local 0))) ∷ []) } }) ∷ []; operations = []; literals = []; main = 0 }
+script_text_counts_in_marks_and_leaks_run = record { classes = []; procedures = (record { line = 1; parameters = []; body = record { locals = (OfPointer None) ∷ []; statements = (on 3 Statement-F.Mark) ∷ (on 4 (Statement-F.NewText (Held (H.Local 0)) (Constant (pos 4)) GivesNull)) ∷ (on 5 (Statement-F.MarkEnd (Constant (pos 1)))) ∷ (on 6 (Statement-F.SetNull (Held (H.Local 0)))) ∷ [] } }) ∷ []; operations = []; literals = []; main = 0 }
 
 text_counts_in_marks_and_leaks_run : run script_text_counts_in_marks_and_leaks_run R.Unlimited 10000 (shaped 4096 4096) ≡ record { outcome = Ended None ((record { number = 2; length = 32; place = 144 }) ∷ []); trace = (line 1 144 0 Granted) ∷ (line 2 32 144 Granted) ∷ []; lines = []; notes = []; steps = 4 }
 unfolding everything
 text_counts_in_marks_and_leaks_run = refl
 
 abbrev script_text_in_a_cell_is_edited_run : Script
-script_text_in_a_cell_is_edited_run = record { classes = []; procedures = (record { parameters = []; body = record { locals = (OfPointer None) ∷ OfNumber ∷ []; statements = rolled ((Statement-F.NewText (Held (H.Local 0)) (Constant (pos 0)) GivesNull) ∷ (Statement-F.GetMaximum 1 (InCell (Held (H.Local 0)))) ∷ (Statement-F.PrintNumber (Variable 1)) ∷ (Statement-F.AllocLen 1 (Held (H.Local 0))) ∷ (Statement-F.PrintNumber (Variable 1)) ∷ (Statement-F.Copy (InCell (Held (H.Local 0))) (Quoted 0)) ∷ (Statement-F.Insert (InCell (Held (H.Local 0))) (Constant (pos 1)) (Quoted 1)) ∷ (Statement-F.Insert (InCell (Held (H.Local 0))) (Constant (pos 0)) (Quoted 2)) ∷ (Statement-F.Append (InCell (Held (H.Local 0))) (Quoted 3)) ∷ (Statement-F.PrintText (Of (InCell (Held (H.Local 0))))) ∷ (Statement-F.DeleteText (InCell (Held (H.Local 0))) (Constant (pos 1)) (Constant (pos 2))) ∷ (Statement-F.PrintText (Of (InCell (Held (H.Local 0))))) ∷ (Statement-F.SetLength (InCell (Held (H.Local 0))) (Constant (pos 5))) ∷ (Statement-F.PrintText (Of (InCell (Held (H.Local 0))))) ∷ (Statement-F.SetLength (InCell (Held (H.Local 0))) (Constant (pos 1))) ∷ (Statement-F.Append (InCell (Held (H.Local 0))) (Quoted 4)) ∷ (Statement-F.GetLength 1 (Of (InCell (Held (H.Local 0))))) ∷ (Statement-F.PrintNumber (Variable 1)) ∷ (Statement-F.PrintText (Of (InCell (Held (H.Local 0))))) ∷ (Statement-F.Free (Held (H.Local 0))) ∷ []) } }) ∷ []; operations = []; literals = (98 ∷ 100 ∷ []) ∷ (99 ∷ []) ∷ (97 ∷ []) ∷ (101 ∷ 102 ∷ []) ∷ (122 ∷ []) ∷ []; main = 0 }
+script_text_in_a_cell_is_edited_run = record { classes = []; procedures = (record { line = 1; parameters = []; body = record { locals = (OfPointer None) ∷ OfNumber ∷ []; statements = (on 4 (Statement-F.NewText (Held (H.Local 0)) (Constant (pos 0)) GivesNull)) ∷ (on 5 (Statement-F.GetMaximum 1 (InCell (Held (H.Local 0))))) ∷ (on 6 (Statement-F.PrintNumber (Variable 1))) ∷ (on 7 (Statement-F.AllocLen 1 (Held (H.Local 0)))) ∷ (on 8 (Statement-F.PrintNumber (Variable 1))) ∷ (on 9 (Statement-F.Copy (InCell (Held (H.Local 0))) (Quoted 0))) ∷ (on 10 (Statement-F.Insert (InCell (Held (H.Local 0))) (Constant (pos 1)) (Quoted 1))) ∷ (on 11 (Statement-F.Insert (InCell (Held (H.Local 0))) (Constant (pos 0)) (Quoted 2))) ∷ (on 12 (Statement-F.Append (InCell (Held (H.Local 0))) (Quoted 3))) ∷ (on 13 (Statement-F.PrintText (Of (InCell (Held (H.Local 0)))))) ∷ (on 14 (Statement-F.DeleteText (InCell (Held (H.Local 0))) (Constant (pos 1)) (Constant (pos 2)))) ∷ (on 15 (Statement-F.PrintText (Of (InCell (Held (H.Local 0)))))) ∷ (on 16 (Statement-F.SetLength (InCell (Held (H.Local 0))) (Constant (pos 5)))) ∷ (on 17 (Statement-F.PrintText (Of (InCell (Held (H.Local 0)))))) ∷ (on 18 (Statement-F.SetLength (InCell (Held (H.Local 0))) (Constant (pos 1)))) ∷ (on 19 (Statement-F.Append (InCell (Held (H.Local 0))) (Quoted 4))) ∷ (on 20 (Statement-F.GetLength 1 (Of (InCell (Held (H.Local 0)))))) ∷ (on 21 (Statement-F.PrintNumber (Variable 1))) ∷ (on 22 (Statement-F.PrintText (Of (InCell (Held (H.Local 0)))))) ∷ (on 23 (Statement-F.Free (Held (H.Local 0)))) ∷ [] } }) ∷ []; operations = []; literals = (98 ∷ 100 ∷ []) ∷ (99 ∷ []) ∷ (97 ∷ []) ∷ (101 ∷ 102 ∷ []) ∷ (122 ∷ []) ∷ []; main = 0 }
 
 text_in_a_cell_is_edited_run : run script_text_in_a_cell_is_edited_run R.Unlimited 10000 (shaped 4096 4096) ≡ record { outcome = Ended None []; trace = (line 1 144 0 Granted) ∷ (line 2 32 144 Granted) ∷ []; lines = (54 ∷ []) ∷ (49 ∷ 54 ∷ []) ∷ (97 ∷ 98 ∷ 99 ∷ 100 ∷ 101 ∷ 102 ∷ []) ∷ (97 ∷ 100 ∷ 101 ∷ 102 ∷ []) ∷ (97 ∷ 100 ∷ 101 ∷ 102 ∷ 46 ∷ []) ∷ (50 ∷ []) ∷ (97 ∷ 122 ∷ []) ∷ []; notes = []; steps = 20 }
 unfolding everything
 text_in_a_cell_is_edited_run = refl
 
 abbrev script_text_in_a_cell_of_words_run : Script
-script_text_in_a_cell_of_words_run = record { classes = []; procedures = (record { parameters = []; body = record { locals = (OfPointer None) ∷ []; statements = rolled ((Statement-F.Alloc (Held (H.Local 0)) (Constant (pos 16)) GivesNull) ∷ (Statement-F.PrintText (Of (InCell (Held (H.Local 0))))) ∷ []) } }) ∷ []; operations = []; literals = []; main = 0 }
+script_text_in_a_cell_of_words_run = record { classes = []; procedures = (record { line = 1; parameters = []; body = record { locals = (OfPointer None) ∷ []; statements = (on 3 (Statement-F.Alloc (Held (H.Local 0)) (Constant (pos 16)) GivesNull)) ∷ (on 4 (Statement-F.PrintText (Of (InCell (Held (H.Local 0)))))) ∷ [] } }) ∷ []; operations = []; literals = []; main = 0 }
 
 text_in_a_cell_of_words_run : run script_text_in_a_cell_of_words_run R.Unlimited 10000 (shaped 4096 4096) ≡ record { outcome = Panicked (P.Workbench 2); trace = (line 1 144 0 Granted) ∷ (line 2 32 144 Granted) ∷ []; lines = []; notes = []; steps = 2 }
 unfolding everything
 text_in_a_cell_of_words_run = refl
 
 abbrev script_text_of_fewer_than_no_units_run : Script
-script_text_of_fewer_than_no_units_run = record { classes = []; procedures = (record { parameters = []; body = record { locals = (OfPointer None) ∷ []; statements = rolled ((Statement-F.NewText (Held (H.Local 0)) (Constant (negsuc 0)) GivesNull) ∷ []) } }) ∷ []; operations = []; literals = []; main = 0 }
+script_text_of_fewer_than_no_units_run = record { classes = []; procedures = (record { line = 1; parameters = []; body = record { locals = (OfPointer None) ∷ []; statements = (on 3 (Statement-F.NewText (Held (H.Local 0)) (Constant (negsuc 0)) GivesNull)) ∷ [] } }) ∷ []; operations = []; literals = []; main = 0 }
 
 text_of_fewer_than_no_units_run : run script_text_of_fewer_than_no_units_run R.Unlimited 10000 (shaped 4096 4096) ≡ record { outcome = Panicked (P.Workbench 9); trace = (line 1 144 0 Granted) ∷ []; lines = []; notes = []; steps = 1 }
 unfolding everything
 text_of_fewer_than_no_units_run = refl
 
 abbrev script_text_past_one_mebibyte_run : Script
-script_text_past_one_mebibyte_run = record { classes = []; procedures = (record { parameters = []; body = record { locals = (OfPointer None) ∷ []; statements = rolled ((Statement-F.NewText (Held (H.Local 0)) (Constant (pos 524286)) GivesNull) ∷ (Statement-F.NewText (Held (H.Local 0)) (Constant (pos 524287)) GivesNull) ∷ []) } }) ∷ []; operations = []; literals = []; main = 0 }
+script_text_past_one_mebibyte_run = record { classes = []; procedures = (record { line = 1; parameters = []; body = record { locals = (OfPointer None) ∷ []; statements = (on 3 (Statement-F.NewText (Held (H.Local 0)) (Constant (pos 524286)) GivesNull)) ∷ (on 4 (Statement-F.NewText (Held (H.Local 0)) (Constant (pos 524287)) GivesNull)) ∷ [] } }) ∷ []; operations = []; literals = []; main = 0 }
 
 text_past_one_mebibyte_run : run script_text_past_one_mebibyte_run R.Unlimited 10000 (shaped 4096 4096) ≡ record { outcome = Panicked (P.Workbench 9); trace = (line 1 144 0 Granted) ∷ (line 2 1048592 144 Granted) ∷ []; lines = []; notes = []; steps = 2 }
 unfolding everything
 text_past_one_mebibyte_run = refl
 
 abbrev script_view_follows_its_text_run : Script
-script_view_follows_its_text_run = record { classes = []; procedures = (record { parameters = []; body = record { locals = (OfBuffer 8) ∷ OfView ∷ OfNumber ∷ []; statements = rolled ((Statement-F.Copy (OwnBuffer 0) (Quoted 0)) ∷ (Statement-F.Mid 1 (Of (OwnBuffer 0)) (Constant (pos 2)) (Constant (pos 3))) ∷ (Statement-F.Copy (OwnBuffer 0) (Quoted 1)) ∷ (Statement-F.PrintText (ViewOf 1)) ∷ (Statement-F.GetLength 2 (ViewOf 1)) ∷ (Statement-F.PrintNumber (Variable 2)) ∷ []) } }) ∷ []; operations = []; literals = (97 ∷ 98 ∷ 99 ∷ 100 ∷ 101 ∷ 102 ∷ []) ∷ (120 ∷ 121 ∷ 122 ∷ 119 ∷ []) ∷ []; main = 0 }
+script_view_follows_its_text_run = record { classes = []; procedures = (record { line = 1; parameters = []; body = record { locals = (OfBuffer 8) ∷ OfView ∷ OfNumber ∷ []; statements = (on 5 (Statement-F.Copy (OwnBuffer 0) (Quoted 0))) ∷ (on 6 (Statement-F.Mid 1 (Of (OwnBuffer 0)) (Constant (pos 2)) (Constant (pos 3)))) ∷ (on 7 (Statement-F.Copy (OwnBuffer 0) (Quoted 1))) ∷ (on 8 (Statement-F.PrintText (ViewOf 1))) ∷ (on 9 (Statement-F.GetLength 2 (ViewOf 1))) ∷ (on 10 (Statement-F.PrintNumber (Variable 2))) ∷ [] } }) ∷ []; operations = []; literals = (97 ∷ 98 ∷ 99 ∷ 100 ∷ 101 ∷ 102 ∷ []) ∷ (120 ∷ 121 ∷ 122 ∷ 119 ∷ []) ∷ []; main = 0 }
 
 view_follows_its_text_run : run script_view_follows_its_text_run R.Unlimited 10000 (shaped 4096 4096) ≡ record { outcome = Ended None []; trace = (line 1 144 0 Granted) ∷ []; lines = (122 ∷ 119 ∷ 46 ∷ []) ∷ (51 ∷ []) ∷ []; notes = []; steps = 6 }
 unfolding everything
 view_follows_its_text_run = refl
 
 abbrev script_view_of_a_moved_text_run : Script
-script_view_of_a_moved_text_run = record { classes = []; procedures = (record { parameters = []; body = record { locals = (OfPointer None) ∷ (OfPointer None) ∷ OfView ∷ []; statements = rolled ((Statement-F.NewText (Held (H.Local 0)) (Constant (pos 4)) GivesNull) ∷ (Statement-F.Alloc (Held (H.Local 1)) (Constant (pos 1)) GivesNull) ∷ (Statement-F.Append (InCell (Held (H.Local 0))) (Quoted 0)) ∷ (Statement-F.Left 2 (Of (InCell (Held (H.Local 0)))) (Constant (pos 2))) ∷ (Statement-F.ReallocText (Held (H.Local 0)) (Held (H.Local 0)) (Constant (pos 20))) ∷ (Statement-F.PrintText (Of (InCell (Held (H.Local 0))))) ∷ (Statement-F.PrintText (ViewOf 2)) ∷ []) } }) ∷ []; operations = []; literals = (97 ∷ 98 ∷ 99 ∷ []) ∷ []; main = 0 }
+script_view_of_a_moved_text_run = record { classes = []; procedures = (record { line = 1; parameters = []; body = record { locals = (OfPointer None) ∷ (OfPointer None) ∷ OfView ∷ []; statements = (on 5 (Statement-F.NewText (Held (H.Local 0)) (Constant (pos 4)) GivesNull)) ∷ (on 6 (Statement-F.Alloc (Held (H.Local 1)) (Constant (pos 1)) GivesNull)) ∷ (on 7 (Statement-F.Append (InCell (Held (H.Local 0))) (Quoted 0))) ∷ (on 8 (Statement-F.Left 2 (Of (InCell (Held (H.Local 0)))) (Constant (pos 2)))) ∷ (on 9 (Statement-F.ReallocText (Held (H.Local 0)) (Held (H.Local 0)) (Constant (pos 20)))) ∷ (on 10 (Statement-F.PrintText (Of (InCell (Held (H.Local 0)))))) ∷ (on 11 (Statement-F.PrintText (ViewOf 2))) ∷ [] } }) ∷ []; operations = []; literals = (97 ∷ 98 ∷ 99 ∷ []) ∷ []; main = 0 }
 
 view_of_a_moved_text_run : run script_view_of_a_moved_text_run R.Unlimited 10000 (shaped 4096 4096) ≡ record { outcome = Panicked (P.Workbench 1); trace = (line 1 144 0 Granted) ∷ (line 2 32 144 Granted) ∷ (line 3 32 176 Granted) ∷ (line 4 64 208 Granted) ∷ []; lines = (97 ∷ 98 ∷ 99 ∷ []) ∷ []; notes = []; steps = 7 }
 unfolding everything
 view_of_a_moved_text_run = refl
 
 abbrev script_view_of_a_text_grown_in_place_run : Script
-script_view_of_a_text_grown_in_place_run = record { classes = []; procedures = (record { parameters = []; body = record { locals = (OfPointer None) ∷ OfView ∷ []; statements = rolled ((Statement-F.NewText (Held (H.Local 0)) (Constant (pos 4)) GivesNull) ∷ (Statement-F.Append (InCell (Held (H.Local 0))) (Quoted 0)) ∷ (Statement-F.Left 1 (Of (InCell (Held (H.Local 0)))) (Constant (pos 2))) ∷ (Statement-F.ReallocText (Held (H.Local 0)) (Held (H.Local 0)) (Constant (pos 20))) ∷ (Statement-F.Append (InCell (Held (H.Local 0))) (Quoted 1)) ∷ (Statement-F.PrintText (ViewOf 1)) ∷ (Statement-F.PrintText (Of (InCell (Held (H.Local 0))))) ∷ (Statement-F.Free (Held (H.Local 0))) ∷ []) } }) ∷ []; operations = []; literals = (97 ∷ 98 ∷ 99 ∷ []) ∷ (100 ∷ 101 ∷ 102 ∷ 103 ∷ 104 ∷ 105 ∷ 106 ∷ 107 ∷ 108 ∷ []) ∷ []; main = 0 }
+script_view_of_a_text_grown_in_place_run = record { classes = []; procedures = (record { line = 1; parameters = []; body = record { locals = (OfPointer None) ∷ OfView ∷ []; statements = (on 4 (Statement-F.NewText (Held (H.Local 0)) (Constant (pos 4)) GivesNull)) ∷ (on 5 (Statement-F.Append (InCell (Held (H.Local 0))) (Quoted 0))) ∷ (on 6 (Statement-F.Left 1 (Of (InCell (Held (H.Local 0)))) (Constant (pos 2)))) ∷ (on 7 (Statement-F.ReallocText (Held (H.Local 0)) (Held (H.Local 0)) (Constant (pos 20)))) ∷ (on 8 (Statement-F.Append (InCell (Held (H.Local 0))) (Quoted 1))) ∷ (on 9 (Statement-F.PrintText (ViewOf 1))) ∷ (on 10 (Statement-F.PrintText (Of (InCell (Held (H.Local 0)))))) ∷ (on 11 (Statement-F.Free (Held (H.Local 0)))) ∷ [] } }) ∷ []; operations = []; literals = (97 ∷ 98 ∷ 99 ∷ []) ∷ (100 ∷ 101 ∷ 102 ∷ 103 ∷ 104 ∷ 105 ∷ 106 ∷ 107 ∷ 108 ∷ []) ∷ []; main = 0 }
 
 view_of_a_text_grown_in_place_run : run script_view_of_a_text_grown_in_place_run R.Unlimited 10000 (shaped 4096 4096) ≡ record { outcome = Ended None []; trace = (line 1 144 0 Granted) ∷ (line 2 32 144 Granted) ∷ (line 3 64 144 Granted) ∷ []; lines = (97 ∷ 98 ∷ []) ∷ (97 ∷ 98 ∷ 99 ∷ 100 ∷ 101 ∷ 102 ∷ 103 ∷ 104 ∷ 105 ∷ 106 ∷ 107 ∷ 108 ∷ []) ∷ []; notes = []; steps = 8 }
 unfolding everything
 view_of_a_text_grown_in_place_run = refl
 
 abbrev script_views_of_buffers_views_and_literals_run : Script
-script_views_of_buffers_views_and_literals_run = record { classes = []; procedures = (record { parameters = []; body = record { locals = (OfBuffer 8) ∷ OfView ∷ OfNumber ∷ []; statements = rolled ((Statement-F.Copy (OwnBuffer 0) (Quoted 0)) ∷ (Statement-F.Left 1 (Of (OwnBuffer 0)) (Constant (pos 2))) ∷ (Statement-F.PrintText (ViewOf 1)) ∷ (Statement-F.Right 1 (Of (OwnBuffer 0)) (Constant (pos 2))) ∷ (Statement-F.PrintText (ViewOf 1)) ∷ (Statement-F.Mid 1 (Of (OwnBuffer 0)) (Constant (pos 2)) (Constant (pos 3))) ∷ (Statement-F.PrintText (ViewOf 1)) ∷ (Statement-F.Right 1 (ViewOf 1) (Constant (pos 1))) ∷ (Statement-F.PrintText (ViewOf 1)) ∷ (Statement-F.Mid 1 (Quoted 1) (Constant (pos 3)) (Constant (pos 3))) ∷ (Statement-F.PrintText (ViewOf 1)) ∷ (Statement-F.GetLength 2 (ViewOf 1)) ∷ (Statement-F.PrintNumber (Variable 2)) ∷ []) } }) ∷ []; operations = []; literals = (97 ∷ 98 ∷ 99 ∷ 100 ∷ 101 ∷ 102 ∷ []) ∷ (108 ∷ 105 ∷ 116 ∷ 101 ∷ 114 ∷ 97 ∷ 108 ∷ []) ∷ []; main = 0 }
+script_views_of_buffers_views_and_literals_run = record { classes = []; procedures = (record { line = 1; parameters = []; body = record { locals = (OfBuffer 8) ∷ OfView ∷ OfNumber ∷ []; statements = (on 5 (Statement-F.Copy (OwnBuffer 0) (Quoted 0))) ∷ (on 6 (Statement-F.Left 1 (Of (OwnBuffer 0)) (Constant (pos 2)))) ∷ (on 7 (Statement-F.PrintText (ViewOf 1))) ∷ (on 8 (Statement-F.Right 1 (Of (OwnBuffer 0)) (Constant (pos 2)))) ∷ (on 9 (Statement-F.PrintText (ViewOf 1))) ∷ (on 10 (Statement-F.Mid 1 (Of (OwnBuffer 0)) (Constant (pos 2)) (Constant (pos 3)))) ∷ (on 11 (Statement-F.PrintText (ViewOf 1))) ∷ (on 12 (Statement-F.Right 1 (ViewOf 1) (Constant (pos 1)))) ∷ (on 13 (Statement-F.PrintText (ViewOf 1))) ∷ (on 14 (Statement-F.Mid 1 (Quoted 1) (Constant (pos 3)) (Constant (pos 3)))) ∷ (on 15 (Statement-F.PrintText (ViewOf 1))) ∷ (on 16 (Statement-F.GetLength 2 (ViewOf 1))) ∷ (on 17 (Statement-F.PrintNumber (Variable 2))) ∷ [] } }) ∷ []; operations = []; literals = (97 ∷ 98 ∷ 99 ∷ 100 ∷ 101 ∷ 102 ∷ []) ∷ (108 ∷ 105 ∷ 116 ∷ 101 ∷ 114 ∷ 97 ∷ 108 ∷ []) ∷ []; main = 0 }
 
 views_of_buffers_views_and_literals_run : run script_views_of_buffers_views_and_literals_run R.Unlimited 10000 (shaped 4096 4096) ≡ record { outcome = Ended None []; trace = (line 1 144 0 Granted) ∷ []; lines = (97 ∷ 98 ∷ []) ∷ (101 ∷ 102 ∷ []) ∷ (99 ∷ 100 ∷ 101 ∷ []) ∷ (101 ∷ []) ∷ (101 ∷ 114 ∷ 97 ∷ []) ∷ (51 ∷ []) ∷ []; notes = []; steps = 13 }
 unfolding everything
 views_of_buffers_views_and_literals_run = refl
 
 abbrev script_word_of_a_text_run : Script
-script_word_of_a_text_run = record { classes = []; procedures = (record { parameters = []; body = record { locals = (OfPointer None) ∷ OfNumber ∷ []; statements = rolled ((Statement-F.NewText (Held (H.Local 0)) (Constant (pos 4)) GivesNull) ∷ (Statement-F.Load 1 (Held (H.Local 0)) (Constant (pos 99))) ∷ []) } }) ∷ []; operations = []; literals = []; main = 0 }
+script_word_of_a_text_run = record { classes = []; procedures = (record { line = 1; parameters = []; body = record { locals = (OfPointer None) ∷ OfNumber ∷ []; statements = (on 4 (Statement-F.NewText (Held (H.Local 0)) (Constant (pos 4)) GivesNull)) ∷ (on 5 (Statement-F.Load 1 (Held (H.Local 0)) (Constant (pos 99)))) ∷ [] } }) ∷ []; operations = []; literals = []; main = 0 }
 
 word_of_a_text_run : run script_word_of_a_text_run R.Unlimited 10000 (shaped 4096 4096) ≡ record { outcome = Panicked (P.Workbench 2); trace = (line 1 144 0 Granted) ∷ (line 2 32 144 Granted) ∷ []; lines = []; notes = []; steps = 2 }
 unfolding everything

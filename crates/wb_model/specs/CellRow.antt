@@ -1,5 +1,5 @@
 -- Cells in a chunk, as contracts see them: the row that the words spell, and how many bytes are held.
-use Rattle.std.specs.Prelude.{ℕ, ◌+◌, ◌-◌, ◌*◌, ◌/◌, ◌%◌, ◌≡◌, ◌≤◌, ◌⊎◌, All, length, List, [], ◌∷◌, ◌++◌, take, replicate, Any, Option, Some, None, true, if◌then◌else◌}
+use Rattle.std.specs.Prelude.{ℕ, ◌-◌, ◌*◌, ◌/◌, ◌%◌, ◌≡◌, ◌≤◌, ◌⊎◌, All, length, List, [], ◌∷◌, ◌++◌, take, replicate, Any, Option, Some, None, true, if◌then◌else◌}
 use Rattle.wb_model.specs.declared.limits.TheConstants.{CEILING}
 use Rattle.wb_model.specs.declared.heap.Ptr.{Ptr}
 use Rattle.wb_model.specs.declared.heap.Header.{Header}

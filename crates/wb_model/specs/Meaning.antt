@@ -19,7 +19,7 @@ begun budget st go = begun_if (nat_lt st.steps budget) st go
 unfoldable pub piece : Script → ℕ → Meaning → Meaning
 piece script budget rec at (all []) st = done st
 piece script budget rec at (all (s ∷ rest)) st =
-    begun budget st (λ st. then_do (statement script rec at (out-Statement s) st) (rec at (all rest)))
+    begun budget st (λ st. then_do (statement script rec at (out-Statement s.statement) st) (rec at (all rest)))
 piece script budget rec at (turns zero body) st = done st
 piece script budget rec at (turns (suc n) body) st =
     begun budget st (λ st. then_do (rec at (all body) st) (rec at (turns n body)))

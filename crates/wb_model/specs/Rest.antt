@@ -1,5 +1,5 @@
 -- What is left of a run, as a machine holds it between two turns.
-use Rattle.std.specs.Prelude.{◌≡◌, ◌⊎◌, ℕ, ℤ, ◌≤◌, Bool, true, false, List, [], ◌∷◌}
+use Rattle.std.specs.Prelude.{◌≡◌, ◌⊎◌, ℕ, ℤ, ◌≤◌, Bool, true, false, List, [], ◌∷◌, Option, Some, None}
 use Rattle.wb_model.specs.declared.heap.Ptr.{Ptr}
 use Rattle.wb_model.specs.declared.heap.Rule.{Rule}
 use Rattle.wb_model.specs.declared.heap.Shape.{Shape}
@@ -8,7 +8,7 @@ use Rattle.wb_model.specs.declared.script.Script.{Script}
 use Rattle.wb_model.specs.Rules.{refusal_of}
 use Rattle.wb_model.specs.Space.{space_of}
 use Rattle.wb_model.specs.State.{State, Frame, number, pointer, Way, leaves, Stop, Process, ends, stops, and_then, on_plain_end, set_local}
-use Rattle.wb_model.specs.Statements.{Piece, Where, done, plain, release, trapped}
+use Rattle.wb_model.specs.Statements.{Piece, all, Where, done, plain, release, trapped}
 use Rattle.wb_model.specs.Meaning.{piece, meaning_of}
 use Rattle.wb_model.specs.Account.{Account, settled}
 use Rattle.wb_model.specs.Run.{main_trapped, process, result_of}
@@ -77,6 +77,21 @@ has_ended not_begun = false
 has_ended (going [] way st) = true
 has_ended (going (p ∷ ps) way st) = false
 has_ended (has_stopped stop st) = true
+
+-- the line of the statement that pieces begin with, where they begin with one
+abbrev pub line_of : Pending → Option ℕ
+line_of (doing at (all (s ∷ rest))) = Some s.line
+line_of _ = None
+
+abbrev pub first_line : List Pending → Option ℕ
+first_line [] = None
+first_line (p ∷ ps) = line_of p
+
+-- the line of the statement that is to begin next, where one is
+abbrev pub next_line : Progress → Option ℕ
+next_line not_begun = None
+next_line (going ps way st) = first_line ps
+next_line (has_stopped stop st) = None
 
 -- neither rule is a limit, and both say the same of the attempts made so far
 pub record SameSoFar (r own : Rule) (attempts : ℕ) : Type 0 where

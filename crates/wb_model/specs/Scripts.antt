@@ -1,7 +1,6 @@
 -- Which bytes spell which script, and which fault is the first of bytes that spell none.
 use Rattle.std.specs.Prelude.{◌≡◌, ℕ, suc, ◌+◌, ◌-◌, ◌<◌, ◌≤◌, List, [], ◌++◌, Option, Some, None, false, true, codes, map, length, take}
 use Rattle.std.specs.Option.{option_map}
-use Rattle.std.specs.List.{flat_map}
 use Rattle.wb_model.specs.declared.fault.ScriptFault.{ScriptFault}
 use Rattle.wb_model.specs.declared.fault.ScriptFault.TheVariants.{TooLong, NotAscii, Grammar, UnknownName, DoubleName, WrongKind, MayLeave, NoMain, TooMany, NoMemory}
 use Rattle.wb_model.specs.declared.script_lines.Form.{Form}
@@ -12,7 +11,7 @@ use Rattle.wb_model.specs.Kinds.{has_wrong_kind}
 use Rattle.wb_model.specs.Lines.{lines_of, first_foreign_line, is_too_long}
 use Rattle.wb_model.specs.Names.{Text, first_refused, declares_again, passes_limit, items_of, literals_of, first_declaration_of}
 use Rattle.wb_model.specs.Resolved.{resolved, uses_unknown}
-use Rattle.wb_model.specs.Trees.{counted, script_lines}
+use Rattle.wb_model.specs.Trees.{counted_from, script_lines}
 
 -- the lines are those of a script, whatever their names
 abbrev pub AreLines : List Text → Type 0
@@ -51,7 +50,8 @@ pub record IsNamed (forms : List (Form Text)) : Type 0 where
   pub once : first_refused (declares_again (items_of forms)) forms ≡ None
   pub right : first_refused has_wrong_kind forms ≡ None
 
--- the tree that lines without a fault in their names, kinds and limits have
+-- The tree that lines without a fault in their names, kinds and limits have. Its items and its statements have the numbers of
+-- their lines.
 pub record IsTreeOf (forms : List (Form Text)) (script : Script) : Type 0 where
   pub named : IsNamed forms
   pub main : main_of forms ≡ Some script.main
@@ -59,7 +59,7 @@ pub record IsTreeOf (forms : List (Form Text)) (script : Script) : Type 0 where
   pub classes : script.classes ≡ []
   pub operations : script.operations ≡ []
   pub literals : script.literals ≡ literals_of forms
-  pub tree : script_lines script ≡ flat_map counted (resolved forms)
+  pub tree : script_lines script ≡ counted_from 1 (resolved forms)
 
 -- the bytes spell this script
 pub record IsScriptOf (bytes : List ℕ) (script : Script) : Type 0 where

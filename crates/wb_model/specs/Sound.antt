@@ -18,6 +18,7 @@ use Rattle.wb_model.specs.declared.script.Writable.TheVariants.{OwnBuffer, InCel
 use Rattle.wb_model.specs.declared.script.Readable.{Readable}
 use Rattle.wb_model.specs.declared.script.Readable.TheVariants.{Of, ViewOf, Quoted}
 use Rattle.wb_model.specs.declared.script.Refusal.TheVariants.{GivesNull}
+use Rattle.wb_model.specs.declared.script.Numbered.{Numbered}
 use Rattle.wb_model.specs.declared.script.Statement.{Statement}
 use Rattle.wb_model.specs.declared.script.Statement.TheOpen.{Statement-F}
 use Rattle.wb_model.specs.declared.script.Statement.TheViews.{out-Statement}
@@ -75,7 +76,7 @@ is_readable literals locals (ViewOf i) = is_view locals i
 is_readable literals locals (Quoted i) = nat_lt i literals
 
 -- a statement, over these locals and a number of literals
-abbrev pub is_statement : ℕ → List Local → Statement-F Statement → Bool
+abbrev pub is_statement : ℕ → List Local → Statement-F Statement Numbered → Bool
 is_statement literals locals (Statement-F.Alloc p v GivesNull) = is_pointer locals p && is_number locals v
 is_statement literals locals (Statement-F.Realloc p q v GivesNull) = is_pointer locals p && (is_pointer locals q && is_number locals v)
 is_statement literals locals (Statement-F.Free p) = is_pointer locals p
@@ -112,8 +113,8 @@ is_statement literals locals Statement-F.NoteAvailable = true
 is_statement literals locals Statement-F.NoteCompress = true
 is_statement literals locals _ = false
 
-abbrev pub are_statements : ℕ → List Local → List Statement → Bool
-are_statements literals locals statements = list_all (λ s. is_statement literals locals (out-Statement s)) statements
+abbrev pub are_statements : ℕ → List Local → List Numbered → Bool
+are_statements literals locals statements = list_all (λ s. is_statement literals locals (out-Statement s.statement)) statements
 
 abbrev pub is_body : ℕ → Body → Bool
 is_body literals body = list_all is_local body.locals && nat_le (length body.locals) MOST_LOCALS && are_statements literals body.locals body.statements

@@ -1,5 +1,5 @@
 -- Which row a list of words spells, and how a cell's words read as its content.
-use Rattle.std.specs.Prelude.{ℕ, ℤ, pos, negsuc, zero, suc, ◌+◌, ◌-◌, ◌/◌, ◌%◌, ◌^◌, ◌&&◌, List, [], ◌∷◌, Bool, true, false, Option, Some, None, nat_eq, nat_le, nat_lt, if◌then◌else◌, option_map, slice_index, length, take, drop, map}
+use Rattle.std.specs.Prelude.{ℕ, ℤ, pos, negsuc, zero, suc, ◌+◌, ◌-◌, ◌/◌, ◌%◌, ◌^◌, ◌&&◌, List, [], ◌∷◌, true, false, Option, Some, None, nat_eq, nat_le, nat_lt, if◌then◌else◌, option_map, slice_index, length, take, drop, map}
 use Rattle.wb_model.specs.declared.heap.Ptr.{Ptr}
 use Rattle.wb_model.specs.declared.heap.Header.{Header}
 use Rattle.wb_model.specs.declared.heap.Kind.{Kind}

@@ -6,7 +6,6 @@ use Rattle.wb_model.specs.declared.heap.TheConstants.Panic.{BAD_CELL, WRONG_KIND
 use Rattle.wb_model.specs.declared.limits.TheConstants.{MOST_TURNS, MOST_FRAMES, LARGEST_REQUEST, MOST_UNITS}
 use Rattle.wb_model.specs.declared.heap.TheConstants.{KERR_NO_MEMORY}
 use Rattle.wb_model.specs.declared.heap.Ptr.{Ptr}
-use Rattle.wb_model.specs.declared.heap.Header.{Header}
 use Rattle.wb_model.specs.declared.heap.Kind.{Kind}
 use Rattle.wb_model.specs.declared.heap.Kind.TheVariants.{Raw, Object, Text}
 use Rattle.wb_model.specs.declared.heap.Item.{Item}
@@ -22,6 +21,7 @@ use Rattle.wb_model.specs.declared.script.Condition.{Condition}
 use Rattle.wb_model.specs.declared.script.Condition.TheVariants.{IsNull, NotNull, Equal, Less}
 use Rattle.wb_model.specs.declared.script.Argument.{Argument}
 use Rattle.wb_model.specs.declared.script.Argument.TheVariants.{Passed, Given}
+use Rattle.wb_model.specs.declared.script.Numbered.{Numbered}
 use Rattle.wb_model.specs.declared.script.Statement.{Statement}
 use Rattle.wb_model.specs.declared.script.Statement.TheOpen.{Statement-F}
 use Rattle.wb_model.specs.Row.{Cell, headers, cell_at, without, changed, usable_of, top_of, total_length}
@@ -35,8 +35,8 @@ use Rattle.wb_model.specs.Reading.{base_of, with_writable, with_readable, with_u
 
 -- what is still to do: statements, turns of a loop, the destruction of a number of items or of an object that isn't null
 pub data Piece : Type 0 where
-  all : List Statement → Piece
-  turns : ℕ → List Statement → Piece
+  all : List Numbered → Piece
+  turns : ℕ → List Numbered → Piece
   destroy_items : ℕ → Piece
   destroy_object : Ptr → Piece
 
@@ -51,7 +51,7 @@ Meaning = Where → Piece → State → Process
 
 -- one level of a statement
 abbrev pub Layer : Type 0
-Layer = Statement-F Statement
+Layer = Statement-F Statement Numbered
 
 abbrev pub done : State → Process
 done st = ends goes_on st
@@ -121,14 +121,14 @@ no_body = record { locals = []; statements = [] }
 
 -- the body of an operation
 abbrev pub operation_at : Script → ℕ → Body
-operation_at script i = unwrap_or (slice_get script.operations i) no_body
+operation_at script i = (unwrap_or (slice_get script.operations i) (record { line = 0; body = no_body })).body
 
 -- the body of a procedure
 abbrev pub procedure_at : Script → ℕ → Body
-procedure_at script i = (unwrap_or (slice_get script.procedures i) (record { parameters = []; body = no_body })).body
+procedure_at script i = (unwrap_or (slice_get script.procedures i) (record { line = 0; parameters = []; body = no_body })).body
 
 abbrev pub class_at : Script → ℕ → Class
-class_at script i = unwrap_or (slice_get script.classes i) (record { extra = 0; fields = []; construct = None; destroy = None })
+class_at script i = unwrap_or (slice_get script.classes i) (record { line = 0; extra = 0; fields = []; construct = None; destroy = None })
 
 -- a body in a frame of its own, and the caller's frame afterwards; the 129th frame is refused
 unfoldable pub in_frame : Meaning → Where → Ptr → List Value → Body → State → (Way → State → Process) → Process

@@ -1,4 +1,4 @@
--- The lines of a script's tree, with what their names and literals stand for.
+-- The lines of a script's tree, with what their names and literals stand for, and with their numbers where the tree keeps them.
 use Rattle.std.specs.Prelude.{ℕ, suc, List, [], ◌∷◌, ◌++◌, Option, Some, None, map}
 use Rattle.wb_model.specs.declared.script_lines.Key.TheVariants as key
 use Rattle.wb_model.specs.declared.script_lines.Key.{Key}
@@ -8,6 +8,8 @@ use Rattle.wb_model.specs.declared.script_lines.Operand.{Operand}
 use Rattle.wb_model.specs.declared.script_lines.Operand.TheVariants.{Name, Number, Size, Literal}
 use Rattle.wb_model.specs.declared.script_lines.Form.{Form}
 use Rattle.wb_model.specs.declared.script_lines.Form.TheVariants.{Skip, Unknown, Line}
+use Rattle.wb_model.specs.declared.script_lines.Role.{Role}
+use Rattle.wb_model.specs.declared.script_lines.Role.TheVariants as role
 use Rattle.wb_model.specs.declared.script.Script.{Script}
 use Rattle.wb_model.specs.declared.script.Body.{Body}
 use Rattle.wb_model.specs.declared.script.Procedure.{Procedure}
@@ -24,17 +26,41 @@ use Rattle.wb_model.specs.declared.script.Writable.TheVariants.{OwnBuffer, InCel
 use Rattle.wb_model.specs.declared.script.Readable.{Readable}
 use Rattle.wb_model.specs.declared.script.Readable.TheVariants.{Of, ViewOf, Quoted}
 use Rattle.wb_model.specs.declared.script.Refusal.TheVariants.{GivesNull}
+use Rattle.wb_model.specs.declared.script.Numbered.{Numbered}
 use Rattle.wb_model.specs.declared.script.Statement.{Statement}
 use Rattle.wb_model.specs.declared.script.Statement.TheOpen.{Statement-F}
 use Rattle.wb_model.specs.declared.script.Statement.TheViews.{out-Statement}
+use Rattle.wb_model.specs.Forms.{role_of_form}
 
 abbrev pub Indexed : Type 0
 Indexed = Form Meant
 
+-- a line, with its number where a tree keeps it
+abbrev pub Marked : Type 0
+Marked = Option ℕ × Indexed
+
+-- A tree keeps the numbers of the lines that begin an item, and of statements. Declarations, and the ends of things, have none
+-- in it.
+abbrev pub number_kept : Role → ℕ → Option ℕ
+number_kept role.Class number = Some number
+number_kept role.Procedure number = Some number
+number_kept role.Plain number = Some number
+number_kept role.Loop number = Some number
+number_kept role.If number = Some number
+number_kept _ number = None
+
+abbrev pub mark : ℕ → Indexed → Marked
+mark number line = (number_kept (role_of_form line) number, line)
+
 -- a line that counts; blank lines and comments don't
-abbrev pub counted : Indexed → List Indexed
-counted Skip = []
-counted line = line ∷ []
+abbrev pub counted : ℕ → Indexed → List Marked
+counted number Skip = []
+counted number line = mark number line ∷ []
+
+-- The lines that count, where the first of all has this number. Blank lines and comments have numbers too.
+abbrev pub counted_from : ℕ → List Indexed → List Marked
+counted_from number [] = []
+counted_from number (line ∷ lines) = counted number line ++ counted_from (suc number) lines
 
 -- The operand that spells a pointer, a number or a text to print; none where no line spells it.
 abbrev pub Spelled : Type 0
@@ -79,7 +105,7 @@ abbrev pub line : Key → List Spelled → Indexed
 line k words = line_or_unknown k (all_spelled words)
 
 -- The line of a statement. One that no line spells has a line of no script.
-abbrev pub statement_line : Statement-F Statement → Indexed
+abbrev pub statement_line : Statement-F Statement Numbered → Indexed
 statement_line (Statement-F.Alloc p v GivesNull) = line key.Alloc (pointer_operand p ∷ number_operand v ∷ [])
 statement_line (Statement-F.Realloc p q v GivesNull) = line key.Realloc (pointer_operand p ∷ pointer_operand q ∷ number_operand v ∷ [])
 statement_line (Statement-F.Free p) = line key.Free (pointer_operand p ∷ [])
@@ -116,8 +142,8 @@ statement_line Statement-F.NoteAvailable = line key.Available []
 statement_line Statement-F.NoteCompress = line key.Compress []
 statement_line _ = Unknown
 
-abbrev pub statement_lines : List Statement → List Indexed
-statement_lines statements = map (λ s. statement_line (out-Statement s)) statements
+abbrev pub statement_lines : List Numbered → List Marked
+statement_lines statements = map (λ s. (Some s.line, statement_line (out-Statement s.statement))) statements
 
 abbrev pub local_line : ℕ → Local → Indexed
 local_line index (OfPointer None) = Line key.Ptr (Name (meant.Declared index) ∷ [])
@@ -127,24 +153,31 @@ local_line index OfView = Line key.View (Name (meant.Declared index) ∷ [])
 local_line index _ = Unknown
 
 -- the declarations of locals, from an index on
-abbrev pub local_lines : ℕ → List Local → List Indexed
+abbrev pub local_lines : ℕ → List Local → List Marked
 local_lines index [] = []
-local_lines index (local ∷ locals) = local_line index local ∷ local_lines (suc index) locals
+local_lines index (local ∷ locals) = (None, local_line index local) ∷ local_lines (suc index) locals
 
 abbrev pub head_line : ℕ → List Parameter → Indexed
 head_line index [] = Line key.Proc (Name (meant.Declared index) ∷ [])
 head_line index _ = Unknown
 
-abbrev pub body_lines : Body → List Indexed
+abbrev pub body_lines : Body → List Marked
 body_lines body = local_lines 0 body.locals ++ statement_lines body.statements
 
-abbrev pub procedure_lines : ℕ → Procedure → List Indexed
-procedure_lines index p = head_line index p.parameters ∷ (body_lines p.body ++ Line key.End [] ∷ [])
+abbrev pub end_line : Marked
+end_line = (None, Line key.End [])
+
+-- a procedure that is open, without its end
+abbrev pub open_lines : ℕ → Procedure → List Marked
+open_lines index p = (Some p.line, head_line index p.parameters) ∷ body_lines p.body
+
+abbrev pub procedure_lines : ℕ → Procedure → List Marked
+procedure_lines index p = open_lines index p ++ end_line ∷ []
 
 -- the procedures, from an index on
-abbrev pub procedures_lines : ℕ → List Procedure → List Indexed
+abbrev pub procedures_lines : ℕ → List Procedure → List Marked
 procedures_lines index [] = []
 procedures_lines index (p ∷ ps) = procedure_lines index p ++ procedures_lines (suc index) ps
 
-abbrev pub script_lines : Script → List Indexed
+abbrev pub script_lines : Script → List Marked
 script_lines script = procedures_lines 0 script.procedures

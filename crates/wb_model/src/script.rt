@@ -1,4 +1,4 @@
-//! A script as a tree, with names as indexes.
+//! A script as a tree, with names as indexes. Each item and each statement keeps the number of its line, from 1.
 
 use crate::items::Items;
 
@@ -65,7 +65,16 @@ pub enum Refusal {
     Leaves,
 }
 
+/// A statement, with the number of its line.
+#[cycle(statements)]
+#[derive(Drop)]
+pub struct Numbered {
+    pub line: u32,
+    pub statement: Statement,
+}
+
 /// A statement, with what stands inside it. Locals are named by their index.
+#[cycle(statements)]
 #[derive(Drop)]
 pub enum Statement {
     Alloc(Pointer, Number, Refusal),
@@ -119,10 +128,10 @@ pub enum Statement {
     NoteAvailable,
     NoteCompress,
     /// Without an `else`.
-    If(Condition, Items<Statement>),
-    IfElse(Condition, Items<Statement>, Items<Statement>),
-    Repeat(Number, Items<Statement>),
-    Trap(u8, Items<Statement>),
+    If(Condition, Items<Numbered>),
+    IfElse(Condition, Items<Numbered>, Items<Numbered>),
+    Repeat(Number, Items<Numbered>),
+    Trap(u8, Items<Numbered>),
 }
 
 /// How a local begins.
@@ -141,7 +150,7 @@ pub enum Local {
 pub struct Body {
     /// Those that the body declares itself. Parameters stand before them.
     pub locals: Items<Local>,
-    pub statements: Items<Statement>,
+    pub statements: Items<Numbered>,
 }
 
 /// A parameter of a procedure.
@@ -155,13 +164,22 @@ pub enum Parameter {
 /// A procedure. Its parameters are its first locals.
 #[derive(Drop)]
 pub struct Procedure {
+    pub line: u32,
     pub parameters: Items<Parameter>,
+    pub body: Body,
+}
+
+/// An operation. Local 0 is its one parameter, a pointer.
+#[derive(Drop)]
+pub struct Operation {
+    pub line: u32,
     pub body: Body,
 }
 
 /// A class.
 #[derive(Drop)]
 pub struct Class {
+    pub line: u32,
     /// Bytes of an object behind its fields.
     pub extra: u32,
     /// Each field's class, where it has one.
@@ -176,8 +194,7 @@ pub struct Class {
 pub struct Script {
     pub classes: Items<Class>,
     pub procedures: Items<Procedure>,
-    /// Local 0 of each is its one parameter, a pointer.
-    pub operations: Items<Body>,
+    pub operations: Items<Operation>,
     pub literals: Items<Chars>,
     /// The index of `main` among the procedures.
     pub main: u16,

@@ -1,7 +1,6 @@
 -- What the definitions make of whole scripts: each example is proved by computing.
 use Rattle.std.proofs.Common.{◌≡◌, refl, ℕ, negsuc, List, [], ◌∷◌, ◌++◌, Option, Some, None, map, replicate}
 use Rattle.std.specs.Prelude.{codes}
-use Rattle.std.specs.List.{flat_map}
 use Rattle.wb_model.specs.declared.script_lines.Key.TheVariants.{Proc, Ptr, Int, Alloc, Print, End}
 use Rattle.wb_model.specs.declared.script_lines.Meant.TheVariants as meant
 use Rattle.wb_model.specs.declared.script_lines.Operand.TheVariants.{Name, Number, Literal}
@@ -15,7 +14,7 @@ use Rattle.wb_model.specs.Lines.{lines_of}
 use Rattle.wb_model.specs.Names.{Text, first_refused, declares_again, passes_limit, items_of, literals_of}
 use Rattle.wb_model.specs.Resolved.{resolved, uses_unknown}
 use Rattle.wb_model.specs.Scripts.{AreLines, main_of}
-use Rattle.wb_model.specs.Trees.{counted}
+use Rattle.wb_model.specs.Trees.{counted_from}
 
 abbrev forms_in : List ℕ → List (Form Text)
 forms_in bytes = forms_of (lines_of bytes)
@@ -33,10 +32,11 @@ they_are_lines =
     AreItems.procedure (IsBody.statements (AreStatements.plain AreStatements.none))
     (AreItems.procedure (IsBody.declaration (IsBody.declaration (IsBody.declaration (IsBody.statements (AreStatements.plain (AreStatements.plain (AreStatements.plain AreStatements.none))))))) AreItems.none)
 
-what_they_mean : flat_map counted (resolved (forms_in two_bodies)) ≡
-    Line Proc (Name (meant.Declared 0) ∷ []) ∷ Line Print (Literal (meant.Literal 0) ∷ []) ∷ Line End []
-    ∷ Line Proc (Name (meant.Declared 1) ∷ []) ∷ Line Ptr (Name (meant.Declared 0) ∷ []) ∷ Line Int (Name (meant.Declared 1) ∷ []) ∷ Line Ptr (Name (meant.Declared 2) ∷ [])
-    ∷ Line Alloc (Name (meant.Pointer 2) ∷ Number (negsuc 11) ∷ []) ∷ Line Print (Literal (meant.Literal 1) ∷ []) ∷ Line Alloc (Name (meant.Pointer 0) ∷ Name (meant.Number 1) ∷ []) ∷ Line End [] ∷ []
+-- Blank lines and comments count; declarations and ends have no number in a tree.
+what_they_mean : counted_from 1 (resolved (forms_in two_bodies)) ≡
+    (Some 1, Line Proc (Name (meant.Declared 0) ∷ [])) ∷ (Some 2, Line Print (Literal (meant.Literal 0) ∷ [])) ∷ (None, Line End [])
+    ∷ (Some 5, Line Proc (Name (meant.Declared 1) ∷ [])) ∷ (None, Line Ptr (Name (meant.Declared 0) ∷ [])) ∷ (None, Line Int (Name (meant.Declared 1) ∷ [])) ∷ (None, Line Ptr (Name (meant.Declared 2) ∷ []))
+    ∷ (Some 9, Line Alloc (Name (meant.Pointer 2) ∷ Number (negsuc 11) ∷ [])) ∷ (Some 10, Line Print (Literal (meant.Literal 1) ∷ [])) ∷ (Some 11, Line Alloc (Name (meant.Pointer 0) ∷ Name (meant.Number 1) ∷ [])) ∷ (None, Line End []) ∷ []
 unfolding keys
 what_they_mean = refl
 

@@ -1,25 +1,31 @@
 -- One more line of a script: what it adds, where it leads, and that it fits.
-use Rattle.std.proofs.Common.{◌≡◌, refl, ℕ, zero, suc, ◌+◌, ◌<◌, List, [], ◌∷◌, ◌++◌, length, take, get_or, map, Option, Some, None, Bool, true, false, not, IsTrue, sym, ap, ◌∙◌, append-nil, add-one, arith}
+use Rattle.std.proofs.Common.{◌≡◌, refl, ℕ, zero, suc, ◌+◌, ◌<◌, List, [], ◌∷◌, ◌++◌, length, take, get_or, map, Option, Some, None, Bool, true, false, not, IsTrue, sym, ap, ◌∙◌, append-nil, append_assoc, add-zero, add-one, arith}
 use Rattle.std.specs.Prelude.{if◌then◌else◌}
-use Rattle.std.specs.List.{flat_map}
 use Rattle.std.specs.Option.{option_map}
-use Rattle.std.proofs.lemmas.Grind.{flat_map-append}
-use Rattle.std.proofs.lemmas.List.{take_more, take-map, get_or-map, length-map}
+use Rattle.std.proofs.lemmas.List.{take_more, take-map, get_or-map, length-map, length-take}
 use Rattle.wb_model.specs.declared.script_lines.Role.TheVariants as role
 use Rattle.wb_model.specs.Forms.{role_of_form}
 use Rattle.wb_model.specs.Grammar.{IsGrammatical}
 use Rattle.wb_model.specs.Passes.{first_bad, state_after}
-use Rattle.wb_model.specs.Trees.{Indexed, counted}
+use Rattle.wb_model.specs.Trees.{Indexed, counted, counted_from}
 use Rattle.wb_script.specs.declared.checks.nesting.Open.{Open}
 use Rattle.wb_script.specs.Building.{AllFit, counts_of, fits, unfit, counts_after, nothing_counted}
 use Rattle.wb_script.specs.Machine.{after_line}
 use Rattle.wb_script.proofs.Misfits.{blocks_after, one_line, never_stuck}
 
-pub counted_more : (lines : List Indexed) (n : ℕ) (line : Indexed) → n < length lines → line ≡ get_or lines n line → flat_map counted (take (n + 1) lines) ≡ flat_map counted (take n lines) ++ counted line
+counted_last : (number : ℕ) (lines : List Indexed) (line : Indexed) → counted_from number (lines ++ line ∷ []) ≡ counted_from number lines ++ counted (number + length lines) line
+counted_last number [] line = append-nil (counted number line) ∙ ap (λ n. counted n line) (sym (add-zero number))
+counted_last number (l ∷ ls) line =
+    let same : suc number + length ls ≡ number + suc (length ls) = omega arith in
+    ap (λ more. counted number l ++ more) (counted_last (suc number) ls line ∙ ap (λ n. counted_from (suc number) ls ++ counted n line) same)
+    ∙ sym (append_assoc (counted number l) (counted_from (suc number) ls) (counted (number + suc (length ls)) line))
+
+pub counted_more : (lines : List Indexed) (n : ℕ) (line : Indexed) → n < length lines → line ≡ get_or lines n line → counted_from 1 (take (n + 1) lines) ≡ counted_from 1 (take n lines) ++ counted (n + 1) line
 counted_more lines n line lt is =
-    ap (flat_map counted) (take_more lines n line lt ∙ ap (λ l. take n lines ++ l ∷ []) (sym is))
-    ∙ flat_map-append counted (take n lines) (line ∷ [])
-    ∙ ap (λ l. flat_map counted (take n lines) ++ l) (append-nil (counted line))
+    let number : 1 + length (take n lines) ≡ n + 1 = omega (arith, length-take n lines) in
+    ap (counted_from 1) (take_more lines n line lt ∙ ap (λ l. take n lines ++ l ∷ []) (sym is))
+    ∙ counted_last 1 (take n lines) line
+    ∙ ap (λ k. counted_from 1 (take n lines) ++ counted k line) number
 
 pub line_step : (lines : List Indexed) (n : ℕ) (line : Indexed) (stack : List Open) → n < length lines → line ≡ get_or lines n line → blocks_after (map role_of_form (take n lines)) ≡ Some stack → blocks_after (map role_of_form (take (n + 1) lines)) ≡ after_line stack (role_of_form line)
 line_step lines n line stack lt here is =

@@ -16,13 +16,13 @@ use Rattle.wb_model.specs.declared.script.Body.{Body}
 use Rattle.wb_model.specs.declared.script.Local.{Local}
 use Rattle.wb_model.specs.declared.script.Local.TheVariants.{OfPointer, OfNumber, OfBuffer, OfView}
 use Rattle.wb_model.specs.declared.script.Procedure as model
-use Rattle.wb_model.specs.declared.script.Statement.{Statement}
+use Rattle.wb_model.specs.declared.script.Numbered.{Numbered}
 use Rattle.wb_model.specs.Forms.{role_of_form}
 use Rattle.wb_model.specs.Keys.{role_of}
 use Rattle.wb_model.specs.Names.{with_one}
 use Rattle.wb_model.specs.Passes.{first_bad, state_after}
-use Rattle.wb_model.specs.Sound.{is_local, is_body, is_procedure}
-use Rattle.wb_model.specs.Trees.{Indexed, local_line, body_lines, procedures_lines}
+use Rattle.wb_model.specs.Sound.{is_local, is_procedure}
+use Rattle.wb_model.specs.Trees.{Indexed, Marked, local_line, end_line, open_lines, body_lines, procedures_lines}
 use Rattle.wb_script.specs.declared.checks.nesting.Open.{Open}
 use Rattle.wb_script.specs.declared.checks.nesting.Open.TheVariants.{Declarations, Statements}
 use Rattle.wb_script.specs.declared.tree.Building.{Building}
@@ -98,7 +98,7 @@ abbrev pub counts_of : List Indexed → Counts
 counts_of lines = state_after counts_after nothing_counted lines
 
 -- the place in a body where these statements stand so far
-abbrev pub place_in : List Statement → Open
+abbrev pub place_in : List Numbered → Open
 place_in [] = Declarations
 place_in _ = Statements
 
@@ -123,32 +123,28 @@ abbrev pub left_body : Left → Body
 left_body (Inside body) = body
 left_body (Done body) = body
 
-abbrev pub left_lines : Left → List Indexed
+abbrev pub left_lines : Left → List Marked
 left_lines (Inside body) = body_lines body
-left_lines (Done body) = body_lines body ++ Line key.End [] ∷ []
+left_lines (Done body) = body_lines body ++ end_line ∷ []
 
 abbrev pub left_places : Left → List Open
 left_places (Inside body) = place_in body.statements ∷ []
 left_places (Done body) = []
 
--- the open body's lines without its end, for the procedure with this index
-abbrev pub open_lines : ℕ → Body → List Indexed
-open_lines index body = Line key.Proc (Name (meant.Declared index) ∷ []) ∷ body_lines body
-
-abbrev pub building_lines : Building → List Indexed
+abbrev pub building_lines : Building → List Marked
 building_lines b = procedures_lines 0 b.procedures.items ++ option_map_or (open_lines (length b.procedures.items)) b.open []
 
 abbrev pub building_places : Building → List Open
-building_places b = option_map_or (λ body. place_in body.statements ∷ []) b.open []
+building_places b = option_map_or (λ p. place_in p.body.statements ∷ []) b.open []
 
 abbrev pub locals_of_last : List model.Procedure → List Local
 locals_of_last [] = []
 locals_of_last (p ∷ []) = p.body.locals
 locals_of_last (p ∷ q ∷ ps) = locals_of_last (q ∷ ps)
 
-abbrev pub counts_where : List model.Procedure → Option Body → Counts
+abbrev pub counts_where : List model.Procedure → Option model.Procedure → Counts
 counts_where procedures None = record { procedures = length procedures; locals = locals_of_last procedures }
-counts_where procedures (Some body) = counts_in (suc (length procedures)) body
+counts_where procedures (Some p) = counts_in (suc (length procedures)) p.body
 
 abbrev pub building_counts : Building → Counts
 building_counts b = counts_where b.procedures.items b.open
@@ -156,4 +152,4 @@ building_counts b = counts_where b.procedures.items b.open
 -- what stands so far keeps what a script's tree has to keep
 abbrev pub is_sound : ℕ → Building → Bool
 is_sound literals b =
-    list_all (is_procedure literals) b.procedures.items && option_map_or (is_body literals) b.open true && nat_le (building_counts b).procedures MOST_PROCEDURES
+    list_all (is_procedure literals) b.procedures.items && option_map_or (is_procedure literals) b.open true && nat_le (building_counts b).procedures MOST_PROCEDURES

@@ -4,12 +4,12 @@
 mod tests;
 
 ghost use Rattle.std.specs.Prelude.{◌≡◌, ◌≢◌, ◌≤◌, ◌<◌, ◌^◌, [], length, map, IsTrue, IfOk, IfErr, MatchOption};
-ghost use Rattle.std.specs.List.{list_all, flat_map};
+ghost use Rattle.std.specs.List.{list_all};
 ghost use Rattle.wb_model.specs.Forms.{role_of_form};
 ghost use Rattle.wb_model.specs.Grammar.{IsGrammatical, IsFirstMisfit};
 ghost use Rattle.wb_model.specs.Scripts.{IsPlainText, IsScriptOf, IsFaultOf, IsTreeOf, IsLinesFault};
 ghost use Rattle.wb_model.specs.Sound.{is_script, is_literal_text};
-ghost use Rattle.wb_model.specs.Trees.{script_lines, counted};
+ghost use Rattle.wb_model.specs.Trees.{script_lines, counted_from};
 ghost use Rattle.wb_script.specs.Building.{AllFit, counts_of};
 ghost use Rattle.wb_script.specs.Lent.{lent_texts, lent_forms};
 ghost use Rattle.wb_script.specs.Reads.{roles_of, IsFormsFault};
@@ -77,10 +77,10 @@ fn script_of(
 ) -> Result<Script, AllocError>
     requires grammar { IsGrammatical (map role_of_form lines.now) }
     requires fit { AllFit (length literals.now) lines.now }
-    requires few { length literals.now < 2 ^ 32 }
+    requires few { (length literals.now < 2 ^ 32) × (length lines.now ≤ LONGEST_SCRIPT) }
     requires quotable { IsTrue (list_all is_literal_text (lent_texts literals.now)) }
     requires main { main < (counts_of lines.now).procedures }
-    ensures tree { IfOk result (λ s. script_lines s ≡ flat_map counted lines.now) }
+    ensures tree { IfOk result (λ s. script_lines s ≡ counted_from 1 lines.now) }
     ensures literals { IfOk result (λ s. s.literals ≡ lent_texts literals.now) }
     ensures main { IfOk result (λ s. s.main ≡ main) }
     ensures others { IfOk result (λ s. (s.classes ≡ []) × (s.operations ≡ [])) }

@@ -4,11 +4,13 @@ use Rattle.std.specs.List.{list_all}
 use Rattle.std.proofs.lemmas.List.{length-map}
 use Rattle.wb_model.specs.Forms.{role_of_form}
 use Rattle.wb_model.specs.Grammar.{IsGrammatical}
-use Rattle.wb_model.specs.Names.{first_declaration_of, literals_of}
+use Rattle.wb_model.specs.Names.{nothing_known, known_after, first_declaration_of, literals_of}
 use Rattle.wb_model.specs.Sound.{is_literal_text}
 use Rattle.wb_script.specs.Building.{AllFit}
 use Rattle.wb_script.specs.Lent.{lent_text, lent_texts, lent_form, lent_forms}
 use Rattle.wb_script.proofs.LiteralLemmas.{few_literals, literals_sound}
+use Rattle.wb_model.specs.Resolved.{resolved_line}
+use Rattle.wb_script.proofs.Passes.{each_length}
 use Rattle.wb_script.proofs.ReadLemmas.{no_line, main_within}
 use Rattle.wb_script.proofs.ResolvedLemmas.{roles-resolved, all_fit}
 use Rattle.wb_script.proofs.reading.checked.Goals as goal
@@ -33,8 +35,10 @@ script_of-requires-clause-few c =
     let as_many : length c.deref-in-None-too_many-2.result.now ≡ length (literals_of (lent_forms c.args.forms.now)) =
     sym (length-map c.deref-in-None-too_many-2.result.now lent_text) ∙ ap (λ l. length (lent_texts l)) c.deref-in-None-too_many-2.ensures.value ∙ ap length c.in_ok-found.ensures.literals in
     let few = few_literals (lent_forms c.args.forms.now) c.requires.typed in
-    let lines = length-map c.args.forms.now lent_form in
-    omega (arith, as_many, few, lines, c.requires.few)
+    let forms = length-map c.args.forms.now lent_form in
+    let lines : length c.deref-in-None-too_many.result.now ≡ length (lent_forms c.args.forms.now) =
+    ap length (c.deref-in-None-too_many.ensures.value ∙ c.in_ok-found.ensures.lines) ∙ each_length known_after resolved_line (lent_forms c.args.forms.now) nothing_known in
+    (omega (arith, as_many, few, forms, c.requires.few), omega (arith, lines, forms, c.requires.few))
 
 pub script_of-requires-clause-quotable : goal.script_of-requires-clause-quotable
 script_of-requires-clause-quotable c =

@@ -20,5 +20,6 @@ loop-self-preserved c =
           rest_settled script budget r c.loop-self.self.ending old new top.0 h top.1 (done.2 new top.0 top.1) within done.0
           ∙ c.loop-self.invariant.kept script r budget h within;
       ending = c.loop-self.invariant.ending;
+      line = c.loop-self.invariant.line;
       sound = λ script ok. sound_below script new old top.0 top.1 (c.loop-self.invariant.sound script ok);
     }

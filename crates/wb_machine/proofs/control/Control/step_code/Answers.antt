@@ -15,4 +15,4 @@ returns-clause-kept c r budget within f p is =
     let g = c.carry_out.new.self in
     rest_stepped script budget r c.args.first.now c.args.rest.now (below ++ p ∷ []) c.push.new.self.pieces.items below p (Code c.args.rest) ending c.args.state.now g
     refl is c.in_ok-push.ensures.pieces refl within
-    ((subst (λ (x : RunState). IsCarriedOut script (out-Statement c.args.first.now) x ending g) c.tick.ensures c.in_ok-self.ensures.kept) r (c.requires.lines, f) (meaning_of script budget))
+    ((subst (λ (x : RunState). IsCarriedOut script (out-Statement c.args.first.now.statement) x ending g) c.tick.ensures c.in_ok-self.ensures.kept) r (c.requires.lines, f) (meaning_of script budget))

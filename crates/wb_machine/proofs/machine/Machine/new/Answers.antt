@@ -24,6 +24,7 @@ invariant_of-result c =
         first = λ e. is_first;
         settled = λ e. cc;
         pieces = ap (are_sound script) c.new-2.ensures.pieces;
+        no_line = λ e. c.new-2.ensures.line;
         leaks = λ e goes. cc;
       };
       keeps = λ well r f. rest_first r script c.args.budget c.new-2.result.ending c.new-2.result.pieces.items h first (fits-limit r h.debug.rule _ _ f);

@@ -29,6 +29,7 @@ invariant_of-self-2 c =
         first = λ e. cc;
         settled = λ e. turn.settled;
         pieces = turn.sound;
+        no_line = λ e. cc;
         leaks = λ e goes. c.in_ok-list_leaks.ensures.told (c.ending.ensures ∙ goes);
       };
       keeps = λ well r f.

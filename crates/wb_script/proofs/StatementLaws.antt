@@ -1,0 +1,321 @@
+-- The line of a statement tells which statement it is.
+use Rattle.std.proofs.Common.{◌≡◌, refl, ap, subst, ◌∙◌, ℕ, List, [], ◌∷◌, ◌++◌, true, Some, None}
+use Rattle.std.specs.Prelude.{unwrap_or}
+use Rattle.wb_model.specs.declared.script_lines.Key.{Key}
+use Rattle.wb_model.specs.declared.script_lines.Key.TheVariants as key
+use Rattle.wb_model.specs.declared.script_lines.Meant.{Meant}
+use Rattle.wb_model.specs.declared.script_lines.Meant.TheVariants as meant
+use Rattle.wb_model.specs.declared.script_lines.Operand.{Operand}
+use Rattle.wb_model.specs.declared.script_lines.Operand.TheVariants.{Name, Number, Size, Literal}
+use Rattle.wb_model.specs.declared.script_lines.Form.TheVariants.{Line}
+use Rattle.wb_model.specs.declared.script.Procedure.{Procedure}
+use Rattle.wb_model.specs.declared.script.Local.{Local}
+use Rattle.wb_model.specs.declared.script.Local.TheVariants.{OfPointer, OfNumber, OfBuffer, OfView}
+use Rattle.wb_model.specs.declared.script.Holder.TheVariants as H
+use Rattle.wb_model.specs.declared.script.Pointer.{Pointer}
+use Rattle.wb_model.specs.declared.script.Pointer.TheVariants.{Held}
+use Rattle.wb_model.specs.declared.script.Number as N
+use Rattle.wb_model.specs.declared.script.Number.TheVariants.{Constant, Variable}
+use Rattle.wb_model.specs.declared.script.Writable.{Writable}
+use Rattle.wb_model.specs.declared.script.Writable.TheVariants.{OwnBuffer, InCell}
+use Rattle.wb_model.specs.declared.script.Readable.{Readable}
+use Rattle.wb_model.specs.declared.script.Readable.TheVariants.{Of, ViewOf, Quoted}
+use Rattle.wb_model.specs.declared.script.Refusal.TheVariants.{GivesNull, Leaves}
+use Rattle.wb_model.specs.declared.script.Numbered.{Numbered}
+use Rattle.wb_model.specs.declared.script.Statement.{Statement}
+use Rattle.wb_model.specs.declared.script.Statement.TheOpen.{Statement-F}
+use Rattle.wb_model.specs.declared.script.Statement.TheViews.{roll-Statement}
+use Rattle.wb_model.specs.Trees.{Indexed, Marked, Spelled, pointer_operand, variable_operand, number_operand, writable_operand, view_operand, text_operand, line, statement_line}
+use Rattle.wb_script.proofs.KnownLines.{is_known}
+
+-- what lines say, read from the last to the first
+pub record Part : Type 0 where
+  pub locals : List Local
+  pub statements : List Numbered
+  pub procedures : List Procedure
+
+abbrev pub nothing : Part
+nothing = record { locals = []; statements = []; procedures = [] }
+
+-- the pointer, the number or the local that an operand spells
+abbrev pointer_in : Operand Meant → Pointer
+pointer_in (Name (meant.Pointer i)) = Held (H.Local i)
+pointer_in _ = Held H.This
+
+abbrev variable_in : Operand Meant → ℕ
+variable_in (Name (meant.Number i)) = i
+variable_in _ = 0
+
+abbrev number_in : Operand Meant → N.Number
+number_in (Number z) = Constant z
+number_in operand = Variable (variable_in operand)
+
+-- a `set`, by what its target is
+abbrev set_in : Operand Meant → Operand Meant → Statement-F Statement Numbered
+set_in (Name (meant.Number i)) source = Statement-F.SetNumber i (number_in source)
+set_in target source = Statement-F.Set (pointer_in target) (pointer_in source)
+
+-- the text that an operand spells
+abbrev writable_in : Operand Meant → Writable
+writable_in (Name (meant.Buffer i)) = OwnBuffer i
+writable_in operand = InCell (pointer_in operand)
+
+abbrev view_in : Operand Meant → ℕ
+view_in (Name (meant.View i)) = i
+view_in _ = 0
+
+abbrev text_in : Operand Meant → Readable
+text_in (Literal (meant.Literal i)) = Quoted i
+text_in (Name (meant.View i)) = ViewOf i
+text_in operand = Of (writable_in operand)
+
+abbrev print_in : Operand Meant → Statement-F Statement Numbered
+print_in (Number z) = Statement-F.PrintNumber (Constant z)
+print_in (Name (meant.Number i)) = Statement-F.PrintNumber (Variable i)
+print_in operand = Statement-F.PrintText (text_in operand)
+
+abbrev statement_in : Indexed → Statement-F Statement Numbered
+statement_in (Line key.Alloc (a ∷ b ∷ [])) = Statement-F.Alloc (pointer_in a) (number_in b) GivesNull
+statement_in (Line key.Realloc (a ∷ b ∷ c ∷ [])) = Statement-F.Realloc (pointer_in a) (pointer_in b) (number_in c) GivesNull
+statement_in (Line key.Free (a ∷ [])) = Statement-F.Free (pointer_in a)
+statement_in (Line key.AllocLen (a ∷ b ∷ [])) = Statement-F.AllocLen (variable_in a) (pointer_in b)
+statement_in (Line key.Store (a ∷ b ∷ c ∷ [])) = Statement-F.Store (pointer_in a) (number_in b) (number_in c)
+statement_in (Line key.Load (a ∷ b ∷ c ∷ [])) = Statement-F.Load (variable_in a) (pointer_in b) (number_in c)
+statement_in (Line key.Null (a ∷ [])) = Statement-F.SetNull (pointer_in a)
+statement_in (Line key.Add (a ∷ b ∷ [])) = Statement-F.Add (variable_in a) (number_in b)
+statement_in (Line key.Mark []) = Statement-F.Mark
+statement_in (Line key.MarkEnd (a ∷ [])) = Statement-F.MarkEnd (number_in a)
+statement_in (Line key.Check (a ∷ [])) = Statement-F.Check (number_in a)
+statement_in (Line key.CheckAll (a ∷ [])) = Statement-F.CheckAll (number_in a)
+statement_in (Line key.FailNext (a ∷ [])) = Statement-F.FailNext (number_in a)
+statement_in (Line key.FailEvery (a ∷ [])) = Statement-F.FailEvery (number_in a)
+statement_in (Line key.FailNone []) = Statement-F.FailNone
+statement_in (Line key.Heap []) = Statement-F.NoteHeap
+statement_in (Line key.Available []) = Statement-F.NoteAvailable
+statement_in (Line key.Compress []) = Statement-F.NoteCompress
+statement_in (Line key.HNew (a ∷ b ∷ [])) = Statement-F.NewText (pointer_in a) (number_in b) GivesNull
+statement_in (Line key.HRealloc (a ∷ b ∷ c ∷ [])) = Statement-F.ReallocText (pointer_in a) (pointer_in b) (number_in c)
+statement_in (Line key.Copy (a ∷ b ∷ [])) = Statement-F.Copy (writable_in a) (text_in b)
+statement_in (Line key.Append (a ∷ b ∷ [])) = Statement-F.Append (writable_in a) (text_in b)
+statement_in (Line key.Insert (a ∷ b ∷ c ∷ [])) = Statement-F.Insert (writable_in a) (number_in b) (text_in c)
+statement_in (Line key.DelText (a ∷ b ∷ c ∷ [])) = Statement-F.DeleteText (writable_in a) (number_in b) (number_in c)
+statement_in (Line key.SetLength (a ∷ b ∷ [])) = Statement-F.SetLength (writable_in a) (number_in b)
+statement_in (Line key.Left (a ∷ b ∷ c ∷ [])) = Statement-F.Left (view_in a) (text_in b) (number_in c)
+statement_in (Line key.Right (a ∷ b ∷ c ∷ [])) = Statement-F.Right (view_in a) (text_in b) (number_in c)
+statement_in (Line key.Mid (a ∷ b ∷ c ∷ e ∷ [])) = Statement-F.Mid (view_in a) (text_in b) (number_in c) (number_in e)
+statement_in (Line key.GetLen (a ∷ b ∷ [])) = Statement-F.GetLength (variable_in a) (text_in b)
+statement_in (Line key.GetMax (a ∷ b ∷ [])) = Statement-F.GetMaximum (variable_in a) (writable_in b)
+statement_in (Line key.Set (a ∷ b ∷ [])) = set_in a b
+statement_in (Line key.Print (a ∷ [])) = print_in a
+statement_in _ = Statement-F.Return
+
+abbrev pub with_line : ℕ → Indexed → Part → Part
+with_line number (Line key.Proc operands) part = record {
+  locals = [];
+  statements = [];
+  procedures = record { line = number; parameters = []; body = record { locals = part.locals; statements = part.statements } } ∷ part.procedures;
+}
+with_line number (Line key.Ptr operands) part = record { locals = OfPointer None ∷ part.locals; statements = part.statements; procedures = part.procedures }
+with_line number (Line key.Int operands) part = record { locals = OfNumber ∷ part.locals; statements = part.statements; procedures = part.procedures }
+with_line number (Line key.Buf (name ∷ Size max ∷ [])) part = record { locals = OfBuffer max ∷ part.locals; statements = part.statements; procedures = part.procedures }
+with_line number (Line key.View operands) part = record { locals = OfView ∷ part.locals; statements = part.statements; procedures = part.procedures }
+with_line number (Line key.End operands) part = part
+with_line number line part = record { locals = part.locals; statements = record { line = number; statement = roll-Statement (statement_in line) } ∷ part.statements; procedures = part.procedures }
+
+abbrev pub with_lines : List Marked → Part → Part
+with_lines [] part = part
+with_lines (line ∷ lines) part = with_line (unwrap_or line.0 0) line.1 (with_lines lines part)
+
+pub with_lines-append : (lines more : List Marked) (part : Part) → with_lines (lines ++ more) part ≡ with_lines lines (with_lines more part)
+with_lines-append [] more part = refl
+with_lines-append (line ∷ lines) more part = ap (with_line (unwrap_or line.0 0) line.1) (with_lines-append lines more part)
+
+-- an operand that is spelled tells what it spells
+pointer_back : (p : Pointer) (a : Operand Meant) → pointer_operand p ≡ Some a → pointer_in a ≡ p
+pointer_back (Held (H.Local i)) a is = let same : Name (meant.Pointer i) ≡ a = cc in subst (λ o. pointer_in o ≡ Held (H.Local i)) same refl
+pointer_back _ a is = let clash : ⊥ = cc in absurd clash
+
+variable_back : (x : ℕ) (a : Operand Meant) → variable_operand x ≡ Some a → variable_in a ≡ x
+variable_back x a is = let same : Name (meant.Number x) ≡ a = cc in subst (λ o. variable_in o ≡ x) same refl
+
+number_back : (v : N.Number) (a : Operand Meant) → number_operand v ≡ Some a → number_in a ≡ v
+number_back (Constant z) a is = let same : Number z ≡ a = cc in subst (λ o. number_in o ≡ Constant z) same refl
+number_back (Variable i) a is = let same : Name (meant.Number i) ≡ a = cc in subst (λ o. number_in o ≡ Variable i) same refl
+
+writable_back : (d : Writable) (a : Operand Meant) → writable_operand d ≡ Some a → writable_in a ≡ d
+writable_back (OwnBuffer i) a is = let same : Name (meant.Buffer i) ≡ a = cc in subst (λ o. writable_in o ≡ OwnBuffer i) same refl
+writable_back (InCell (Held (H.Local i))) a is = let same : Name (meant.Pointer i) ≡ a = cc in subst (λ o. writable_in o ≡ InCell (Held (H.Local i))) same refl
+writable_back (InCell _) a is = let clash : ⊥ = cc in absurd clash
+
+view_back : (y : ℕ) (a : Operand Meant) → view_operand y ≡ Some a → view_in a ≡ y
+view_back y a is = let same : Name (meant.View y) ≡ a = cc in subst (λ o. view_in o ≡ y) same refl
+
+text_back : (t : Readable) (a : Operand Meant) → text_operand t ≡ Some a → text_in a ≡ t
+text_back (Of (OwnBuffer i)) a is = let same : Name (meant.Buffer i) ≡ a = cc in subst (λ o. text_in o ≡ Of (OwnBuffer i)) same refl
+text_back (Of (InCell (Held (H.Local i)))) a is = let same : Name (meant.Pointer i) ≡ a = cc in subst (λ o. text_in o ≡ Of (InCell (Held (H.Local i)))) same refl
+text_back (Of (InCell _)) a is = let clash : ⊥ = cc in absurd clash
+text_back (ViewOf i) a is = let same : Name (meant.View i) ≡ a = cc in subst (λ o. text_in o ≡ ViewOf i) same refl
+text_back (Quoted i) a is = let same : Literal (meant.Literal i) ≡ a = cc in subst (λ o. text_in o ≡ Quoted i) same refl
+
+-- the part with one more statement before the others
+abbrev pub with_statement : ℕ → Statement-F Statement Numbered → Part → Part
+with_statement number s part = record { locals = part.locals; statements = record { line = number; statement = roll-Statement s } ∷ part.statements; procedures = part.procedures }
+
+-- A line whose operands are spelled has the statement that these tell.
+module _ (number : ℕ) (k : Key) (whole : Statement-F Statement Numbered) (part : Part) where
+  one_said : (make : Operand Meant → Statement-F Statement Numbered) (s : Spelled) → ((a : Operand Meant) → with_line number (Line k (a ∷ [])) part ≡ with_statement number (make a) part) → ((a : Operand Meant) → s ≡ Some a → make a ≡ whole) →
+      is_known (line k (s ∷ [])) ≡ true → with_line number (line k (s ∷ [])) part ≡ with_statement number whole part
+  one_said make (Some a) says back known = says a ∙ ap (λ z. with_statement number z part) (back a refl)
+  one_said make None says back known = let clash : ⊥ = cc in absurd clash
+
+  two_said : (make : Operand Meant → Operand Meant → Statement-F Statement Numbered) (s t : Spelled) → ((a b : Operand Meant) → with_line number (Line k (a ∷ b ∷ [])) part ≡ with_statement number (make a b) part) → ((a b : Operand Meant) → s ≡ Some a → t ≡ Some b → make a b ≡ whole) →
+      is_known (line k (s ∷ t ∷ [])) ≡ true → with_line number (line k (s ∷ t ∷ [])) part ≡ with_statement number whole part
+  two_said make (Some a) (Some b) says back known = says a b ∙ ap (λ z. with_statement number z part) (back a b refl refl)
+  two_said make (Some a) None says back known = let clash : ⊥ = cc in absurd clash
+  two_said make None t says back known = let clash : ⊥ = cc in absurd clash
+
+  three_said : (make : Operand Meant → Operand Meant → Operand Meant → Statement-F Statement Numbered) (s t u : Spelled) → ((a b c : Operand Meant) → with_line number (Line k (a ∷ b ∷ c ∷ [])) part ≡ with_statement number (make a b c) part) → ((a b c : Operand Meant) → s ≡ Some a → t ≡ Some b → u ≡ Some c → make a b c ≡ whole) →
+      is_known (line k (s ∷ t ∷ u ∷ [])) ≡ true → with_line number (line k (s ∷ t ∷ u ∷ [])) part ≡ with_statement number whole part
+  three_said make (Some a) (Some b) (Some c) says back known = says a b c ∙ ap (λ z. with_statement number z part) (back a b c refl refl refl)
+  three_said make (Some a) (Some b) None says back known = let clash : ⊥ = cc in absurd clash
+  three_said make (Some a) None u says back known = let clash : ⊥ = cc in absurd clash
+  three_said make None t u says back known = let clash : ⊥ = cc in absurd clash
+
+  four_said : (make : Operand Meant → Operand Meant → Operand Meant → Operand Meant → Statement-F Statement Numbered) (s t u v : Spelled) → ((a b c e : Operand Meant) → with_line number (Line k (a ∷ b ∷ c ∷ e ∷ [])) part ≡ with_statement number (make a b c e) part) →
+      ((a b c e : Operand Meant) → s ≡ Some a → t ≡ Some b → u ≡ Some c → v ≡ Some e → make a b c e ≡ whole) → is_known (line k (s ∷ t ∷ u ∷ v ∷ [])) ≡ true → with_line number (line k (s ∷ t ∷ u ∷ v ∷ [])) part ≡ with_statement number whole part
+  four_said make (Some a) (Some b) (Some c) (Some e) says back known = says a b c e ∙ ap (λ z. with_statement number z part) (back a b c e refl refl refl refl)
+  four_said make (Some a) (Some b) (Some c) None says back known = let clash : ⊥ = cc in absurd clash
+  four_said make (Some a) (Some b) None v says back known = let clash : ⊥ = cc in absurd clash
+  four_said make (Some a) None u v says back known = let clash : ⊥ = cc in absurd clash
+  four_said make None t u v says back known = let clash : ⊥ = cc in absurd clash
+
+pub statement_said : (number : ℕ) (s : Statement-F Statement Numbered) (part : Part) → is_known (statement_line s) ≡ true → with_line number (statement_line s) part ≡ with_statement number s part
+statement_said number (Statement-F.Alloc p v Leaves) part known = let clash : ⊥ = cc in absurd clash
+statement_said number (Statement-F.Realloc p q v Leaves) part known = let clash : ⊥ = cc in absurd clash
+statement_said number (Statement-F.NewText p v Leaves) part known = let clash : ⊥ = cc in absurd clash
+statement_said number (Statement-F.Alloc p v GivesNull) part known =
+    two_said number key.Alloc (Statement-F.Alloc p v GivesNull) part (λ a b. Statement-F.Alloc (pointer_in a) (number_in b) GivesNull) (pointer_operand p) (number_operand v) (λ a b. refl)
+    (λ a b ea eb. ap (λ z. Statement-F.Alloc z (number_in b) GivesNull) (pointer_back p a ea) ∙ ap (λ z. Statement-F.Alloc p z GivesNull) (number_back v b eb))
+    known
+statement_said number (Statement-F.Realloc p q v GivesNull) part known =
+    three_said number key.Realloc (Statement-F.Realloc p q v GivesNull) part (λ a b c. Statement-F.Realloc (pointer_in a) (pointer_in b) (number_in c) GivesNull) (pointer_operand p) (pointer_operand q) (number_operand v) (λ a b c. refl)
+    (λ a b c ea eb ec. ap (λ z. Statement-F.Realloc z (pointer_in b) (number_in c) GivesNull) (pointer_back p a ea) ∙ ap (λ z. Statement-F.Realloc p z (number_in c) GivesNull) (pointer_back q b eb) ∙ ap (λ z. Statement-F.Realloc p q z GivesNull) (number_back v c ec))
+    known
+statement_said number (Statement-F.Free p) part known =
+    one_said number key.Free (Statement-F.Free p) part (λ a. Statement-F.Free (pointer_in a)) (pointer_operand p) (λ a. refl)
+    (λ a ea. ap (λ z. Statement-F.Free z) (pointer_back p a ea))
+    known
+statement_said number (Statement-F.AllocLen x p) part known =
+    two_said number key.AllocLen (Statement-F.AllocLen x p) part (λ a b. Statement-F.AllocLen (variable_in a) (pointer_in b)) (variable_operand x) (pointer_operand p) (λ a b. refl)
+    (λ a b ea eb. ap (λ z. Statement-F.AllocLen z (pointer_in b)) (variable_back x a ea) ∙ ap (λ z. Statement-F.AllocLen x z) (pointer_back p b eb))
+    known
+statement_said number (Statement-F.Store p v w) part known =
+    three_said number key.Store (Statement-F.Store p v w) part (λ a b c. Statement-F.Store (pointer_in a) (number_in b) (number_in c)) (pointer_operand p) (number_operand v) (number_operand w) (λ a b c. refl)
+    (λ a b c ea eb ec. ap (λ z. Statement-F.Store z (number_in b) (number_in c)) (pointer_back p a ea) ∙ ap (λ z. Statement-F.Store p z (number_in c)) (number_back v b eb) ∙ ap (λ z. Statement-F.Store p v z) (number_back w c ec))
+    known
+statement_said number (Statement-F.Load x p v) part known =
+    three_said number key.Load (Statement-F.Load x p v) part (λ a b c. Statement-F.Load (variable_in a) (pointer_in b) (number_in c)) (variable_operand x) (pointer_operand p) (number_operand v) (λ a b c. refl)
+    (λ a b c ea eb ec. ap (λ z. Statement-F.Load z (pointer_in b) (number_in c)) (variable_back x a ea) ∙ ap (λ z. Statement-F.Load x z (number_in c)) (pointer_back p b eb) ∙ ap (λ z. Statement-F.Load x p z) (number_back v c ec))
+    known
+statement_said number (Statement-F.SetNull p) part known =
+    one_said number key.Null (Statement-F.SetNull p) part (λ a. Statement-F.SetNull (pointer_in a)) (pointer_operand p) (λ a. refl)
+    (λ a ea. ap (λ z. Statement-F.SetNull z) (pointer_back p a ea))
+    known
+statement_said number (Statement-F.Add x v) part known =
+    two_said number key.Add (Statement-F.Add x v) part (λ a b. Statement-F.Add (variable_in a) (number_in b)) (variable_operand x) (number_operand v) (λ a b. refl)
+    (λ a b ea eb. ap (λ z. Statement-F.Add z (number_in b)) (variable_back x a ea) ∙ ap (λ z. Statement-F.Add x z) (number_back v b eb))
+    known
+statement_said number Statement-F.Mark part known = refl
+statement_said number (Statement-F.MarkEnd v) part known =
+    one_said number key.MarkEnd (Statement-F.MarkEnd v) part (λ a. Statement-F.MarkEnd (number_in a)) (number_operand v) (λ a. refl)
+    (λ a ea. ap (λ z. Statement-F.MarkEnd z) (number_back v a ea))
+    known
+statement_said number (Statement-F.Check v) part known =
+    one_said number key.Check (Statement-F.Check v) part (λ a. Statement-F.Check (number_in a)) (number_operand v) (λ a. refl)
+    (λ a ea. ap (λ z. Statement-F.Check z) (number_back v a ea))
+    known
+statement_said number (Statement-F.CheckAll v) part known =
+    one_said number key.CheckAll (Statement-F.CheckAll v) part (λ a. Statement-F.CheckAll (number_in a)) (number_operand v) (λ a. refl)
+    (λ a ea. ap (λ z. Statement-F.CheckAll z) (number_back v a ea))
+    known
+statement_said number (Statement-F.FailNext v) part known =
+    one_said number key.FailNext (Statement-F.FailNext v) part (λ a. Statement-F.FailNext (number_in a)) (number_operand v) (λ a. refl)
+    (λ a ea. ap (λ z. Statement-F.FailNext z) (number_back v a ea))
+    known
+statement_said number (Statement-F.FailEvery v) part known =
+    one_said number key.FailEvery (Statement-F.FailEvery v) part (λ a. Statement-F.FailEvery (number_in a)) (number_operand v) (λ a. refl)
+    (λ a ea. ap (λ z. Statement-F.FailEvery z) (number_back v a ea))
+    known
+statement_said number Statement-F.FailNone part known = refl
+statement_said number Statement-F.NoteHeap part known = refl
+statement_said number Statement-F.NoteAvailable part known = refl
+statement_said number Statement-F.NoteCompress part known = refl
+statement_said number (Statement-F.NewText p v GivesNull) part known =
+    two_said number key.HNew (Statement-F.NewText p v GivesNull) part (λ a b. Statement-F.NewText (pointer_in a) (number_in b) GivesNull) (pointer_operand p) (number_operand v) (λ a b. refl)
+    (λ a b ea eb. ap (λ z. Statement-F.NewText z (number_in b) GivesNull) (pointer_back p a ea) ∙ ap (λ z. Statement-F.NewText p z GivesNull) (number_back v b eb))
+    known
+statement_said number (Statement-F.ReallocText p q v) part known =
+    three_said number key.HRealloc (Statement-F.ReallocText p q v) part (λ a b c. Statement-F.ReallocText (pointer_in a) (pointer_in b) (number_in c)) (pointer_operand p) (pointer_operand q) (number_operand v) (λ a b c. refl)
+    (λ a b c ea eb ec. ap (λ z. Statement-F.ReallocText z (pointer_in b) (number_in c)) (pointer_back p a ea) ∙ ap (λ z. Statement-F.ReallocText p z (number_in c)) (pointer_back q b eb) ∙ ap (λ z. Statement-F.ReallocText p q z) (number_back v c ec))
+    known
+statement_said number (Statement-F.Copy d t) part known =
+    two_said number key.Copy (Statement-F.Copy d t) part (λ a b. Statement-F.Copy (writable_in a) (text_in b)) (writable_operand d) (text_operand t) (λ a b. refl)
+    (λ a b ea eb. ap (λ z. Statement-F.Copy z (text_in b)) (writable_back d a ea) ∙ ap (λ z. Statement-F.Copy d z) (text_back t b eb))
+    known
+statement_said number (Statement-F.Append d t) part known =
+    two_said number key.Append (Statement-F.Append d t) part (λ a b. Statement-F.Append (writable_in a) (text_in b)) (writable_operand d) (text_operand t) (λ a b. refl)
+    (λ a b ea eb. ap (λ z. Statement-F.Append z (text_in b)) (writable_back d a ea) ∙ ap (λ z. Statement-F.Append d z) (text_back t b eb))
+    known
+statement_said number (Statement-F.Insert d v t) part known =
+    three_said number key.Insert (Statement-F.Insert d v t) part (λ a b c. Statement-F.Insert (writable_in a) (number_in b) (text_in c)) (writable_operand d) (number_operand v) (text_operand t) (λ a b c. refl)
+    (λ a b c ea eb ec. ap (λ z. Statement-F.Insert z (number_in b) (text_in c)) (writable_back d a ea) ∙ ap (λ z. Statement-F.Insert d z (text_in c)) (number_back v b eb) ∙ ap (λ z. Statement-F.Insert d v z) (text_back t c ec))
+    known
+statement_said number (Statement-F.DeleteText d v w) part known =
+    three_said number key.DelText (Statement-F.DeleteText d v w) part (λ a b c. Statement-F.DeleteText (writable_in a) (number_in b) (number_in c)) (writable_operand d) (number_operand v) (number_operand w) (λ a b c. refl)
+    (λ a b c ea eb ec. ap (λ z. Statement-F.DeleteText z (number_in b) (number_in c)) (writable_back d a ea) ∙ ap (λ z. Statement-F.DeleteText d z (number_in c)) (number_back v b eb) ∙ ap (λ z. Statement-F.DeleteText d v z) (number_back w c ec))
+    known
+statement_said number (Statement-F.SetLength d v) part known =
+    two_said number key.SetLength (Statement-F.SetLength d v) part (λ a b. Statement-F.SetLength (writable_in a) (number_in b)) (writable_operand d) (number_operand v) (λ a b. refl)
+    (λ a b ea eb. ap (λ z. Statement-F.SetLength z (number_in b)) (writable_back d a ea) ∙ ap (λ z. Statement-F.SetLength d z) (number_back v b eb))
+    known
+statement_said number (Statement-F.Left y t v) part known =
+    three_said number key.Left (Statement-F.Left y t v) part (λ a b c. Statement-F.Left (view_in a) (text_in b) (number_in c)) (view_operand y) (text_operand t) (number_operand v) (λ a b c. refl)
+    (λ a b c ea eb ec. ap (λ z. Statement-F.Left z (text_in b) (number_in c)) (view_back y a ea) ∙ ap (λ z. Statement-F.Left y z (number_in c)) (text_back t b eb) ∙ ap (λ z. Statement-F.Left y t z) (number_back v c ec))
+    known
+statement_said number (Statement-F.Right y t v) part known =
+    three_said number key.Right (Statement-F.Right y t v) part (λ a b c. Statement-F.Right (view_in a) (text_in b) (number_in c)) (view_operand y) (text_operand t) (number_operand v) (λ a b c. refl)
+    (λ a b c ea eb ec. ap (λ z. Statement-F.Right z (text_in b) (number_in c)) (view_back y a ea) ∙ ap (λ z. Statement-F.Right y z (number_in c)) (text_back t b eb) ∙ ap (λ z. Statement-F.Right y t z) (number_back v c ec))
+    known
+statement_said number (Statement-F.Mid y t v w) part known =
+    four_said number key.Mid (Statement-F.Mid y t v w) part (λ a b c e. Statement-F.Mid (view_in a) (text_in b) (number_in c) (number_in e)) (view_operand y) (text_operand t) (number_operand v) (number_operand w) (λ a b c e. refl)
+    (λ a b c e ea eb ec ee. ap (λ z. Statement-F.Mid z (text_in b) (number_in c) (number_in e)) (view_back y a ea) ∙ ap (λ z. Statement-F.Mid y z (number_in c) (number_in e)) (text_back t b eb) ∙ ap (λ z. Statement-F.Mid y t z (number_in e)) (number_back v c ec) ∙ ap (λ z. Statement-F.Mid y t v z) (number_back w e ee))
+    known
+statement_said number (Statement-F.GetLength x t) part known =
+    two_said number key.GetLen (Statement-F.GetLength x t) part (λ a b. Statement-F.GetLength (variable_in a) (text_in b)) (variable_operand x) (text_operand t) (λ a b. refl)
+    (λ a b ea eb. ap (λ z. Statement-F.GetLength z (text_in b)) (variable_back x a ea) ∙ ap (λ z. Statement-F.GetLength x z) (text_back t b eb))
+    known
+statement_said number (Statement-F.GetMaximum x d) part known =
+    two_said number key.GetMax (Statement-F.GetMaximum x d) part (λ a b. Statement-F.GetMaximum (variable_in a) (writable_in b)) (variable_operand x) (writable_operand d) (λ a b. refl)
+    (λ a b ea eb. ap (λ z. Statement-F.GetMaximum z (writable_in b)) (variable_back x a ea) ∙ ap (λ z. Statement-F.GetMaximum x z) (writable_back d b eb))
+    known
+statement_said number (Statement-F.Set p q) part known =
+    two_said number key.Set (Statement-F.Set p q) part set_in (pointer_operand p) (pointer_operand q) (λ a b. refl)
+    (λ a b ea eb. set_back p a b ea ∙ ap (λ z. Statement-F.Set p z) (pointer_back q b eb))
+    known
+  where
+    set_back : (p : Pointer) (a b : Operand Meant) → pointer_operand p ≡ Some a → set_in a b ≡ Statement-F.Set p (pointer_in b)
+    set_back (Held (H.Local i)) a b is = let same : Name (meant.Pointer i) ≡ a = cc in subst (λ o. set_in o b ≡ Statement-F.Set (Held (H.Local i)) (pointer_in b)) same refl
+    set_back _ a b is = let clash : ⊥ = cc in absurd clash
+statement_said number (Statement-F.SetNumber x v) part known =
+    one_said_of_set (number_operand v) (λ b e. number_back v b e) known
+  where
+    one_said_of_set : (t : Spelled) → ((b : Operand Meant) → t ≡ Some b → number_in b ≡ v) → is_known (line key.Set (variable_operand x ∷ t ∷ [])) ≡ true → with_line number (line key.Set (variable_operand x ∷ t ∷ [])) part ≡ with_statement number (Statement-F.SetNumber x v) part
+    one_said_of_set (Some b) back known = ap (λ z. with_statement number (Statement-F.SetNumber x z) part) (back b refl)
+    one_said_of_set None back known = let clash : ⊥ = cc in absurd clash
+statement_said number (Statement-F.PrintNumber (Constant z)) part known = refl
+statement_said number (Statement-F.PrintNumber (Variable i)) part known = refl
+statement_said number (Statement-F.PrintText (Quoted i)) part known = refl
+statement_said number (Statement-F.PrintText (ViewOf i)) part known = refl
+statement_said number (Statement-F.PrintText (Of (OwnBuffer i))) part known = refl
+statement_said number (Statement-F.PrintText (Of (InCell (Held (H.Local i))))) part known = refl
+statement_said number _ part known = let clash : ⊥ = cc in absurd clash
