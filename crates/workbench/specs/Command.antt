@@ -6,13 +6,16 @@ use Rattle.wb_model.specs.declared.heap.Rule.TheVariants.{Limit, Number, Unlimit
 use Rattle.wb_model.specs.declared.heap.Shape.{Shape}
 use Rattle.workbench.specs.declared.command.Command.{Command}
 use Rattle.workbench.specs.declared.command.Task.{Task}
-use Rattle.workbench.specs.declared.command.Task.TheVariants.{Run}
+use Rattle.workbench.specs.declared.command.Task.TheVariants.{Run, Size, Sweep, Check}
 
 -- a limit, or the number of an attempt, is no greater than the greatest length of a heap
 abbrev pub is_in_range : Task → Bool
 is_in_range (Run Unlimited) = true
 is_in_range (Run (Limit l)) = nat_le l CEILING
 is_in_range (Run (Number n)) = nat_le n CEILING
+is_in_range Size = true
+is_in_range Sweep = true
+is_in_range Check = true
 
 -- the minimum length and the step are multiples of 16
 abbrev pub is_sixteenfold : Shape → Bool

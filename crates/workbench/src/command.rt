@@ -15,6 +15,12 @@ use wb_model::heap::{Rule, Shape};
 pub enum Task {
     /// One run under this rule, and its report.
     Run(Rule),
+    /// How long the heap must be for no attempt to be refused, and which attempt each shorter heap refuses.
+    Size,
+    /// The least number of an attempt whose failure shows a leak or a panic.
+    Sweep,
+    /// The one and the other.
+    Check,
 }
 
 /// A command: what is to be done, and with what.
