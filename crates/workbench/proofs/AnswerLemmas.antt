@@ -9,9 +9,8 @@ use Rattle.wb_model.specs.Run.{run}
 use Rattle.workbench.specs.declared.answer.TheConstants.{READ_OR_WRITE_FAULT, WANT_OF_MEMORY}
 use Rattle.workbench.specs.declared.command.Command.{Command}
 use Rattle.workbench.specs.declared.command.Task.{Task}
-use Rattle.workbench.specs.declared.command.Task.TheVariants as T
 use Rattle.workbench.specs.Answer.{IsAnswer, IsAnyMessage, IsMessage, IsPartWritten, IsReported, IsReportWritten, IsSaid}
-use Rattle.workbench.specs.Report.{IsReport, no_memory, outcome_status, task_status}
+use Rattle.workbench.specs.Report.{IsReport, no_memory, outcome_status, rule_meant, task_status}
 use Rattle.workbench.specs.Streams.{AppendsFirst}
 
 -- ---- a report's status is at most 3
@@ -24,7 +23,7 @@ outcome_status_le NoCleanup = lit≤ tt
 outcome_status_le (Cut why) = lit≤ tt
 
 task_status_le : (task : Task) (budget : ℕ) (shape : Shape) (script : Script) → task_status task budget shape script ≤ 3
-task_status_le (T.Run rule) budget shape script = outcome_status_le (run script rule budget shape).outcome
+task_status_le task budget shape script = outcome_status_le (run script (rule_meant task) budget shape).outcome
 
 report_status_le : (command : Command) (bytes text : List ℕ) (status : ℕ) → IsReport command bytes text status → status ≤ 3
 report_status_le command bytes text status (inl r) = omega (arith, task_status_le command.task command.budget command.shape r.script, r.status_is)

@@ -9,6 +9,8 @@ use Rattle.wb_model.specs.declared.heap.Answer.TheVariants.{Granted, Simulated, 
 use Rattle.wb_model.specs.declared.heap.Attempt.{Attempt}
 use Rattle.wb_model.specs.declared.heap.Panic.{Panic}
 use Rattle.wb_model.specs.declared.heap.Panic.TheVariants.{User, Alloc, Workbench}
+use Rattle.wb_model.specs.declared.heap.Rule.{Rule}
+use Rattle.wb_model.specs.declared.heap.Rule.TheVariants.{Unlimited}
 use Rattle.wb_model.specs.declared.heap.Shape.{Shape}
 use Rattle.wb_model.specs.declared.run.Leak.{Leak}
 use Rattle.wb_model.specs.declared.run.Note.{Note}
@@ -123,11 +125,18 @@ fault_line NoMemory = no_memory
 
 -- ---- which report a command has
 
+-- a stand-in: the other tasks have no report yet
+abbrev pub rule_meant : Task → Rule
+rule_meant (T.Run rule) = rule
+rule_meant T.Size = Unlimited
+rule_meant T.Sweep = Unlimited
+rule_meant T.Check = Unlimited
+
 abbrev pub task_text : Task → ℕ → Shape → Script → List ℕ
-task_text (T.Run rule) budget shape script = run_text (run script rule budget shape)
+task_text task budget shape script = run_text (run script (rule_meant task) budget shape)
 
 abbrev pub task_status : Task → ℕ → Shape → Script → ℕ
-task_status (T.Run rule) budget shape script = run_status (run script rule budget shape)
+task_status task budget shape script = run_status (run script (rule_meant task) budget shape)
 
 -- the bytes spell a script, and this is what the command's task comes to on it
 pub record IsReportOfScript (command : Command) (bytes text : List ℕ) (status : ℕ) : Type 0 where

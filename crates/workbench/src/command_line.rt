@@ -185,7 +185,10 @@ fn number<'a>(alloc: Global, name: &'a str, value: &'a str, least: u32, most: u3
     ensures rule { rule_of result ≡ number_option name.entry.now least most }
     ensures own { result.global ≡ false }
 {
-    Arg::new(alloc, name).long(name).value_name(value).value_parser(between(least, most))
+    Arg::new(alloc, name)
+        .long(name)
+        .value_name(value)
+        .value_parser(between(least, most))
 }
 
 /// What takes the decimal numbers of a range.

@@ -4,7 +4,7 @@
 ghost use Rattle.std.specs.Prelude.{◌≡◌, ◌≢◌, ◌++◌, OnOk, IfOk, IsTrue};
 ghost use Rattle.wb_model.specs.Sound.{is_script};
 ghost use Rattle.workbench.specs.Command.{is_answerable};
-ghost use Rattle.workbench.specs.Report.{IsReport, task_text, task_status, fault_line, refused, refused_at, outcome_status};
+ghost use Rattle.workbench.specs.Report.{IsReport, task_text, task_status, fault_line, refused, refused_at, outcome_status, rule_meant as meant};
 
 use crate::command::{Command, Task};
 use crate::run_text::put_run;
@@ -12,6 +12,7 @@ use std::alloc::Global;
 use std::io::Write;
 use wb_machine::machine::{self, RunFault};
 use wb_model::fault::ScriptFault;
+use wb_model::heap::Rule;
 use wb_model::memory::NoMemory;
 use wb_model::run::Outcome;
 use wb_model::script::Script;
@@ -45,8 +46,13 @@ fn carried_out(alloc: Global, command: &Command, script: &Script) -> Result<Repo
     ensures status { IfOk result (λ r. r.status ≡
         task_status command.now.task command.now.budget command.now.shape script.now) }
 {
-    let Task::Run(rule) = command.task;
-    match machine::run(alloc, script, rule, command.budget, command.shape) {
+    match machine::run(
+        alloc,
+        script,
+        rule_meant(command.task),
+        command.budget,
+        command.shape,
+    ) {
         Ok(run) => {
             let mut text = Vec::new(alloc);
             put_run(&mut text, &run)?;
@@ -58,6 +64,16 @@ fn carried_out(alloc: Global, command: &Command, script: &Script) -> Result<Repo
         // The command's shape is one that a heap may have.
         Err(RunFault::BadShape) => unreachable!(),
         Err(RunFault::NoMemory) => Err(NoMemory),
+    }
+}
+
+/// A stand-in: the other tasks have no report yet.
+fn rule_meant(task: Task) -> Rule
+    ensures { result ≡ meant task }
+{
+    match task {
+        Task::Run(rule) => rule,
+        Task::Size | Task::Sweep | Task::Check => Rule::Unlimited,
     }
 }
 
