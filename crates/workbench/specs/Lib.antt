@@ -7,4 +7,5 @@ pub mod Program
 pub mod Report
 pub mod Spelled
 pub mod Streams
+pub mod Subcommands
 pub mod WordByWord
