@@ -3,8 +3,11 @@ pub mod CommandLineLemmas
 pub mod FaultLemmas
 pub mod Hexadecimal
 pub mod KnownBytesLemmas
+pub mod LevelLemmas
 pub mod MatchesLemmas
+pub mod PassedRows
 pub mod PassedValues
+pub mod PassedWords
 pub mod ProgramLemmas
 pub mod RefusalLemmas
 pub mod TriesLemmas

@@ -1,15 +1,14 @@
 -- From what a parse found to what the words spell.
-use Rattle.std.proofs.Common.{◌≡◌, ◌∙◌, ◌<◌, ◌≤◌, ◌^◌, ◌%◌, ℕ, Bool, nat_eq, arith, true, false, eqb-true, refl, sym, ap, subst, List, [], Option, Some, None, Result, Ok, codes, option_and_then, option_map}
-use Rattle.std.specs.Prelude.{Box, IfSome, MatchOption, pos, unwrap_or}
+use Rattle.std.proofs.Common.{◌≡◌, ◌∙◌, ◌<◌, ◌≤◌, ◌^◌, ◌%◌, ℕ, Bool, nat_eq, arith, true, false, eqb-true, refl, sym, ap, ap₂, subst, List, [], Option, Some, None, Result, Ok, codes, option_and_then, option_map}
+use Rattle.std.specs.Prelude.{Box, IfSome, IsSome, MatchOption, pos, unwrap_or}
 use Rattle.std.specs.Option.{option_map_or}
-use Rattle.std.specs.Borrow.{Bor}
 use Rattle.std.specs.Box.{box_value}
 use Rattle.std.specs.Str.Parse.{ParsesUnsigned}
 use Rattle.clap.specs.Values.{Accepts, IsSignedIn, read_as, reading_of}
 use Rattle.clap.specs.Lexer.{without_minus}
 use Rattle.clap.specs.Facts.{parser_of_value}
 use Rattle.clap.specs.Walk.{Rule}
-use Rattle.clap.specs.Words.{App, HasMatchesOf, ReadsOne, Row, Text, fault_of, first_of, found_of, is_simple, is_simple_and_free, one_of, one_text, rows_of, subcommand_name_of, subcommand_of, subcommand_rows, subcommand_rows_of}
+use Rattle.clap.specs.Words.{App, HasMatchesOf, ReadsOne, Row, Text, fault_of, first_of, is_simple, is_simple_and_free, one_of, one_text, rows_of, subcommand_name_of, subcommand_of, subcommand_rows, subcommand_rows_of}
 use Rattle.clap.specs.declared.builder.value_parser.ValueParser.{ValueParser}
 use Rattle.clap.specs.declared.builder.value_parser.ValueParser.TheVariants.{Signed}
 use Rattle.clap.specs.declared.parser.matches.ArgMatches.{ArgMatches}
@@ -19,57 +18,71 @@ use Rattle.clap.specs.declared.parser.matches.ArgMatches.TheViews.{out-ArgMatche
 use Rattle.clap.proofs.CallerReads.{signed_reads}
 use Rattle.clap.proofs.ValueTestLemmas.{accepts-Accepts}
 use Rattle.clap.proofs.WalkLemmas.{one_text-rows}
-use Rattle.wb_model.specs.declared.limits.TheConstants.{CEILING, LARGEST_MINIMUM, SMALLEST_STEP, LARGEST_STEP}
+use Rattle.wb_model.specs.declared.limits.TheConstants.{CEILING, LARGEST_BUDGET, LARGEST_MINIMUM, SMALLEST_STEP, LARGEST_STEP}
 use Rattle.wb_model.specs.declared.heap.Shape.{Shape}
 use Rattle.workbench.specs.Command.{is_sixteenfold}
 use Rattle.workbench.specs.CommandLine.{command_line, run_level}
-use Rattle.workbench.specs.Spelled.{command_of, decimal, gives_both, number_of, run_of, spell_both, spelled}
-use Rattle.workbench.proofs.CommandLineLemmas.{below, fail_rule, limit_rule, min_rule, only_fail, only_limit, only_min, only_step, run_is_met, step_rule}
+use Rattle.workbench.specs.Spelled.{command_of, decimal, doubles, number_of, spell_both, spelled}
+use Rattle.workbench.specs.Subcommands.{Subcommand, subcommand_named}
+use Rattle.workbench.proofs.CommandLineLemmas.{one_is_met}
+use Rattle.workbench.proofs.LevelLemmas.{budget_rule, fail_rule, level_wide, limit_rule, min_rule, only_budget, only_fail, only_limit, only_min, only_step, step_rule}
 use Rattle.workbench.specs.Passed.{RowsPass}
 use Rattle.workbench.proofs.PassedValues.{IsOnly, PassedAs, first_passed}
 
--- the words have no fault, by them and by the parse the subcommand is `run` with these rows, and their values passed
-pub record MeetsRun (words : List Text) (m : ArgMatches) : Type 0 where
+-- the words have no fault, by them and by the parse the subcommand is one of the list with these rows, and their values
+-- passed
+pub record MeetsParse (words : List Text) (m : ArgMatches) : Type 0 where
   pub faultless : fault_of command_line words ≡ []
+  pub subcommand : Subcommand
+  pub named : subcommand_named subcommand.name ≡ Some subcommand
   pub rows : List Row
-  pub by_words : subcommand_of command_line words ≡ Some (codes "run", rows)
-  pub by_parse : subcommand_rows_of m ≡ Some (codes "run", rows)
-  pub passed : RowsPass below.rules rows
+  pub by_words : subcommand_of command_line words ≡ Some (subcommand.name, rows)
+  pub by_parse : subcommand_rows_of m ≡ Some (subcommand.name, rows)
+  pub passed : RowsPass run_level.rules rows
 
-pub meets_run : (words : List Text) (a : App) (m : ArgMatches) → a ≡ command_line → (is_simple_and_free a ≡ true → fault_of a words ≡ []) → HasMatchesOf a words m → MeetsRun words m
-meets_run words a m line no_fault matches =
+pub meets_parse : (words : List Text) (a : App) (m : ArgMatches) → a ≡ command_line → (is_simple_and_free a ≡ true → fault_of a words ≡ []) → HasMatchesOf a words m → MeetsParse words m
+meets_parse words a m line no_fault matches =
     let faultless = ap (λ b. fault_of b words) (sym line) ∙ no_fault (ap is_simple_and_free line) in
-    let met = run_is_met words faultless in record {
+    let met = one_is_met words faultless in record {
       faultless = faultless;
-      rows = _;
-      by_words = met.1.meaning;
-      by_parse = (matches (ap is_simple line)).1 ∙ ap (λ b. subcommand_of b words) line ∙ met.1.meaning;
-      passed = met.1.passed;
+      subcommand = met.subcommand;
+      named = met.is_one.named;
+      rows = met.rows;
+      by_words = met.meaning;
+      by_parse = (matches (ap is_simple line)).1 ∙ ap (λ b. subcommand_of b words) line ∙ met.meaning;
+      passed = level_wide met.subcommand.name met.subcommand.takes_rule met.rows met.passed;
     }
 
 named_rows : {Z : Type 0} (o : Option (Box SubCommand Z)) → option_map (λ b. (out-SubCommand (box_value b)).name.now) o ≡ option_map (λ (p : Text × List Row). p.0) (subcommand_rows o)
 named_rows None = refl
 named_rows (Some b) = refl
 
-pub names_run : (words : List Text) (m : ArgMatches) → MeetsRun words m → subcommand_name_of m ≡ Some (codes "run")
-names_run words m met = named_rows (out-ArgMatches m).subcommand ∙ ap (option_map (λ p. p.0)) met.by_parse
+pub name_met : (words : List Text) (m : ArgMatches) → (met : MeetsParse words m) → subcommand_name_of m ≡ Some met.subcommand.name
+name_met words m met = named_rows (out-ArgMatches m).subcommand ∙ ap (option_map (λ p. p.0)) met.by_parse
 
--- o is what the parse has of `run`
-pub rows_are : (words : List Text) (m : ArgMatches) → (met : MeetsRun words m) → (o : Option (Bor ArgMatches)) (r : Bor ArgMatches)
-    → IfSome o (λ x. option_map (λ (p : Text × List Row). p.1) (subcommand_rows_of m) ≡ Some (rows_of (found_of x.now))) → o ≡ Some r
-    → met.rows ≡ rows_of (found_of r.now)
-rows_are words m met o r found is =
-    let at : option_map (λ (p : Text × List Row). p.1) (subcommand_rows_of m) ≡ Some (rows_of (found_of r.now)) = rw is at found in
-    let same : Some met.rows ≡ Some (rows_of (found_of r.now)) = ap (option_map (λ (p : Text × List Row). p.1)) (sym met.by_parse) ∙ at in cc
+-- what the parse has of the subcommand: these are its name and its rows
+pub record IsParsed (words : List Text) (m : ArgMatches) (name : Text) (rows : List Row) : Type 0 where
+  pub faultless : fault_of command_line words ≡ []
+  pub named : IsSome (subcommand_named name)
+  pub passed : RowsPass run_level.rules rows
+  pub meaning : spelled words ≡ command_of (name, rows)
+  pub doubled : spell_both words ≡ doubles name rows
 
-pub run_passed : (words : List Text) (m : ArgMatches) → (met : MeetsRun words m) → (rows : List Row) → met.rows ≡ rows → RowsPass run_level.rules rows
-run_passed words m met rows are = subst (RowsPass run_level.rules) are met.passed
-
-pub spelled_run : (words : List Text) (m : ArgMatches) → (met : MeetsRun words m) → (rows : List Row) → met.rows ≡ rows → spelled words ≡ Some (run_of rows)
-spelled_run words m met rows are = ap (option_and_then command_of) met.by_words ∙ ap (λ l. Some (run_of l)) are
-
-pub doubled_run : (words : List Text) (m : ArgMatches) → (met : MeetsRun words m) → (rows : List Row) → met.rows ≡ rows → spell_both words ≡ gives_both rows
-doubled_run words m met rows are = ap (λ (o : Option (Text × List Row)). option_map_or (λ p. gives_both p.1) o false) met.by_words ∙ ap gives_both are
+pub is_parsed : (words : List Text) (m : ArgMatches) → MeetsParse words m → (name : Text) (rows : List Row)
+    → Some name ≡ subcommand_name_of m → Some rows ≡ option_map (λ (p : Text × List Row). p.1) (subcommand_rows_of m) → IsParsed words m name rows
+is_parsed words m met name rows is_name are_rows =
+    let same_name : Some name ≡ Some met.subcommand.name = is_name ∙ name_met words m met in
+    let same_rows : Some rows ≡ Some met.rows = are_rows ∙ ap (option_map (λ (p : Text × List Row). p.1)) met.by_parse in
+    let called : met.subcommand.name ≡ name = cc in
+    let are : met.rows ≡ rows = cc in
+    let both : subcommand_of command_line words ≡ Some (name, rows) = met.by_words ∙ ap₂ (λ t l. Some (t, l)) called are in
+    record {
+      faultless = met.faultless;
+      named = subst (λ t. IsSome (subcommand_named t)) called (rw met.named refl);
+      passed = subst (RowsPass run_level.rules) are met.passed;
+      meaning = ap (option_and_then command_of) both;
+      doubled = ap (λ (o : Option (Text × List Row)). option_map_or (λ p. doubles p.0 p.1) o false) both;
+    }
 
 -- ---- numbers
 
@@ -107,7 +120,7 @@ module _ (E : Type 0) (G : List ℕ → Result ℕ E → Type 0) (parses : (u : 
           record { is = is_none ∙ ap (option_map decimal) (sym absent); within = rw is_none tt }
       go (Some t) p = given t p
 
-  -- of each option of `run`
+  -- of each option
   abbrev OptionRead : Text → ℕ → ℕ → Type 0
   OptionRead id low high = (f : Found) (r : Option ℕ) → RowsPass run_level.rules (rows_of f)
       → (one_text f id ≡ None → r ≡ None) → ((t : Text) → one_text f id ≡ Some t → ReadsOne G t r) → IsNumberOf id (rows_of f) low high r
@@ -117,6 +130,9 @@ module _ (E : Type 0) (G : List ℕ → Result ℕ E → Type 0) (parses : (u : 
 
   pub fail_is : OptionRead (codes "fail") 0 CEILING
   fail_is f r passed = number_is run_level.rules (codes "fail") fail_rule 0 CEILING f r refl (omega arith) only_fail passed
+
+  pub budget_is : OptionRead (codes "budget") 1 LARGEST_BUDGET
+  budget_is f r passed = number_is run_level.rules (codes "budget") budget_rule 1 LARGEST_BUDGET f r refl (omega arith) only_budget passed
 
   pub min_is : OptionRead (codes "min") 0 LARGEST_MINIMUM
   min_is f r passed = number_is run_level.rules (codes "min") min_rule 0 LARGEST_MINIMUM f r refl (omega arith) only_min passed

@@ -146,7 +146,7 @@ pub and_true : (p : Bool) → (p && true) ≡ p
 and_true true = refl
 and_true false = refl
 
-and_false : (p : Bool) → (p && false) ≡ false
+pub and_false : (p : Bool) → (p && false) ≡ false
 and_false true = refl
 and_false false = refl
 

@@ -1,9 +1,10 @@
 -- The command line, as clap's meaning of a simple command sees it.
-use Rattle.std.specs.Prelude.{true, ℕ, Some, codes, pos}
+use Rattle.std.specs.Prelude.{true, ℕ, Bool, List, [], ◌∷◌, ◌++◌, Some, codes, fold, if◌then◌else◌, pos}
 use Rattle.clap.specs.Words.{App, Rule, Text, new_app, new_rule, with_rule, with_subcommand}
 use Rattle.clap.specs.Simple.{Shape, built_leaf}
 use Rattle.clap.specs.declared.builder.value_parser.ValueParser.TheVariants.{Signed}
-use Rattle.wb_model.specs.declared.limits.TheConstants.{CEILING, LARGEST_MINIMUM, LARGEST_STEP, SMALLEST_STEP}
+use Rattle.wb_model.specs.declared.limits.TheConstants.{CEILING, LARGEST_BUDGET, LARGEST_MINIMUM, LARGEST_STEP, SMALLEST_STEP}
+use Rattle.workbench.specs.Subcommands.{Subcommand, subcommands}
 
 -- `--NAME N`, where N is a number from the least to the most
 abbrev pub number_option : Text → ℕ → ℕ → Rule
@@ -18,23 +19,44 @@ limit_option = number_option (codes "limit") 0 CEILING
 abbrev pub fail_option : Rule
 fail_option = number_option (codes "fail") 0 CEILING
 
+abbrev pub budget_option : Rule
+budget_option = number_option (codes "budget") 1 LARGEST_BUDGET
+
 abbrev pub min_option : Rule
 min_option = number_option (codes "min") 0 LARGEST_MINIMUM
 
 abbrev pub step_option : Rule
 step_option = number_option (codes "step") SMALLEST_STEP LARGEST_STEP
 
--- `run [--limit L] [--fail N] [--min M] [--step G] [FILE]`
-abbrev pub run_line : App
-run_line = with_rule (with_rule (with_rule (with_rule (with_rule (new_app (codes "run")) file_argument) limit_option) fail_option) min_option) step_option
+-- the options of a rule, for the subcommands that take one
+abbrev pub rule_options : Bool → List Rule
+rule_options takes_rule = if takes_rule then limit_option ∷ fail_option ∷ [] else []
+
+-- those of every subcommand
+abbrev pub shared_options : List Rule
+shared_options = budget_option ∷ min_option ∷ step_option ∷ []
+
+abbrev pub with_rules : App → List Rule → App
+with_rules = fold with_rule
+
+-- `NAME [--limit L] [--fail N] [--budget B] [--min M] [--step G] [FILE]`, or the same without a rule
+abbrev pub subcommand_line : Text → Bool → App
+subcommand_line name takes_rule = with_rules (new_app name) (file_argument ∷ rule_options takes_rule ++ shared_options)
 
 -- the same once it is built, with its call for help
+abbrev pub level : Text → Bool → Shape
+level name takes_rule = built_leaf (subcommand_line name takes_rule).top
+
+abbrev pub level_of : Subcommand → Shape
+level_of s = level s.name s.takes_rule
+
+-- the level that has every option
 abbrev pub run_level : Shape
-run_level = built_leaf run_line.top
+run_level = level (codes "run") true
 
 -- `workbench`, which wants a subcommand
 abbrev pub bare_line : App
 bare_line = let line = new_app (codes "workbench") in record line { top = record line.top { subcommand_required = true } }
 
 abbrev pub command_line : App
-command_line = with_subcommand bare_line run_line.top
+command_line = fold (λ line s. with_subcommand line (subcommand_line s.name s.takes_rule).top) bare_line subcommands

@@ -8,5 +8,6 @@ pub mod Report
 pub mod RunText
 pub mod Spelled
 pub mod Streams
+pub mod Subcommands
 pub mod TwoNumbers
 pub mod WordByWord

@@ -1,8 +1,7 @@
 -- The command that words spell, by clap's meaning of the command line. The first word is the program's name, and is not
 -- looked at.
-use Rattle.std.specs.Prelude.{◌≡◌, ◌&&◌, ℕ, List, [], Bool, false, Option, Some, None, codes, if◌then◌else◌, is_some, option_map, option_and_then, unwrap_or}
+use Rattle.std.specs.Prelude.{◌≡◌, ◌&&◌, ℕ, List, [], Bool, false, Option, Some, codes, is_some, option_map, option_and_then, unwrap_or}
 use Rattle.std.specs.Option.{option_map_or}
-use Rattle.std.specs.Str.{bytes_eq}
 use Rattle.std.specs.Str.Parse.{digits_value, without_leading_plus}
 use Rattle.clap.specs.Words.{Row, Text, fault_of, first_of, one_of, subcommand_of}
 use Rattle.wb_model.specs.declared.heap.Rule.{Rule}
@@ -10,8 +9,9 @@ use Rattle.wb_model.specs.declared.heap.Rule.TheVariants.{Limit, Number, Unlimit
 use Rattle.wb_model.specs.declared.heap.Shape.{Shape}
 use Rattle.wb_model.specs.declared.limits.TheConstants.{DEFAULT_BUDGET, DEFAULT_MINIMUM, DEFAULT_STEP}
 use Rattle.workbench.specs.CommandLine.{command_line}
+use Rattle.workbench.specs.Subcommands.{subcommand_named}
 use Rattle.workbench.specs.declared.command.Command.{Command}
-use Rattle.workbench.specs.declared.command.Task.TheVariants.{Run}
+use Rattle.workbench.specs.declared.command.Task.{Task}
 
 -- what holds where the words don't say otherwise
 abbrev pub default_shape : Shape
@@ -39,19 +39,30 @@ shape_of rows = record {
   step = unwrap_or (number_of (codes "step") rows) default_shape.step;
 }
 
--- the command of `run`, by its matches
-abbrev pub run_of : List Row → Command
-run_of rows = record {
-  task = Run (rule_of rows);
+abbrev pub budget_of : List Row → ℕ
+budget_of rows = unwrap_or (number_of (codes "budget") rows) DEFAULT_BUDGET
+
+-- what a subcommand asks for, by its name and matches
+abbrev pub task_of : Text → List Row → Option Task
+task_of name rows = option_map (λ s. s.task (rule_of rows)) (subcommand_named name)
+
+-- the command of a task, by the matches of its subcommand
+abbrev pub command_with : List Row → Task → Command
+command_with rows task = record {
+  task = task;
   file = first_of (codes "file") rows;
-  budget = DEFAULT_BUDGET;
+  budget = budget_of rows;
   shape = shape_of rows;
   json = false;
 }
 
 -- the command of a subcommand's name and matches
 abbrev pub command_of : Text × List Row → Option Command
-command_of p = if bytes_eq p.0 (codes "run") then Some (run_of p.1) else None
+command_of p = option_map (command_with p.1) (task_of p.0 p.1)
+
+-- the subcommand takes a rule, and a limit and a number are both given to it
+abbrev pub doubles : Text → List Row → Bool
+doubles name rows = option_map_or (λ s. s.takes_rule) (subcommand_named name) false && gives_both rows
 
 -- the command that the words spell, where clap takes them
 abbrev pub spelled : List Text → Option Command
@@ -59,7 +70,7 @@ spelled words = option_and_then command_of (subcommand_of command_line words)
 
 -- the words give both a limit and a number
 abbrev pub spell_both : List Text → Bool
-spell_both words = option_map_or (λ p. gives_both p.1) (subcommand_of command_line words) false
+spell_both words = option_map_or (λ p. doubles p.0 p.1) (subcommand_of command_line words) false
 
 -- clap finds no fault in the words, not both a limit and a number are there, and this is what they spell
 pub record IsSpelledBy (words : List Text) (command : Command) : Type 0 where

@@ -1,5 +1,6 @@
 -- Which words clap takes on the command line where none of them is an option, and what they spell, said without clap.
-use Rattle.std.specs.Prelude.{◌≡◌, ◌≢◌, ◌==◌, ◌&&◌, ◌||◌, Bool, true, false, not, List, [], ◌∷◌, Option, Some, None, MatchOption, codes, drop, if◌then◌else◌}
+use Rattle.std.specs.Prelude.{◌≡◌, ◌≢◌, ◌==◌, ◌&&◌, ◌||◌, Bool, true, false, not, List, [], ◌∷◌, Option, Some, None, MatchOption, codes, if◌then◌else◌}
+use Rattle.std.specs.List.{list_any}
 use Rattle.std.specs.Option.{option_map_or}
 use Rattle.std.specs.Str.{bytes_eq}
 use Rattle.clap.specs.Lexer.{long_of}
@@ -7,9 +8,10 @@ use Rattle.clap.specs.Words.{Text, fault_of, takes}
 use Rattle.wb_model.specs.declared.heap.Rule.TheVariants.{Unlimited}
 use Rattle.wb_model.specs.declared.limits.TheConstants.{DEFAULT_BUDGET}
 use Rattle.workbench.specs.CommandLine.{command_line}
+use Rattle.workbench.specs.Subcommands.{Subcommand, subcommand_named}
 use Rattle.workbench.specs.Spelled.{IsSpelledBy, default_shape}
 use Rattle.workbench.specs.declared.command.Command.{Command}
-use Rattle.workbench.specs.declared.command.Task.TheVariants.{Run}
+use Rattle.workbench.specs.declared.command.Task.{Task}
 
 -- `--`, after which no word is a flag
 abbrev pub is_separator : Text → Bool
@@ -20,20 +22,27 @@ abbrev pub is_flag : Text → Bool
 is_flag (x ∷ y ∷ rest) = x == 45
 is_flag _ = false
 
--- the name of an option of `run`
-abbrev pub is_option : Text → Bool
-is_option name = bytes_eq (codes "limit") name || (bytes_eq (codes "fail") name || (bytes_eq (codes "min") name || bytes_eq (codes "step") name))
+-- the options that every subcommand has
+abbrev pub shared_names : List Text
+shared_names = codes "budget" ∷ codes "min" ∷ codes "step" ∷ []
+
+-- the options of a subcommand, by whether it takes a rule
+abbrev pub option_names : Bool → List Text
+option_names takes_rule = if takes_rule then codes "limit" ∷ codes "fail" ∷ shared_names else shared_names
+
+abbrev pub is_option : List Text → Text → Bool
+is_option names name = list_any (λ o. bytes_eq o name) names
 
 -- `--NAME` or `--NAME=VALUE`, with such a name
-abbrev pub names_option : Text → Bool
-names_option word = option_map_or (λ named. is_option named.0) (long_of word) false
+abbrev pub names_option : List Text → Text → Bool
+names_option names word = option_map_or (λ named. is_option names named.0) (long_of word) false
 
 -- no word before a first `--` does
-abbrev pub has_no_option : List Text → Bool
-has_no_option [] = true
-has_no_option (word ∷ rest) = is_separator word || (not (names_option word) && has_no_option rest)
+abbrev pub has_no_option : List Text → List Text → Bool
+has_no_option names [] = true
+has_no_option names (word ∷ rest) = is_separator word || (not (names_option names word) && has_no_option names rest)
 
--- what the words after `run` name: FILE, or nothing (`Some None`); `None` where they are not taken. One `--` may stand
+-- what the words after a subcommand name: FILE, or nothing (`Some None`); `None` where they are not taken. One `--` may stand
 -- before FILE, which may then be any word, or after it, or alone
 abbrev pub file_named : List Text → Option (Option Text)
 file_named [] = Some None
@@ -42,23 +51,26 @@ file_named (f ∷ g ∷ []) =
     if is_separator f then Some (Some g) else if not (is_flag f) && is_separator g then Some (Some f) else None
 file_named _ = None
 
--- the same of all the words: any name of the program, then `run`
-abbrev pub file_in : List Text → Option (Option Text)
-file_in (name ∷ word ∷ rest) = if bytes_eq (codes "run") word then file_named rest else None
-file_in _ = None
+-- a task on the file, or on standard input, with the default budget and shape
+abbrev pub plain_command : Task → Option Text → Command
+plain_command task file = record { task = task; file = file; budget = DEFAULT_BUDGET; shape = default_shape; json = false }
 
--- a run of the file, or of standard input, without a limit or a number and with the default shape
-abbrev pub plain_run : Option Text → Command
-plain_run file = record { task = Run Unlimited; file = file; budget = DEFAULT_BUDGET; shape = default_shape; json = false }
-
-pub record AreTaken (words : List Text) (file : Option Text) : Type 0 where
+pub record AreTaken (words : List Text) (command : Command) : Type 0 where
   pub taken : takes command_line words ≡ true
-  pub spell : IsSpelledBy words (plain_run file)
+  pub spell : IsSpelledBy words command
 
 pub record AreRefused (words : List Text) : Type 0 where
   pub refused : takes command_line words ≡ false
   pub faulty : fault_of command_line words ≢ []
 
--- without options, clap takes just these words, and they spell a run of the file that they name
+-- where no word after the subcommand is an option of it, clap takes just these, and they spell its task, without a limit
+-- or a number, on the file that they name
+abbrev pub AreReadAfter : Subcommand → List Text → List Text → Type 0
+AreReadAfter s words rest = has_no_option (option_names s.takes_rule) rest ≡ true
+    → MatchOption (file_named rest) (AreRefused words) (λ file. AreTaken words (plain_command (s.task Unlimited) file))
+
+-- any name of the program, then a subcommand's, then the words after it; clap refuses all others
 abbrev pub AreRead : List Text → Type 0
-AreRead words = has_no_option (drop 2 words) ≡ true → MatchOption (file_in words) (AreRefused words) (AreTaken words)
+AreRead (name ∷ word ∷ rest) =
+    MatchOption (subcommand_named word) (AreRefused (name ∷ word ∷ rest)) (λ s. AreReadAfter s (name ∷ word ∷ rest) rest)
+AreRead words = AreRefused words

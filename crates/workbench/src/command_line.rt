@@ -1,15 +1,17 @@
-//! How the words of a command line are read: `workbench run [--limit L | --fail N] [--min M] [--step G]
-//! [FILE]`. Nothing is opened or run here.
-ghost use Rattle.std.specs.Prelude.{◌≡◌, ◌≤◌, All, IfErr, IfOk, IsTrue, List, OnErr, OnOk, codes, false, map, pos, true};
+//! How the words of a command line are read: `workbench run [--limit L | --fail N] [--budget B] [--min M]
+//! [--step G] [FILE]`, and the same without a limit or a number after `size`, `sweep` and `check`. Nothing is
+//! opened or run here.
+ghost use Rattle.std.specs.Prelude.{◌≡◌, ◌≤◌, All, IfErr, IfOk, IsSome, IsTrue, List, Some, OnErr, OnOk, codes, false, map, pos, true};
 ghost use Rattle.std.specs.Str.{IsUtf8};
-ghost use Rattle.clap.specs.Words.{Text, app_of, first_of, found_of, rows_of, rule_of, takes, with_rule};
+ghost use Rattle.clap.specs.Words.{Text, app_of, first_of, found_of, new_app, rows_of, rule_of, takes, with_rule, with_subcommand};
 ghost use Rattle.clap.specs.declared.builder.command.Command.TheViews.{out-Command as fields_of};
 ghost use Rattle.wb_model.specs.Space.{is_shape};
 ghost use Rattle.workbench.specs.Command.{is_answerable, is_in_range, is_sixteenfold};
-ghost use Rattle.workbench.specs.CommandLine.{command_line, file_argument, number_option, run_level, run_line};
+ghost use Rattle.workbench.specs.CommandLine.{command_line, file_argument, number_option, rule_options, run_level, shared_options, with_rules};
 ghost use Rattle.workbench.specs.Fault.{IsAfterUsage, IsFaultOf};
 ghost use Rattle.workbench.specs.Passed.{RowsPass};
-ghost use Rattle.workbench.specs.Spelled.{IsSpelledBy, gives_both, rule_of as spelled_rule, shape_of as spelled_shape};
+ghost use Rattle.workbench.specs.Spelled.{IsSpelledBy, budget_of as spelled_budget, doubles, gives_both, rule_of as spelled_rule, shape_of as spelled_shape, task_of};
+ghost use Rattle.workbench.specs.Subcommands.{subcommand_named};
 ghost use Rattle.workbench.specs.WordByWord.{AreRead};
 
 use crate::command::{Command, CommandFault, Task};
@@ -20,8 +22,8 @@ use std::alloc::{AllocError, Global};
 use std::convert::AsStr;
 use wb_model::heap::{Rule, Shape};
 use wb_model::limits::{
-    CEILING, DEFAULT_BUDGET, DEFAULT_MINIMUM, DEFAULT_STEP, LARGEST_MINIMUM, LARGEST_STEP,
-    SMALLEST_STEP,
+    CEILING, DEFAULT_BUDGET, DEFAULT_MINIMUM, DEFAULT_STEP, LARGEST_BUDGET, LARGEST_MINIMUM,
+    LARGEST_STEP, SMALLEST_STEP,
 };
 
 /// The granule of a heap's lengths, in bytes.
@@ -44,28 +46,50 @@ pub fn command<'a, S: AsStr>(alloc: Global, words: &'a [S]) -> Result<Command, C
     let matches = parser(alloc, &help)?.try_get_matches_from(words)?;
 
     // Words that pass name a subcommand, and `help` never passes.
-    let run = matches.subcommand_matches("run").unwrap();
-    let rule = rule_in(run)?;
-    let shape = shape_in(run)?;
+    let (name, options) = matches.subcommand().unwrap();
+    let task = task_in(name, options)?;
+    let shape = shape_in(options)?;
     Ok(Command {
-        task: Task::Run(rule),
-        file: file_in(alloc, run)?,
-        budget: DEFAULT_BUDGET,
+        task,
+        file: file_in(alloc, options)?,
+        budget: budget_in(options),
         shape,
         json: false,
     })
 }
 
-/// The rule that the options of `run` spell, or `Both`.
-fn rule_in(run: &ArgMatches) -> Result<Rule, CommandFault>
-    requires { RowsPass run_level.rules (rows_of (found_of run.now)) }
-    ensures ok { IfOk result (λ rule. rule ≡ spelled_rule (rows_of (found_of run.now))) }
-    ensures range { IfOk result (λ rule. IsTrue (is_in_range (Task.Run rule))) }
-    ensures alone { OnOk result (gives_both (rows_of (found_of run.now)) ≡ false) }
+/// What a subcommand asks for, or `Both`.
+fn task_in(name: &str, options: &ArgMatches) -> Result<Task, CommandFault>
+    requires named { IsSome (subcommand_named name.now) }
+    requires passed { RowsPass run_level.rules (rows_of (found_of options.now)) }
+    ensures ok { IfOk result (λ task. task_of name.now (rows_of (found_of options.now)) ≡ Some task) }
+    ensures range { IfOk result (λ task. IsTrue (is_in_range task)) }
+    ensures alone { OnOk result (doubles name.now (rows_of (found_of options.now)) ≡ false) }
     ensures fault { IfErr result (λ fault. fault ≡ CommandFault.Both) }
-    ensures both { OnErr result (gives_both (rows_of (found_of run.now)) ≡ true) }
+    ensures both { OnErr result (doubles name.now (rows_of (found_of options.now)) ≡ true) }
 {
-    match (run.get_one::<u32>("limit"), run.get_one::<u32>("fail")) {
+    match name {
+        "run" => Ok(Task::Run(rule_in(options)?)),
+        "size" => Ok(Task::Size),
+        "sweep" => Ok(Task::Sweep),
+        // There is no other.
+        _ => Ok(Task::Check),
+    }
+}
+
+/// The rule that the options of `run` spell, or `Both`.
+fn rule_in(options: &ArgMatches) -> Result<Rule, CommandFault>
+    requires { RowsPass run_level.rules (rows_of (found_of options.now)) }
+    ensures ok { IfOk result (λ rule. rule ≡ spelled_rule (rows_of (found_of options.now))) }
+    ensures range { IfOk result (λ rule. IsTrue (is_in_range (Task.Run rule))) }
+    ensures alone { OnOk result (gives_both (rows_of (found_of options.now)) ≡ false) }
+    ensures fault { IfErr result (λ fault. fault ≡ CommandFault.Both) }
+    ensures both { OnErr result (gives_both (rows_of (found_of options.now)) ≡ true) }
+{
+    match (
+        options.get_one::<u32>("limit"),
+        options.get_one::<u32>("fail"),
+    ) {
         (Some(_), Some(_)) => Err(CommandFault::Both),
         (Some(limit), None) => Ok(Rule::Limit(limit)),
         (None, Some(number)) => Ok(Rule::Number(number)),
@@ -73,16 +97,26 @@ fn rule_in(run: &ArgMatches) -> Result<Rule, CommandFault>
     }
 }
 
+/// The greatest number of steps that they spell.
+fn budget_in(options: &ArgMatches) -> u32
+    requires { RowsPass run_level.rules (rows_of (found_of options.now)) }
+    ensures is { result ≡ spelled_budget (rows_of (found_of options.now)) }
+    ensures least { 1 ≤ result }
+    ensures most { result ≤ LARGEST_BUDGET }
+{
+    options.get_one("budget").unwrap_or(DEFAULT_BUDGET)
+}
+
 /// The heap's minimum length and step that they spell, or `Shape`.
-fn shape_in(run: &ArgMatches) -> Result<Shape, CommandFault>
-    requires { RowsPass run_level.rules (rows_of (found_of run.now)) }
-    ensures ok { IfOk result (λ shape. shape ≡ spelled_shape (rows_of (found_of run.now))) }
+fn shape_in(options: &ArgMatches) -> Result<Shape, CommandFault>
+    requires { RowsPass run_level.rules (rows_of (found_of options.now)) }
+    ensures ok { IfOk result (λ shape. shape ≡ spelled_shape (rows_of (found_of options.now))) }
     ensures range { IfOk result (λ shape. IsTrue (is_shape shape)) }
     ensures fault { IfErr result (λ fault. fault ≡ CommandFault.Shape) }
-    ensures misshapen { IfErr result (λ _. is_sixteenfold (spelled_shape (rows_of (found_of run.now))) ≡ false) }
+    ensures misshapen { IfErr result (λ _. is_sixteenfold (spelled_shape (rows_of (found_of options.now))) ≡ false) }
 {
-    let min = run.get_one("min").unwrap_or(DEFAULT_MINIMUM);
-    let step = run.get_one("step").unwrap_or(DEFAULT_STEP);
+    let min = options.get_one("min").unwrap_or(DEFAULT_MINIMUM);
+    let step = options.get_one("step").unwrap_or(DEFAULT_STEP);
     if min % GRANULE == 0 && step % GRANULE == 0 {
         Ok(Shape { min, step })
     } else {
@@ -91,10 +125,10 @@ fn shape_in(run: &ArgMatches) -> Result<Shape, CommandFault>
 }
 
 /// The script's file, where they name one. The only error is that memory ran out.
-fn file_in(alloc: Global, run: &ArgMatches) -> Result<Option<FileName>, AllocError>
-    ensures { IfOk result (λ file. file ≡ first_of (codes "file") (rows_of (found_of run.now))) }
+fn file_in(alloc: Global, options: &ArgMatches) -> Result<Option<FileName>, AllocError>
+    ensures { IfOk result (λ file. file ≡ first_of (codes "file") (rows_of (found_of options.now))) }
 {
-    match run.get_str("file") {
+    match options.get_str("file") {
         Some(name) => Ok(Some(FileName::copy_of(alloc, name)?)),
         None => Ok(None),
     }
@@ -105,6 +139,7 @@ fn file_in(alloc: Global, run: &ArgMatches) -> Result<Option<FileName>, AllocErr
 struct NumberHelp {
     limit: String,
     fail: String,
+    budget: String,
     min: String,
     step: String,
 }
@@ -117,6 +152,10 @@ impl NumberHelp {
             )?,
             fail: format!(in alloc;
                 "Refuses the attempt with number N, from 0 to {CEILING}; there is no attempt 0"
+            )?,
+            budget: format!(in alloc;
+                "The greatest number of steps of a run, from 1 to {LARGEST_BUDGET} \
+                 [default: {DEFAULT_BUDGET}]"
             )?,
             min: format!(in alloc;
                 "The heap's minimum length in bytes, a multiple of {GRANULE} \
@@ -134,28 +173,85 @@ impl NumberHelp {
 fn parser<'a>(alloc: Global, help: &'a NumberHelp) -> Result<clap::Command<'a>, AllocError>
     ensures { IfOk result (λ line. app_of line ≡ command_line) }
 {
-    let run = run_parser(alloc, help)?;
-    clap::Command::new(alloc, "workbench")
+    let run = on_a_script(alloc, "run", "Runs a script once and reports")?;
+    let run = with_rule_options(alloc, run, help)?;
+    let size = on_a_script(
+        alloc,
+        "size",
+        "Finds how long the heap must be, and what shorter heaps refuse",
+    )?;
+    let sweep = on_a_script(
+        alloc,
+        "sweep",
+        "Finds the first attempt whose failure leaks or panics",
+    )?;
+    let check = on_a_script(
+        alloc,
+        "check",
+        "Does what size does, and then what sweep does",
+    )?;
+    let line = clap::Command::new(alloc, "workbench")
         .about("Runs scripts against a simulated heap that may refuse")
-        .subcommand_required(true)
-        .subcommand(run)
+        .subcommand_required(true);
+    let line = with_level(line, with_shared_options(alloc, run, help)?)?;
+    let line = with_level(line, with_shared_options(alloc, size, help)?)?;
+    let line = with_level(line, with_shared_options(alloc, sweep, help)?)?;
+    with_level(line, with_shared_options(alloc, check, help)?)
 }
 
-/// Those after `run`.
-fn run_parser<'a>(alloc: Global, help: &'a NumberHelp) -> Result<clap::Command<'a>, AllocError>
-    ensures words { IfOk result (λ line. app_of line ≡ run_line) }
+/// A subcommand that takes a script's file, as yet without options.
+fn on_a_script<'a>(
+    alloc: Global,
+    name: &'a str,
+    about: &'a str,
+) -> Result<clap::Command<'a>, AllocError>
+    ensures words { IfOk result (λ line. app_of line ≡ with_rule (new_app name.entry.now) file_argument) }
     ensures own { IfOk result (λ line. (fields_of line).has_globals ≡ false) }
+{
+    let line = clap::Command::new(alloc, name).about(about);
+    with_argument(line, file(alloc))
+}
+
+/// The subcommand with the options that give a rule.
+fn with_rule_options<'a>(
+    alloc: Global,
+    line: clap::Command<'a>,
+    help: &'a NumberHelp,
+) -> Result<clap::Command<'a>, AllocError>
+    ensures added { IfOk result (λ more. app_of more ≡ with_rules (app_of line.entry) (rule_options true)) }
+    ensures own { IfOk result (λ more. (fields_of more).has_globals ≡ (fields_of line.entry).has_globals) }
 {
     let limit = number(alloc, "limit", "L", 0, CEILING).help(help.limit.as_str());
     let fail = number(alloc, "fail", "N", 0, CEILING).help(help.fail.as_str());
+    with_argument(with_argument(line, limit)?, fail)
+}
+
+/// The subcommand with the options that all of them have.
+fn with_shared_options<'a>(
+    alloc: Global,
+    line: clap::Command<'a>,
+    help: &'a NumberHelp,
+) -> Result<clap::Command<'a>, AllocError>
+    ensures added { IfOk result (λ more. app_of more ≡ with_rules (app_of line.entry) shared_options) }
+    ensures own { IfOk result (λ more. (fields_of more).has_globals ≡ (fields_of line.entry).has_globals) }
+{
+    let budget = number(alloc, "budget", "B", 1, LARGEST_BUDGET).help(help.budget.as_str());
     let min = number(alloc, "min", "M", 0, LARGEST_MINIMUM).help(help.min.as_str());
     let step = number(alloc, "step", "G", SMALLEST_STEP, LARGEST_STEP).help(help.step.as_str());
-    let line = clap::Command::new(alloc, "run").about("Runs a script once and reports");
-    let line = with_argument(line, file(alloc))?;
-    let line = with_argument(line, limit)?;
-    let line = with_argument(line, fail)?;
+    let line = with_argument(line, budget)?;
     let line = with_argument(line, min)?;
     with_argument(line, step)
+}
+
+/// The command line with one subcommand more.
+fn with_level<'a>(
+    line: clap::Command<'a>,
+    level: clap::Command<'a>,
+) -> Result<clap::Command<'a>, AllocError>
+    requires { (fields_of level).has_globals ≡ false }
+    ensures { IfOk result (λ more. app_of more ≡ with_subcommand (app_of line.entry) (app_of level.entry).top) }
+{
+    line.subcommand(level)
 }
 
 /// The script's file, which may be left out.
@@ -199,8 +295,9 @@ fn between<'a>(least: u32, most: u32) -> ValueParser<'a>
 }
 
 /// Law: which words the command line takes, and what they spell, word by word. After the program's name and
-/// `run` stands one FILE or none, and one `--` or none before or after it. FILE begins with no hyphen or is
-/// `-`, but after `--` it is any word.
+/// that of a subcommand stands one FILE or none, and one `--` or none before or after it. FILE begins with no
+/// hyphen or is `-`, but after `--` it is any word. What is an option of another subcommand is a word that
+/// begins with a hyphen.
 pub fn words_are_read()
     ensures { (words : List Text) → All IsUtf8 words → AreRead words }
 {}

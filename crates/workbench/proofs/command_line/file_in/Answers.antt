@@ -5,8 +5,8 @@ use Rattle.workbench.proofs.command_line.file_in.Goals as goal
 
 pub returns-in_ok-copy_of-in-Some : goal.returns-in_ok-copy_of-in-Some
 returns-in_ok-copy_of-in-Some c =
-    let named : Some c.in_ok-copy_of-in-Some.field-0 ≡ first_value (found_of c.args.run.now) (codes "file") = search rules in
-    named ∙ first_value-rows (found_of c.args.run.now) (codes "file")
+    let named : Some c.in_ok-copy_of-in-Some.field-0 ≡ first_value (found_of c.args.options.now) (codes "file") = search rules in
+    named ∙ first_value-rows (found_of c.args.options.now) (codes "file")
 
 pub returns-in-None : goal.returns-in-None
-returns-in-None c = (rw c.in-None.is at c.get_str.ensures) ∙ first_value-rows (found_of c.args.run.now) (codes "file")
+returns-in-None c = (rw c.in-None.is at c.get_str.ensures) ∙ first_value-rows (found_of c.args.options.now) (codes "file")
