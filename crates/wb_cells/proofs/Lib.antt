@@ -20,5 +20,6 @@ pub mod Sound
 pub mod Packing
 pub mod Gaps
 pub mod Behind
+pub mod Lengths
 pub mod Levels
 pub mod Resizing
