@@ -1,8 +1,5 @@
 //! A script from its bytes.
 
-#[cfg(test)]
-mod tests;
-
 ghost use Rattle.std.specs.Prelude.{◌≡◌, ◌≢◌, ◌≤◌, ◌+◌, length, map, IsTrue, IfOk, IfErr, MatchOption, None, Some};
 ghost use Rattle.wb_model.specs.Forms.{role_of_form};
 ghost use Rattle.wb_model.specs.Grammar.{IsGrammatical, IsFirstMisfit};

@@ -4,5 +4,3 @@
 pub mod fault;
 pub mod measure;
 pub mod sizing;
-#[cfg(test)]
-mod tests;

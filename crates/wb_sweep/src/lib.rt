@@ -4,5 +4,3 @@
 pub mod fault;
 pub mod found;
 pub mod sweeping;
-#[cfg(test)]
-mod tests;
