@@ -12,12 +12,8 @@ mod operands;
 mod print;
 mod state;
 mod tell;
-#[cfg(test)]
-mod tests;
 mod text_cells;
 mod text_operands;
-#[cfg(test)]
-mod text_tests;
 mod texts;
 mod views;
 mod windows;

@@ -5,6 +5,4 @@ pub(crate) mod bytes;
 pub(crate) mod forms;
 pub(crate) mod keys;
 pub(crate) mod pieces;
-#[cfg(test)]
-mod tests;
 pub(crate) mod words;

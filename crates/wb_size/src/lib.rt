@@ -4,8 +4,6 @@
 pub mod fault;
 pub mod measure;
 pub mod sizing;
-#[cfg(test)]
-mod tests;
 
 pub use fault::SizeFault;
 pub use measure::size;

@@ -4,8 +4,6 @@
 pub mod fault;
 pub mod found;
 pub mod sweeping;
-#[cfg(test)]
-mod tests;
 
 pub use fault::SweepFault;
 pub use found::{Found, Sweep};

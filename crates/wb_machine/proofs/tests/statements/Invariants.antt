@@ -1,7 +1,0 @@
-use Rattle.std.proofs.Common.{◌≡◌, true}
-use Rattle.wb_model.specs.Sound.{are_statements}
-use Rattle.wb_machine.specs.declared.tests.TheConstants.{LOCALS}
-use Rattle.wb_machine.proofs.tests.statements.Given as goal
-
-abbrev pub invariant-loop-order : goal.invariant-loop-order
-invariant-loop-order l = are_statements 1 LOCALS l.statements ≡ true

@@ -1,0 +1,78 @@
+//! The length that a script needs, and what each shorter heap refuses first.
+
+use std::alloc::Global;
+use std::test::Fail;
+use wb_machine::run;
+use wb_model::heap::{Answer, Rule, Shape};
+use wb_model::run::Why;
+use wb_model::size::Rise;
+use wb_script::read;
+use wb_size::fault::SizeFault;
+use wb_size::measure::size;
+
+const SHAPE: Shape = Shape {
+    min: 4096,
+    step: 4096,
+};
+
+/// Cells of 32 and 128 bytes, of which the first is freed, and one of 32 that fits its place; the request for 1000 bytes
+/// fails.
+const REUSES: &[u8] =
+    b"proc main\nptr a\nptr b\nalloc a 10\nalloc b 100\nfree a\nfailnext 2\nalloc a 16\nalloc b 1000\nend\n";
+
+/// The number of the first attempt that a heap of this length refuses, by a run.
+fn first_refused(alloc: Global, length: u32) -> Result<Option<u32>, Fail> {
+    let script = read(alloc, REUSES)?;
+    let told = run(alloc, &script, Rule::Limit(length), 10_000, SHAPE)?;
+    for attempt in told.trace.as_slice() {
+        if attempt.answer == Answer::Refused {
+            return Ok(Some(attempt.number));
+        }
+    }
+    Ok(None)
+}
+
+/// How the script isn't sized.
+fn fault_of(alloc: Global, budget: u32, shape: Shape) -> Result<Option<SizeFault>, Fail> {
+    let script = read(alloc, REUSES)?;
+    if budget == 0 || budget > 10_000 {
+        return Ok(None);
+    }
+    Ok(size(alloc, &script, budget, shape).err())
+}
+
+#[test]
+fn a_script_is_sized(rt: HostRuntime) -> Result<(), Fail> {
+    let script = read(rt.alloc(), REUSES)?;
+    let sizing = size(rt.alloc(), &script, 10_000, SHAPE)?;
+    assert_eq!(rt; sizing.required, 304);
+    let rises = [(1, 144), (2, 176), (3, 304)].map(|(number, top)| Rise { number, top });
+    assert_eq!(rt; sizing.rises.as_slice(), rises.as_slice());
+    let lengths = [
+        (0, Some(1)),
+        (143, Some(1)),
+        (144, Some(2)),
+        (175, Some(2)),
+        (176, Some(3)),
+        (303, Some(3)),
+        (304, None),
+        (u32::MAX, None),
+    ];
+    for (length, number) in lengths {
+        assert_eq!(rt; sizing.refused_at(length), number, "at {length}");
+        assert_eq!(rt; first_refused(rt.alloc(), length)?, number, "at {length}");
+    }
+    Ok(())
+}
+
+#[test]
+fn a_script_is_not_sized(rt: HostRuntime) -> Result<(), Fail> {
+    let cut = SizeFault::Cut {
+        number: 0,
+        why: Why::Budget,
+    };
+    assert_eq!(rt; fault_of(rt.alloc(), 5, SHAPE)?, Some(cut));
+    let odd = Shape { min: 8, step: 4096 };
+    assert_eq!(rt; fault_of(rt.alloc(), 5, odd)?, Some(SizeFault::BadShape));
+    Ok(())
+}
