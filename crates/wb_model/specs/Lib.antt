@@ -32,6 +32,7 @@ pub mod Statements
 pub mod TextCells
 pub mod Texts
 pub mod Trees
+pub mod Undeclared
 pub mod Words
 pub mod Writing
 pub mod formers

@@ -58,7 +58,7 @@ with_unknown None forms = with_double (first_refused (declares_again (items_of f
 abbrev lines_fault : List (Form Text) → Option ScriptFault
 lines_fault forms = with_unknown (first_refused uses_unknown forms) forms
 
-found_line : (o : Option ℕ) (n : ℕ) → line_of o ≡ Some n → (index : ℕ) × (o ≡ Some index) × (suc index ≡ n)
+pub found_line : (o : Option ℕ) (n : ℕ) → line_of o ≡ Some n → (index : ℕ) × (o ≡ Some index) × (suc index ≡ n)
 found_line None n is = let clash : ⊥ = cc in absurd clash
 found_line (Some index) n is = (index, refl, cc)
 

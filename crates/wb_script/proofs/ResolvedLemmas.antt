@@ -4,7 +4,7 @@ use Rattle.std.specs.Prelude.{if◌then◌else◌}
 use Rattle.std.specs.Option.{option_map}
 use Rattle.std.specs.List.{list_all}
 use Rattle.std.specs.Str.{bytes_eq}
-use Rattle.std.proofs.lemmas.List.{map-append}
+use Rattle.std.proofs.lemmas.List.{map-append, length-map}
 use Rattle.std.proofs.lemmas.Bool.Decides.{nat_tests}
 use Rattle.wb_model.specs.declared.script_lines.Key.{Key}
 use Rattle.wb_model.specs.declared.script_lines.Key.TheVariants as key
@@ -197,6 +197,18 @@ fits_from literals (form ∷ forms) known counts counted typed right within room
 
 pub all_fit : (forms : List (Form Text)) → AreTyped forms → first_refused has_wrong_kind forms ≡ None → first_refused passes_limit forms ≡ None → AllFit (length (literals_of forms)) (resolved forms)
 all_fit forms typed right within = fits_from (length (literals_of forms)) forms nothing_known nothing_counted nothing_yet typed right within (omega arith)
+
+counted_of : (forms : List (Form Text)) (known : Known) (counts : Counts) → Counted known counts → AreTyped forms → Counted (state_after known_after known forms) (state_after counts_after counts (each_with known_after resolved_line known forms))
+counted_of [] known counts counted typed = counted
+counted_of (form ∷ forms) known counts counted typed =
+    let (here, rest) = both (is_typed form) (list_all is_typed forms) typed in
+    counted_of forms (known_after known form) (counts_after counts (resolved_line known form)) (line_counts known counts form here counted) rest
+
+-- each local that is known has its kind
+pub names_and_kinds : (forms : List (Form Text)) → AreTyped forms → length (state_after known_after nothing_known forms).kinds ≡ length (state_after known_after nothing_known forms).locals
+names_and_kinds forms typed =
+    let counted = counted_of forms nothing_known nothing_counted nothing_yet typed in
+    ap length counted.kinds ∙ length-map (state_after counts_after nothing_counted (resolved forms)).locals kind_held ∙ sym counted.locals
 
 counts_from : (forms : List (Form Text)) (known : Known) (counts : Counts) → Counted known counts → AreTyped forms → (state_after counts_after counts (each_with known_after resolved_line known forms)).procedures ≡ known.items + length (items_of forms)
 counts_from [] known counts counted typed = counted.items ∙ sym (add-zero known.items)

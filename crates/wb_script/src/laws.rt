@@ -1,10 +1,14 @@
 //! Laws of which bytes are scripts. Each is the contract of a function that does nothing, so that the check
 //! proves it.
 
-ghost use Rattle.std.specs.Prelude.{◌≡◌, ℕ, List};
+ghost use Rattle.std.specs.Prelude.{◌≡◌, ℕ, List, length};
 ghost use Rattle.wb_model.specs.declared.fault.ScriptFault.{ScriptFault};
 ghost use Rattle.wb_model.specs.declared.script.Script.{Script};
+ghost use Rattle.wb_model.specs.declared.fault.ScriptFault.TheVariants.{UnknownName};
+ghost use Rattle.wb_model.specs.Forms.{forms_of};
+ghost use Rattle.wb_model.specs.Lines.{lines_of};
 ghost use Rattle.wb_model.specs.Scripts.{IsScriptOf, IsFaultOf};
+ghost use Rattle.wb_model.specs.Undeclared.{UsesDeclaredUpTo, IsFirstUndeclaredLine};
 
 /// Bytes spell at most one script.
 pub fn one_script()
@@ -19,4 +23,14 @@ pub fn one_fault()
 /// Bytes that spell a script have no fault.
 pub fn script_or_fault()
     ensures { (bytes : List ℕ) → (script : Script) → (fault : ScriptFault) → IsScriptOf bytes script → IsFaultOf bytes fault → ⊥ }
+{}
+
+/// An unknown name is one that its body doesn't declare, in the first line that uses such a one.
+pub fn unknown_is_undeclared()
+    ensures { (bytes : List ℕ) → (n : ℕ) → IsFaultOf bytes (UnknownName n) → IsFirstUndeclaredLine (forms_of (lines_of bytes)) n }
+{}
+
+/// The lines of a script use no name that their body doesn't declare.
+pub fn names_are_declared()
+    ensures { (bytes : List ℕ) → (script : Script) → IsScriptOf bytes script → UsesDeclaredUpTo (forms_of (lines_of bytes)) (length (forms_of (lines_of bytes))) }
 {}
