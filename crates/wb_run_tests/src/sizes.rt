@@ -41,14 +41,25 @@ fn fault_of(alloc: Global, budget: u32, shape: Shape) -> Result<Option<SizeFault
     Ok(size(alloc, &script, budget, shape).err())
 }
 
+/// What a heap of this length refuses first, by the number of the attempt.
+type Shorter = (u32, Option<u32>);
+
+/// Whether this length is required, with these rises, and heaps refuse these numbers, as told and in a run.
+fn is_sized(alloc: Global, required: u32, rises: &[Rise], heaps: &[Shorter]) -> Result<bool, Fail> {
+    let script = read(alloc, REUSES)?;
+    let sizing = size(alloc, &script, 10_000, SHAPE)?;
+    for (length, number) in heaps {
+        if sizing.refused_at(*length) != *number || first_refused(alloc, *length)? != *number {
+            return Ok(false);
+        }
+    }
+    Ok(sizing.required == required && sizing.rises.as_slice() == rises)
+}
+
 #[test]
 fn a_script_is_sized(rt: HostRuntime) -> Result<(), Fail> {
-    let script = read(rt.alloc(), REUSES)?;
-    let sizing = size(rt.alloc(), &script, 10_000, SHAPE)?;
-    assert_eq!(rt; sizing.required, 304);
     let rises = [(1, 144), (2, 176), (3, 304)].map(|(number, top)| Rise { number, top });
-    assert_eq!(rt; sizing.rises.as_slice(), rises.as_slice());
-    let lengths = [
+    let heaps = [
         (0, Some(1)),
         (143, Some(1)),
         (144, Some(2)),
@@ -58,10 +69,7 @@ fn a_script_is_sized(rt: HostRuntime) -> Result<(), Fail> {
         (304, None),
         (u32::MAX, None),
     ];
-    for (length, number) in lengths {
-        assert_eq!(rt; sizing.refused_at(length), number, "at {length}");
-        assert_eq!(rt; first_refused(rt.alloc(), length)?, number, "at {length}");
-    }
+    assert!(rt; is_sized(rt.alloc(), 304, &rises, &heaps)?);
     Ok(())
 }
 
