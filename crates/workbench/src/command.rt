@@ -13,13 +13,13 @@ use wb_model::heap::{Rule, Shape};
 /// What is to be done with the script.
 #[derive(Clone, Copy, Debug, PartialEq, Eq)]
 pub enum Task {
-    /// One run under this rule, and its report.
+    /// One run under this rule.
     Run(Rule),
-    /// How long the heap must be for no attempt to be refused, and which attempt each shorter heap refuses.
+    /// The length of heap that the script needs, and what each shorter one refuses first.
     Size,
-    /// The least number of an attempt whose failure shows a leak or a panic.
+    /// The least number of an attempt whose simulated failure leaks or panics, and the run in which it does.
     Sweep,
-    /// The one and the other.
+    /// `Size`, and then `Sweep`.
     Check,
 }
 
