@@ -303,4 +303,6 @@ pub fn words_are_read()
 {}
 
 #[cfg(test)]
+mod refusal_tests;
+#[cfg(test)]
 mod tests;

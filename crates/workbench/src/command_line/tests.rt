@@ -1,5 +1,5 @@
-//! That words are taken at all, which no clause says, since any growth may be refused; which are not; and
-//! what the user is told of these.
+//! That words are taken at all, which no clause says, since any growth may be refused; and the faults of words
+//! that `clap` takes.
 
 use super::command;
 use crate::command::{CommandFault, Task};
@@ -8,20 +8,112 @@ use std::process::Abort;
 use std::test::Fail;
 use wb_model::heap::{Rule, Shape};
 
-#[test]
-fn takes_a_run_of_standard_input(rt: HostRuntime) -> Result<(), Fail> {
-    let command = command(rt.alloc(), &["workbench", "run"])?;
-    assert_eq!(rt; command.task, Task::Run(Rule::Unlimited));
+const DEFAULT_SHAPE: Shape = Shape {
+    min: 4096,
+    step: 4096,
+};
+
+/// The subcommands, and what each asks for where no option is given.
+const SUBCOMMANDS: [(&str, Task); 4] = [
+    ("run", Task::Run(Rule::Unlimited)),
+    ("size", Task::Size),
+    ("sweep", Task::Sweep),
+    ("check", Task::Check),
+];
+
+/// What words should spell, beside a file.
+#[derive(Clone, Copy)]
+struct Wanted {
+    task: Task,
+    budget: u32,
+    shape: Shape,
+}
+
+/// The words spell this, and name no file.
+fn takes(rt: &impl Abort, alloc: Global, words: &[&str], wanted: Wanted) -> Result<(), Fail> {
+    let command = command(alloc, words)?;
+    assert_eq!(rt; command.task, wanted.task);
+    assert_eq!(rt; command.budget, wanted.budget);
+    assert_eq!(rt; command.shape, wanted.shape);
     assert!(rt; command.file.is_none());
-    assert_eq!(rt; command.budget, 10_000);
-    assert_eq!(rt;
-        command.shape,
-        Shape {
-            min: 4096,
-            step: 4096
-        }
-    );
     assert!(rt; !command.json);
+    Ok(())
+}
+
+#[test]
+fn takes_each_subcommand_on_standard_input(rt: HostRuntime) -> Result<(), Fail> {
+    for (name, task) in SUBCOMMANDS {
+        let wanted = Wanted {
+            task,
+            budget: 10_000,
+            shape: DEFAULT_SHAPE,
+        };
+        takes(&rt, rt.alloc(), &["workbench", name], wanted)?;
+        takes(&rt, rt.alloc(), &["workbench", name, "--"], wanted)?;
+    }
+    Ok(())
+}
+
+#[test]
+fn takes_a_budget_after_each_subcommand(rt: HostRuntime) -> Result<(), Fail> {
+    let alloc = rt.alloc();
+    for (name, task) in SUBCOMMANDS {
+        let least = Wanted {
+            task,
+            budget: 1,
+            shape: DEFAULT_SHAPE,
+        };
+        takes(&rt, alloc, &["workbench", name, "--budget", "1"], least)?;
+        let most = Wanted {
+            task,
+            budget: 1_000_000,
+            shape: DEFAULT_SHAPE,
+        };
+        takes(&rt, alloc, &["workbench", name, "--budget=1000000"], most)?;
+        takes(
+            &rt,
+            alloc,
+            &["workbench", name, "--budget", "+001000000"],
+            most,
+        )?;
+    }
+    Ok(())
+}
+
+#[test]
+fn takes_a_shape_after_each_subcommand(rt: HostRuntime) -> Result<(), Fail> {
+    let alloc = rt.alloc();
+    for (name, task) in SUBCOMMANDS {
+        let low = Wanted {
+            task,
+            budget: 10_000,
+            shape: Shape { min: 0, step: 4096 },
+        };
+        takes(&rt, alloc, &["workbench", name, "--min", "0"], low)?;
+        let fine = Wanted {
+            task,
+            budget: 10_000,
+            shape: Shape {
+                min: 4096,
+                step: 16,
+            },
+        };
+        takes(&rt, alloc, &["workbench", name, "--step=16"], fine)?;
+        let all = Wanted {
+            task,
+            budget: 500,
+            shape: Shape { min: 256, step: 64 },
+        };
+        let words = [
+            "workbench",
+            name,
+            "--step",
+            "64",
+            "--budget=500",
+            "--min=256",
+        ];
+        takes(&rt, alloc, &words, all)?;
+    }
     Ok(())
 }
 
@@ -45,6 +137,23 @@ fn takes_a_run_of_a_file(rt: HostRuntime) -> Result<(), Fail> {
     takes_file(&rt, alloc, &["workbench", "run", "a.oom", "--"], "a.oom")
 }
 
+#[test]
+fn takes_a_file_after_each_subcommand(rt: HostRuntime) -> Result<(), Fail> {
+    let alloc = rt.alloc();
+    for (name, _) in SUBCOMMANDS {
+        takes_file(&rt, alloc, &["workbench", name, "size"], "size")?;
+        takes_file(
+            &rt,
+            alloc,
+            &["workbench", name, "--min=32", "a.oom"],
+            "a.oom",
+        )?;
+        takes_file(&rt, alloc, &["workbench", name, "-", "--budget", "7"], "-")?;
+        takes_file(&rt, alloc, &["workbench", name, "--", "--limit"], "--limit")?;
+    }
+    Ok(())
+}
+
 /// The words spell this rule and this shape, and name no file.
 fn takes_options(
     rt: &impl Abort,
@@ -63,16 +172,12 @@ fn takes_options(
 #[test]
 fn takes_options_of_a_run(rt: HostRuntime) -> Result<(), Fail> {
     let alloc = rt.alloc();
-    let default = Shape {
-        min: 4096,
-        step: 4096,
-    };
     let limited = ["workbench", "run", "--limit", "303"];
-    takes_options(&rt, alloc, &limited, Rule::Limit(303), default)?;
+    takes_options(&rt, alloc, &limited, Rule::Limit(303), DEFAULT_SHAPE)?;
     let no_room = ["workbench", "run", "--limit=0"];
-    takes_options(&rt, alloc, &no_room, Rule::Limit(0), default)?;
+    takes_options(&rt, alloc, &no_room, Rule::Limit(0), DEFAULT_SHAPE)?;
     let most = ["workbench", "run", "--limit", "16777216"];
-    takes_options(&rt, alloc, &most, Rule::Limit(16_777_216), default)?;
+    takes_options(&rt, alloc, &most, Rule::Limit(16_777_216), DEFAULT_SHAPE)?;
     let shaped = ["workbench", "run", "--min", "256", "--step", "64"];
     let small = Shape { min: 256, step: 64 };
     takes_options(&rt, alloc, &shaped, Rule::Unlimited, small)?;
@@ -96,16 +201,12 @@ fn takes_options_of_a_run(rt: HostRuntime) -> Result<(), Fail> {
 #[test]
 fn takes_the_number_of_an_attempt(rt: HostRuntime) -> Result<(), Fail> {
     let alloc = rt.alloc();
-    let default = Shape {
-        min: 4096,
-        step: 4096,
-    };
     let number = ["workbench", "run", "--fail", "3"];
-    takes_options(&rt, alloc, &number, Rule::Number(3), default)?;
+    takes_options(&rt, alloc, &number, Rule::Number(3), DEFAULT_SHAPE)?;
     let none = ["workbench", "run", "--fail", "0"];
-    takes_options(&rt, alloc, &none, Rule::Number(0), default)?;
+    takes_options(&rt, alloc, &none, Rule::Number(0), DEFAULT_SHAPE)?;
     let most = ["workbench", "run", "--fail=16777216"];
-    takes_options(&rt, alloc, &most, Rule::Number(16_777_216), default)?;
+    takes_options(&rt, alloc, &most, Rule::Number(16_777_216), DEFAULT_SHAPE)?;
     let shaped = ["workbench", "run", "--min=32", "--fail", "2", "--step=16"];
     let small = Shape { min: 32, step: 16 };
     takes_options(&rt, alloc, &shaped, Rule::Number(2), small)
@@ -182,6 +283,13 @@ fn refuses_shapes_that_are_no_multiples_of_16(rt: HostRuntime) -> Result<(), Fai
     let alloc = rt.alloc();
     misshapes(&rt, alloc, &["workbench", "run", "--min", "8"])?;
     misshapes(&rt, alloc, &["workbench", "run", "--step", "17"])?;
+    misshapes(&rt, alloc, &["workbench", "size", "--step", "17"])?;
+    misshapes(&rt, alloc, &["workbench", "sweep", "--min=1"])?;
+    misshapes(
+        &rt,
+        alloc,
+        &["workbench", "check", "--min=40", "--step", "16"],
+    )?;
     misshapes(
         &rt,
         alloc,
@@ -197,189 +305,5 @@ fn refuses_shapes_that_are_no_multiples_of_16(rt: HostRuntime) -> Result<(), Fai
             "--min=16",
             "--step=1048575",
         ],
-    )
-}
-
-/// Clap's text on words that are refused, which holds `part`.
-fn refuses(rt: &impl Abort, alloc: Global, words: &[&str], part: &str) -> Result<(), Fail> {
-    match command(alloc, words) {
-        Err(CommandFault::Usage(error)) => {
-            let text = error.to_string(alloc)?;
-            assert!(rt; text.as_str().contains(part), "{text}");
-            Ok(())
-        }
-        _ => Err(Fail::from("a usage fault")),
-    }
-}
-
-#[test]
-fn refuses_other_words(rt: HostRuntime) -> Result<(), Fail> {
-    let alloc = rt.alloc();
-    refuses(&rt, alloc, &[], "requires a subcommand")?;
-    refuses(&rt, alloc, &["workbench"], "requires a subcommand")?;
-    refuses(
-        &rt,
-        alloc,
-        &["workbench", "size"],
-        "unrecognized subcommand 'size'",
-    )?;
-    refuses(
-        &rt,
-        alloc,
-        &["workbench", "--", "run"],
-        "unexpected argument 'run'",
-    )?;
-    refuses(
-        &rt,
-        alloc,
-        &["workbench", "run", "--every", "5"],
-        "unexpected argument '--every'",
-    )?;
-    refuses(
-        &rt,
-        alloc,
-        &["workbench", "run", "-x"],
-        "unexpected argument '-x'",
-    )?;
-    refuses(
-        &rt,
-        alloc,
-        &["workbench", "run", "a.oom", "b.oom"],
-        "unexpected argument 'b.oom'",
-    )
-}
-
-#[test]
-fn refuses_numbers_out_of_range(rt: HostRuntime) -> Result<(), Fail> {
-    let alloc = rt.alloc();
-    refuses(
-        &rt,
-        alloc,
-        &["workbench", "run", "--limit", "16777217"],
-        "16777217 is not in 0..=16777216",
-    )?;
-    refuses(
-        &rt,
-        alloc,
-        &["workbench", "run", "--fail", "16777217"],
-        "16777217 is not in 0..=16777216",
-    )?;
-    refuses(
-        &rt,
-        alloc,
-        &["workbench", "run", "--limit", "1", "--fail=-1"],
-        "-1 is not in 0..=16777216",
-    )?;
-    refuses(
-        &rt,
-        alloc,
-        &["workbench", "run", "--min", "1048592"],
-        "1048592 is not in 0..=1048576",
-    )?;
-    refuses(
-        &rt,
-        alloc,
-        &["workbench", "run", "--step", "0"],
-        "0 is not in 16..=1048576",
-    )?;
-    refuses(
-        &rt,
-        alloc,
-        &["workbench", "run", "--step", "15", "--min", "8"],
-        "15 is not in 16..=1048576",
-    )?;
-    refuses(
-        &rt,
-        alloc,
-        &["workbench", "run", "--limit=-1"],
-        "-1 is not in 0..=16777216",
-    )?;
-    refuses(
-        &rt,
-        alloc,
-        &["workbench", "run", "--limit", "0x10"],
-        "invalid digit",
-    )?;
-    refuses(
-        &rt,
-        alloc,
-        &["workbench", "run", "--limit", "99999999999999999999"],
-        "number too large",
-    )
-}
-
-#[test]
-fn refuses_options_without_a_number_or_twice(rt: HostRuntime) -> Result<(), Fail> {
-    let alloc = rt.alloc();
-    refuses(
-        &rt,
-        alloc,
-        &["workbench", "run", "--limit"],
-        "a value is required for '--limit <L>'",
-    )?;
-    refuses(
-        &rt,
-        alloc,
-        &["workbench", "run", "--fail"],
-        "a value is required for '--fail <N>'",
-    )?;
-    refuses(
-        &rt,
-        alloc,
-        &["workbench", "run", "--min", "--step", "16"],
-        "a value is required for '--min <M>'",
-    )?;
-    refuses(
-        &rt,
-        alloc,
-        &["workbench", "run", "--step="],
-        "cannot parse integer from empty string",
-    )?;
-    refuses(
-        &rt,
-        alloc,
-        &["workbench", "run", "--limit", "5", "a.oom", "--limit", "5"],
-        "cannot be used multiple times",
-    )?;
-    refuses(
-        &rt,
-        alloc,
-        &["workbench", "run", "--min=16", "--min=16"],
-        "cannot be used multiple times",
-    )?;
-    refuses(
-        &rt,
-        alloc,
-        &["workbench", "--limit", "5", "run"],
-        "unexpected argument '--limit'",
-    )
-}
-
-#[test]
-fn refuses_calls_for_help(rt: HostRuntime) -> Result<(), Fail> {
-    let alloc = rt.alloc();
-    refuses(
-        &rt,
-        alloc,
-        &["workbench", "help"],
-        "Usage: workbench <COMMAND>",
-    )?;
-    refuses(
-        &rt,
-        alloc,
-        &["workbench", "--help"],
-        "Usage: workbench <COMMAND>",
-    )?;
-    refuses(
-        &rt,
-        alloc,
-        &["workbench", "run", "-h"],
-        "Usage: workbench run [OPTIONS] [FILE]",
-    )?;
-    refuses(
-        &rt,
-        alloc,
-        &["workbench", "help", "run"],
-        "Usage: workbench run [OPTIONS] [FILE]",
     )
 }

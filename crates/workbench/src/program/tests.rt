@@ -158,8 +158,8 @@ fn says_why_words_are_no_command(rt: HostRuntime) -> Result<(), Fail> {
     let misshapen = words(rt.alloc(), &["run", "--min", "8"])?;
     let shape_message = "error: the values of '--min' and '--step' are multiples of 16\n";
     check_refused(&rt, Ok(misshapen), shape_message, 6);
-    let unknown = words(rt.alloc(), &["size"])?;
-    let unknown_message = "error: unrecognized subcommand 'size'
+    let unknown = words(rt.alloc(), &["walk"])?;
+    let unknown_message = "error: unrecognized subcommand 'walk'
 
 Usage: workbench <COMMAND>
 
@@ -183,8 +183,11 @@ const HELP: &str = "Runs scripts against a simulated heap that may refuse
 Usage: workbench <COMMAND>
 
 Commands:
-  run   Runs a script once and reports
-  help  Print this message or the help of the given subcommand(s)
+  run    Runs a script once and reports
+  size   Finds how long the heap must be, and what shorter heaps refuse
+  sweep  Finds the first attempt whose failure leaks or panics
+  check  Does what size does, and then what sweep does
+  help   Print this message or the help of the given subcommand(s)
 
 Options:
   -h, --help  Print help
@@ -198,11 +201,54 @@ Arguments:
   [FILE]  The script's file; without it the script is standard input
 
 Options:
-      --limit <L>  Refuses what would make the heap longer than L bytes, from 0 to 16777216
-      --fail <N>   Refuses the attempt with number N, from 0 to 16777216; there is no attempt 0
-      --min <M>    The heap's minimum length in bytes, a multiple of 16 from 0 to 1048576 [default: 4096]
-      --step <G>   The step by which the heap grows in bytes, a multiple of 16 from 16 to 1048576 [default: 4096]
-  -h, --help       Print help
+      --limit <L>   Refuses what would make the heap longer than L bytes, from 0 to 16777216
+      --fail <N>    Refuses the attempt with number N, from 0 to 16777216; there is no attempt 0
+      --budget <B>  The greatest number of steps of a run, from 1 to 1000000 [default: 10000]
+      --min <M>     The heap's minimum length in bytes, a multiple of 16 from 0 to 1048576 [default: 4096]
+      --step <G>    The step by which the heap grows in bytes, a multiple of 16 from 16 to 1048576 [default: 4096]
+  -h, --help        Print help
+";
+
+const SIZE_HELP: &str = "Finds how long the heap must be, and what shorter heaps refuse
+
+Usage: workbench size [OPTIONS] [FILE]
+
+Arguments:
+  [FILE]  The script's file; without it the script is standard input
+
+Options:
+      --budget <B>  The greatest number of steps of a run, from 1 to 1000000 [default: 10000]
+      --min <M>     The heap's minimum length in bytes, a multiple of 16 from 0 to 1048576 [default: 4096]
+      --step <G>    The step by which the heap grows in bytes, a multiple of 16 from 16 to 1048576 [default: 4096]
+  -h, --help        Print help
+";
+
+const SWEEP_HELP: &str = "Finds the first attempt whose failure leaks or panics
+
+Usage: workbench sweep [OPTIONS] [FILE]
+
+Arguments:
+  [FILE]  The script's file; without it the script is standard input
+
+Options:
+      --budget <B>  The greatest number of steps of a run, from 1 to 1000000 [default: 10000]
+      --min <M>     The heap's minimum length in bytes, a multiple of 16 from 0 to 1048576 [default: 4096]
+      --step <G>    The step by which the heap grows in bytes, a multiple of 16 from 16 to 1048576 [default: 4096]
+  -h, --help        Print help
+";
+
+const CHECK_HELP: &str = "Does what size does, and then what sweep does
+
+Usage: workbench check [OPTIONS] [FILE]
+
+Arguments:
+  [FILE]  The script's file; without it the script is standard input
+
+Options:
+      --budget <B>  The greatest number of steps of a run, from 1 to 1000000 [default: 10000]
+      --min <M>     The heap's minimum length in bytes, a multiple of 16 from 0 to 1048576 [default: 4096]
+      --step <G>    The step by which the heap grows in bytes, a multiple of 16 from 16 to 1048576 [default: 4096]
+  -h, --help        Print help
 ";
 
 #[test]
@@ -212,4 +258,19 @@ fn helps(rt: HostRuntime) -> Result<(), Fail> {
     check_refused(&rt, Ok(words(rt.alloc(), &["run", "--help"])?), RUN_HELP, 6);
     check_refused(&rt, Ok(words(rt.alloc(), &["help", "run"])?), RUN_HELP, 6);
     Ok(())
+}
+
+/// The subcommand's help, called for in each way.
+fn helps_with(rt: &(impl Abort + AllocGlobal), name: &'static str, help: &str) -> Result<(), Fail> {
+    check_refused(rt, Ok(words(rt.alloc(), &[name, "--help"])?), help, 6);
+    check_refused(rt, Ok(words(rt.alloc(), &[name, "a.oom", "-h"])?), help, 6);
+    check_refused(rt, Ok(words(rt.alloc(), &["help", name])?), help, 6);
+    Ok(())
+}
+
+#[test]
+fn helps_with_each_other_subcommand(rt: HostRuntime) -> Result<(), Fail> {
+    helps_with(&rt, "size", SIZE_HELP)?;
+    helps_with(&rt, "sweep", SWEEP_HELP)?;
+    helps_with(&rt, "check", CHECK_HELP)
 }
