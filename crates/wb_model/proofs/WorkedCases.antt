@@ -190,6 +190,13 @@ grow_then_append_run : run script_grow_then_append_run R.Unlimited 10000 (shaped
 unfolding everything
 grow_then_append_run = refl
 
+abbrev script_grow_then_append_sweep : Script
+script_grow_then_append_sweep = record { classes = []; procedures = (record { line = 2; parameters = []; body = record { locals = (OfPointer None) ∷ (OfPointer None) ∷ OfNumber ∷ []; statements = (on 6 (Statement-F.NewText (Held (H.Local 0)) (Constant (pos 5)) GivesNull)) ∷ (on 7 (Statement-F.Append (InCell (Held (H.Local 0))) (Quoted 0))) ∷ (on 9 (Statement-F.ReallocText (Held (H.Local 1)) (Held (H.Local 0)) (Constant (pos 9)))) ∷ (on 11 (Statement-F.GetMaximum 2 (InCell (Held (H.Local 1))))) ∷ (on 12 (Statement-F.PrintNumber (Variable 2))) ∷ (on 13 (Statement-F.Append (InCell (Held (H.Local 1))) (Quoted 1))) ∷ (on 14 (Statement-F.PrintText (Of (InCell (Held (H.Local 1)))))) ∷ (on 15 (Statement-F.Free (Held (H.Local 1)))) ∷ [] } }) ∷ []; operations = []; literals = (104 ∷ 101 ∷ 97 ∷ 112 ∷ []) ∷ (32 ∷ 102 ∷ 117 ∷ 108 ∷ 108 ∷ []) ∷ []; main = 0 }
+
+grow_then_append_sweep : (length (run_at script_grow_then_append_sweep 10000 (shaped 4096 4096) 0).trace ≡ 3) × (least_bad_or_cut script_grow_then_append_sweep 10000 (shaped 4096 4096) ≡ Some 2) × (run_at script_grow_then_append_sweep 10000 (shaped 4096 4096) 2 ≡ record { outcome = Panicked (P.Workbench 1); trace = (line 1 144 0 Granted) ∷ (line 2 32 144 Simulated) ∷ []; lines = []; notes = []; steps = 2 })
+unfolding everything
+grow_then_append_sweep = (refl, refl, refl)
+
 abbrev script_hole_reused_run : Script
 script_hole_reused_run = record { classes = []; procedures = (record { line = 2; parameters = []; body = record { locals = (OfPointer None) ∷ (OfPointer None) ∷ (OfPointer None) ∷ OfNumber ∷ []; statements = (on 7 (Statement-F.Alloc (Held (H.Local 0)) (Constant (pos 48)) GivesNull)) ∷ (on 8 (Statement-F.Alloc (Held (H.Local 1)) (Constant (pos 16)) GivesNull)) ∷ (on 9 (Statement-F.Store (Held (H.Local 1)) (Constant (pos 0)) (Constant (pos 7)))) ∷ (on 10 (Statement-F.Alloc (Held (H.Local 2)) (Constant (pos 16)) GivesNull)) ∷ (on 12 (Statement-F.Free (Held (H.Local 0)))) ∷ (on 14 (Statement-F.Realloc (Held (H.Local 1)) (Held (H.Local 1)) (Constant (pos 40)) GivesNull)) ∷ (on 16 (Statement-F.Load 3 (Held (H.Local 1)) (Constant (pos 0)))) ∷ (on 17 (Statement-F.PrintNumber (Variable 3))) ∷ (on 19 (Statement-F.SetNull (Held (H.Local 0)))) ∷ (on 21 (Statement-F.Realloc (Held (H.Local 0)) (Held (H.Local 0)) (Constant (pos 16)) GivesNull)) ∷ (on 22 (Statement-F.Free (Held (H.Local 0)))) ∷ (on 23 (Statement-F.Free (Held (H.Local 2)))) ∷ (on 24 (Statement-F.Free (Held (H.Local 1)))) ∷ [] } }) ∷ []; operations = []; literals = []; main = 0 }
 
@@ -197,12 +204,26 @@ hole_reused_run : run script_hole_reused_run R.Unlimited 10000 (shaped 4096 4096
 unfolding everything
 hole_reused_run = refl
 
+abbrev script_holes_size : Script
+script_holes_size = record { classes = []; procedures = (record { line = 2; parameters = []; body = record { locals = (OfPointer None) ∷ (OfPointer None) ∷ (OfPointer None) ∷ []; statements = (on 6 (Statement-F.Alloc (Held (H.Local 0)) (Constant (pos 112)) GivesNull)) ∷ (on 7 (Statement-F.Alloc (Held (H.Local 1)) (Constant (pos 16)) GivesNull)) ∷ (on 9 (Statement-F.Free (Held (H.Local 0)))) ∷ (on 11 (Statement-F.Alloc (Held (H.Local 2)) (Constant (pos 240)) GivesNull)) ∷ (on 12 (Statement-F.Free (Held (H.Local 1)))) ∷ (on 13 (Statement-F.Free (Held (H.Local 2)))) ∷ [] } }) ∷ []; operations = []; literals = []; main = 0 }
+
+holes_size : (required script_holes_size 10000 (shaped 4096 4096) ≡ 560) × (rises script_holes_size 10000 (shaped 4096 4096) ≡ (rise 1 144) ∷ (rise 2 272) ∷ (rise 3 304) ∷ (rise 4 560) ∷ [])
+unfolding everything
+holes_size = (refl, refl)
+
 abbrev script_leak_under_failure_in_a_large_heap_run : Script
 script_leak_under_failure_in_a_large_heap_run = record { classes = []; procedures = (record { line = 4; parameters = []; body = record { locals = (OfPointer None) ∷ []; statements = (on 6 (Statement-F.Alloc (Held (H.Local 0)) (Constant (pos 16)) GivesNull)) ∷ (on 7 (Statement-F.Realloc (Held (H.Local 0)) (Held (H.Local 0)) (Constant (pos 32)) GivesNull)) ∷ (on 9 (Statement-F.Free (Held (H.Local 0)))) ∷ [] } }) ∷ []; operations = []; literals = []; main = 0 }
 
 leak_under_failure_in_a_large_heap_run : run script_leak_under_failure_in_a_large_heap_run R.Unlimited 10000 (shaped 4096 4096) ≡ record { outcome = Ended None []; trace = (line 1 144 0 Granted) ∷ (line 2 32 144 Granted) ∷ (line 3 48 144 Granted) ∷ []; lines = []; notes = []; steps = 3 }
 unfolding everything
 leak_under_failure_in_a_large_heap_run = refl
+
+abbrev script_leak_under_failure_check : Script
+script_leak_under_failure_check = record { classes = []; procedures = (record { line = 4; parameters = []; body = record { locals = (OfPointer None) ∷ []; statements = (on 6 (Statement-F.Alloc (Held (H.Local 0)) (Constant (pos 16)) GivesNull)) ∷ (on 7 (Statement-F.Realloc (Held (H.Local 0)) (Held (H.Local 0)) (Constant (pos 32)) GivesNull)) ∷ (on 9 (Statement-F.Free (Held (H.Local 0)))) ∷ [] } }) ∷ []; operations = []; literals = []; main = 0 }
+
+leak_under_failure_check : (required script_leak_under_failure_check 10000 (shaped 4096 4096) ≡ 192) × (rises script_leak_under_failure_check 10000 (shaped 4096 4096) ≡ (rise 1 144) ∷ (rise 2 176) ∷ (rise 3 192) ∷ []) × (length (run_at script_leak_under_failure_check 10000 (shaped 4096 4096) 0).trace ≡ 3) × (least_bad_or_cut script_leak_under_failure_check 10000 (shaped 4096 4096) ≡ Some 3) × (run_at script_leak_under_failure_check 10000 (shaped 4096 4096) 3 ≡ record { outcome = Ended None ((record { number = 2; length = 32; place = 144 }) ∷ []); trace = (line 1 144 0 Granted) ∷ (line 2 32 144 Granted) ∷ (line 3 48 144 Simulated) ∷ []; lines = []; notes = []; steps = 3 })
+unfolding everything
+leak_under_failure_check = (refl, refl, refl, refl, refl)
 
 abbrev script_leak_under_failure_run : Script
 script_leak_under_failure_run = record { classes = []; procedures = (record { line = 4; parameters = []; body = record { locals = (OfPointer None) ∷ []; statements = (on 6 (Statement-F.Alloc (Held (H.Local 0)) (Constant (pos 16)) GivesNull)) ∷ (on 7 (Statement-F.Realloc (Held (H.Local 0)) (Held (H.Local 0)) (Constant (pos 32)) GivesNull)) ∷ (on 9 (Statement-F.Free (Held (H.Local 0)))) ∷ [] } }) ∷ []; operations = []; literals = []; main = 0 }
@@ -352,7 +373,7 @@ unfolding everything
 cell_behind_a_pointer_made_null_leaks_run = refl
 
 abbrev script_cells_are_reallocated_one_after_another_run : Script
-script_cells_are_reallocated_one_after_another_run = record { classes = []; procedures = (record { parameters = []; body = record { locals = (OfPointer None) ∷ (OfPointer None) ∷ (OfPointer None) ∷ OfNumber ∷ []; statements = rolled ((Statement-F.Alloc (Held (H.Local 0)) (Constant (pos 16)) GivesNull) ∷ (Statement-F.Store (Held (H.Local 0)) (Constant (pos 0)) (Constant (pos 5))) ∷ (Statement-F.Realloc (Held (H.Local 1)) (Held (H.Local 0)) (Constant (pos 100)) GivesNull) ∷ (Statement-F.Load 3 (Held (H.Local 0)) (Constant (pos 0))) ∷ (Statement-F.PrintNumber (Variable 3)) ∷ (Statement-F.Alloc (Held (H.Local 2)) (Constant (pos 16)) GivesNull) ∷ (Statement-F.Realloc (Held (H.Local 1)) (Held (H.Local 1)) (Constant (pos 200)) GivesNull) ∷ (Statement-F.Realloc (Held (H.Local 1)) (Held (H.Local 1)) (Constant (pos 16)) GivesNull) ∷ (Statement-F.Load 3 (Held (H.Local 1)) (Constant (pos 0))) ∷ (Statement-F.PrintNumber (Variable 3)) ∷ (Statement-F.SetNull (Held (H.Local 0))) ∷ (Statement-F.Realloc (Held (H.Local 0)) (Held (H.Local 0)) (Constant (pos 16)) GivesNull) ∷ (Statement-F.FailNext (Constant (pos 1))) ∷ (Statement-F.Realloc (Held (H.Local 0)) (Held (H.Local 1)) (Constant (pos 100)) GivesNull) ∷ (Statement-F.Realloc (Held (H.Local 0)) (Held (H.Local 0)) (Constant (pos 16)) GivesNull) ∷ (Statement-F.CheckAll (Constant (pos 4))) ∷ []) } }) ∷ []; operations = []; literals = []; main = 0 }
+script_cells_are_reallocated_one_after_another_run = record { classes = []; procedures = (record { line = 2; parameters = []; body = record { locals = (OfPointer None) ∷ (OfPointer None) ∷ (OfPointer None) ∷ OfNumber ∷ []; statements = (on 7 (Statement-F.Alloc (Held (H.Local 0)) (Constant (pos 16)) GivesNull)) ∷ (on 8 (Statement-F.Store (Held (H.Local 0)) (Constant (pos 0)) (Constant (pos 5)))) ∷ (on 9 (Statement-F.Realloc (Held (H.Local 1)) (Held (H.Local 0)) (Constant (pos 100)) GivesNull)) ∷ (on 10 (Statement-F.Load 3 (Held (H.Local 0)) (Constant (pos 0)))) ∷ (on 11 (Statement-F.PrintNumber (Variable 3))) ∷ (on 12 (Statement-F.Alloc (Held (H.Local 2)) (Constant (pos 16)) GivesNull)) ∷ (on 13 (Statement-F.Realloc (Held (H.Local 1)) (Held (H.Local 1)) (Constant (pos 200)) GivesNull)) ∷ (on 14 (Statement-F.Realloc (Held (H.Local 1)) (Held (H.Local 1)) (Constant (pos 16)) GivesNull)) ∷ (on 15 (Statement-F.Load 3 (Held (H.Local 1)) (Constant (pos 0)))) ∷ (on 16 (Statement-F.PrintNumber (Variable 3))) ∷ (on 17 (Statement-F.SetNull (Held (H.Local 0)))) ∷ (on 18 (Statement-F.Realloc (Held (H.Local 0)) (Held (H.Local 0)) (Constant (pos 16)) GivesNull)) ∷ (on 19 (Statement-F.FailNext (Constant (pos 1)))) ∷ (on 20 (Statement-F.Realloc (Held (H.Local 0)) (Held (H.Local 1)) (Constant (pos 100)) GivesNull)) ∷ (on 21 (Statement-F.Realloc (Held (H.Local 0)) (Held (H.Local 0)) (Constant (pos 16)) GivesNull)) ∷ (on 22 (Statement-F.CheckAll (Constant (pos 4)))) ∷ [] } }) ∷ []; operations = []; literals = []; main = 0 }
 
 cells_are_reallocated_one_after_another_run : run script_cells_are_reallocated_one_after_another_run R.Unlimited 10000 (shaped 4096 4096) ≡ record { outcome = Ended None ((record { number = 6; length = 32; place = 144 }) ∷ (record { number = 8; length = 32; place = 176 }) ∷ (record { number = 4; length = 32; place = 272 }) ∷ (record { number = 5; length = 32; place = 304 }) ∷ []); trace = (line 1 144 0 Granted) ∷ (line 2 32 144 Granted) ∷ (line 3 128 144 Granted) ∷ (line 4 32 272 Granted) ∷ (line 5 224 304 Granted) ∷ (line 6 32 144 Granted) ∷ (line 7 128 304 Simulated) ∷ (line 8 32 176 Granted) ∷ []; lines = (53 ∷ []) ∷ (53 ∷ []) ∷ []; notes = []; steps = 16 }
 unfolding everything
@@ -373,14 +394,14 @@ unfolding everything
 check_leaves_other_levels_alone_run = refl
 
 abbrev script_check_of_a_cell_without_a_mark_run : Script
-script_check_of_a_cell_without_a_mark_run = record { classes = []; procedures = (record { parameters = []; body = record { locals = (OfPointer None) ∷ []; statements = rolled ((Statement-F.Alloc (Held (H.Local 0)) (Constant (pos 16)) GivesNull) ∷ (Statement-F.Check (Constant (pos 0))) ∷ []) } }) ∷ []; operations = []; literals = []; main = 0 }
+script_check_of_a_cell_without_a_mark_run = record { classes = []; procedures = (record { line = 2; parameters = []; body = record { locals = (OfPointer None) ∷ []; statements = (on 4 (Statement-F.Alloc (Held (H.Local 0)) (Constant (pos 16)) GivesNull)) ∷ (on 5 (Statement-F.Check (Constant (pos 0)))) ∷ [] } }) ∷ []; operations = []; literals = []; main = 0 }
 
 check_of_a_cell_without_a_mark_run : run script_check_of_a_cell_without_a_mark_run R.Unlimited 10000 (shaped 4096 4096) ≡ record { outcome = Panicked (P.Alloc 144); trace = (line 1 144 0 Granted) ∷ (line 2 32 144 Granted) ∷ []; lines = []; notes = []; steps = 2 }
 unfolding everything
 check_of_a_cell_without_a_mark_run = refl
 
 abbrev script_check_of_all_levels_counts_outer_cells_run : Script
-script_check_of_all_levels_counts_outer_cells_run = record { classes = []; procedures = (record { parameters = []; body = record { locals = (OfPointer None) ∷ []; statements = rolled ((Statement-F.Alloc (Held (H.Local 0)) (Constant (pos 16)) GivesNull) ∷ Statement-F.Mark ∷ (Statement-F.CheckAll (Constant (pos 2))) ∷ []) } }) ∷ []; operations = []; literals = []; main = 0 }
+script_check_of_all_levels_counts_outer_cells_run = record { classes = []; procedures = (record { line = 2; parameters = []; body = record { locals = (OfPointer None) ∷ []; statements = (on 4 (Statement-F.Alloc (Held (H.Local 0)) (Constant (pos 16)) GivesNull)) ∷ (on 5 Statement-F.Mark) ∷ (on 6 (Statement-F.CheckAll (Constant (pos 2)))) ∷ [] } }) ∷ []; operations = []; literals = []; main = 0 }
 
 check_of_all_levels_counts_outer_cells_run : run script_check_of_all_levels_counts_outer_cells_run R.Unlimited 10000 (shaped 4096 4096) ≡ record { outcome = Panicked (P.Alloc 144); trace = (line 1 144 0 Granted) ∷ (line 2 32 144 Granted) ∷ []; lines = []; notes = []; steps = 3 }
 unfolding everything
@@ -401,7 +422,7 @@ unfolding everything
 check_of_all_levels_names_the_lowest_cell_run = refl
 
 abbrev script_check_of_all_levels_of_fewer_than_none_run : Script
-script_check_of_all_levels_of_fewer_than_none_run = record { classes = []; procedures = (record { parameters = []; body = record { locals = []; statements = rolled ((Statement-F.CheckAll (Constant (negsuc 0))) ∷ []) } }) ∷ []; operations = []; literals = []; main = 0 }
+script_check_of_all_levels_of_fewer_than_none_run = record { classes = []; procedures = (record { line = 2; parameters = []; body = record { locals = []; statements = (on 3 (Statement-F.CheckAll (Constant (negsuc 0)))) ∷ [] } }) ∷ []; operations = []; literals = []; main = 0 }
 
 check_of_all_levels_of_fewer_than_none_run : run script_check_of_all_levels_of_fewer_than_none_run R.Unlimited 10000 (shaped 4096 4096) ≡ record { outcome = Panicked (P.Workbench 9); trace = (line 1 144 0 Granted) ∷ []; lines = []; notes = []; steps = 1 }
 unfolding everything
@@ -436,7 +457,7 @@ unfolding everything
 failures_are_switched_off_run = refl
 
 abbrev script_fifteen_largest_cells_fit_run : Script
-script_fifteen_largest_cells_fit_run = record { classes = []; procedures = (record { parameters = []; body = record { locals = (OfPointer None) ∷ []; statements = rolled ((Statement-F.Alloc (Held (H.Local 0)) (Constant (pos 1048576)) GivesNull) ∷ (Statement-F.Alloc (Held (H.Local 0)) (Constant (pos 1048576)) GivesNull) ∷ (Statement-F.Alloc (Held (H.Local 0)) (Constant (pos 1048576)) GivesNull) ∷ (Statement-F.Alloc (Held (H.Local 0)) (Constant (pos 1048576)) GivesNull) ∷ (Statement-F.Alloc (Held (H.Local 0)) (Constant (pos 1048576)) GivesNull) ∷ (Statement-F.Alloc (Held (H.Local 0)) (Constant (pos 1048576)) GivesNull) ∷ (Statement-F.Alloc (Held (H.Local 0)) (Constant (pos 1048576)) GivesNull) ∷ (Statement-F.Alloc (Held (H.Local 0)) (Constant (pos 1048576)) GivesNull) ∷ (Statement-F.Alloc (Held (H.Local 0)) (Constant (pos 1048576)) GivesNull) ∷ (Statement-F.Alloc (Held (H.Local 0)) (Constant (pos 1048576)) GivesNull) ∷ (Statement-F.Alloc (Held (H.Local 0)) (Constant (pos 1048576)) GivesNull) ∷ (Statement-F.Alloc (Held (H.Local 0)) (Constant (pos 1048576)) GivesNull) ∷ (Statement-F.Alloc (Held (H.Local 0)) (Constant (pos 1048576)) GivesNull) ∷ (Statement-F.Alloc (Held (H.Local 0)) (Constant (pos 1048576)) GivesNull) ∷ (Statement-F.Alloc (Held (H.Local 0)) (Constant (pos 1048576)) GivesNull) ∷ []) } }) ∷ []; operations = []; literals = []; main = 0 }
+script_fifteen_largest_cells_fit_run = record { classes = []; procedures = (record { line = 2; parameters = []; body = record { locals = (OfPointer None) ∷ []; statements = (on 4 (Statement-F.Alloc (Held (H.Local 0)) (Constant (pos 1048576)) GivesNull)) ∷ (on 5 (Statement-F.Alloc (Held (H.Local 0)) (Constant (pos 1048576)) GivesNull)) ∷ (on 6 (Statement-F.Alloc (Held (H.Local 0)) (Constant (pos 1048576)) GivesNull)) ∷ (on 7 (Statement-F.Alloc (Held (H.Local 0)) (Constant (pos 1048576)) GivesNull)) ∷ (on 8 (Statement-F.Alloc (Held (H.Local 0)) (Constant (pos 1048576)) GivesNull)) ∷ (on 9 (Statement-F.Alloc (Held (H.Local 0)) (Constant (pos 1048576)) GivesNull)) ∷ (on 10 (Statement-F.Alloc (Held (H.Local 0)) (Constant (pos 1048576)) GivesNull)) ∷ (on 11 (Statement-F.Alloc (Held (H.Local 0)) (Constant (pos 1048576)) GivesNull)) ∷ (on 12 (Statement-F.Alloc (Held (H.Local 0)) (Constant (pos 1048576)) GivesNull)) ∷ (on 13 (Statement-F.Alloc (Held (H.Local 0)) (Constant (pos 1048576)) GivesNull)) ∷ (on 14 (Statement-F.Alloc (Held (H.Local 0)) (Constant (pos 1048576)) GivesNull)) ∷ (on 15 (Statement-F.Alloc (Held (H.Local 0)) (Constant (pos 1048576)) GivesNull)) ∷ (on 16 (Statement-F.Alloc (Held (H.Local 0)) (Constant (pos 1048576)) GivesNull)) ∷ (on 17 (Statement-F.Alloc (Held (H.Local 0)) (Constant (pos 1048576)) GivesNull)) ∷ (on 18 (Statement-F.Alloc (Held (H.Local 0)) (Constant (pos 1048576)) GivesNull)) ∷ [] } }) ∷ []; operations = []; literals = []; main = 0 }
 
 fifteen_largest_cells_fit_run : run script_fifteen_largest_cells_fit_run R.Unlimited 10000 (shaped 4096 4096) ≡ record { outcome = Ended None ((record { number = 2; length = 1048592; place = 144 }) ∷ (record { number = 3; length = 1048592; place = 1048736 }) ∷ (record { number = 4; length = 1048592; place = 2097328 }) ∷ (record { number = 5; length = 1048592; place = 3145920 }) ∷ (record { number = 6; length = 1048592; place = 4194512 }) ∷ (record { number = 7; length = 1048592; place = 5243104 }) ∷ (record { number = 8; length = 1048592; place = 6291696 }) ∷ (record { number = 9; length = 1048592; place = 7340288 }) ∷ (record { number = 10; length = 1048592; place = 8388880 }) ∷ (record { number = 11; length = 1048592; place = 9437472 }) ∷ (record { number = 12; length = 1048592; place = 10486064 }) ∷ (record { number = 13; length = 1048592; place = 11534656 }) ∷ (record { number = 14; length = 1048592; place = 12583248 }) ∷ (record { number = 15; length = 1048592; place = 13631840 }) ∷ (record { number = 16; length = 1048592; place = 14680432 }) ∷ []); trace = (line 1 144 0 Granted) ∷ (line 2 1048592 144 Granted) ∷ (line 3 1048592 1048736 Granted) ∷ (line 4 1048592 2097328 Granted) ∷ (line 5 1048592 3145920 Granted) ∷ (line 6 1048592 4194512 Granted) ∷ (line 7 1048592 5243104 Granted) ∷ (line 8 1048592 6291696 Granted) ∷ (line 9 1048592 7340288 Granted) ∷ (line 10 1048592 8388880 Granted) ∷ (line 11 1048592 9437472 Granted) ∷ (line 12 1048592 10486064 Granted) ∷ (line 13 1048592 11534656 Granted) ∷ (line 14 1048592 12583248 Granted) ∷ (line 15 1048592 13631840 Granted) ∷ (line 16 1048592 14680432 Granted) ∷ []; lines = []; notes = []; steps = 15 }
 unfolding everything
@@ -457,7 +478,7 @@ unfolding everything
 growth_with_a_number_fails_run = refl
 
 abbrev script_largest_cell_is_freed_twice_run : Script
-script_largest_cell_is_freed_twice_run = record { classes = []; procedures = (record { parameters = []; body = record { locals = (OfPointer None) ∷ []; statements = rolled ((Statement-F.Alloc (Held (H.Local 0)) (Constant (pos 1048576)) GivesNull) ∷ (Statement-F.Free (Held (H.Local 0))) ∷ (Statement-F.Free (Held (H.Local 0))) ∷ []) } }) ∷ []; operations = []; literals = []; main = 0 }
+script_largest_cell_is_freed_twice_run = record { classes = []; procedures = (record { line = 2; parameters = []; body = record { locals = (OfPointer None) ∷ []; statements = (on 4 (Statement-F.Alloc (Held (H.Local 0)) (Constant (pos 1048576)) GivesNull)) ∷ (on 5 (Statement-F.Free (Held (H.Local 0)))) ∷ (on 6 (Statement-F.Free (Held (H.Local 0)))) ∷ [] } }) ∷ []; operations = []; literals = []; main = 0 }
 
 largest_cell_is_freed_twice_run : run script_largest_cell_is_freed_twice_run R.Unlimited 10000 (shaped 4096 4096) ≡ record { outcome = Panicked (P.User 42); trace = (line 1 144 0 Granted) ∷ (line 2 1048592 144 Granted) ∷ []; lines = []; notes = []; steps = 3 }
 unfolding everything
@@ -478,7 +499,7 @@ unfolding everything
 mark_end_finds_too_few_cells_run = refl
 
 abbrev script_mark_end_leaves_other_levels_alone_run : Script
-script_mark_end_leaves_other_levels_alone_run = record { classes = []; procedures = (record { parameters = []; body = record { locals = (OfPointer None) ∷ []; statements = rolled ((Statement-F.Alloc (Held (H.Local 0)) (Constant (pos 16)) GivesNull) ∷ Statement-F.Mark ∷ (Statement-F.MarkEnd (Constant (pos 1))) ∷ []) } }) ∷ []; operations = []; literals = []; main = 0 }
+script_mark_end_leaves_other_levels_alone_run = record { classes = []; procedures = (record { line = 2; parameters = []; body = record { locals = (OfPointer None) ∷ []; statements = (on 4 (Statement-F.Alloc (Held (H.Local 0)) (Constant (pos 16)) GivesNull)) ∷ (on 5 Statement-F.Mark) ∷ (on 6 (Statement-F.MarkEnd (Constant (pos 1)))) ∷ [] } }) ∷ []; operations = []; literals = []; main = 0 }
 
 mark_end_leaves_other_levels_alone_run : run script_mark_end_leaves_other_levels_alone_run R.Unlimited 10000 (shaped 4096 4096) ≡ record { outcome = Panicked (P.Alloc 0); trace = (line 1 144 0 Granted) ∷ (line 2 32 144 Granted) ∷ []; lines = []; notes = []; steps = 3 }
 unfolding everything
@@ -513,7 +534,7 @@ unfolding everything
 marks_and_checks_that_hold_run = refl
 
 abbrev script_marks_and_failures_one_after_another_run : Script
-script_marks_and_failures_one_after_another_run = record { classes = []; procedures = (record { parameters = []; body = record { locals = (OfPointer None) ∷ (OfPointer None) ∷ (OfPointer None) ∷ []; statements = rolled ((Statement-F.Alloc (Held (H.Local 0)) (Constant (pos 16)) GivesNull) ∷ Statement-F.Mark ∷ (Statement-F.Alloc (Held (H.Local 1)) (Constant (pos 16)) GivesNull) ∷ (Statement-F.Check (Constant (pos 1))) ∷ (Statement-F.CheckAll (Constant (pos 2))) ∷ (Statement-F.MarkEnd (Constant (pos 1))) ∷ (Statement-F.Check (Constant (pos 2))) ∷ (Statement-F.FailEvery (Constant (pos 2))) ∷ (Statement-F.Alloc (Held (H.Local 2)) (Constant (pos 16)) GivesNull) ∷ (Statement-F.Alloc (Held (H.Local 2)) (Constant (pos 16)) GivesNull) ∷ (Statement-F.FailNext (Constant (pos 2))) ∷ Statement-F.FailNone ∷ (Statement-F.Alloc (Held (H.Local 2)) (Constant (pos 16)) GivesNull) ∷ (Statement-F.Alloc (Held (H.Local 2)) (Constant (pos 16)) GivesNull) ∷ []) } }) ∷ []; operations = []; literals = []; main = 0 }
+script_marks_and_failures_one_after_another_run = record { classes = []; procedures = (record { line = 2; parameters = []; body = record { locals = (OfPointer None) ∷ (OfPointer None) ∷ (OfPointer None) ∷ []; statements = (on 6 (Statement-F.Alloc (Held (H.Local 0)) (Constant (pos 16)) GivesNull)) ∷ (on 7 Statement-F.Mark) ∷ (on 8 (Statement-F.Alloc (Held (H.Local 1)) (Constant (pos 16)) GivesNull)) ∷ (on 9 (Statement-F.Check (Constant (pos 1)))) ∷ (on 10 (Statement-F.CheckAll (Constant (pos 2)))) ∷ (on 11 (Statement-F.MarkEnd (Constant (pos 1)))) ∷ (on 12 (Statement-F.Check (Constant (pos 2)))) ∷ (on 13 (Statement-F.FailEvery (Constant (pos 2)))) ∷ (on 14 (Statement-F.Alloc (Held (H.Local 2)) (Constant (pos 16)) GivesNull)) ∷ (on 15 (Statement-F.Alloc (Held (H.Local 2)) (Constant (pos 16)) GivesNull)) ∷ (on 16 (Statement-F.FailNext (Constant (pos 2)))) ∷ (on 17 Statement-F.FailNone) ∷ (on 18 (Statement-F.Alloc (Held (H.Local 2)) (Constant (pos 16)) GivesNull)) ∷ (on 19 (Statement-F.Alloc (Held (H.Local 2)) (Constant (pos 16)) GivesNull)) ∷ [] } }) ∷ []; operations = []; literals = []; main = 0 }
 
 marks_and_failures_one_after_another_run : run script_marks_and_failures_one_after_another_run R.Unlimited 10000 (shaped 4096 4096) ≡ record { outcome = Ended None ((record { number = 2; length = 32; place = 144 }) ∷ (record { number = 3; length = 32; place = 176 }) ∷ (record { number = 4; length = 32; place = 208 }) ∷ (record { number = 6; length = 32; place = 240 }) ∷ (record { number = 7; length = 32; place = 272 }) ∷ []); trace = (line 1 144 0 Granted) ∷ (line 2 32 144 Granted) ∷ (line 3 32 176 Granted) ∷ (line 4 32 208 Granted) ∷ (line 5 32 240 Simulated) ∷ (line 6 32 240 Granted) ∷ (line 7 32 272 Granted) ∷ []; lines = []; notes = []; steps = 14 }
 unfolding everything
@@ -541,7 +562,7 @@ unfolding everything
 next_but_none_to_fail_run = refl
 
 abbrev script_number_is_stored_loaded_and_measured_run : Script
-script_number_is_stored_loaded_and_measured_run = record { classes = []; procedures = (record { parameters = []; body = record { locals = (OfPointer None) ∷ (OfPointer None) ∷ OfNumber ∷ OfNumber ∷ []; statements = rolled ((Statement-F.SetNumber 2 (Constant (pos 5))) ∷ (Statement-F.Add 2 (Constant (negsuc 6))) ∷ (Statement-F.Add 2 (Variable 2)) ∷ (Statement-F.PrintNumber (Variable 2)) ∷ (Statement-F.Alloc (Held (H.Local 0)) (Constant (pos 20)) GivesNull) ∷ (Statement-F.Store (Held (H.Local 0)) (Constant (pos 1)) (Constant (negsuc 8))) ∷ (Statement-F.Load 3 (Held (H.Local 0)) (Constant (pos 1))) ∷ (Statement-F.PrintNumber (Variable 3)) ∷ (Statement-F.AllocLen 3 (Held (H.Local 0))) ∷ (Statement-F.PrintNumber (Variable 3)) ∷ (Statement-F.Set (Held (H.Local 1)) (Held (H.Local 0))) ∷ (Statement-F.SetNull (Held (H.Local 0))) ∷ (Statement-F.Free (Held (H.Local 0))) ∷ (Statement-F.Free (Held (H.Local 1))) ∷ []) } }) ∷ []; operations = []; literals = []; main = 0 }
+script_number_is_stored_loaded_and_measured_run = record { classes = []; procedures = (record { line = 2; parameters = []; body = record { locals = (OfPointer None) ∷ (OfPointer None) ∷ OfNumber ∷ OfNumber ∷ []; statements = (on 7 (Statement-F.SetNumber 2 (Constant (pos 5)))) ∷ (on 8 (Statement-F.Add 2 (Constant (negsuc 6)))) ∷ (on 9 (Statement-F.Add 2 (Variable 2))) ∷ (on 10 (Statement-F.PrintNumber (Variable 2))) ∷ (on 11 (Statement-F.Alloc (Held (H.Local 0)) (Constant (pos 20)) GivesNull)) ∷ (on 12 (Statement-F.Store (Held (H.Local 0)) (Constant (pos 1)) (Constant (negsuc 8)))) ∷ (on 13 (Statement-F.Load 3 (Held (H.Local 0)) (Constant (pos 1)))) ∷ (on 14 (Statement-F.PrintNumber (Variable 3))) ∷ (on 15 (Statement-F.AllocLen 3 (Held (H.Local 0)))) ∷ (on 16 (Statement-F.PrintNumber (Variable 3))) ∷ (on 17 (Statement-F.Set (Held (H.Local 1)) (Held (H.Local 0)))) ∷ (on 18 (Statement-F.SetNull (Held (H.Local 0)))) ∷ (on 19 (Statement-F.Free (Held (H.Local 0)))) ∷ (on 20 (Statement-F.Free (Held (H.Local 1)))) ∷ [] } }) ∷ []; operations = []; literals = []; main = 0 }
 
 number_is_stored_loaded_and_measured_run : run script_number_is_stored_loaded_and_measured_run R.Unlimited 10000 (shaped 4096 4096) ≡ record { outcome = Ended None []; trace = (line 1 144 0 Granted) ∷ (line 2 48 144 Granted) ∷ []; lines = (45 ∷ 52 ∷ []) ∷ (45 ∷ 57 ∷ []) ∷ (51 ∷ 50 ∷ []) ∷ []; notes = []; steps = 14 }
 unfolding everything
@@ -569,21 +590,21 @@ unfolding everything
 numbers_are_set_and_added_run = refl
 
 abbrev script_numbers_in_the_place_of_numerals_run : Script
-script_numbers_in_the_place_of_numerals_run = record { classes = []; procedures = (record { parameters = []; body = record { locals = (OfPointer None) ∷ (OfPointer None) ∷ OfNumber ∷ OfNumber ∷ OfNumber ∷ OfNumber ∷ []; statements = rolled ((Statement-F.SetNumber 2 (Constant (pos 16))) ∷ (Statement-F.SetNumber 3 (Constant (pos 3))) ∷ (Statement-F.SetNumber 4 (Constant (pos 7))) ∷ (Statement-F.SetNumber 5 (Constant (pos 1))) ∷ Statement-F.Mark ∷ (Statement-F.Alloc (Held (H.Local 0)) (Variable 2) GivesNull) ∷ (Statement-F.Store (Held (H.Local 0)) (Variable 3) (Variable 4)) ∷ (Statement-F.Add 2 (Variable 2)) ∷ (Statement-F.Realloc (Held (H.Local 1)) (Held (H.Local 0)) (Variable 2) GivesNull) ∷ (Statement-F.Load 4 (Held (H.Local 1)) (Variable 3)) ∷ (Statement-F.PrintNumber (Variable 4)) ∷ (Statement-F.Store (Held (H.Local 1)) (Variable 5) (Variable 3)) ∷ (Statement-F.Load 4 (Held (H.Local 0)) (Variable 5)) ∷ (Statement-F.PrintNumber (Variable 4)) ∷ (Statement-F.Check (Variable 5)) ∷ (Statement-F.CheckAll (Variable 5)) ∷ (Statement-F.MarkEnd (Variable 5)) ∷ (Statement-F.FailNext (Variable 5)) ∷ (Statement-F.Alloc (Held (H.Local 0)) (Variable 5) GivesNull) ∷ (Statement-F.FailEvery (Variable 5)) ∷ (Statement-F.Alloc (Held (H.Local 0)) (Variable 2) GivesNull) ∷ Statement-F.FailNone ∷ (Statement-F.Free (Held (H.Local 1))) ∷ []) } }) ∷ []; operations = []; literals = []; main = 0 }
+script_numbers_in_the_place_of_numerals_run = record { classes = []; procedures = (record { line = 2; parameters = []; body = record { locals = (OfPointer None) ∷ (OfPointer None) ∷ OfNumber ∷ OfNumber ∷ OfNumber ∷ OfNumber ∷ []; statements = (on 9 (Statement-F.SetNumber 2 (Constant (pos 16)))) ∷ (on 10 (Statement-F.SetNumber 3 (Constant (pos 3)))) ∷ (on 11 (Statement-F.SetNumber 4 (Constant (pos 7)))) ∷ (on 12 (Statement-F.SetNumber 5 (Constant (pos 1)))) ∷ (on 13 Statement-F.Mark) ∷ (on 14 (Statement-F.Alloc (Held (H.Local 0)) (Variable 2) GivesNull)) ∷ (on 15 (Statement-F.Store (Held (H.Local 0)) (Variable 3) (Variable 4))) ∷ (on 16 (Statement-F.Add 2 (Variable 2))) ∷ (on 17 (Statement-F.Realloc (Held (H.Local 1)) (Held (H.Local 0)) (Variable 2) GivesNull)) ∷ (on 18 (Statement-F.Load 4 (Held (H.Local 1)) (Variable 3))) ∷ (on 19 (Statement-F.PrintNumber (Variable 4))) ∷ (on 20 (Statement-F.Store (Held (H.Local 1)) (Variable 5) (Variable 3))) ∷ (on 21 (Statement-F.Load 4 (Held (H.Local 0)) (Variable 5))) ∷ (on 22 (Statement-F.PrintNumber (Variable 4))) ∷ (on 23 (Statement-F.Check (Variable 5))) ∷ (on 24 (Statement-F.CheckAll (Variable 5))) ∷ (on 25 (Statement-F.MarkEnd (Variable 5))) ∷ (on 26 (Statement-F.FailNext (Variable 5))) ∷ (on 27 (Statement-F.Alloc (Held (H.Local 0)) (Variable 5) GivesNull)) ∷ (on 28 (Statement-F.FailEvery (Variable 5))) ∷ (on 29 (Statement-F.Alloc (Held (H.Local 0)) (Variable 2) GivesNull)) ∷ (on 30 Statement-F.FailNone) ∷ (on 31 (Statement-F.Free (Held (H.Local 1)))) ∷ [] } }) ∷ []; operations = []; literals = []; main = 0 }
 
 numbers_in_the_place_of_numerals_run : run script_numbers_in_the_place_of_numerals_run R.Unlimited 10000 (shaped 4096 4096) ≡ record { outcome = Ended None []; trace = (line 1 144 0 Granted) ∷ (line 2 32 144 Granted) ∷ (line 3 48 144 Granted) ∷ (line 4 32 192 Simulated) ∷ (line 5 48 192 Simulated) ∷ []; lines = (55 ∷ []) ∷ (51 ∷ []) ∷ []; notes = []; steps = 23 }
 unfolding everything
 numbers_in_the_place_of_numerals_run = refl
 
 abbrev script_numerals_and_what_they_are_run : Script
-script_numerals_and_what_they_are_run = record { classes = []; procedures = (record { parameters = []; body = record { locals = (OfBuffer 0) ∷ OfNumber ∷ []; statements = rolled ((Statement-F.PrintNumber (Constant (pos 0))) ∷ (Statement-F.PrintNumber (Constant (pos 7))) ∷ (Statement-F.PrintNumber (Constant (negsuc 6))) ∷ (Statement-F.PrintNumber (Constant (pos 999999999))) ∷ (Statement-F.PrintNumber (Constant (negsuc 999999998))) ∷ (Statement-F.GetMaximum 1 (OwnBuffer 0)) ∷ (Statement-F.PrintNumber (Variable 1)) ∷ []) } }) ∷ []; operations = []; literals = []; main = 0 }
+script_numerals_and_what_they_are_run = record { classes = []; procedures = (record { line = 2; parameters = []; body = record { locals = (OfBuffer 0) ∷ OfNumber ∷ []; statements = (on 5 (Statement-F.PrintNumber (Constant (pos 0)))) ∷ (on 6 (Statement-F.PrintNumber (Constant (pos 7)))) ∷ (on 7 (Statement-F.PrintNumber (Constant (negsuc 6)))) ∷ (on 8 (Statement-F.PrintNumber (Constant (pos 999999999)))) ∷ (on 9 (Statement-F.PrintNumber (Constant (negsuc 999999998)))) ∷ (on 10 (Statement-F.GetMaximum 1 (OwnBuffer 0))) ∷ (on 11 (Statement-F.PrintNumber (Variable 1))) ∷ [] } }) ∷ []; operations = []; literals = []; main = 0 }
 
 numerals_and_what_they_are_run : run script_numerals_and_what_they_are_run R.Unlimited 10000 (shaped 4096 4096) ≡ record { outcome = Ended None []; trace = (line 1 144 0 Granted) ∷ []; lines = (48 ∷ []) ∷ (55 ∷ []) ∷ (45 ∷ 55 ∷ []) ∷ (57 ∷ 57 ∷ 57 ∷ 57 ∷ 57 ∷ 57 ∷ 57 ∷ 57 ∷ 57 ∷ []) ∷ (45 ∷ 57 ∷ 57 ∷ 57 ∷ 57 ∷ 57 ∷ 57 ∷ 57 ∷ 57 ∷ 57 ∷ []) ∷ (48 ∷ []) ∷ []; notes = []; steps = 7 }
 unfolding everything
 numerals_and_what_they_are_run = refl
 
 abbrev script_prints_around_a_leak_run : Script
-script_prints_around_a_leak_run = record { classes = []; procedures = (record { parameters = []; body = record { locals = (OfPointer None) ∷ []; statements = rolled ((Statement-F.PrintNumber (Constant (negsuc 69))) ∷ (Statement-F.Alloc (Held (H.Local 0)) (Constant (pos 16)) GivesNull) ∷ (Statement-F.PrintText (Quoted 0)) ∷ (Statement-F.PrintNumber (Constant (pos 0))) ∷ []) } }) ∷ []; operations = []; literals = (111 ∷ 117 ∷ 116 ∷ 32 ∷ 111 ∷ 102 ∷ 32 ∷ 109 ∷ 101 ∷ 109 ∷ 111 ∷ 114 ∷ 121 ∷ []) ∷ []; main = 0 }
+script_prints_around_a_leak_run = record { classes = []; procedures = (record { line = 2; parameters = []; body = record { locals = (OfPointer None) ∷ []; statements = (on 4 (Statement-F.PrintNumber (Constant (negsuc 69)))) ∷ (on 5 (Statement-F.Alloc (Held (H.Local 0)) (Constant (pos 16)) GivesNull)) ∷ (on 6 (Statement-F.PrintText (Quoted 0))) ∷ (on 7 (Statement-F.PrintNumber (Constant (pos 0)))) ∷ [] } }) ∷ []; operations = []; literals = (111 ∷ 117 ∷ 116 ∷ 32 ∷ 111 ∷ 102 ∷ 32 ∷ 109 ∷ 101 ∷ 109 ∷ 111 ∷ 114 ∷ 121 ∷ []) ∷ []; main = 0 }
 
 prints_around_a_leak_run : run script_prints_around_a_leak_run R.Unlimited 10000 (shaped 4096 4096) ≡ record { outcome = Ended None ((record { number = 2; length = 32; place = 144 }) ∷ []); trace = (line 1 144 0 Granted) ∷ (line 2 32 144 Granted) ∷ []; lines = (45 ∷ 55 ∷ 48 ∷ []) ∷ (111 ∷ 117 ∷ 116 ∷ 32 ∷ 111 ∷ 102 ∷ 32 ∷ 109 ∷ 101 ∷ 109 ∷ 111 ∷ 114 ∷ 121 ∷ []) ∷ (48 ∷ []) ∷ []; notes = []; steps = 4 }
 unfolding everything
@@ -597,7 +618,7 @@ unfolding everything
 reallocating_a_freed_cell_run = refl
 
 abbrev script_reallocating_by_a_copied_pointer_run : Script
-script_reallocating_by_a_copied_pointer_run = record { classes = []; procedures = (record { parameters = []; body = record { locals = (OfPointer None) ∷ (OfPointer None) ∷ []; statements = rolled ((Statement-F.Alloc (Held (H.Local 0)) (Constant (pos 16)) GivesNull) ∷ (Statement-F.Set (Held (H.Local 1)) (Held (H.Local 0))) ∷ (Statement-F.Free (Held (H.Local 0))) ∷ (Statement-F.Realloc (Held (H.Local 0)) (Held (H.Local 1)) (Constant (pos 9)) GivesNull) ∷ []) } }) ∷ []; operations = []; literals = []; main = 0 }
+script_reallocating_by_a_copied_pointer_run = record { classes = []; procedures = (record { line = 2; parameters = []; body = record { locals = (OfPointer None) ∷ (OfPointer None) ∷ []; statements = (on 5 (Statement-F.Alloc (Held (H.Local 0)) (Constant (pos 16)) GivesNull)) ∷ (on 6 (Statement-F.Set (Held (H.Local 1)) (Held (H.Local 0)))) ∷ (on 7 (Statement-F.Free (Held (H.Local 0)))) ∷ (on 8 (Statement-F.Realloc (Held (H.Local 0)) (Held (H.Local 1)) (Constant (pos 9)) GivesNull)) ∷ [] } }) ∷ []; operations = []; literals = []; main = 0 }
 
 reallocating_by_a_copied_pointer_run : run script_reallocating_by_a_copied_pointer_run R.Unlimited 10000 (shaped 4096 4096) ≡ record { outcome = Panicked (P.User 42); trace = (line 1 144 0 Granted) ∷ (line 2 32 144 Granted) ∷ []; lines = []; notes = []; steps = 4 }
 unfolding everything
@@ -646,7 +667,7 @@ unfolding everything
 refused_growth_over_its_own_pointer_leaks_run = refl
 
 abbrev script_request_for_fewer_than_no_bytes_run : Script
-script_request_for_fewer_than_no_bytes_run = record { classes = []; procedures = (record { parameters = []; body = record { locals = (OfPointer None) ∷ []; statements = rolled ((Statement-F.Alloc (Held (H.Local 0)) (Constant (negsuc 11)) GivesNull) ∷ []) } }) ∷ []; operations = []; literals = []; main = 0 }
+script_request_for_fewer_than_no_bytes_run = record { classes = []; procedures = (record { line = 2; parameters = []; body = record { locals = (OfPointer None) ∷ []; statements = (on 4 (Statement-F.Alloc (Held (H.Local 0)) (Constant (negsuc 11)) GivesNull)) ∷ [] } }) ∷ []; operations = []; literals = []; main = 0 }
 
 request_for_fewer_than_no_bytes_run : run script_request_for_fewer_than_no_bytes_run R.Unlimited 10000 (shaped 4096 4096) ≡ record { outcome = Panicked (P.Workbench 9); trace = (line 1 144 0 Granted) ∷ []; lines = []; notes = []; steps = 1 }
 unfolding everything
@@ -723,7 +744,7 @@ unfolding everything
 tail_of_a_shrunk_cell_is_reused_run = refl
 
 abbrev script_texts_of_two_procedures_run : Script
-script_texts_of_two_procedures_run = record { classes = []; procedures = (record { parameters = []; body = record { locals = []; statements = rolled ((Statement-F.PrintText (Quoted 0)) ∷ []) } }) ∷ (record { parameters = []; body = record { locals = (OfPointer None) ∷ (OfPointer None) ∷ []; statements = rolled ((Statement-F.Alloc (Held (H.Local 1)) (Constant (pos 12)) GivesNull) ∷ (Statement-F.Free (Held (H.Local 0))) ∷ (Statement-F.PrintNumber (Constant (pos 7))) ∷ (Statement-F.PrintText (Quoted 1)) ∷ (Statement-F.PrintText (Quoted 2)) ∷ (Statement-F.PrintText (Quoted 3)) ∷ []) } }) ∷ []; operations = []; literals = (97 ∷ 32 ∷ []) ∷ (98 ∷ 35 ∷ []) ∷ (97 ∷ 32 ∷ 32 ∷ 98 ∷ []) ∷ [] ∷ []; main = 1 }
+script_texts_of_two_procedures_run = record { classes = []; procedures = (record { line = 3; parameters = []; body = record { locals = []; statements = (on 4 (Statement-F.PrintText (Quoted 0))) ∷ [] } }) ∷ (record { line = 6; parameters = []; body = record { locals = (OfPointer None) ∷ (OfPointer None) ∷ []; statements = (on 9 (Statement-F.Alloc (Held (H.Local 1)) (Constant (pos 12)) GivesNull)) ∷ (on 10 (Statement-F.Free (Held (H.Local 0)))) ∷ (on 11 (Statement-F.PrintNumber (Constant (pos 7)))) ∷ (on 12 (Statement-F.PrintText (Quoted 1))) ∷ (on 13 (Statement-F.PrintText (Quoted 2))) ∷ (on 14 (Statement-F.PrintText (Quoted 3))) ∷ [] } }) ∷ []; operations = []; literals = (97 ∷ 32 ∷ []) ∷ (98 ∷ 35 ∷ []) ∷ (97 ∷ 32 ∷ 32 ∷ 98 ∷ []) ∷ [] ∷ []; main = 1 }
 
 texts_of_two_procedures_run : run script_texts_of_two_procedures_run R.Unlimited 10000 (shaped 4096 4096) ≡ record { outcome = Ended None ((record { number = 2; length = 32; place = 144 }) ∷ []); trace = (line 1 144 0 Granted) ∷ (line 2 32 144 Granted) ∷ []; lines = (55 ∷ []) ∷ (98 ∷ 35 ∷ []) ∷ (97 ∷ 32 ∷ 32 ∷ 98 ∷ []) ∷ [] ∷ []; notes = []; steps = 6 }
 unfolding everything
@@ -772,7 +793,7 @@ unfolding everything
 word_behind_the_last_run = refl
 
 abbrev script_word_loaded_before_the_first_run : Script
-script_word_loaded_before_the_first_run = record { classes = []; procedures = (record { parameters = []; body = record { locals = (OfPointer None) ∷ OfNumber ∷ []; statements = rolled ((Statement-F.Alloc (Held (H.Local 0)) (Constant (pos 16)) GivesNull) ∷ (Statement-F.Load 1 (Held (H.Local 0)) (Constant (negsuc 0))) ∷ []) } }) ∷ []; operations = []; literals = []; main = 0 }
+script_word_loaded_before_the_first_run = record { classes = []; procedures = (record { line = 2; parameters = []; body = record { locals = (OfPointer None) ∷ OfNumber ∷ []; statements = (on 5 (Statement-F.Alloc (Held (H.Local 0)) (Constant (pos 16)) GivesNull)) ∷ (on 6 (Statement-F.Load 1 (Held (H.Local 0)) (Constant (negsuc 0)))) ∷ [] } }) ∷ []; operations = []; literals = []; main = 0 }
 
 word_loaded_before_the_first_run : run script_word_loaded_before_the_first_run R.Unlimited 10000 (shaped 4096 4096) ≡ record { outcome = Panicked (P.Workbench 9); trace = (line 1 144 0 Granted) ∷ (line 2 32 144 Granted) ∷ []; lines = []; notes = []; steps = 2 }
 unfolding everything
@@ -786,28 +807,28 @@ unfolding everything
 word_of_no_cell_run = refl
 
 abbrev script_word_stored_behind_the_last_run : Script
-script_word_stored_behind_the_last_run = record { classes = []; procedures = (record { parameters = []; body = record { locals = (OfPointer None) ∷ []; statements = rolled ((Statement-F.Alloc (Held (H.Local 0)) (Constant (pos 16)) GivesNull) ∷ (Statement-F.Store (Held (H.Local 0)) (Constant (pos 3)) (Constant (negsuc 0))) ∷ (Statement-F.Store (Held (H.Local 0)) (Constant (pos 0)) (Constant (pos 7))) ∷ (Statement-F.Store (Held (H.Local 0)) (Constant (pos 4)) (Constant (pos 1))) ∷ []) } }) ∷ []; operations = []; literals = []; main = 0 }
+script_word_stored_behind_the_last_run = record { classes = []; procedures = (record { line = 2; parameters = []; body = record { locals = (OfPointer None) ∷ []; statements = (on 4 (Statement-F.Alloc (Held (H.Local 0)) (Constant (pos 16)) GivesNull)) ∷ (on 5 (Statement-F.Store (Held (H.Local 0)) (Constant (pos 3)) (Constant (negsuc 0)))) ∷ (on 6 (Statement-F.Store (Held (H.Local 0)) (Constant (pos 0)) (Constant (pos 7)))) ∷ (on 7 (Statement-F.Store (Held (H.Local 0)) (Constant (pos 4)) (Constant (pos 1)))) ∷ [] } }) ∷ []; operations = []; literals = []; main = 0 }
 
 word_stored_behind_the_last_run : run script_word_stored_behind_the_last_run R.Unlimited 10000 (shaped 4096 4096) ≡ record { outcome = Panicked (P.Workbench 9); trace = (line 1 144 0 Granted) ∷ (line 2 32 144 Granted) ∷ []; lines = []; notes = []; steps = 4 }
 unfolding everything
 word_stored_behind_the_last_run = refl
 
 abbrev script_word_stored_by_another_pointer_run : Script
-script_word_stored_by_another_pointer_run = record { classes = []; procedures = (record { parameters = []; body = record { locals = (OfPointer None) ∷ (OfPointer None) ∷ []; statements = rolled ((Statement-F.Alloc (Held (H.Local 0)) (Constant (pos 16)) GivesNull) ∷ (Statement-F.Store (Held (H.Local 1)) (Constant (pos 0)) (Constant (pos 1))) ∷ []) } }) ∷ []; operations = []; literals = []; main = 0 }
+script_word_stored_by_another_pointer_run = record { classes = []; procedures = (record { line = 2; parameters = []; body = record { locals = (OfPointer None) ∷ (OfPointer None) ∷ []; statements = (on 5 (Statement-F.Alloc (Held (H.Local 0)) (Constant (pos 16)) GivesNull)) ∷ (on 6 (Statement-F.Store (Held (H.Local 1)) (Constant (pos 0)) (Constant (pos 1)))) ∷ [] } }) ∷ []; operations = []; literals = []; main = 0 }
 
 word_stored_by_another_pointer_run : run script_word_stored_by_another_pointer_run R.Unlimited 10000 (shaped 4096 4096) ≡ record { outcome = Panicked (P.Workbench 1); trace = (line 1 144 0 Granted) ∷ (line 2 32 144 Granted) ∷ []; lines = []; notes = []; steps = 2 }
 unfolding everything
 word_stored_by_another_pointer_run = refl
 
 abbrev script_word_stored_in_a_freed_cell_run : Script
-script_word_stored_in_a_freed_cell_run = record { classes = []; procedures = (record { parameters = []; body = record { locals = (OfPointer None) ∷ []; statements = rolled ((Statement-F.Alloc (Held (H.Local 0)) (Constant (pos 16)) GivesNull) ∷ (Statement-F.Free (Held (H.Local 0))) ∷ (Statement-F.Store (Held (H.Local 0)) (Constant (pos 4)) (Constant (pos 1))) ∷ []) } }) ∷ []; operations = []; literals = []; main = 0 }
+script_word_stored_in_a_freed_cell_run = record { classes = []; procedures = (record { line = 2; parameters = []; body = record { locals = (OfPointer None) ∷ []; statements = (on 4 (Statement-F.Alloc (Held (H.Local 0)) (Constant (pos 16)) GivesNull)) ∷ (on 5 (Statement-F.Free (Held (H.Local 0)))) ∷ (on 6 (Statement-F.Store (Held (H.Local 0)) (Constant (pos 4)) (Constant (pos 1)))) ∷ [] } }) ∷ []; operations = []; literals = []; main = 0 }
 
 word_stored_in_a_freed_cell_run : run script_word_stored_in_a_freed_cell_run R.Unlimited 10000 (shaped 4096 4096) ≡ record { outcome = Panicked (P.Workbench 1); trace = (line 1 144 0 Granted) ∷ (line 2 32 144 Granted) ∷ []; lines = []; notes = []; steps = 3 }
 unfolding everything
 word_stored_in_a_freed_cell_run = refl
 
 abbrev script_word_stored_in_no_cell_run : Script
-script_word_stored_in_no_cell_run = record { classes = []; procedures = (record { parameters = []; body = record { locals = (OfPointer None) ∷ []; statements = rolled ((Statement-F.Store (Held (H.Local 0)) (Constant (pos 0)) (Constant (pos 1))) ∷ []) } }) ∷ []; operations = []; literals = []; main = 0 }
+script_word_stored_in_no_cell_run = record { classes = []; procedures = (record { line = 2; parameters = []; body = record { locals = (OfPointer None) ∷ []; statements = (on 4 (Statement-F.Store (Held (H.Local 0)) (Constant (pos 0)) (Constant (pos 1)))) ∷ [] } }) ∷ []; operations = []; literals = []; main = 0 }
 
 word_stored_in_no_cell_run : run script_word_stored_in_no_cell_run R.Unlimited 10000 (shaped 4096 4096) ≡ record { outcome = Panicked (P.Workbench 1); trace = (line 1 144 0 Granted) ∷ []; lines = []; notes = []; steps = 1 }
 unfolding everything
@@ -1507,7 +1528,7 @@ unfolding everything
 limit_one_byte_below_the_cleanup_cell_run = refl
 
 abbrev script_limit_refuses_every_cell_run : Script
-script_limit_refuses_every_cell_run = record { classes = []; procedures = (record { parameters = []; body = record { locals = (OfPointer None) ∷ (OfPointer None) ∷ (OfPointer None) ∷ []; statements = rolled ((Statement-F.Alloc (Held (H.Local 0)) (Constant (pos 10)) GivesNull) ∷ (Statement-F.Alloc (Held (H.Local 1)) (Constant (pos 100)) GivesNull) ∷ (Statement-F.Free (Held (H.Local 0))) ∷ (Statement-F.Alloc (Held (H.Local 2)) (Constant (pos 16)) GivesNull) ∷ (Statement-F.Free (Held (H.Local 1))) ∷ (Statement-F.Free (Held (H.Local 2))) ∷ []) } }) ∷ []; operations = []; literals = []; main = 0 }
+script_limit_refuses_every_cell_run = record { classes = []; procedures = (record { line = 2; parameters = []; body = record { locals = (OfPointer None) ∷ (OfPointer None) ∷ (OfPointer None) ∷ []; statements = (on 6 (Statement-F.Alloc (Held (H.Local 0)) (Constant (pos 10)) GivesNull)) ∷ (on 7 (Statement-F.Alloc (Held (H.Local 1)) (Constant (pos 100)) GivesNull)) ∷ (on 8 (Statement-F.Free (Held (H.Local 0)))) ∷ (on 9 (Statement-F.Alloc (Held (H.Local 2)) (Constant (pos 16)) GivesNull)) ∷ (on 10 (Statement-F.Free (Held (H.Local 1)))) ∷ (on 11 (Statement-F.Free (Held (H.Local 2)))) ∷ [] } }) ∷ []; operations = []; literals = []; main = 0 }
 
 limit_refuses_every_cell_run : run script_limit_refuses_every_cell_run (R.Limit 160) 10000 (shaped 4096 4096) ≡ record { outcome = Ended None []; trace = (line 1 144 0 Granted) ∷ (line 2 32 144 Refused) ∷ (line 3 128 144 Refused) ∷ (line 4 32 144 Refused) ∷ []; lines = []; notes = []; steps = 6 }
 unfolding everything
@@ -1598,7 +1619,7 @@ unfolding everything
 second_attempt_fails_run = refl
 
 abbrev script_append_of_null_run : Script
-script_append_of_null_run = record { classes = []; procedures = (record { parameters = []; body = record { locals = (OfPointer None) ∷ (OfBuffer 3) ∷ []; statements = rolled ((Statement-F.Append (OwnBuffer 1) (Of (InCell (Held (H.Local 0))))) ∷ []) } }) ∷ []; operations = []; literals = []; main = 0 }
+script_append_of_null_run = record { classes = []; procedures = (record { line = 2; parameters = []; body = record { locals = (OfPointer None) ∷ (OfBuffer 3) ∷ []; statements = (on 5 (Statement-F.Append (OwnBuffer 1) (Of (InCell (Held (H.Local 0)))))) ∷ [] } }) ∷ []; operations = []; literals = []; main = 0 }
 
 append_of_null_run : run script_append_of_null_run R.Unlimited 10000 (shaped 4096 4096) ≡ record { outcome = Panicked (P.Workbench 1); trace = (line 1 144 0 Granted) ∷ []; lines = []; notes = []; steps = 1 }
 unfolding everything
@@ -1619,14 +1640,14 @@ unfolding everything
 buffer_is_copied_appended_and_inserted_run = refl
 
 abbrev script_buffer_is_edited_again_and_again_run : Script
-script_buffer_is_edited_again_and_again_run = record { classes = []; procedures = (record { parameters = []; body = record { locals = (OfBuffer 8) ∷ OfNumber ∷ []; statements = rolled ((Statement-F.Copy (OwnBuffer 0) (Quoted 0)) ∷ (Statement-F.Append (OwnBuffer 0) (Quoted 1)) ∷ (Statement-F.Insert (OwnBuffer 0) (Constant (pos 1)) (Quoted 2)) ∷ (Statement-F.DeleteText (OwnBuffer 0) (Constant (pos 0)) (Constant (pos 1))) ∷ (Statement-F.DeleteText (OwnBuffer 0) (Constant (pos 5)) (Constant (pos 99))) ∷ (Statement-F.PrintText (Of (OwnBuffer 0))) ∷ (Statement-F.SetLength (OwnBuffer 0) (Constant (pos 7))) ∷ (Statement-F.PrintText (Of (OwnBuffer 0))) ∷ (Statement-F.SetLength (OwnBuffer 0) (Constant (pos 3))) ∷ (Statement-F.Append (OwnBuffer 0) (Of (OwnBuffer 0))) ∷ (Statement-F.PrintText (Of (OwnBuffer 0))) ∷ (Statement-F.GetLength 1 (Of (OwnBuffer 0))) ∷ (Statement-F.PrintNumber (Variable 1)) ∷ (Statement-F.GetMaximum 1 (OwnBuffer 0)) ∷ (Statement-F.PrintNumber (Variable 1)) ∷ []) } }) ∷ []; operations = []; literals = (97 ∷ 98 ∷ []) ∷ (99 ∷ 100 ∷ 101 ∷ 102 ∷ []) ∷ (97 ∷ 98 ∷ []) ∷ []; main = 0 }
+script_buffer_is_edited_again_and_again_run = record { classes = []; procedures = (record { line = 2; parameters = []; body = record { locals = (OfBuffer 8) ∷ OfNumber ∷ []; statements = (on 5 (Statement-F.Copy (OwnBuffer 0) (Quoted 0))) ∷ (on 6 (Statement-F.Append (OwnBuffer 0) (Quoted 1))) ∷ (on 7 (Statement-F.Insert (OwnBuffer 0) (Constant (pos 1)) (Quoted 2))) ∷ (on 8 (Statement-F.DeleteText (OwnBuffer 0) (Constant (pos 0)) (Constant (pos 1)))) ∷ (on 9 (Statement-F.DeleteText (OwnBuffer 0) (Constant (pos 5)) (Constant (pos 99)))) ∷ (on 10 (Statement-F.PrintText (Of (OwnBuffer 0)))) ∷ (on 11 (Statement-F.SetLength (OwnBuffer 0) (Constant (pos 7)))) ∷ (on 12 (Statement-F.PrintText (Of (OwnBuffer 0)))) ∷ (on 13 (Statement-F.SetLength (OwnBuffer 0) (Constant (pos 3)))) ∷ (on 14 (Statement-F.Append (OwnBuffer 0) (Of (OwnBuffer 0)))) ∷ (on 15 (Statement-F.PrintText (Of (OwnBuffer 0)))) ∷ (on 16 (Statement-F.GetLength 1 (Of (OwnBuffer 0)))) ∷ (on 17 (Statement-F.PrintNumber (Variable 1))) ∷ (on 18 (Statement-F.GetMaximum 1 (OwnBuffer 0))) ∷ (on 19 (Statement-F.PrintNumber (Variable 1))) ∷ [] } }) ∷ []; operations = []; literals = (97 ∷ 98 ∷ []) ∷ (99 ∷ 100 ∷ 101 ∷ 102 ∷ []) ∷ (97 ∷ 98 ∷ []) ∷ []; main = 0 }
 
 buffer_is_edited_again_and_again_run : run script_buffer_is_edited_again_and_again_run R.Unlimited 10000 (shaped 4096 4096) ≡ record { outcome = Ended None []; trace = (line 1 144 0 Granted) ∷ []; lines = (97 ∷ 98 ∷ 98 ∷ 99 ∷ 100 ∷ []) ∷ (97 ∷ 98 ∷ 98 ∷ 99 ∷ 100 ∷ 46 ∷ 46 ∷ []) ∷ (97 ∷ 98 ∷ 98 ∷ 97 ∷ 98 ∷ 98 ∷ []) ∷ (54 ∷ []) ∷ (56 ∷ []) ∷ []; notes = []; steps = 15 }
 unfolding everything
 buffer_is_edited_again_and_again_run = refl
 
 abbrev script_cell_text_appended_to_itself_past_its_maximum_run : Script
-script_cell_text_appended_to_itself_past_its_maximum_run = record { classes = []; procedures = (record { parameters = []; body = record { locals = (OfPointer None) ∷ []; statements = rolled ((Statement-F.NewText (Held (H.Local 0)) (Constant (pos 5)) GivesNull) ∷ (Statement-F.Copy (InCell (Held (H.Local 0))) (Quoted 0)) ∷ (Statement-F.Append (InCell (Held (H.Local 0))) (Of (InCell (Held (H.Local 0))))) ∷ []) } }) ∷ []; operations = []; literals = (99 ∷ 100 ∷ 101 ∷ 102 ∷ []) ∷ []; main = 0 }
+script_cell_text_appended_to_itself_past_its_maximum_run = record { classes = []; procedures = (record { line = 2; parameters = []; body = record { locals = (OfPointer None) ∷ []; statements = (on 4 (Statement-F.NewText (Held (H.Local 0)) (Constant (pos 5)) GivesNull)) ∷ (on 5 (Statement-F.Copy (InCell (Held (H.Local 0))) (Quoted 0))) ∷ (on 6 (Statement-F.Append (InCell (Held (H.Local 0))) (Of (InCell (Held (H.Local 0)))))) ∷ [] } }) ∷ []; operations = []; literals = (99 ∷ 100 ∷ 101 ∷ 102 ∷ []) ∷ []; main = 0 }
 
 cell_text_appended_to_itself_past_its_maximum_run : run script_cell_text_appended_to_itself_past_its_maximum_run R.Unlimited 10000 (shaped 4096 4096) ≡ record { outcome = Panicked (P.User 11); trace = (line 1 144 0 Granted) ∷ (line 2 32 144 Granted) ∷ []; lines = []; notes = []; steps = 3 }
 unfolding everything
@@ -1647,21 +1668,21 @@ unfolding everything
 copy_longer_than_the_buffer_run = refl
 
 abbrev script_copy_to_null_run : Script
-script_copy_to_null_run = record { classes = []; procedures = (record { parameters = []; body = record { locals = (OfPointer None) ∷ []; statements = rolled ((Statement-F.Copy (InCell (Held (H.Local 0))) (Quoted 0)) ∷ []) } }) ∷ []; operations = []; literals = (99 ∷ 100 ∷ 101 ∷ 102 ∷ []) ∷ []; main = 0 }
+script_copy_to_null_run = record { classes = []; procedures = (record { line = 2; parameters = []; body = record { locals = (OfPointer None) ∷ []; statements = (on 4 (Statement-F.Copy (InCell (Held (H.Local 0))) (Quoted 0))) ∷ [] } }) ∷ []; operations = []; literals = (99 ∷ 100 ∷ 101 ∷ 102 ∷ []) ∷ []; main = 0 }
 
 copy_to_null_run : run script_copy_to_null_run R.Unlimited 10000 (shaped 4096 4096) ≡ record { outcome = Panicked (P.Workbench 1); trace = (line 1 144 0 Granted) ∷ []; lines = []; notes = []; steps = 1 }
 unfolding everything
 copy_to_null_run = refl
 
 abbrev script_deletion_at_null_run : Script
-script_deletion_at_null_run = record { classes = []; procedures = (record { parameters = []; body = record { locals = (OfPointer None) ∷ []; statements = rolled ((Statement-F.DeleteText (InCell (Held (H.Local 0))) (Constant (negsuc 0)) (Constant (negsuc 0))) ∷ []) } }) ∷ []; operations = []; literals = []; main = 0 }
+script_deletion_at_null_run = record { classes = []; procedures = (record { line = 2; parameters = []; body = record { locals = (OfPointer None) ∷ []; statements = (on 4 (Statement-F.DeleteText (InCell (Held (H.Local 0))) (Constant (negsuc 0)) (Constant (negsuc 0)))) ∷ [] } }) ∷ []; operations = []; literals = []; main = 0 }
 
 deletion_at_null_run : run script_deletion_at_null_run R.Unlimited 10000 (shaped 4096 4096) ≡ record { outcome = Panicked (P.Workbench 1); trace = (line 1 144 0 Granted) ∷ []; lines = []; notes = []; steps = 1 }
 unfolding everything
 deletion_at_null_run = refl
 
 abbrev script_deletion_in_a_cell_of_words_run : Script
-script_deletion_in_a_cell_of_words_run = record { classes = []; procedures = (record { parameters = []; body = record { locals = (OfPointer None) ∷ []; statements = rolled ((Statement-F.Alloc (Held (H.Local 0)) (Constant (pos 16)) GivesNull) ∷ (Statement-F.DeleteText (InCell (Held (H.Local 0))) (Constant (negsuc 0)) (Constant (negsuc 0))) ∷ []) } }) ∷ []; operations = []; literals = []; main = 0 }
+script_deletion_in_a_cell_of_words_run = record { classes = []; procedures = (record { line = 2; parameters = []; body = record { locals = (OfPointer None) ∷ []; statements = (on 4 (Statement-F.Alloc (Held (H.Local 0)) (Constant (pos 16)) GivesNull)) ∷ (on 5 (Statement-F.DeleteText (InCell (Held (H.Local 0))) (Constant (negsuc 0)) (Constant (negsuc 0)))) ∷ [] } }) ∷ []; operations = []; literals = []; main = 0 }
 
 deletion_in_a_cell_of_words_run : run script_deletion_in_a_cell_of_words_run R.Unlimited 10000 (shaped 4096 4096) ≡ record { outcome = Panicked (P.Workbench 2); trace = (line 1 144 0 Granted) ∷ (line 2 32 144 Granted) ∷ []; lines = []; notes = []; steps = 2 }
 unfolding everything
@@ -1689,7 +1710,7 @@ unfolding everything
 growing_a_cell_as_a_text_run = refl
 
 abbrev script_growing_a_cell_of_words_to_less_than_nothing_run : Script
-script_growing_a_cell_of_words_to_less_than_nothing_run = record { classes = []; procedures = (record { parameters = []; body = record { locals = (OfPointer None) ∷ (OfPointer None) ∷ []; statements = rolled ((Statement-F.Alloc (Held (H.Local 0)) (Constant (pos 16)) GivesNull) ∷ (Statement-F.ReallocText (Held (H.Local 1)) (Held (H.Local 0)) (Constant (negsuc 0))) ∷ []) } }) ∷ []; operations = []; literals = []; main = 0 }
+script_growing_a_cell_of_words_to_less_than_nothing_run = record { classes = []; procedures = (record { line = 2; parameters = []; body = record { locals = (OfPointer None) ∷ (OfPointer None) ∷ []; statements = (on 5 (Statement-F.Alloc (Held (H.Local 0)) (Constant (pos 16)) GivesNull)) ∷ (on 6 (Statement-F.ReallocText (Held (H.Local 1)) (Held (H.Local 0)) (Constant (negsuc 0)))) ∷ [] } }) ∷ []; operations = []; literals = []; main = 0 }
 
 growing_a_cell_of_words_to_less_than_nothing_run : run script_growing_a_cell_of_words_to_less_than_nothing_run R.Unlimited 10000 (shaped 4096 4096) ≡ record { outcome = Panicked (P.Workbench 2); trace = (line 1 144 0 Granted) ∷ (line 2 32 144 Granted) ∷ []; lines = []; notes = []; steps = 2 }
 unfolding everything
@@ -1710,7 +1731,7 @@ unfolding everything
 growing_a_text_past_one_mebibyte_run = refl
 
 abbrev script_growing_a_text_to_fewer_than_no_units_run : Script
-script_growing_a_text_to_fewer_than_no_units_run = record { classes = []; procedures = (record { parameters = []; body = record { locals = (OfPointer None) ∷ []; statements = rolled ((Statement-F.NewText (Held (H.Local 0)) (Constant (pos 0)) GivesNull) ∷ (Statement-F.ReallocText (Held (H.Local 0)) (Held (H.Local 0)) (Constant (negsuc 0))) ∷ []) } }) ∷ []; operations = []; literals = []; main = 0 }
+script_growing_a_text_to_fewer_than_no_units_run = record { classes = []; procedures = (record { line = 2; parameters = []; body = record { locals = (OfPointer None) ∷ []; statements = (on 4 (Statement-F.NewText (Held (H.Local 0)) (Constant (pos 0)) GivesNull)) ∷ (on 5 (Statement-F.ReallocText (Held (H.Local 0)) (Held (H.Local 0)) (Constant (negsuc 0)))) ∷ [] } }) ∷ []; operations = []; literals = []; main = 0 }
 
 growing_a_text_to_fewer_than_no_units_run : run script_growing_a_text_to_fewer_than_no_units_run R.Unlimited 10000 (shaped 4096 4096) ≡ record { outcome = Panicked (P.Workbench 9); trace = (line 1 144 0 Granted) ∷ (line 2 32 144 Granted) ∷ []; lines = []; notes = []; steps = 2 }
 unfolding everything
@@ -1745,7 +1766,7 @@ unfolding everything
 insert_before_the_first_unit_run = refl
 
 abbrev script_insert_of_a_cell_of_words_run : Script
-script_insert_of_a_cell_of_words_run = record { classes = []; procedures = (record { parameters = []; body = record { locals = (OfPointer None) ∷ (OfBuffer 3) ∷ []; statements = rolled ((Statement-F.Alloc (Held (H.Local 0)) (Constant (pos 16)) GivesNull) ∷ (Statement-F.Insert (OwnBuffer 1) (Constant (negsuc 0)) (Of (InCell (Held (H.Local 0))))) ∷ []) } }) ∷ []; operations = []; literals = []; main = 0 }
+script_insert_of_a_cell_of_words_run = record { classes = []; procedures = (record { line = 2; parameters = []; body = record { locals = (OfPointer None) ∷ (OfBuffer 3) ∷ []; statements = (on 5 (Statement-F.Alloc (Held (H.Local 0)) (Constant (pos 16)) GivesNull)) ∷ (on 6 (Statement-F.Insert (OwnBuffer 1) (Constant (negsuc 0)) (Of (InCell (Held (H.Local 0)))))) ∷ [] } }) ∷ []; operations = []; literals = []; main = 0 }
 
 insert_of_a_cell_of_words_run : run script_insert_of_a_cell_of_words_run R.Unlimited 10000 (shaped 4096 4096) ≡ record { outcome = Panicked (P.Workbench 2); trace = (line 1 144 0 Granted) ∷ (line 2 32 144 Granted) ∷ []; lines = []; notes = []; steps = 2 }
 unfolding everything
@@ -1766,7 +1787,7 @@ unfolding everything
 insert_of_a_text_under_another_name_run = refl
 
 abbrev script_insert_of_a_view_of_a_freed_text_run : Script
-script_insert_of_a_view_of_a_freed_text_run = record { classes = []; procedures = (record { parameters = []; body = record { locals = (OfPointer None) ∷ (OfBuffer 3) ∷ OfView ∷ []; statements = rolled ((Statement-F.NewText (Held (H.Local 0)) (Constant (pos 0)) GivesNull) ∷ (Statement-F.Left 2 (Of (InCell (Held (H.Local 0)))) (Constant (pos 0))) ∷ (Statement-F.Free (Held (H.Local 0))) ∷ (Statement-F.Insert (OwnBuffer 1) (Constant (negsuc 0)) (ViewOf 2)) ∷ []) } }) ∷ []; operations = []; literals = []; main = 0 }
+script_insert_of_a_view_of_a_freed_text_run = record { classes = []; procedures = (record { line = 2; parameters = []; body = record { locals = (OfPointer None) ∷ (OfBuffer 3) ∷ OfView ∷ []; statements = (on 6 (Statement-F.NewText (Held (H.Local 0)) (Constant (pos 0)) GivesNull)) ∷ (on 7 (Statement-F.Left 2 (Of (InCell (Held (H.Local 0)))) (Constant (pos 0)))) ∷ (on 8 (Statement-F.Free (Held (H.Local 0)))) ∷ (on 9 (Statement-F.Insert (OwnBuffer 1) (Constant (negsuc 0)) (ViewOf 2))) ∷ [] } }) ∷ []; operations = []; literals = []; main = 0 }
 
 insert_of_a_view_of_a_freed_text_run : run script_insert_of_a_view_of_a_freed_text_run R.Unlimited 10000 (shaped 4096 4096) ≡ record { outcome = Panicked (P.Workbench 1); trace = (line 1 144 0 Granted) ∷ (line 2 32 144 Granted) ∷ []; lines = []; notes = []; steps = 4 }
 unfolding everything
@@ -1787,7 +1808,7 @@ unfolding everything
 left_longer_than_the_text_run = refl
 
 abbrev script_left_of_fewer_than_none_run : Script
-script_left_of_fewer_than_none_run = record { classes = []; procedures = (record { parameters = []; body = record { locals = OfView ∷ []; statements = rolled ((Statement-F.Left 0 (Quoted 0) (Constant (negsuc 0))) ∷ []) } }) ∷ []; operations = []; literals = (97 ∷ 98 ∷ []) ∷ []; main = 0 }
+script_left_of_fewer_than_none_run = record { classes = []; procedures = (record { line = 2; parameters = []; body = record { locals = OfView ∷ []; statements = (on 4 (Statement-F.Left 0 (Quoted 0) (Constant (negsuc 0)))) ∷ [] } }) ∷ []; operations = []; literals = (97 ∷ 98 ∷ []) ∷ []; main = 0 }
 
 left_of_fewer_than_none_run : run script_left_of_fewer_than_none_run R.Unlimited 10000 (shaped 4096 4096) ≡ record { outcome = Panicked (P.Workbench 9); trace = (line 1 144 0 Granted) ∷ []; lines = []; notes = []; steps = 1 }
 unfolding everything
@@ -1801,28 +1822,28 @@ unfolding everything
 length_below_zero_run = refl
 
 abbrev script_length_of_a_cell_of_words_run : Script
-script_length_of_a_cell_of_words_run = record { classes = []; procedures = (record { parameters = []; body = record { locals = (OfPointer None) ∷ OfNumber ∷ []; statements = rolled ((Statement-F.Alloc (Held (H.Local 0)) (Constant (pos 16)) GivesNull) ∷ (Statement-F.GetLength 1 (Of (InCell (Held (H.Local 0))))) ∷ []) } }) ∷ []; operations = []; literals = []; main = 0 }
+script_length_of_a_cell_of_words_run = record { classes = []; procedures = (record { line = 2; parameters = []; body = record { locals = (OfPointer None) ∷ OfNumber ∷ []; statements = (on 5 (Statement-F.Alloc (Held (H.Local 0)) (Constant (pos 16)) GivesNull)) ∷ (on 6 (Statement-F.GetLength 1 (Of (InCell (Held (H.Local 0)))))) ∷ [] } }) ∷ []; operations = []; literals = []; main = 0 }
 
 length_of_a_cell_of_words_run : run script_length_of_a_cell_of_words_run R.Unlimited 10000 (shaped 4096 4096) ≡ record { outcome = Panicked (P.Workbench 2); trace = (line 1 144 0 Granted) ∷ (line 2 32 144 Granted) ∷ []; lines = []; notes = []; steps = 2 }
 unfolding everything
 length_of_a_cell_of_words_run = refl
 
 abbrev script_length_past_the_maximum_of_a_cell_run : Script
-script_length_past_the_maximum_of_a_cell_run = record { classes = []; procedures = (record { parameters = []; body = record { locals = (OfPointer None) ∷ []; statements = rolled ((Statement-F.NewText (Held (H.Local 0)) (Constant (pos 5)) GivesNull) ∷ (Statement-F.SetLength (InCell (Held (H.Local 0))) (Constant (pos 6))) ∷ (Statement-F.SetLength (InCell (Held (H.Local 0))) (Constant (pos 7))) ∷ []) } }) ∷ []; operations = []; literals = []; main = 0 }
+script_length_past_the_maximum_of_a_cell_run = record { classes = []; procedures = (record { line = 2; parameters = []; body = record { locals = (OfPointer None) ∷ []; statements = (on 4 (Statement-F.NewText (Held (H.Local 0)) (Constant (pos 5)) GivesNull)) ∷ (on 5 (Statement-F.SetLength (InCell (Held (H.Local 0))) (Constant (pos 6)))) ∷ (on 6 (Statement-F.SetLength (InCell (Held (H.Local 0))) (Constant (pos 7)))) ∷ [] } }) ∷ []; operations = []; literals = []; main = 0 }
 
 length_past_the_maximum_of_a_cell_run : run script_length_past_the_maximum_of_a_cell_run R.Unlimited 10000 (shaped 4096 4096) ≡ record { outcome = Panicked (P.User 11); trace = (line 1 144 0 Granted) ∷ (line 2 32 144 Granted) ∷ []; lines = []; notes = []; steps = 3 }
 unfolding everything
 length_past_the_maximum_of_a_cell_run = refl
 
 abbrev script_length_set_at_null_run : Script
-script_length_set_at_null_run = record { classes = []; procedures = (record { parameters = []; body = record { locals = (OfPointer None) ∷ []; statements = rolled ((Statement-F.SetLength (InCell (Held (H.Local 0))) (Constant (negsuc 0))) ∷ []) } }) ∷ []; operations = []; literals = []; main = 0 }
+script_length_set_at_null_run = record { classes = []; procedures = (record { line = 2; parameters = []; body = record { locals = (OfPointer None) ∷ []; statements = (on 4 (Statement-F.SetLength (InCell (Held (H.Local 0))) (Constant (negsuc 0)))) ∷ [] } }) ∷ []; operations = []; literals = []; main = 0 }
 
 length_set_at_null_run : run script_length_set_at_null_run R.Unlimited 10000 (shaped 4096 4096) ≡ record { outcome = Panicked (P.Workbench 1); trace = (line 1 144 0 Granted) ∷ []; lines = []; notes = []; steps = 1 }
 unfolding everything
 length_set_at_null_run = refl
 
 abbrev script_length_set_in_a_cell_of_words_run : Script
-script_length_set_in_a_cell_of_words_run = record { classes = []; procedures = (record { parameters = []; body = record { locals = (OfPointer None) ∷ []; statements = rolled ((Statement-F.Alloc (Held (H.Local 0)) (Constant (pos 16)) GivesNull) ∷ (Statement-F.SetLength (InCell (Held (H.Local 0))) (Constant (negsuc 0))) ∷ []) } }) ∷ []; operations = []; literals = []; main = 0 }
+script_length_set_in_a_cell_of_words_run = record { classes = []; procedures = (record { line = 2; parameters = []; body = record { locals = (OfPointer None) ∷ []; statements = (on 4 (Statement-F.Alloc (Held (H.Local 0)) (Constant (pos 16)) GivesNull)) ∷ (on 5 (Statement-F.SetLength (InCell (Held (H.Local 0))) (Constant (negsuc 0)))) ∷ [] } }) ∷ []; operations = []; literals = []; main = 0 }
 
 length_set_in_a_cell_of_words_run : run script_length_set_in_a_cell_of_words_run R.Unlimited 10000 (shaped 4096 4096) ≡ record { outcome = Panicked (P.Workbench 2); trace = (line 1 144 0 Granted) ∷ (line 2 32 144 Granted) ∷ []; lines = []; notes = []; steps = 2 }
 unfolding everything
@@ -1836,7 +1857,7 @@ unfolding everything
 maximum_of_a_freed_text_run = refl
 
 abbrev script_maximum_of_null_run : Script
-script_maximum_of_null_run = record { classes = []; procedures = (record { parameters = []; body = record { locals = (OfPointer None) ∷ OfNumber ∷ []; statements = rolled ((Statement-F.GetMaximum 1 (InCell (Held (H.Local 0)))) ∷ []) } }) ∷ []; operations = []; literals = []; main = 0 }
+script_maximum_of_null_run = record { classes = []; procedures = (record { line = 2; parameters = []; body = record { locals = (OfPointer None) ∷ OfNumber ∷ []; statements = (on 5 (Statement-F.GetMaximum 1 (InCell (Held (H.Local 0))))) ∷ [] } }) ∷ []; operations = []; literals = []; main = 0 }
 
 maximum_of_null_run : run script_maximum_of_null_run R.Unlimited 10000 (shaped 4096 4096) ≡ record { outcome = Panicked (P.Workbench 1); trace = (line 1 144 0 Granted) ∷ []; lines = []; notes = []; steps = 1 }
 unfolding everything
@@ -1850,7 +1871,7 @@ unfolding everything
 mid_before_the_beginning_run = refl
 
 abbrev script_mid_of_fewer_than_none_run : Script
-script_mid_of_fewer_than_none_run = record { classes = []; procedures = (record { parameters = []; body = record { locals = OfView ∷ []; statements = rolled ((Statement-F.Mid 0 (Quoted 0) (Constant (pos 3)) (Constant (negsuc 0))) ∷ []) } }) ∷ []; operations = []; literals = (97 ∷ 98 ∷ []) ∷ []; main = 0 }
+script_mid_of_fewer_than_none_run = record { classes = []; procedures = (record { line = 2; parameters = []; body = record { locals = OfView ∷ []; statements = (on 4 (Statement-F.Mid 0 (Quoted 0) (Constant (pos 3)) (Constant (negsuc 0)))) ∷ [] } }) ∷ []; operations = []; literals = (97 ∷ 98 ∷ []) ∷ []; main = 0 }
 
 mid_of_fewer_than_none_run : run script_mid_of_fewer_than_none_run R.Unlimited 10000 (shaped 4096 4096) ≡ record { outcome = Panicked (P.Workbench 9); trace = (line 1 144 0 Granted) ∷ []; lines = []; notes = []; steps = 1 }
 unfolding everything
@@ -1864,7 +1885,7 @@ unfolding everything
 mid_past_the_end_run = refl
 
 abbrev script_numbers_in_the_place_of_positions_run : Script
-script_numbers_in_the_place_of_positions_run = record { classes = []; procedures = (record { parameters = []; body = record { locals = (OfPointer None) ∷ (OfPointer None) ∷ (OfBuffer 7) ∷ OfView ∷ OfNumber ∷ OfNumber ∷ []; statements = rolled ((Statement-F.SetNumber 4 (Constant (pos 1))) ∷ (Statement-F.SetNumber 5 (Constant (pos 2))) ∷ (Statement-F.NewText (Held (H.Local 0)) (Variable 5) GivesNull) ∷ (Statement-F.Copy (InCell (Held (H.Local 0))) (Quoted 0)) ∷ (Statement-F.Insert (InCell (Held (H.Local 0))) (Variable 4) (Quoted 1)) ∷ (Statement-F.PrintText (Of (InCell (Held (H.Local 0))))) ∷ (Statement-F.DeleteText (InCell (Held (H.Local 0))) (Variable 5) (Variable 4)) ∷ (Statement-F.PrintText (Of (InCell (Held (H.Local 0))))) ∷ (Statement-F.Left 3 (Quoted 2) (Variable 5)) ∷ (Statement-F.PrintText (ViewOf 3)) ∷ (Statement-F.Right 3 (ViewOf 3) (Variable 4)) ∷ (Statement-F.PrintText (ViewOf 3)) ∷ (Statement-F.Mid 3 (Quoted 3) (Variable 4) (Variable 5)) ∷ (Statement-F.PrintText (ViewOf 3)) ∷ (Statement-F.Insert (OwnBuffer 2) (Constant (pos 0)) (ViewOf 3)) ∷ (Statement-F.SetLength (OwnBuffer 2) (Variable 4)) ∷ (Statement-F.PrintText (Of (OwnBuffer 2))) ∷ (Statement-F.ReallocText (Held (H.Local 1)) (Held (H.Local 0)) (Variable 4)) ∷ []) } }) ∷ []; operations = []; literals = (97 ∷ 98 ∷ 99 ∷ []) ∷ (120 ∷ 121 ∷ []) ∷ (97 ∷ 98 ∷ 99 ∷ []) ∷ (97 ∷ 98 ∷ 99 ∷ 100 ∷ []) ∷ []; main = 0 }
+script_numbers_in_the_place_of_positions_run = record { classes = []; procedures = (record { line = 2; parameters = []; body = record { locals = (OfPointer None) ∷ (OfPointer None) ∷ (OfBuffer 7) ∷ OfView ∷ OfNumber ∷ OfNumber ∷ []; statements = (on 9 (Statement-F.SetNumber 4 (Constant (pos 1)))) ∷ (on 10 (Statement-F.SetNumber 5 (Constant (pos 2)))) ∷ (on 11 (Statement-F.NewText (Held (H.Local 0)) (Variable 5) GivesNull)) ∷ (on 12 (Statement-F.Copy (InCell (Held (H.Local 0))) (Quoted 0))) ∷ (on 13 (Statement-F.Insert (InCell (Held (H.Local 0))) (Variable 4) (Quoted 1))) ∷ (on 14 (Statement-F.PrintText (Of (InCell (Held (H.Local 0)))))) ∷ (on 15 (Statement-F.DeleteText (InCell (Held (H.Local 0))) (Variable 5) (Variable 4))) ∷ (on 16 (Statement-F.PrintText (Of (InCell (Held (H.Local 0)))))) ∷ (on 17 (Statement-F.Left 3 (Quoted 2) (Variable 5))) ∷ (on 18 (Statement-F.PrintText (ViewOf 3))) ∷ (on 19 (Statement-F.Right 3 (ViewOf 3) (Variable 4))) ∷ (on 20 (Statement-F.PrintText (ViewOf 3))) ∷ (on 21 (Statement-F.Mid 3 (Quoted 3) (Variable 4) (Variable 5))) ∷ (on 22 (Statement-F.PrintText (ViewOf 3))) ∷ (on 23 (Statement-F.Insert (OwnBuffer 2) (Constant (pos 0)) (ViewOf 3))) ∷ (on 24 (Statement-F.SetLength (OwnBuffer 2) (Variable 4))) ∷ (on 25 (Statement-F.PrintText (Of (OwnBuffer 2)))) ∷ (on 26 (Statement-F.ReallocText (Held (H.Local 1)) (Held (H.Local 0)) (Variable 4))) ∷ [] } }) ∷ []; operations = []; literals = (97 ∷ 98 ∷ 99 ∷ []) ∷ (120 ∷ 121 ∷ []) ∷ (97 ∷ 98 ∷ 99 ∷ []) ∷ (97 ∷ 98 ∷ 99 ∷ 100 ∷ []) ∷ []; main = 0 }
 
 numbers_in_the_place_of_positions_run : run script_numbers_in_the_place_of_positions_run R.Unlimited 10000 (shaped 4096 4096) ≡ record { outcome = Panicked (P.Workbench 8); trace = (line 1 144 0 Granted) ∷ (line 2 32 144 Granted) ∷ []; lines = (97 ∷ 120 ∷ 121 ∷ 98 ∷ 99 ∷ []) ∷ (97 ∷ 120 ∷ 98 ∷ 99 ∷ []) ∷ (97 ∷ 98 ∷ []) ∷ (98 ∷ []) ∷ (98 ∷ 99 ∷ []) ∷ (98 ∷ []) ∷ []; notes = []; steps = 18 }
 unfolding everything
@@ -1899,7 +1920,7 @@ unfolding everything
 right_longer_than_the_text_run = refl
 
 abbrev script_right_of_fewer_than_none_run : Script
-script_right_of_fewer_than_none_run = record { classes = []; procedures = (record { parameters = []; body = record { locals = OfView ∷ []; statements = rolled ((Statement-F.Right 0 (Quoted 0) (Constant (negsuc 0))) ∷ []) } }) ∷ []; operations = []; literals = (97 ∷ 98 ∷ []) ∷ []; main = 0 }
+script_right_of_fewer_than_none_run = record { classes = []; procedures = (record { line = 2; parameters = []; body = record { locals = OfView ∷ []; statements = (on 4 (Statement-F.Right 0 (Quoted 0) (Constant (negsuc 0)))) ∷ [] } }) ∷ []; operations = []; literals = (97 ∷ 98 ∷ []) ∷ []; main = 0 }
 
 right_of_fewer_than_none_run : run script_right_of_fewer_than_none_run R.Unlimited 10000 (shaped 4096 4096) ≡ record { outcome = Panicked (P.Workbench 9); trace = (line 1 144 0 Granted) ∷ []; lines = []; notes = []; steps = 1 }
 unfolding everything
@@ -1934,7 +1955,7 @@ unfolding everything
 target_is_looked_at_before_the_source_run = refl
 
 abbrev script_text_appended_to_itself_past_its_maximum_run : Script
-script_text_appended_to_itself_past_its_maximum_run = record { classes = []; procedures = (record { parameters = []; body = record { locals = (OfBuffer 3) ∷ []; statements = rolled ((Statement-F.Copy (OwnBuffer 0) (Quoted 0)) ∷ (Statement-F.Append (OwnBuffer 0) (Of (OwnBuffer 0))) ∷ []) } }) ∷ []; operations = []; literals = (97 ∷ 98 ∷ []) ∷ []; main = 0 }
+script_text_appended_to_itself_past_its_maximum_run = record { classes = []; procedures = (record { line = 2; parameters = []; body = record { locals = (OfBuffer 3) ∷ []; statements = (on 4 (Statement-F.Copy (OwnBuffer 0) (Quoted 0))) ∷ (on 5 (Statement-F.Append (OwnBuffer 0) (Of (OwnBuffer 0)))) ∷ [] } }) ∷ []; operations = []; literals = (97 ∷ 98 ∷ []) ∷ []; main = 0 }
 
 text_appended_to_itself_past_its_maximum_run : run script_text_appended_to_itself_past_its_maximum_run R.Unlimited 10000 (shaped 4096 4096) ≡ record { outcome = Panicked (P.User 11); trace = (line 1 144 0 Granted) ∷ []; lines = []; notes = []; steps = 2 }
 unfolding everything
@@ -1976,7 +1997,7 @@ unfolding everything
 text_in_a_cell_is_edited_run = refl
 
 abbrev script_text_in_a_cell_is_grown_and_edited_run : Script
-script_text_in_a_cell_is_grown_and_edited_run = record { classes = []; procedures = (record { parameters = []; body = record { locals = (OfPointer None) ∷ (OfPointer None) ∷ OfNumber ∷ []; statements = rolled ((Statement-F.NewText (Held (H.Local 0)) (Constant (pos 4)) GivesNull) ∷ (Statement-F.GetMaximum 2 (InCell (Held (H.Local 0)))) ∷ (Statement-F.PrintNumber (Variable 2)) ∷ (Statement-F.Copy (InCell (Held (H.Local 0))) (Quoted 0)) ∷ (Statement-F.Append (InCell (Held (H.Local 0))) (Quoted 1)) ∷ (Statement-F.ReallocText (Held (H.Local 1)) (Held (H.Local 0)) (Constant (pos 7))) ∷ (Statement-F.GetMaximum 2 (InCell (Held (H.Local 1)))) ∷ (Statement-F.PrintNumber (Variable 2)) ∷ (Statement-F.Insert (InCell (Held (H.Local 1))) (Constant (pos 4)) (Quoted 2)) ∷ (Statement-F.PrintText (Of (InCell (Held (H.Local 0))))) ∷ (Statement-F.DeleteText (InCell (Held (H.Local 0))) (Constant (pos 2)) (Constant (pos 5))) ∷ (Statement-F.PrintText (Of (InCell (Held (H.Local 1))))) ∷ (Statement-F.SetLength (InCell (Held (H.Local 1))) (Constant (pos 2))) ∷ (Statement-F.GetLength 2 (Of (InCell (Held (H.Local 0))))) ∷ (Statement-F.PrintNumber (Variable 2)) ∷ (Statement-F.Free (Held (H.Local 0))) ∷ []) } }) ∷ []; operations = []; literals = (99 ∷ 100 ∷ 101 ∷ 102 ∷ []) ∷ (97 ∷ 98 ∷ []) ∷ (99 ∷ 100 ∷ 101 ∷ 102 ∷ []) ∷ []; main = 0 }
+script_text_in_a_cell_is_grown_and_edited_run = record { classes = []; procedures = (record { line = 2; parameters = []; body = record { locals = (OfPointer None) ∷ (OfPointer None) ∷ OfNumber ∷ []; statements = (on 6 (Statement-F.NewText (Held (H.Local 0)) (Constant (pos 4)) GivesNull)) ∷ (on 7 (Statement-F.GetMaximum 2 (InCell (Held (H.Local 0))))) ∷ (on 8 (Statement-F.PrintNumber (Variable 2))) ∷ (on 9 (Statement-F.Copy (InCell (Held (H.Local 0))) (Quoted 0))) ∷ (on 10 (Statement-F.Append (InCell (Held (H.Local 0))) (Quoted 1))) ∷ (on 11 (Statement-F.ReallocText (Held (H.Local 1)) (Held (H.Local 0)) (Constant (pos 7)))) ∷ (on 12 (Statement-F.GetMaximum 2 (InCell (Held (H.Local 1))))) ∷ (on 13 (Statement-F.PrintNumber (Variable 2))) ∷ (on 14 (Statement-F.Insert (InCell (Held (H.Local 1))) (Constant (pos 4)) (Quoted 2))) ∷ (on 15 (Statement-F.PrintText (Of (InCell (Held (H.Local 0)))))) ∷ (on 16 (Statement-F.DeleteText (InCell (Held (H.Local 0))) (Constant (pos 2)) (Constant (pos 5)))) ∷ (on 17 (Statement-F.PrintText (Of (InCell (Held (H.Local 1)))))) ∷ (on 18 (Statement-F.SetLength (InCell (Held (H.Local 1))) (Constant (pos 2)))) ∷ (on 19 (Statement-F.GetLength 2 (Of (InCell (Held (H.Local 0)))))) ∷ (on 20 (Statement-F.PrintNumber (Variable 2))) ∷ (on 21 (Statement-F.Free (Held (H.Local 0)))) ∷ [] } }) ∷ []; operations = []; literals = (99 ∷ 100 ∷ 101 ∷ 102 ∷ []) ∷ (97 ∷ 98 ∷ []) ∷ (99 ∷ 100 ∷ 101 ∷ 102 ∷ []) ∷ []; main = 0 }
 
 text_in_a_cell_is_grown_and_edited_run : run script_text_in_a_cell_is_grown_and_edited_run R.Unlimited 10000 (shaped 4096 4096) ≡ record { outcome = Ended None []; trace = (line 1 144 0 Granted) ∷ (line 2 32 144 Granted) ∷ (line 3 48 144 Granted) ∷ []; lines = (54 ∷ []) ∷ (49 ∷ 52 ∷ []) ∷ (99 ∷ 100 ∷ 101 ∷ 102 ∷ 99 ∷ 100 ∷ 101 ∷ 102 ∷ 97 ∷ 98 ∷ []) ∷ (99 ∷ 100 ∷ 102 ∷ 97 ∷ 98 ∷ []) ∷ (50 ∷ []) ∷ []; notes = []; steps = 16 }
 unfolding everything
@@ -2004,7 +2025,7 @@ unfolding everything
 text_past_one_mebibyte_run = refl
 
 abbrev script_text_that_the_heap_refuses_run : Script
-script_text_that_the_heap_refuses_run = record { classes = []; procedures = (record { parameters = []; body = record { locals = (OfPointer None) ∷ (OfPointer None) ∷ []; statements = rolled ((Statement-F.NewText (Held (H.Local 0)) (Constant (pos 2)) GivesNull) ∷ (Statement-F.Copy (InCell (Held (H.Local 0))) (Quoted 0)) ∷ (Statement-F.NewText (Held (H.Local 1)) (Constant (pos 2)) GivesNull) ∷ (Statement-F.FailNext (Constant (pos 1))) ∷ (Statement-F.ReallocText (Held (H.Local 1)) (Held (H.Local 0)) (Constant (pos 9))) ∷ (Statement-F.PrintText (Of (InCell (Held (H.Local 0))))) ∷ (Statement-F.Free (Held (H.Local 1))) ∷ (Statement-F.FailNext (Constant (pos 1))) ∷ (Statement-F.NewText (Held (H.Local 0)) (Constant (pos 2)) GivesNull) ∷ (Statement-F.Free (Held (H.Local 0))) ∷ []) } }) ∷ []; operations = []; literals = (97 ∷ 98 ∷ []) ∷ []; main = 0 }
+script_text_that_the_heap_refuses_run = record { classes = []; procedures = (record { line = 2; parameters = []; body = record { locals = (OfPointer None) ∷ (OfPointer None) ∷ []; statements = (on 5 (Statement-F.NewText (Held (H.Local 0)) (Constant (pos 2)) GivesNull)) ∷ (on 6 (Statement-F.Copy (InCell (Held (H.Local 0))) (Quoted 0))) ∷ (on 7 (Statement-F.NewText (Held (H.Local 1)) (Constant (pos 2)) GivesNull)) ∷ (on 8 (Statement-F.FailNext (Constant (pos 1)))) ∷ (on 9 (Statement-F.ReallocText (Held (H.Local 1)) (Held (H.Local 0)) (Constant (pos 9)))) ∷ (on 10 (Statement-F.PrintText (Of (InCell (Held (H.Local 0)))))) ∷ (on 11 (Statement-F.Free (Held (H.Local 1)))) ∷ (on 12 (Statement-F.FailNext (Constant (pos 1)))) ∷ (on 13 (Statement-F.NewText (Held (H.Local 0)) (Constant (pos 2)) GivesNull)) ∷ (on 14 (Statement-F.Free (Held (H.Local 0)))) ∷ [] } }) ∷ []; operations = []; literals = (97 ∷ 98 ∷ []) ∷ []; main = 0 }
 
 text_that_the_heap_refuses_run : run script_text_that_the_heap_refuses_run R.Unlimited 10000 (shaped 4096 4096) ≡ record { outcome = Ended None ((record { number = 2; length = 32; place = 144 }) ∷ (record { number = 3; length = 32; place = 176 }) ∷ []); trace = (line 1 144 0 Granted) ∷ (line 2 32 144 Granted) ∷ (line 3 32 176 Granted) ∷ (line 4 48 208 Simulated) ∷ (line 5 32 208 Simulated) ∷ []; lines = (97 ∷ 98 ∷ []) ∷ []; notes = []; steps = 10 }
 unfolding everything
@@ -2018,7 +2039,7 @@ unfolding everything
 view_follows_its_text_run = refl
 
 abbrev script_view_of_a_cell_of_words_run : Script
-script_view_of_a_cell_of_words_run = record { classes = []; procedures = (record { parameters = []; body = record { locals = (OfPointer None) ∷ OfView ∷ []; statements = rolled ((Statement-F.Alloc (Held (H.Local 0)) (Constant (pos 16)) GivesNull) ∷ (Statement-F.Mid 1 (Of (InCell (Held (H.Local 0)))) (Constant (negsuc 0)) (Constant (negsuc 0))) ∷ []) } }) ∷ []; operations = []; literals = []; main = 0 }
+script_view_of_a_cell_of_words_run = record { classes = []; procedures = (record { line = 2; parameters = []; body = record { locals = (OfPointer None) ∷ OfView ∷ []; statements = (on 5 (Statement-F.Alloc (Held (H.Local 0)) (Constant (pos 16)) GivesNull)) ∷ (on 6 (Statement-F.Mid 1 (Of (InCell (Held (H.Local 0)))) (Constant (negsuc 0)) (Constant (negsuc 0)))) ∷ [] } }) ∷ []; operations = []; literals = []; main = 0 }
 
 view_of_a_cell_of_words_run : run script_view_of_a_cell_of_words_run R.Unlimited 10000 (shaped 4096 4096) ≡ record { outcome = Panicked (P.Workbench 2); trace = (line 1 144 0 Granted) ∷ (line 2 32 144 Granted) ∷ []; lines = []; notes = []; steps = 2 }
 unfolding everything
@@ -2039,14 +2060,14 @@ unfolding everything
 view_of_a_text_grown_in_place_run = refl
 
 abbrev script_view_of_null_run : Script
-script_view_of_null_run = record { classes = []; procedures = (record { parameters = []; body = record { locals = (OfPointer None) ∷ OfView ∷ []; statements = rolled ((Statement-F.Left 1 (Of (InCell (Held (H.Local 0)))) (Constant (pos 0))) ∷ []) } }) ∷ []; operations = []; literals = []; main = 0 }
+script_view_of_null_run = record { classes = []; procedures = (record { line = 2; parameters = []; body = record { locals = (OfPointer None) ∷ OfView ∷ []; statements = (on 5 (Statement-F.Left 1 (Of (InCell (Held (H.Local 0)))) (Constant (pos 0)))) ∷ [] } }) ∷ []; operations = []; literals = []; main = 0 }
 
 view_of_null_run : run script_view_of_null_run R.Unlimited 10000 (shaped 4096 4096) ≡ record { outcome = Panicked (P.Workbench 1); trace = (line 1 144 0 Granted) ∷ []; lines = []; notes = []; steps = 1 }
 unfolding everything
 view_of_null_run = refl
 
 abbrev script_views_of_a_view_follow_the_text_run : Script
-script_views_of_a_view_follow_the_text_run = record { classes = []; procedures = (record { parameters = []; body = record { locals = (OfBuffer 8) ∷ OfView ∷ OfView ∷ OfNumber ∷ []; statements = rolled ((Statement-F.Copy (OwnBuffer 0) (Quoted 0)) ∷ (Statement-F.Left 1 (Of (OwnBuffer 0)) (Constant (pos 3))) ∷ (Statement-F.Right 2 (ViewOf 1) (Constant (pos 2))) ∷ (Statement-F.PrintText (ViewOf 1)) ∷ (Statement-F.PrintText (ViewOf 2)) ∷ (Statement-F.Mid 1 (Of (OwnBuffer 0)) (Constant (pos 1)) (Constant (pos 3))) ∷ (Statement-F.PrintText (ViewOf 1)) ∷ (Statement-F.Copy (OwnBuffer 0) (Quoted 1)) ∷ (Statement-F.PrintText (ViewOf 1)) ∷ (Statement-F.PrintText (ViewOf 2)) ∷ (Statement-F.GetLength 3 (ViewOf 1)) ∷ (Statement-F.PrintNumber (Variable 3)) ∷ (Statement-F.Append (OwnBuffer 0) (ViewOf 1)) ∷ (Statement-F.PrintText (Of (OwnBuffer 0))) ∷ []) } }) ∷ []; operations = []; literals = (99 ∷ 100 ∷ 101 ∷ 102 ∷ []) ∷ (97 ∷ 98 ∷ []) ∷ []; main = 0 }
+script_views_of_a_view_follow_the_text_run = record { classes = []; procedures = (record { line = 2; parameters = []; body = record { locals = (OfBuffer 8) ∷ OfView ∷ OfView ∷ OfNumber ∷ []; statements = (on 7 (Statement-F.Copy (OwnBuffer 0) (Quoted 0))) ∷ (on 8 (Statement-F.Left 1 (Of (OwnBuffer 0)) (Constant (pos 3)))) ∷ (on 9 (Statement-F.Right 2 (ViewOf 1) (Constant (pos 2)))) ∷ (on 10 (Statement-F.PrintText (ViewOf 1))) ∷ (on 11 (Statement-F.PrintText (ViewOf 2))) ∷ (on 12 (Statement-F.Mid 1 (Of (OwnBuffer 0)) (Constant (pos 1)) (Constant (pos 3)))) ∷ (on 13 (Statement-F.PrintText (ViewOf 1))) ∷ (on 14 (Statement-F.Copy (OwnBuffer 0) (Quoted 1))) ∷ (on 15 (Statement-F.PrintText (ViewOf 1))) ∷ (on 16 (Statement-F.PrintText (ViewOf 2))) ∷ (on 17 (Statement-F.GetLength 3 (ViewOf 1))) ∷ (on 18 (Statement-F.PrintNumber (Variable 3))) ∷ (on 19 (Statement-F.Append (OwnBuffer 0) (ViewOf 1))) ∷ (on 20 (Statement-F.PrintText (Of (OwnBuffer 0)))) ∷ [] } }) ∷ []; operations = []; literals = (99 ∷ 100 ∷ 101 ∷ 102 ∷ []) ∷ (97 ∷ 98 ∷ []) ∷ []; main = 0 }
 
 views_of_a_view_follow_the_text_run : run script_views_of_a_view_follow_the_text_run R.Unlimited 10000 (shaped 4096 4096) ≡ record { outcome = Ended None []; trace = (line 1 144 0 Granted) ∷ []; lines = (99 ∷ 100 ∷ 101 ∷ []) ∷ (100 ∷ 101 ∷ []) ∷ (100 ∷ 101 ∷ 102 ∷ []) ∷ (98 ∷ 46 ∷ 46 ∷ []) ∷ (98 ∷ 46 ∷ []) ∷ (51 ∷ []) ∷ (97 ∷ 98 ∷ 98 ∷ 46 ∷ 46 ∷ []) ∷ []; notes = []; steps = 14 }
 unfolding everything
