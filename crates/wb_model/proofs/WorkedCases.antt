@@ -106,6 +106,20 @@ line number length place answer = record { number = number; length = length; pla
 abbrev rise : ℕ → ℕ → Rise
 rise number top = record { number = number; top = top }
 
+abbrev script_budget_exactly_enough_run : Script
+script_budget_exactly_enough_run = record { classes = []; procedures = (record { line = 1; parameters = []; body = record { locals = (OfPointer None) ∷ (OfPointer None) ∷ (OfPointer None) ∷ []; statements = (on 5 (Statement-F.Alloc (Held (H.Local 0)) (Constant (pos 10)) GivesNull)) ∷ (on 6 (Statement-F.Alloc (Held (H.Local 1)) (Constant (pos 100)) GivesNull)) ∷ (on 7 (Statement-F.Free (Held (H.Local 0)))) ∷ (on 8 (Statement-F.Alloc (Held (H.Local 2)) (Constant (pos 16)) GivesNull)) ∷ (on 9 (Statement-F.Free (Held (H.Local 1)))) ∷ (on 10 (Statement-F.Free (Held (H.Local 2)))) ∷ [] } }) ∷ []; operations = []; literals = []; main = 0 }
+
+budget_exactly_enough_run : run script_budget_exactly_enough_run R.Unlimited 6 (shaped 4096 4096) ≡ record { outcome = Ended None []; trace = (line 1 144 0 Granted) ∷ (line 2 32 144 Granted) ∷ (line 3 128 176 Granted) ∷ (line 4 32 144 Granted) ∷ []; lines = []; notes = []; steps = 6 }
+unfolding everything
+budget_exactly_enough_run = refl
+
+abbrev script_budget_one_step_short_run : Script
+script_budget_one_step_short_run = record { classes = []; procedures = (record { line = 1; parameters = []; body = record { locals = (OfPointer None) ∷ (OfPointer None) ∷ (OfPointer None) ∷ []; statements = (on 5 (Statement-F.Alloc (Held (H.Local 0)) (Constant (pos 10)) GivesNull)) ∷ (on 6 (Statement-F.Alloc (Held (H.Local 1)) (Constant (pos 100)) GivesNull)) ∷ (on 7 (Statement-F.Free (Held (H.Local 0)))) ∷ (on 8 (Statement-F.Alloc (Held (H.Local 2)) (Constant (pos 16)) GivesNull)) ∷ (on 9 (Statement-F.Free (Held (H.Local 1)))) ∷ (on 10 (Statement-F.Free (Held (H.Local 2)))) ∷ [] } }) ∷ []; operations = []; literals = []; main = 0 }
+
+budget_one_step_short_run : run script_budget_one_step_short_run R.Unlimited 5 (shaped 4096 4096) ≡ record { outcome = Cut Budget; trace = (line 1 144 0 Granted) ∷ (line 2 32 144 Granted) ∷ (line 3 128 176 Granted) ∷ (line 4 32 144 Granted) ∷ []; lines = []; notes = []; steps = 5 }
+unfolding everything
+budget_one_step_short_run = refl
+
 abbrev script_buffer_edits_one_after_another_run : Script
 script_buffer_edits_one_after_another_run = record { classes = []; procedures = (record { line = 1; parameters = []; body = record { locals = (OfBuffer 8) ∷ OfView ∷ []; statements = (on 4 (Statement-F.Copy (OwnBuffer 0) (Quoted 0))) ∷ (on 5 (Statement-F.Insert (OwnBuffer 0) (Constant (pos 1)) (Quoted 1))) ∷ (on 6 (Statement-F.DeleteText (OwnBuffer 0) (Constant (pos 4)) (Constant (pos 99)))) ∷ (on 7 (Statement-F.Right 1 (Of (OwnBuffer 0)) (Constant (pos 2)))) ∷ (on 8 (Statement-F.Append (OwnBuffer 0) (ViewOf 1))) ∷ (on 9 (Statement-F.SetLength (OwnBuffer 0) (Constant (pos 8)))) ∷ (on 10 (Statement-F.PrintText (Of (OwnBuffer 0)))) ∷ [] } }) ∷ []; operations = []; literals = (97 ∷ 98 ∷ 99 ∷ 100 ∷ []) ∷ (88 ∷ 89 ∷ []) ∷ []; main = 0 }
 
@@ -1114,20 +1128,6 @@ budget_ends_before_the_frames_do_run : run script_budget_ends_before_the_frames_
 unfolding everything
 budget_ends_before_the_frames_do_run = refl
 
-abbrev script_budget_exactly_enough_run : Script
-script_budget_exactly_enough_run = record { classes = []; procedures = (record { line = 1; parameters = []; body = record { locals = (OfPointer None) ∷ (OfPointer None) ∷ (OfPointer None) ∷ []; statements = (on 5 (Statement-F.Alloc (Held (H.Local 0)) (Constant (pos 10)) GivesNull)) ∷ (on 6 (Statement-F.Alloc (Held (H.Local 1)) (Constant (pos 100)) GivesNull)) ∷ (on 7 (Statement-F.Free (Held (H.Local 0)))) ∷ (on 8 (Statement-F.Alloc (Held (H.Local 2)) (Constant (pos 16)) GivesNull)) ∷ (on 9 (Statement-F.Free (Held (H.Local 1)))) ∷ (on 10 (Statement-F.Free (Held (H.Local 2)))) ∷ [] } }) ∷ []; operations = []; literals = []; main = 0 }
-
-budget_exactly_enough_run : run script_budget_exactly_enough_run R.Unlimited 6 (shaped 4096 4096) ≡ record { outcome = Ended None []; trace = (line 1 144 0 Granted) ∷ (line 2 32 144 Granted) ∷ (line 3 128 176 Granted) ∷ (line 4 32 144 Granted) ∷ []; lines = []; notes = []; steps = 6 }
-unfolding everything
-budget_exactly_enough_run = refl
-
-abbrev script_budget_one_step_short_run : Script
-script_budget_one_step_short_run = record { classes = []; procedures = (record { line = 1; parameters = []; body = record { locals = (OfPointer None) ∷ (OfPointer None) ∷ (OfPointer None) ∷ []; statements = (on 5 (Statement-F.Alloc (Held (H.Local 0)) (Constant (pos 10)) GivesNull)) ∷ (on 6 (Statement-F.Alloc (Held (H.Local 1)) (Constant (pos 100)) GivesNull)) ∷ (on 7 (Statement-F.Free (Held (H.Local 0)))) ∷ (on 8 (Statement-F.Alloc (Held (H.Local 2)) (Constant (pos 16)) GivesNull)) ∷ (on 9 (Statement-F.Free (Held (H.Local 1)))) ∷ (on 10 (Statement-F.Free (Held (H.Local 2)))) ∷ [] } }) ∷ []; operations = []; literals = []; main = 0 }
-
-budget_one_step_short_run : run script_budget_one_step_short_run R.Unlimited 5 (shaped 4096 4096) ≡ record { outcome = Cut Budget; trace = (line 1 144 0 Granted) ∷ (line 2 32 144 Granted) ∷ (line 3 128 176 Granted) ∷ (line 4 32 144 Granted) ∷ []; lines = []; notes = []; steps = 5 }
-unfolding everything
-budget_one_step_short_run = refl
-
 abbrev script_endless_calls_run_out_of_frames_run : Script
 script_endless_calls_run_out_of_frames_run = record { classes = []; procedures = (record { line = 1; parameters = []; body = record { locals = []; statements = (on 2 (Statement-F.Call 0 [])) ∷ [] } }) ∷ (record { line = 4; parameters = []; body = record { locals = []; statements = (on 5 (Statement-F.Call 0 [])) ∷ [] } }) ∷ []; operations = []; literals = []; main = 1 }
 
@@ -1219,40 +1219,12 @@ view_past_text_from_leaving_allocation_run : run script_view_past_text_from_leav
 unfolding everything
 view_past_text_from_leaving_allocation_run = refl
 
-abbrev script_missing_mark_is_told_before_the_count_run : Script
-script_missing_mark_is_told_before_the_count_run = record { classes = []; procedures = (record { line = 1; parameters = []; body = record { locals = (OfPointer None) ∷ []; statements = (on 3 (Statement-F.Alloc (Held (H.Local 0)) (Constant (pos 1)) GivesNull)) ∷ (on 4 (Statement-F.MarkEnd (Constant (pos 5)))) ∷ [] } }) ∷ []; operations = []; literals = []; main = 0 }
-
-missing_mark_is_told_before_the_count_run : run script_missing_mark_is_told_before_the_count_run R.Unlimited 10000 (shaped 4096 4096) ≡ record { outcome = Panicked (P.Workbench 6); trace = (line 1 144 0 Granted) ∷ (line 2 32 144 Granted) ∷ []; lines = []; notes = []; steps = 2 }
-unfolding everything
-missing_mark_is_told_before_the_count_run = refl
-
-abbrev script_negative_count_is_told_before_a_missing_mark_run : Script
-script_negative_count_is_told_before_a_missing_mark_run = record { classes = []; procedures = (record { line = 1; parameters = []; body = record { locals = []; statements = (on 2 (Statement-F.MarkEnd (Constant (negsuc 0)))) ∷ [] } }) ∷ []; operations = []; literals = []; main = 0 }
-
-negative_count_is_told_before_a_missing_mark_run : run script_negative_count_is_told_before_a_missing_mark_run R.Unlimited 10000 (shaped 4096 4096) ≡ record { outcome = Panicked (P.Workbench 9); trace = (line 1 144 0 Granted) ∷ []; lines = []; notes = []; steps = 1 }
-unfolding everything
-negative_count_is_told_before_a_missing_mark_run = refl
-
-abbrev script_one_mark_end_more_than_marks_run : Script
-script_one_mark_end_more_than_marks_run = record { classes = []; procedures = (record { line = 1; parameters = []; body = record { locals = []; statements = (on 2 Statement-F.Mark) ∷ (on 3 Statement-F.Mark) ∷ (on 4 (Statement-F.MarkEnd (Constant (pos 0)))) ∷ (on 5 (Statement-F.MarkEnd (Constant (pos 0)))) ∷ (on 6 (Statement-F.MarkEnd (Constant (pos 0)))) ∷ [] } }) ∷ []; operations = []; literals = []; main = 0 }
-
-one_mark_end_more_than_marks_run : run script_one_mark_end_more_than_marks_run R.Unlimited 10000 (shaped 4096 4096) ≡ record { outcome = Panicked (P.Workbench 6); trace = (line 1 144 0 Granted) ∷ []; lines = []; notes = []; steps = 5 }
-unfolding everything
-one_mark_end_more_than_marks_run = refl
-
 abbrev script_items_left_at_the_plain_end_of_a_trap_run : Script
 script_items_left_at_the_plain_end_of_a_trap_run = record { classes = []; procedures = (record { line = 1; parameters = []; body = record { locals = (OfPointer None) ∷ OfNumber ∷ []; statements = (on 4 (Statement-F.Alloc (Held (H.Local 0)) (Constant (pos 10)) GivesNull)) ∷ (on 5 (Statement-F.Trap 1 ((on 6 (Statement-F.Push (Held (H.Local 0)))) ∷ []))) ∷ (on 8 (Statement-F.PrintNumber (Constant (pos 1)))) ∷ [] } }) ∷ []; operations = []; literals = []; main = 0 }
 
 items_left_at_the_plain_end_of_a_trap_run : run script_items_left_at_the_plain_end_of_a_trap_run R.Unlimited 10000 (shaped 4096 4096) ≡ record { outcome = Panicked (P.Workbench 5); trace = (line 1 144 0 Granted) ∷ (line 2 32 144 Granted) ∷ []; lines = []; notes = []; steps = 3 }
 unfolding everything
 items_left_at_the_plain_end_of_a_trap_run = refl
-
-abbrev script_cell_for_zero_bytes_size : Script
-script_cell_for_zero_bytes_size = record { classes = []; procedures = (record { line = 1; parameters = []; body = record { locals = (OfPointer None) ∷ OfNumber ∷ []; statements = (on 4 (Statement-F.Alloc (Held (H.Local 0)) (Constant (pos 0)) GivesNull)) ∷ (on 5 (Statement-F.AllocLen 1 (Held (H.Local 0)))) ∷ (on 6 (Statement-F.PrintNumber (Variable 1))) ∷ (on 7 (Statement-F.Free (Held (H.Local 0)))) ∷ [] } }) ∷ []; operations = []; literals = []; main = 0 }
-
-cell_for_zero_bytes_size : (required script_cell_for_zero_bytes_size 10000 (shaped 4096 4096) ≡ 160) × (rises script_cell_for_zero_bytes_size 10000 (shaped 4096 4096) ≡ (rise 1 144) ∷ (rise 2 160) ∷ [])
-unfolding everything
-cell_for_zero_bytes_size = (refl, refl)
 
 abbrev script_eighth_push_grows_the_cleanup_cell_size : Script
 script_eighth_push_grows_the_cleanup_cell_size = record { classes = []; procedures = (record { line = 1; parameters = []; body = record { locals = (OfPointer None) ∷ []; statements = (on 3 (Statement-F.Repeat (Constant (pos 8)) ((on 4 (Statement-F.Alloc (Held (H.Local 0)) (Constant (pos 16)) Leaves)) ∷ (on 5 (Statement-F.Push (Held (H.Local 0)))) ∷ []))) ∷ (on 7 (Statement-F.PopDestroy (Constant (pos 8)))) ∷ [] } }) ∷ []; operations = []; literals = []; main = 0 }
@@ -1267,27 +1239,6 @@ script_empty_main_json_size = record { classes = []; procedures = (record { line
 empty_main_json_size : (required script_empty_main_json_size 10000 (shaped 4096 4096) ≡ 144) × (rises script_empty_main_json_size 10000 (shaped 4096 4096) ≡ (rise 1 144) ∷ [])
 unfolding everything
 empty_main_json_size = (refl, refl)
-
-abbrev script_empty_main_size : Script
-script_empty_main_size = record { classes = []; procedures = (record { line = 1; parameters = []; body = record { locals = []; statements = [] } }) ∷ []; operations = []; literals = []; main = 0 }
-
-empty_main_size : (required script_empty_main_size 10000 (shaped 4096 4096) ≡ 144) × (rises script_empty_main_size 10000 (shaped 4096 4096) ≡ (rise 1 144) ∷ [])
-unfolding everything
-empty_main_size = (refl, refl)
-
-abbrev script_first_fit_reuses_hole_size : Script
-script_first_fit_reuses_hole_size = record { classes = []; procedures = (record { line = 1; parameters = []; body = record { locals = (OfPointer None) ∷ (OfPointer None) ∷ (OfPointer None) ∷ []; statements = (on 5 (Statement-F.Alloc (Held (H.Local 0)) (Constant (pos 10)) GivesNull)) ∷ (on 6 (Statement-F.Alloc (Held (H.Local 1)) (Constant (pos 100)) GivesNull)) ∷ (on 7 (Statement-F.Free (Held (H.Local 0)))) ∷ (on 8 (Statement-F.Alloc (Held (H.Local 2)) (Constant (pos 16)) GivesNull)) ∷ (on 9 (Statement-F.Free (Held (H.Local 1)))) ∷ (on 10 (Statement-F.Free (Held (H.Local 2)))) ∷ [] } }) ∷ []; operations = []; literals = []; main = 0 }
-
-first_fit_reuses_hole_size : (required script_first_fit_reuses_hole_size 10000 (shaped 4096 4096) ≡ 304) × (rises script_first_fit_reuses_hole_size 10000 (shaped 4096 4096) ≡ (rise 1 144) ∷ (rise 2 176) ∷ (rise 3 304) ∷ [])
-unfolding everything
-first_fit_reuses_hole_size = (refl, refl)
-
-abbrev script_freed_neighbours_merge_size : Script
-script_freed_neighbours_merge_size = record { classes = []; procedures = (record { line = 1; parameters = []; body = record { locals = (OfPointer None) ∷ (OfPointer None) ∷ (OfPointer None) ∷ (OfPointer None) ∷ (OfPointer None) ∷ []; statements = (on 7 (Statement-F.Alloc (Held (H.Local 0)) (Constant (pos 16)) GivesNull)) ∷ (on 8 (Statement-F.Alloc (Held (H.Local 1)) (Constant (pos 16)) GivesNull)) ∷ (on 9 (Statement-F.Alloc (Held (H.Local 2)) (Constant (pos 16)) GivesNull)) ∷ (on 10 (Statement-F.Alloc (Held (H.Local 3)) (Constant (pos 16)) GivesNull)) ∷ (on 11 (Statement-F.Free (Held (H.Local 1)))) ∷ (on 12 (Statement-F.Free (Held (H.Local 0)))) ∷ (on 13 (Statement-F.Free (Held (H.Local 2)))) ∷ (on 14 (Statement-F.Alloc (Held (H.Local 4)) (Constant (pos 80)) GivesNull)) ∷ (on 15 (Statement-F.Free (Held (H.Local 3)))) ∷ (on 16 (Statement-F.Free (Held (H.Local 4)))) ∷ [] } }) ∷ []; operations = []; literals = []; main = 0 }
-
-freed_neighbours_merge_size : (required script_freed_neighbours_merge_size 10000 (shaped 4096 4096) ≡ 272) × (rises script_freed_neighbours_merge_size 10000 (shaped 4096 4096) ≡ (rise 1 144) ∷ (rise 2 176) ∷ (rise 3 208) ∷ (rise 4 240) ∷ (rise 5 272) ∷ [])
-unfolding everything
-freed_neighbours_merge_size = (refl, refl)
 
 abbrev script_last_cell_ends_at_the_ceiling_size : Script
 script_last_cell_ends_at_the_ceiling_size = record { classes = []; procedures = (record { line = 1; parameters = []; body = record { locals = (OfPointer None) ∷ []; statements = (on 3 (Statement-F.Repeat (Constant (pos 15)) ((on 4 (Statement-F.Alloc (Held (H.Local 0)) (Constant (pos 1048560)) GivesNull)) ∷ []))) ∷ (on 6 (Statement-F.Alloc (Held (H.Local 0)) (Constant (pos 1048416)) GivesNull)) ∷ [] } }) ∷ []; operations = []; literals = []; main = 0 }
@@ -1366,13 +1317,6 @@ empty_main_json_check : (required script_empty_main_json_check 10000 (shaped 409
 unfolding everything
 empty_main_json_check = (refl, refl, refl, refl)
 
-abbrev script_empty_main_check : Script
-script_empty_main_check = record { classes = []; procedures = (record { line = 1; parameters = []; body = record { locals = []; statements = [] } }) ∷ []; operations = []; literals = []; main = 0 }
-
-empty_main_check : (required script_empty_main_check 10000 (shaped 4096 4096) ≡ 144) × (rises script_empty_main_check 10000 (shaped 4096 4096) ≡ (rise 1 144) ∷ []) × (length (run_at script_empty_main_check 10000 (shaped 4096 4096) 0).trace ≡ 1) × (least_bad_or_cut script_empty_main_check 10000 (shaped 4096 4096) ≡ None)
-unfolding everything
-empty_main_check = (refl, refl, refl, refl)
-
 abbrev script_failure_that_outruns_the_budget_json_check : Script
 script_failure_that_outruns_the_budget_json_check = record { classes = []; procedures = (record { line = 1; parameters = []; body = record { locals = (OfPointer None) ∷ []; statements = (on 3 (Statement-F.Alloc (Held (H.Local 0)) (Constant (pos 16)) GivesNull)) ∷ (on 4 (Statement-F.If (IsNull (Held (H.Local 0))) ((on 5 (Statement-F.Repeat (Constant (pos 20000)) [])) ∷ []))) ∷ (on 8 (Statement-F.Free (Held (H.Local 0)))) ∷ [] } }) ∷ []; operations = []; literals = []; main = 0 }
 
@@ -1394,13 +1338,6 @@ failure_that_outruns_the_budget_sweep : (least_bad_or_cut script_failure_that_ou
 unfolding everything
 failure_that_outruns_the_budget_sweep = (refl, refl)
 
-abbrev script_first_fit_reuses_hole_check : Script
-script_first_fit_reuses_hole_check = record { classes = []; procedures = (record { line = 1; parameters = []; body = record { locals = (OfPointer None) ∷ (OfPointer None) ∷ (OfPointer None) ∷ []; statements = (on 5 (Statement-F.Alloc (Held (H.Local 0)) (Constant (pos 10)) GivesNull)) ∷ (on 6 (Statement-F.Alloc (Held (H.Local 1)) (Constant (pos 100)) GivesNull)) ∷ (on 7 (Statement-F.Free (Held (H.Local 0)))) ∷ (on 8 (Statement-F.Alloc (Held (H.Local 2)) (Constant (pos 16)) GivesNull)) ∷ (on 9 (Statement-F.Free (Held (H.Local 1)))) ∷ (on 10 (Statement-F.Free (Held (H.Local 2)))) ∷ [] } }) ∷ []; operations = []; literals = []; main = 0 }
-
-first_fit_reuses_hole_check : (required script_first_fit_reuses_hole_check 10000 (shaped 4096 4096) ≡ 304) × (rises script_first_fit_reuses_hole_check 10000 (shaped 4096 4096) ≡ (rise 1 144) ∷ (rise 2 176) ∷ (rise 3 304) ∷ []) × (length (run_at script_first_fit_reuses_hole_check 10000 (shaped 4096 4096) 0).trace ≡ 4) × (least_bad_or_cut script_first_fit_reuses_hole_check 10000 (shaped 4096 4096) ≡ None)
-unfolding everything
-first_fit_reuses_hole_check = (refl, refl, refl, refl)
-
 abbrev script_leak_that_needs_two_failures_sweep : Script
 script_leak_that_needs_two_failures_sweep = record { classes = []; procedures = (record { line = 1; parameters = []; body = record { locals = (OfPointer None) ∷ (OfPointer None) ∷ (OfPointer None) ∷ []; statements = (on 5 (Statement-F.Alloc (Held (H.Local 0)) (Constant (pos 16)) GivesNull)) ∷ (on 6 (Statement-F.Alloc (Held (H.Local 1)) (Constant (pos 16)) GivesNull)) ∷ (on 7 (Statement-F.Alloc (Held (H.Local 2)) (Constant (pos 16)) GivesNull)) ∷ (on 8 (Statement-F.If (IsNull (Held (H.Local 0))) ((on 9 (Statement-F.If (IsNull (Held (H.Local 2))) ((on 10 (Statement-F.Leave (Constant (negsuc 3)))) ∷ []))) ∷ []))) ∷ (on 13 (Statement-F.Free (Held (H.Local 0)))) ∷ (on 14 (Statement-F.Free (Held (H.Local 1)))) ∷ (on 15 (Statement-F.Free (Held (H.Local 2)))) ∷ [] } }) ∷ []; operations = []; literals = []; main = 0 }
 
@@ -1415,26 +1352,12 @@ leak_without_any_failure_json_sweep : (length (run_at script_leak_without_any_fa
 unfolding everything
 leak_without_any_failure_json_sweep = (refl, refl, refl)
 
-abbrev script_leak_without_any_failure_sweep : Script
-script_leak_without_any_failure_sweep = record { classes = []; procedures = (record { line = 1; parameters = []; body = record { locals = (OfPointer None) ∷ []; statements = (on 3 (Statement-F.Alloc (Held (H.Local 0)) (Constant (pos 16)) GivesNull)) ∷ [] } }) ∷ []; operations = []; literals = []; main = 0 }
-
-leak_without_any_failure_sweep : (length (run_at script_leak_without_any_failure_sweep 10000 (shaped 4096 4096) 0).trace ≡ 2) × (least_bad_or_cut script_leak_without_any_failure_sweep 10000 (shaped 4096 4096) ≡ Some 0) × (run_at script_leak_without_any_failure_sweep 10000 (shaped 4096 4096) 0 ≡ record { outcome = Ended None ((record { number = 2; length = 32; place = 144 }) ∷ []); trace = (line 1 144 0 Granted) ∷ (line 2 32 144 Granted) ∷ []; lines = []; notes = []; steps = 1 })
-unfolding everything
-leak_without_any_failure_sweep = (refl, refl, refl)
-
 abbrev script_marks_never_count_the_cleanup_cell_check : Script
 script_marks_never_count_the_cleanup_cell_check = record { classes = []; procedures = (record { line = 1; parameters = []; body = record { locals = (OfPointer None) ∷ []; statements = (on 3 Statement-F.Mark) ∷ (on 4 (Statement-F.Repeat (Constant (pos 8)) ((on 5 (Statement-F.Push (Held (H.Local 0)))) ∷ []))) ∷ (on 7 (Statement-F.Pop (Constant (pos 8)))) ∷ (on 8 (Statement-F.MarkEnd (Constant (pos 0)))) ∷ [] } }) ∷ []; operations = []; literals = []; main = 0 }
 
 marks_never_count_the_cleanup_cell_check : (required script_marks_never_count_the_cleanup_cell_check 10000 (shaped 4096 4096) ≡ 208) × (rises script_marks_never_count_the_cleanup_cell_check 10000 (shaped 4096 4096) ≡ (rise 1 144) ∷ (rise 2 208) ∷ []) × (length (run_at script_marks_never_count_the_cleanup_cell_check 10000 (shaped 4096 4096) 0).trace ≡ 2) × (least_bad_or_cut script_marks_never_count_the_cleanup_cell_check 10000 (shaped 4096 4096) ≡ None)
 unfolding everything
 marks_never_count_the_cleanup_cell_check = (refl, refl, refl, refl)
-
-abbrev script_panic_without_any_failure_sweep : Script
-script_panic_without_any_failure_sweep = record { classes = []; procedures = (record { line = 1; parameters = []; body = record { locals = (OfPointer None) ∷ (OfPointer None) ∷ []; statements = (on 4 (Statement-F.Alloc (Held (H.Local 0)) (Constant (pos 16)) GivesNull)) ∷ (on 5 (Statement-F.Free (Held (H.Local 0)))) ∷ (on 6 (Statement-F.Alloc (Held (H.Local 1)) (Constant (pos 16)) GivesNull)) ∷ (on 7 (Statement-F.Free (Held (H.Local 0)))) ∷ [] } }) ∷ []; operations = []; literals = []; main = 0 }
-
-panic_without_any_failure_sweep : (length (run_at script_panic_without_any_failure_sweep 10000 (shaped 4096 4096) 0).trace ≡ 3) × (least_bad_or_cut script_panic_without_any_failure_sweep 10000 (shaped 4096 4096) ≡ Some 0) × (run_at script_panic_without_any_failure_sweep 10000 (shaped 4096 4096) 0 ≡ record { outcome = Panicked (P.User 42); trace = (line 1 144 0 Granted) ∷ (line 2 32 144 Granted) ∷ (line 3 32 144 Granted) ∷ []; lines = []; notes = []; steps = 4 })
-unfolding everything
-panic_without_any_failure_sweep = (refl, refl, refl)
 
 abbrev script_procedure_returns_a_pushed_cell_check : Script
 script_procedure_returns_a_pushed_cell_check = record { classes = []; procedures = (record { line = 1; parameters = Par.OfNumber ∷ []; body = record { locals = (OfPointer None) ∷ []; statements = (on 3 (Statement-F.Alloc (Held (H.Local 1)) (Variable 0) Leaves)) ∷ (on 4 (Statement-F.Push (Held (H.Local 1)))) ∷ (on 5 (Statement-F.ReturnPointer (Held (H.Local 1)))) ∷ [] } }) ∷ (record { line = 7; parameters = []; body = record { locals = (OfPointer None) ∷ []; statements = (on 9 (Statement-F.CallTo 0 0 ((Given (Constant (pos 40))) ∷ []))) ∷ (on 10 (Statement-F.PopDestroy (Constant (pos 1)))) ∷ [] } }) ∷ []; operations = []; literals = []; main = 1 }
@@ -1491,6 +1414,27 @@ script_text_cell_is_made_as_long_as_its_text_run = record { classes = []; proced
 text_cell_is_made_as_long_as_its_text_run : run script_text_cell_is_made_as_long_as_its_text_run R.Unlimited 10000 (shaped 4096 4096) ≡ record { outcome = Panicked (P.Workbench 8); trace = (line 1 144 0 Granted) ∷ (line 2 32 144 Granted) ∷ []; lines = (97 ∷ 98 ∷ 99 ∷ []) ∷ []; notes = []; steps = 5 }
 unfolding everything
 text_cell_is_made_as_long_as_its_text_run = refl
+
+abbrev script_missing_mark_is_told_before_the_count_run : Script
+script_missing_mark_is_told_before_the_count_run = record { classes = []; procedures = (record { line = 1; parameters = []; body = record { locals = (OfPointer None) ∷ []; statements = (on 3 (Statement-F.Alloc (Held (H.Local 0)) (Constant (pos 1)) GivesNull)) ∷ (on 4 (Statement-F.MarkEnd (Constant (pos 5)))) ∷ [] } }) ∷ []; operations = []; literals = []; main = 0 }
+
+missing_mark_is_told_before_the_count_run : run script_missing_mark_is_told_before_the_count_run R.Unlimited 10000 (shaped 4096 4096) ≡ record { outcome = Panicked (P.Workbench 6); trace = (line 1 144 0 Granted) ∷ (line 2 32 144 Granted) ∷ []; lines = []; notes = []; steps = 2 }
+unfolding everything
+missing_mark_is_told_before_the_count_run = refl
+
+abbrev script_negative_count_is_told_before_a_missing_mark_run : Script
+script_negative_count_is_told_before_a_missing_mark_run = record { classes = []; procedures = (record { line = 1; parameters = []; body = record { locals = []; statements = (on 2 (Statement-F.MarkEnd (Constant (negsuc 0)))) ∷ [] } }) ∷ []; operations = []; literals = []; main = 0 }
+
+negative_count_is_told_before_a_missing_mark_run : run script_negative_count_is_told_before_a_missing_mark_run R.Unlimited 10000 (shaped 4096 4096) ≡ record { outcome = Panicked (P.Workbench 9); trace = (line 1 144 0 Granted) ∷ []; lines = []; notes = []; steps = 1 }
+unfolding everything
+negative_count_is_told_before_a_missing_mark_run = refl
+
+abbrev script_one_mark_end_more_than_marks_run : Script
+script_one_mark_end_more_than_marks_run = record { classes = []; procedures = (record { line = 1; parameters = []; body = record { locals = []; statements = (on 2 Statement-F.Mark) ∷ (on 3 Statement-F.Mark) ∷ (on 4 (Statement-F.MarkEnd (Constant (pos 0)))) ∷ (on 5 (Statement-F.MarkEnd (Constant (pos 0)))) ∷ (on 6 (Statement-F.MarkEnd (Constant (pos 0)))) ∷ [] } }) ∷ []; operations = []; literals = []; main = 0 }
+
+one_mark_end_more_than_marks_run : run script_one_mark_end_more_than_marks_run R.Unlimited 10000 (shaped 4096 4096) ≡ record { outcome = Panicked (P.Workbench 6); trace = (line 1 144 0 Granted) ∷ []; lines = []; notes = []; steps = 5 }
+unfolding everything
+one_mark_end_more_than_marks_run = refl
 
 abbrev script_committed_length_notes_run : Script
 script_committed_length_notes_run = record { classes = []; procedures = (record { line = 1; parameters = []; body = record { locals = (OfPointer None) ∷ []; statements = (on 3 (Statement-F.Alloc (Held (H.Local 0)) (Constant (pos 200)) GivesNull)) ∷ (on 4 Statement-F.NoteAvailable) ∷ (on 5 Statement-F.NoteHeap) ∷ (on 6 (Statement-F.Free (Held (H.Local 0)))) ∷ (on 7 Statement-F.NoteAvailable) ∷ (on 8 Statement-F.NoteCompress) ∷ (on 9 Statement-F.NoteHeap) ∷ [] } }) ∷ []; operations = []; literals = []; main = 0 }
@@ -1617,6 +1561,62 @@ script_second_attempt_fails_run = record { classes = []; procedures = (record { 
 second_attempt_fails_run : run script_second_attempt_fails_run (R.Number 2) 10000 (shaped 4096 4096) ≡ record { outcome = Ended None []; trace = (line 1 144 0 Granted) ∷ (line 2 32 144 Simulated) ∷ (line 3 128 144 Granted) ∷ (line 4 32 272 Granted) ∷ []; lines = []; notes = []; steps = 6 }
 unfolding everything
 second_attempt_fails_run = refl
+
+abbrev script_cell_for_zero_bytes_size : Script
+script_cell_for_zero_bytes_size = record { classes = []; procedures = (record { line = 1; parameters = []; body = record { locals = (OfPointer None) ∷ OfNumber ∷ []; statements = (on 4 (Statement-F.Alloc (Held (H.Local 0)) (Constant (pos 0)) GivesNull)) ∷ (on 5 (Statement-F.AllocLen 1 (Held (H.Local 0)))) ∷ (on 6 (Statement-F.PrintNumber (Variable 1))) ∷ (on 7 (Statement-F.Free (Held (H.Local 0)))) ∷ [] } }) ∷ []; operations = []; literals = []; main = 0 }
+
+cell_for_zero_bytes_size : (required script_cell_for_zero_bytes_size 10000 (shaped 4096 4096) ≡ 160) × (rises script_cell_for_zero_bytes_size 10000 (shaped 4096 4096) ≡ (rise 1 144) ∷ (rise 2 160) ∷ [])
+unfolding everything
+cell_for_zero_bytes_size = (refl, refl)
+
+abbrev script_empty_main_size : Script
+script_empty_main_size = record { classes = []; procedures = (record { line = 1; parameters = []; body = record { locals = []; statements = [] } }) ∷ []; operations = []; literals = []; main = 0 }
+
+empty_main_size : (required script_empty_main_size 10000 (shaped 4096 4096) ≡ 144) × (rises script_empty_main_size 10000 (shaped 4096 4096) ≡ (rise 1 144) ∷ [])
+unfolding everything
+empty_main_size = (refl, refl)
+
+abbrev script_first_fit_reuses_hole_size : Script
+script_first_fit_reuses_hole_size = record { classes = []; procedures = (record { line = 1; parameters = []; body = record { locals = (OfPointer None) ∷ (OfPointer None) ∷ (OfPointer None) ∷ []; statements = (on 5 (Statement-F.Alloc (Held (H.Local 0)) (Constant (pos 10)) GivesNull)) ∷ (on 6 (Statement-F.Alloc (Held (H.Local 1)) (Constant (pos 100)) GivesNull)) ∷ (on 7 (Statement-F.Free (Held (H.Local 0)))) ∷ (on 8 (Statement-F.Alloc (Held (H.Local 2)) (Constant (pos 16)) GivesNull)) ∷ (on 9 (Statement-F.Free (Held (H.Local 1)))) ∷ (on 10 (Statement-F.Free (Held (H.Local 2)))) ∷ [] } }) ∷ []; operations = []; literals = []; main = 0 }
+
+first_fit_reuses_hole_size : (required script_first_fit_reuses_hole_size 10000 (shaped 4096 4096) ≡ 304) × (rises script_first_fit_reuses_hole_size 10000 (shaped 4096 4096) ≡ (rise 1 144) ∷ (rise 2 176) ∷ (rise 3 304) ∷ [])
+unfolding everything
+first_fit_reuses_hole_size = (refl, refl)
+
+abbrev script_freed_neighbours_merge_size : Script
+script_freed_neighbours_merge_size = record { classes = []; procedures = (record { line = 1; parameters = []; body = record { locals = (OfPointer None) ∷ (OfPointer None) ∷ (OfPointer None) ∷ (OfPointer None) ∷ (OfPointer None) ∷ []; statements = (on 7 (Statement-F.Alloc (Held (H.Local 0)) (Constant (pos 16)) GivesNull)) ∷ (on 8 (Statement-F.Alloc (Held (H.Local 1)) (Constant (pos 16)) GivesNull)) ∷ (on 9 (Statement-F.Alloc (Held (H.Local 2)) (Constant (pos 16)) GivesNull)) ∷ (on 10 (Statement-F.Alloc (Held (H.Local 3)) (Constant (pos 16)) GivesNull)) ∷ (on 11 (Statement-F.Free (Held (H.Local 1)))) ∷ (on 12 (Statement-F.Free (Held (H.Local 0)))) ∷ (on 13 (Statement-F.Free (Held (H.Local 2)))) ∷ (on 14 (Statement-F.Alloc (Held (H.Local 4)) (Constant (pos 80)) GivesNull)) ∷ (on 15 (Statement-F.Free (Held (H.Local 3)))) ∷ (on 16 (Statement-F.Free (Held (H.Local 4)))) ∷ [] } }) ∷ []; operations = []; literals = []; main = 0 }
+
+freed_neighbours_merge_size : (required script_freed_neighbours_merge_size 10000 (shaped 4096 4096) ≡ 272) × (rises script_freed_neighbours_merge_size 10000 (shaped 4096 4096) ≡ (rise 1 144) ∷ (rise 2 176) ∷ (rise 3 208) ∷ (rise 4 240) ∷ (rise 5 272) ∷ [])
+unfolding everything
+freed_neighbours_merge_size = (refl, refl)
+
+abbrev script_empty_main_check : Script
+script_empty_main_check = record { classes = []; procedures = (record { line = 1; parameters = []; body = record { locals = []; statements = [] } }) ∷ []; operations = []; literals = []; main = 0 }
+
+empty_main_check : (required script_empty_main_check 10000 (shaped 4096 4096) ≡ 144) × (rises script_empty_main_check 10000 (shaped 4096 4096) ≡ (rise 1 144) ∷ []) × (length (run_at script_empty_main_check 10000 (shaped 4096 4096) 0).trace ≡ 1) × (least_bad_or_cut script_empty_main_check 10000 (shaped 4096 4096) ≡ None)
+unfolding everything
+empty_main_check = (refl, refl, refl, refl)
+
+abbrev script_first_fit_reuses_hole_check : Script
+script_first_fit_reuses_hole_check = record { classes = []; procedures = (record { line = 1; parameters = []; body = record { locals = (OfPointer None) ∷ (OfPointer None) ∷ (OfPointer None) ∷ []; statements = (on 5 (Statement-F.Alloc (Held (H.Local 0)) (Constant (pos 10)) GivesNull)) ∷ (on 6 (Statement-F.Alloc (Held (H.Local 1)) (Constant (pos 100)) GivesNull)) ∷ (on 7 (Statement-F.Free (Held (H.Local 0)))) ∷ (on 8 (Statement-F.Alloc (Held (H.Local 2)) (Constant (pos 16)) GivesNull)) ∷ (on 9 (Statement-F.Free (Held (H.Local 1)))) ∷ (on 10 (Statement-F.Free (Held (H.Local 2)))) ∷ [] } }) ∷ []; operations = []; literals = []; main = 0 }
+
+first_fit_reuses_hole_check : (required script_first_fit_reuses_hole_check 10000 (shaped 4096 4096) ≡ 304) × (rises script_first_fit_reuses_hole_check 10000 (shaped 4096 4096) ≡ (rise 1 144) ∷ (rise 2 176) ∷ (rise 3 304) ∷ []) × (length (run_at script_first_fit_reuses_hole_check 10000 (shaped 4096 4096) 0).trace ≡ 4) × (least_bad_or_cut script_first_fit_reuses_hole_check 10000 (shaped 4096 4096) ≡ None)
+unfolding everything
+first_fit_reuses_hole_check = (refl, refl, refl, refl)
+
+abbrev script_leak_without_any_failure_sweep : Script
+script_leak_without_any_failure_sweep = record { classes = []; procedures = (record { line = 1; parameters = []; body = record { locals = (OfPointer None) ∷ []; statements = (on 3 (Statement-F.Alloc (Held (H.Local 0)) (Constant (pos 16)) GivesNull)) ∷ [] } }) ∷ []; operations = []; literals = []; main = 0 }
+
+leak_without_any_failure_sweep : (length (run_at script_leak_without_any_failure_sweep 10000 (shaped 4096 4096) 0).trace ≡ 2) × (least_bad_or_cut script_leak_without_any_failure_sweep 10000 (shaped 4096 4096) ≡ Some 0) × (run_at script_leak_without_any_failure_sweep 10000 (shaped 4096 4096) 0 ≡ record { outcome = Ended None ((record { number = 2; length = 32; place = 144 }) ∷ []); trace = (line 1 144 0 Granted) ∷ (line 2 32 144 Granted) ∷ []; lines = []; notes = []; steps = 1 })
+unfolding everything
+leak_without_any_failure_sweep = (refl, refl, refl)
+
+abbrev script_panic_without_any_failure_sweep : Script
+script_panic_without_any_failure_sweep = record { classes = []; procedures = (record { line = 1; parameters = []; body = record { locals = (OfPointer None) ∷ (OfPointer None) ∷ []; statements = (on 4 (Statement-F.Alloc (Held (H.Local 0)) (Constant (pos 16)) GivesNull)) ∷ (on 5 (Statement-F.Free (Held (H.Local 0)))) ∷ (on 6 (Statement-F.Alloc (Held (H.Local 1)) (Constant (pos 16)) GivesNull)) ∷ (on 7 (Statement-F.Free (Held (H.Local 0)))) ∷ [] } }) ∷ []; operations = []; literals = []; main = 0 }
+
+panic_without_any_failure_sweep : (length (run_at script_panic_without_any_failure_sweep 10000 (shaped 4096 4096) 0).trace ≡ 3) × (least_bad_or_cut script_panic_without_any_failure_sweep 10000 (shaped 4096 4096) ≡ Some 0) × (run_at script_panic_without_any_failure_sweep 10000 (shaped 4096 4096) 0 ≡ record { outcome = Panicked (P.User 42); trace = (line 1 144 0 Granted) ∷ (line 2 32 144 Granted) ∷ (line 3 32 144 Granted) ∷ []; lines = []; notes = []; steps = 4 })
+unfolding everything
+panic_without_any_failure_sweep = (refl, refl, refl)
 
 abbrev script_append_of_null_run : Script
 script_append_of_null_run = record { classes = []; procedures = (record { line = 2; parameters = []; body = record { locals = (OfPointer None) ∷ (OfBuffer 3) ∷ []; statements = (on 5 (Statement-F.Append (OwnBuffer 1) (Of (InCell (Held (H.Local 0)))))) ∷ [] } }) ∷ []; operations = []; literals = []; main = 0 }
