@@ -1,33 +1,31 @@
-//! What is still to do, as explicit pieces. What the pieces act on stands in `state`.
+//! What is still to do, as explicit pieces, and the turns of a run. What the pieces act on stands in `state`, what the head of a
+//! statement leaves in `heads`, and what becomes of pieces that are done in `unwinding`.
 
-ghost use Rattle.std.specs.Prelude.{◌≡◌, ◌+◌, ◌^◌, ◌<◌, ◌≤◌, ◌⊎◌, ◌++◌, ◌∷◌, ◌&&◌, [], ℕ, List, true, false, if◌then◌else◌, nat_lt, length, unwrap_or, vec_len, min, IsTrue, OnOk};
-ghost use Rattle.wb_model.specs.Sound.{is_script, is_condition};
-ghost use Rattle.wb_model.specs.Statements.{all, turns, Where};
-ghost use Rattle.wb_model.specs.Rest.{doing, catching, main_catching, first_line, Fits};
+ghost use Rattle.std.specs.Prelude.{◌≡◌, ◌+◌, ◌^◌, ◌<◌, ◌≤◌, ◌⊎◌, ◌++◌, ◌∷◌, ◌&&◌, [], ℕ, true, false, if◌then◌else◌, nat_lt, unwrap_or, min, IsTrue, OnOk};
+ghost use Rattle.wb_model.specs.Sound.{is_script};
+ghost use Rattle.wb_model.specs.Statements.{all, turns};
+ghost use Rattle.wb_model.specs.Rest.{doing, first_line, Fits};
 ghost use Rattle.wb_model.specs.Run.{run};
 ghost use Rattle.wb_model.specs.declared.heap.Rule.{Rule};
 ghost use Rattle.wb_model.specs.declared.run.Why.TheVariants.{Budget};
 ghost use Rattle.wb_model.specs.declared.script.Script.{Script};
-ghost use Rattle.wb_model.specs.declared.script.Local.{Local};
-ghost use Rattle.wb_model.specs.declared.script.Statement.TheOpen.{Statement-F};
-ghost use Rattle.wb_model.specs.declared.script.Statement.TheViews.{out-Statement};
-ghost use Rattle.wb_machine.specs.declared.pieces.Piece.{Piece};
 ghost use Rattle.wb_machine.specs.declared.pieces.Ending.TheVariants.{GoesOn, Cut};
 ghost use Rattle.wb_machine.specs.RunState.{RunState, HasLines, first_state, main_of};
-ghost use Rattle.wb_machine.specs.Flow.{where_of, in_main_frame, pending_of, pending_in, needs_step, is_stop, is_over, AreOwn, IsOwn, AreSound, IsReady, IsFirst, FitsStep, rest_from, rest_of_statement, rest_of_piece, rest_under, rest_at};
+ghost use Rattle.wb_machine.specs.Flow.{where_of, pending_in, is_stop, is_over, AreOwn, AreSound, IsReady, IsFirst, rest_from, rest_of_piece, rest_at};
 ghost use Rattle.wb_machine.specs.Carried.{stepped};
-ghost use Rattle.wb_machine.specs.Owed.{MayAttempt, Stays, KeepsCount, IsSameButLocals};
+ghost use Rattle.wb_machine.specs.Owed.{MayAttempt, Stays};
 
-use crate::locals::Slot;
-use crate::operands::number_within;
-use crate::pieces::{Ending, IN_MAIN, Piece, Standing, needs_step};
+mod heads;
+mod unwinding;
+
+use crate::pieces::{Ending, IN_MAIN, Piece, Standing};
 use crate::state::State;
 use std::alloc::{AllocError, Global};
-use wb_model::heap::{Gave, Kind, Panic};
-use wb_model::limits::{LARGEST_BUDGET, MOST_TURNS};
+use wb_model::heap::{Gave, Kind};
+use wb_model::limits::LARGEST_BUDGET;
 use wb_model::memory::NoMemory;
 use wb_model::run::Why;
-use wb_model::script::{Body, Condition, Number, Numbered, Script, Statement};
+use wb_model::script::{Body, Numbered, Script};
 
 /// How many bytes the cleanup stack's cell is for at first.
 const FIRST_BYTES: u32 = 128;
@@ -124,105 +122,6 @@ impl<'a> Control<'a> {
         Ok(())
     }
 
-    /// The part of an `if` that its condition chooses.
-    fn begin_if(
-        &mut self,
-        at: Standing,
-        condition: Condition,
-        first: &'a [Numbered],
-        other: &'a [Numbered],
-        state: &State,
-    ) -> Result<(), NoMemory>
-        requires { self.old.ending ≡ GoesOn }
-        ensures kept { OnOk result ((script : Script) (r : Rule) (budget : ℕ) (locals : List Local) → IsTrue (is_condition locals condition) →
-            rest_from script budget r self.new.ending self.new.pieces.items state.now
-            ≡ rest_of_statement script budget r (where_of at) (Statement-F.IfElse condition first.now other.now) self.old.pieces.items state.now) }
-        ensures sound { OnOk result ((script : Script) → AreOwn script first.now → AreOwn script other.now → AreSound script self.old.pieces.items → AreSound script self.new.pieces.items) }
-        ensures ending { OnOk result (self.new.ending ≡ GoesOn) }
-        ensures line { self.new.line ≡ self.old.line }
-    {
-        let part = if state.holds(condition) { first } else { other };
-        self.push(Piece::Code(at, part))?;
-        Ok(())
-    }
-
-    /// The turns of a `repeat`, whose number is read once.
-    fn begin_repeat(
-        &mut self,
-        at: Standing,
-        count: Number,
-        body: &'a [Numbered],
-        state: &State,
-    ) -> Result<(), NoMemory>
-        requires { self.old.ending ≡ GoesOn }
-        ensures kept { OnOk result ((script : Script) (r : Rule) (budget : ℕ) →
-            rest_from script budget r self.new.ending self.new.pieces.items state.now
-            ≡ rest_of_statement script budget r (where_of at) (Statement-F.Repeat count body.now) self.old.pieces.items state.now) }
-        ensures sound { OnOk result ((script : Script) → AreOwn script body.now → AreSound script self.old.pieces.items → AreSound script self.new.pieces.items) }
-        ensures line { self.new.line ≡ self.old.line }
-    {
-        match number_within(MOST_TURNS, state.number(count)) {
-            Some(turns) => self.push(Piece::Turns(at, turns, body))?,
-            None => self.ending = Ending::Panics(Panic::NUMBER_OUT_OF_RANGE),
-        }
-        Ok(())
-    }
-
-    /// The body of a TRAP.
-    fn begin_trap(&mut self, at: Standing, local: u8, body: &'a [Numbered]) -> Result<(), NoMemory>
-        requires { self.old.ending ≡ GoesOn }
-        ensures kept { OnOk result ((script : Script) (r : Rule) (budget : ℕ) (h : RunState) →
-            rest_from script budget r self.new.ending self.new.pieces.items h
-            ≡ rest_of_statement script budget r (where_of at) (Statement-F.Trap local body.now) self.old.pieces.items h) }
-        ensures sound { OnOk result ((script : Script) → AreOwn script body.now → AreSound script self.old.pieces.items → AreSound script self.new.pieces.items) }
-        ensures ending { OnOk result (self.new.ending ≡ GoesOn) }
-        ensures line { self.new.line ≡ self.old.line }
-    {
-        self.push(Piece::Trap(at, local))?;
-        let inside = Standing { floor: 0, ..at };
-        self.push(Piece::Code(inside, body))?;
-        Ok(())
-    }
-
-    /// A statement begins: one that no other stands inside is carried out, and of any other its pieces are left.
-    fn begin_statement(
-        &mut self,
-        script: &'a Script,
-        at: Standing,
-        statement: &'a Statement,
-        state: &mut State,
-    ) -> Result<(), NoMemory>
-        requires script { IsTrue (is_script script.now) }
-        requires going { self.old.ending ≡ GoesOn }
-        requires own { IsOwn script.now (out-Statement statement.now) }
-        requires sound { AreSound script.now self.old.pieces.items }
-        requires number { MayAttempt state.old }
-        requires level { state.old.debug.heap.level + 1 < 2 ^ 32 }
-        ensures kept { OnOk result ((r : Rule) (budget : ℕ) → FitsStep r state.old self.new.ending state.new →
-            rest_from script.now budget r self.new.ending self.new.pieces.items state.new
-            ≡ rest_of_statement script.now budget r (where_of at) (out-Statement statement.now) self.old.pieces.items state.old) }
-        ensures sound { OnOk result (AreSound script.now self.new.pieces.items) }
-        ensures keeps { KeepsCount state.old state.new }
-        ensures line { self.new.line ≡ self.old.line }
-    {
-        match statement {
-            Statement::If(condition, first) => {
-                self.begin_if(at, *condition, first.as_slice(), &[], state)
-            }
-            Statement::IfElse(condition, first, other) => {
-                self.begin_if(at, *condition, first.as_slice(), other.as_slice(), state)
-            }
-            Statement::Repeat(count, body) => {
-                self.begin_repeat(at, *count, body.as_slice(), state)
-            }
-            Statement::Trap(local, body) => self.begin_trap(at, *local, body.as_slice()),
-            _ => {
-                self.ending = state.carry_out(script, statement)?;
-                Ok(())
-            }
-        }
-    }
-
     /// The first statement of a block.
     fn step_code(
         &mut self,
@@ -317,93 +216,6 @@ impl<'a> Control<'a> {
         ensures line { self.new.line ≡ self.old.line }
     {
         self.ending = Ending::Cut(Why::Budget);
-    }
-
-    /// Whether the piece on top takes how the one above it ended: the run isn't stopped, and no step is to come.
-    fn is_done(&self) -> bool
-        ensures yes { IsTrue result → (is_stop self.now.ending ≡ false) × (0 < vec_len self.now.pieces) × ((below : List Piece) (p : Piece) → self.now.pieces.items ≡ below ++ p ∷ [] → self.now.ending ≡ GoesOn → needs_step p ≡ false) }
-        ensures no { result ≡ false → (is_over self.now.ending self.now.pieces.items ≡ true) ⊎ IsReady self.now.ending self.now.pieces.items }
-    {
-        match (self.ending, self.pieces.last()) {
-            (Ending::GoesOn, Some(piece)) => !needs_step(piece),
-            (Ending::Returns(_), Some(_)) => true,
-            (Ending::Leaves(_), Some(_)) => true,
-            _ => false,
-        }
-    }
-
-    /// A TRAP's local gets the code of how its body ended, 0 for a plain end. No body returns out of one.
-    fn fall_trap(&mut self, local: u8, state: &mut State)
-        requires { is_stop self.old.ending ≡ false }
-        ensures kept { (script : Script) (r : Rule) (budget : ℕ) (at : Where) → state.old.steps ≤ budget →
-            rest_from script budget r self.new.ending self.old.pieces.items state.new
-            ≡ rest_under script budget r self.old.ending (catching at local 0) self.old.pieces.items state.old }
-        ensures ending { is_stop self.new.ending ≡ false }
-        ensures pieces { self.new.pieces.items ≡ self.old.pieces.items }
-        ensures locals { IsSameButLocals state.old state.new }
-        ensures line { self.new.line ≡ self.old.line }
-    {
-        match self.ending {
-            Ending::GoesOn => state.set(local, Slot::Number(0)),
-            Ending::Leaves(code) => {
-                state.set(local, Slot::Number(code));
-                self.ending = Ending::GoesOn;
-            }
-            Ending::Returns(_) => {}
-            Ending::Panics(_) | Ending::Cut(_) | Ending::NoCleanup => unreachable!(),
-        }
-    }
-
-    /// `main` ends plainly where its body returned. A leave goes on.
-    fn fall_main(&mut self)
-        requires { is_stop self.old.ending ≡ false }
-        ensures kept { (script : Script) (r : Rule) (budget : ℕ) (h : RunState) → h.steps ≤ budget →
-            rest_from script budget r self.new.ending self.old.pieces.items h
-            ≡ rest_under script budget r self.old.ending (main_catching in_main_frame) self.old.pieces.items h }
-        ensures ending { is_stop self.new.ending ≡ false }
-        ensures pieces { self.new.pieces.items ≡ self.old.pieces.items }
-        ensures line { self.new.line ≡ self.old.line }
-    {
-        if let Ending::Returns(_) = self.ending {
-            self.ending = Ending::GoesOn;
-        }
-    }
-
-    /// A piece without a step takes how the one above it ended.
-    fn fall(&mut self, piece: Piece<'a>, state: &mut State)
-        requires stop { is_stop self.old.ending ≡ false }
-        requires done { self.old.ending ≡ GoesOn → needs_step piece ≡ false }
-        ensures kept { (script : Script) (r : Rule) (budget : ℕ) → state.old.steps ≤ budget →
-            rest_from script budget r self.new.ending self.old.pieces.items state.new
-            ≡ rest_under script budget r self.old.ending (pending_of piece.entry) self.old.pieces.items state.old }
-        ensures ending { is_stop self.new.ending ≡ false }
-        ensures pieces { self.new.pieces.items ≡ self.old.pieces.items }
-        ensures locals { IsSameButLocals state.old state.new }
-        ensures line { self.new.line ≡ self.old.line }
-    {
-        match piece {
-            Piece::Code(..) => {}
-            Piece::Turns(..) => {}
-            Piece::Trap(_, local) => self.fall_trap(local, state),
-            Piece::MainTrap => self.fall_main(),
-        }
-    }
-
-    /// Lets each piece without a step take how the one above it ended, until a step is to come or the run is over.
-    pub fn settle(&mut self, state: &mut State)
-        ensures kept { (script : Script) (r : Rule) (budget : ℕ) → state.old.steps ≤ budget →
-            rest_from script budget r self.new.ending self.new.pieces.items state.new ≡ rest_from script budget r self.old.ending self.old.pieces.items state.old }
-        ensures stop { is_stop self.new.ending ≡ is_stop self.old.ending }
-        ensures locals { IsSameButLocals state.old state.new }
-        ensures line { self.new.line ≡ self.old.line }
-        ensures sound { (script : Script) → AreSound script self.old.pieces.items → AreSound script self.new.pieces.items }
-        ensures settled { (is_over self.new.ending self.new.pieces.items ≡ true) ⊎ IsReady self.new.ending self.new.pieces.items }
-    {
-        while self.is_done() {
-            if let Some(piece) = self.pieces.pop() {
-                self.fall(piece, state);
-            }
-        }
     }
 
     /// A turn. The first begins the run, and any other takes a step, or cuts the run where the budget is used
