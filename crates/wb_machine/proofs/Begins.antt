@@ -26,10 +26,10 @@ use Rattle.wb_model.specs.Account.{settled}
 use Rattle.wb_model.specs.Attempts.{allocate}
 use Rattle.wb_model.specs.Run.{main_trapped, in_main, started, process, result_of, run}
 use Rattle.wb_model.specs.Rest.{Fits, Pending, doing, main_catching, resumed, resume, left_to_do, rest}
-use Rattle.wb_machine.specs.declared.control.Ending.{Ending}
-use Rattle.wb_machine.specs.declared.control.Ending.TheVariants.{GoesOn, Cut, NoCleanup}
-use Rattle.wb_machine.specs.declared.control.Piece.{Piece}
-use Rattle.wb_machine.specs.declared.control.Piece.TheVariants.{MainTrap}
+use Rattle.wb_machine.specs.declared.pieces.Ending.{Ending}
+use Rattle.wb_machine.specs.declared.pieces.Ending.TheVariants.{GoesOn, Cut, NoCleanup}
+use Rattle.wb_machine.specs.declared.pieces.Piece.{Piece}
+use Rattle.wb_machine.specs.declared.pieces.Piece.TheVariants.{MainTrap}
 use Rattle.wb_machine.specs.RunState.{RunState, first_state, main_of, state_of, account_of, with_debug}
 use Rattle.wb_machine.specs.Flow.{in_main_frame, pending_of, pending_in, is_stop, flow, rest_from, rest_at}
 use Rattle.wb_machine.specs.Carried.{entered, first_bytes, first_made, begun_by, begun_carried}

@@ -6,9 +6,9 @@ use Rattle.wb_model.specs.declared.heap.Answer.TheVariants.{Simulated}
 use Rattle.wb_model.specs.declared.heap.Rule.{Rule}
 use Rattle.wb_model.specs.declared.heap.Rule.TheVariants.{Unlimited, Limit, Number}
 use Rattle.std.specs.Prelude.{List}
-use Rattle.wb_machine.specs.declared.control.Ending.{Ending}
-use Rattle.wb_machine.specs.declared.control.Ending.TheVariants.{GoesOn, Panics, Cut, NoCleanup}
-use Rattle.wb_machine.specs.declared.control.Piece.{Piece}
+use Rattle.wb_machine.specs.declared.pieces.Ending.{Ending}
+use Rattle.wb_machine.specs.declared.pieces.Ending.TheVariants.{GoesOn, Returns, Leaves, Panics, Cut, NoCleanup}
+use Rattle.wb_machine.specs.declared.pieces.Piece.{Piece}
 use Rattle.wb_machine.specs.Flow.{is_stop, is_over}
 use Rattle.wb_model.specs.Agreement.{IsNoLimit}
 use Rattle.wb_model.specs.Rest.{Fits}
@@ -54,6 +54,8 @@ fits-before r own ended later n m stays le (inr f) =
 -- where more is to do, nothing has stopped the run
 pub going_on : (ending : Ending) (pieces : List Piece) → is_over ending pieces ≡ false → is_stop ending ≡ false
 going_on GoesOn pieces e = refl
+going_on (Returns p) pieces e = refl
+going_on (Leaves code) pieces e = refl
 going_on (Panics p) pieces e = cc
 going_on (Cut why) pieces e = cc
 going_on NoCleanup pieces e = cc

@@ -43,30 +43,30 @@ is_ceiling Denied = false
 is_ceiling Ceiling = true
 
 -- a target gets what an attempt gave
-pub given_kept : (r : Rule) (script : Script) (locals : List Local) (h : RunState) (p : Pointer) (gave : Gave) → is_pointer locals p ≡ true →
-    ComesTo r script h (followed gave (given_to p GivesNull) (state_of script h)) (given_carried h p gave)
+pub given_kept : (r : Rule) (script : Script) (locals : List Local) (h : RunState) (p : Pointer) (x : Refusal) (gave : Gave) → is_pointer locals p ≡ true →
+    ComesTo r script h (followed gave (given_to p x) (state_of script h)) (given_carried h p x gave)
 unfolding flow given_to and_then
-given_kept r script locals h p (Granted q) ok k = sym (stored_is script locals h p q r (k goes_on) ok)
-given_kept r script locals h p Denied ok k = sym (stored_is script locals h p _ r (k goes_on) ok)
-given_kept r script locals h p Ceiling ok k = refl
+given_kept r script locals h p x (Granted q) ok k = sym (stored_is script locals h p q r (k goes_on) ok)
+given_kept r script locals h p GivesNull Denied ok k = sym (stored_is script locals h p _ r (k goes_on) ok)
+given_kept r script locals h p Leaves Denied ok k = refl
+given_kept r script locals h p x Ceiling ok k = refl
 
 -- a rule that fits what a target was given fits the attempt
-pub fits_made : (r own : Rule) (h : RunState) (p : Pointer) (made : Made) →
-    Fits r own (is_stop (made_carried h p made).ending) (made_carried h p made).state.debug.attempts → Fits r own (is_ceiling made.gave) made.debug.attempts
-fits_made r own h p made f = by p made.gave f
+pub fits_made : (r own : Rule) (h : RunState) (p : Pointer) (x : Refusal) (made : Made) →
+    Fits r own (is_stop (made_carried h p x made).ending) (made_carried h p x made).state.debug.attempts → Fits r own (is_ceiling made.gave) made.debug.attempts
+fits_made r own h p x made f = by p x made.gave f
   where
-    by : (p : Pointer) (gave : Gave) →
-        Fits r own (is_stop (given_carried (with_debug h made.debug) p gave).ending) (given_carried (with_debug h made.debug) p gave).state.debug.attempts →
+    by : (p : Pointer) (x : Refusal) (gave : Gave) →
+        Fits r own (is_stop (given_carried (with_debug h made.debug) p x gave).ending) (given_carried (with_debug h made.debug) p x gave).state.debug.attempts →
         Fits r own (is_ceiling gave) made.debug.attempts
-    by (P.Held (H.Local i)) (Granted q) f = f
-    by (P.Held (H.Local i)) Denied f = f
-    by (P.Held (H.Local i)) Ceiling f = f
-    by (P.Held H.This) (Granted q) f = f
-    by (P.Held H.This) Denied f = f
-    by (P.Held H.This) Ceiling f = f
-    by (P.Field holder class i) (Granted q) f = f
-    by (P.Field holder class i) Denied f = f
-    by (P.Field holder class i) Ceiling f = f
+    by (P.Held (H.Local i)) x (Granted q) f = f
+    by (P.Held H.This) x (Granted q) f = f
+    by (P.Field holder class i) x (Granted q) f = f
+    by (P.Held (H.Local i)) GivesNull Denied f = f
+    by (P.Held H.This) GivesNull Denied f = f
+    by (P.Field holder class i) GivesNull Denied f = f
+    by p Leaves Denied f = f
+    by p x Ceiling f = f
 
 -- under a rule that fits, an attempt is answered as under the machine's own
 pub answered_alike : (r : Rule) (d : Debug) (t : Request) (after : ℕ → Answer → AfterAnswer (List ℕ)) (o : Option Answer) → answer_in d t ≡ o →
@@ -75,37 +75,36 @@ answered_alike r d t after None e f = ap (λ q. answer_to q (number_of_next d) t
 answered_alike r d t after (Some w) e f = fits-answer r d.rule _ _ (number_of_next d) t f (omega arith) (omega arith) ∙ e
 
 -- an allocation of a number of bytes
-alloc_made_kept : (r : Rule) (script : Script) (locals : List Local) (h : RunState) (p : Pointer) (bytes : ℕ) → is_pointer locals p ≡ true →
-    FitsStep r h (alloc_within h p (Some bytes)).ending (alloc_within h p (Some bytes)).state →
-    ComesTo r script h (alloc_raw p GivesNull bytes (state_of script h)) (alloc_within h p (Some bytes))
+alloc_made_kept : (r : Rule) (script : Script) (locals : List Local) (h : RunState) (p : Pointer) (x : Refusal) (bytes : ℕ) → is_pointer locals p ≡ true →
+    FitsStep r h (alloc_within h p x (Some bytes)).ending (alloc_within h p x (Some bytes)).state →
+    ComesTo r script h (alloc_raw p x bytes (state_of script h)) (alloc_within h p x (Some bytes))
 unfolding alloc_raw
-alloc_made_kept r script locals h p bytes ok f k =
+alloc_made_kept r script locals h p x bytes ok f k =
     let t = alloc_request h.debug.heap bytes in
     let made : Made = alloc_made h.debug bytes Raw in
-    let fits : Fits r h.debug.rule (is_ceiling made.gave) made.debug.attempts = fits_made r h.debug.rule h p made f.1 in
-    sym (allocated r script h bytes Raw (fresh_words bytes) (given_to p GivesNull) k (answer_in h.debug t) f.0 (read_fresh (field_count script) bytes)
+    let fits : Fits r h.debug.rule (is_ceiling made.gave) made.debug.attempts = fits_made r h.debug.rule h p x made f.1 in
+    sym (allocated r script h bytes Raw (fresh_words bytes) (given_to p x) k (answer_in h.debug t) f.0 (read_fresh (field_count script) bytes)
     (answered_alike r h.debug t (after_alloc h.debug.heap t Raw (zero_words t.length)) (answer_in h.debug t) refl fits)
     (fits-limit r h.debug.rule _ _ fits)
-    ∙ sym (given_kept r script locals (with_debug h made.debug) p made.gave ok k))
+    ∙ sym (given_kept r script locals (with_debug h made.debug) p x made.gave ok k))
 
 -- or of a number that may be out of its range
-pub alloc_within_kept : (r : Rule) (script : Script) (locals : List Local) (h : RunState) (p : Pointer) (o : Option ℕ) → is_pointer locals p ≡ true →
-    FitsStep r h (alloc_within h p o).ending (alloc_within h p o).state →
-    ComesTo r script h (with_some o NUMBER_OUT_OF_RANGE (state_of script h) (λ bytes. alloc_raw p GivesNull bytes (state_of script h))) (alloc_within h p o)
+pub alloc_within_kept : (r : Rule) (script : Script) (locals : List Local) (h : RunState) (p : Pointer) (x : Refusal) (o : Option ℕ) → is_pointer locals p ≡ true →
+    FitsStep r h (alloc_within h p x o).ending (alloc_within h p x o).state →
+    ComesTo r script h (with_some o NUMBER_OUT_OF_RANGE (state_of script h) (λ bytes. alloc_raw p x bytes (state_of script h))) (alloc_within h p x o)
 unfolding with_some
-alloc_within_kept r script locals h p None ok f k = refl
-alloc_within_kept r script locals h p (Some bytes) ok f k = alloc_made_kept r script locals h p bytes ok f k
+alloc_within_kept r script locals h p x None ok f k = refl
+alloc_within_kept r script locals h p x (Some bytes) ok f k = alloc_made_kept r script locals h p x bytes ok f k
 
 pub alloc_kept : (script : Script) (literals : ℕ) (locals : List Local) (h : RunState) (p : Pointer) (v : Number) (x : Refusal) →
-    is_statement literals locals (Statement-F.Alloc p v x) ≡ true → Means script h (Statement-F.Alloc p v x) (alloc_carried h p (number_read h v))
+    is_statement literals locals (Statement-F.Alloc p v x) ≡ true → Means script h (Statement-F.Alloc p v x) (alloc_carried h p x (number_read h v))
 unfolding statement
-alloc_kept script literals locals h p v Leaves ok r f rec k = cc
-alloc_kept script literals locals h p v GivesNull ok r f rec k =
+alloc_kept script literals locals h p v x ok r f rec at k =
     let st = state_of script h in
     let named = and_left (is_pointer locals p) (is_number locals v) ok in
-    alloc_within_kept r script locals h p (within LARGEST_REQUEST (number_read h v)) named f k
-    ∙ sym (ap (λ x. flow r (and_then x k) h) (pointer_is script locals h p (λ _. with_some (within LARGEST_REQUEST (number_of st v)) NUMBER_OUT_OF_RANGE st (λ bytes. alloc_raw p GivesNull bytes st)) named)
-    ∙ ap (λ z. flow r (and_then (with_some (within LARGEST_REQUEST z) NUMBER_OUT_OF_RANGE st (λ bytes. alloc_raw p GivesNull bytes st)) k) h) (number_is script h v))
+    alloc_within_kept r script locals h p x (within LARGEST_REQUEST (number_read h v)) named f k
+    ∙ sym (ap (λ y. flow r (and_then y k) h) (pointer_is script locals h p (λ _. with_some (within LARGEST_REQUEST (number_of st v)) NUMBER_OUT_OF_RANGE st (λ bytes. alloc_raw p x bytes st)) named)
+    ∙ ap (λ z. flow r (and_then (with_some (within LARGEST_REQUEST z) NUMBER_OUT_OF_RANGE st (λ bytes. alloc_raw p x bytes st)) k) h) (number_is script h v))
 
 -- the release of a pointer
 pub release_kept : (r : Rule) (script : Script) (h : RunState) (p : Ptr) → ComesTo r script h (release p (state_of script h)) (free_carried h p)
@@ -134,6 +133,6 @@ release_kept r script h p k = by (is_null p)
 pub free_kept : (script : Script) (literals : ℕ) (locals : List Local) (h : RunState) (p : Pointer) →
     is_statement literals locals (Statement-F.Free p) ≡ true → Means script h (Statement-F.Free p) (free_carried h (pointer_read h p))
 unfolding statement
-free_kept script literals locals h p ok r f rec k =
+free_kept script literals locals h p ok r f rec at k =
     release_kept r script h (pointer_read h p) k
     ∙ ap (λ x. flow r (and_then x k) h) (sym (pointer_is script locals h p (λ q. release q (state_of script h)) ok))

@@ -22,13 +22,13 @@ use Rattle.wb_machine.proofs.Kept.{Means, number_is}
 pub number_kept : (script : Script) (literals : ℕ) (locals : List Local) (h : RunState) (v : Number) → is_statement literals locals (Statement-F.PrintNumber v) ≡ true →
     Means script h (Statement-F.PrintNumber v) (gone_on (line_printed h (signed_decimal (number_read h v))))
 unfolding statement flow
-number_kept script literals locals h v ok r f rec k =
+number_kept script literals locals h v ok r f rec at k =
     sym (ap (λ z. flow r (and_then (print_line (signed_decimal z) (state_of script h)) k) h) (number_is script h v))
 
 pub heap_kept : (script : Script) (literals : ℕ) (locals : List Local) (h : RunState) → is_statement literals locals Statement-F.NoteHeap ≡ true →
     Means script h Statement-F.NoteHeap (gone_on (heap_noted h))
 unfolding statement flow and_then
-heap_kept script literals locals h ok r f rec k =
+heap_kept script literals locals h ok r f rec at k =
     let row = h.debug.heap.row in
     ap (λ q. settled r (space_of r h.debug.shape) (k goes_on (state_of script h)) (noted (space_of r h.debug.shape) q (account_of h)))
     (sym (ap (λ n. heap_note n (total_length (headers (state_of script h).heap.row))) (length_read script row)
@@ -37,7 +37,7 @@ heap_kept script literals locals h ok r f rec k =
 pub available_kept : (script : Script) (literals : ℕ) (locals : List Local) (h : RunState) → is_statement literals locals Statement-F.NoteAvailable ≡ true →
     Means script h Statement-F.NoteAvailable (gone_on (available_noted h))
 unfolding statement flow and_then
-available_kept script literals locals h ok r f rec k =
+available_kept script literals locals h ok r f rec at k =
     ap (λ hs. settled r (space_of r h.debug.shape) (k goes_on (state_of script h)) (noted (space_of r h.debug.shape) (available_note hs) (account_of h)))
     (sym (headers_read script h.debug.heap.row))
 
@@ -45,7 +45,7 @@ available_kept script literals locals h ok r f rec k =
 pub compress_kept : (script : Script) (literals : ℕ) (locals : List Local) (h : RunState) → is_statement literals locals Statement-F.NoteCompress ≡ true →
     Means script h Statement-F.NoteCompress (gone_on (compress_noted h))
 unfolding statement flow and_then
-compress_kept script literals locals h ok r f rec k =
+compress_kept script literals locals h ok r f rec at k =
     let d = h.debug in
     ap (λ (length : ℕ). settled r (space_of r d.shape) (k goes_on (state_of script h))
     (record { trace = d.trace; notes = h.notes ++ Compress (d.committed - length) ∷ []; committed = length }))

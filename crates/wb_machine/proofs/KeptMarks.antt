@@ -26,7 +26,7 @@ use Rattle.wb_machine.proofs.Kept.{Means, ComesTo, number_is}
 pub mark_kept : (script : Script) (literals : ℕ) (locals : List Local) (h : RunState) → is_statement literals locals Statement-F.Mark ≡ true →
     Means script h Statement-F.Mark (gone_on (marked h))
 unfolding statement flow
-mark_kept script literals locals h ok r f rec k = refl
+mark_kept script literals locals h ok r f rec at k = refl
 
 -- what refuses the end of a mark, and what follows where nothing does
 mark_end_by : (r : Rule) (script : Script) (h : RunState) (o : Option Panic) →
@@ -52,7 +52,7 @@ mark_end_in r script h (Some n) k =
 pub mark_end_kept : (script : Script) (literals : ℕ) (locals : List Local) (h : RunState) (v : Number) → is_statement literals locals (Statement-F.MarkEnd v) ≡ true →
     Means script h (Statement-F.MarkEnd v) (mark_end_within h (not_negative (number_read h v)))
 unfolding statement
-mark_end_kept script literals locals h v ok r f rec k =
+mark_end_kept script literals locals h v ok r f rec at k =
     let st = state_of script h in
     mark_end_in r script h (not_negative (number_read h v)) k
     ∙ sym (ap (λ z. flow r (and_then (with_some (not_negative z) NUMBER_OUT_OF_RANGE st (λ n. unless (mark_end_refusal st.heap n) st (λ st. done (set_heap st (after_mark_end st.heap))))) k) h)
@@ -76,7 +76,7 @@ check_in r script h cells (Some n) k =
 pub check_kept : (script : Script) (literals : ℕ) (locals : List Local) (h : RunState) (v : Number) → is_statement literals locals (Statement-F.Check v) ≡ true →
     Means script h (Statement-F.Check v) (check_within h (check_refusal h.debug) (not_negative (number_read h v)))
 unfolding statement
-check_kept script literals locals h v ok r f rec k =
+check_kept script literals locals h v ok r f rec at k =
     let st = state_of script h in
     check_in r script h (cells_of_level h.debug.heap.level) (not_negative (number_read h v)) k
     ∙ sym (ap (λ z. flow r (and_then (with_some (not_negative z) NUMBER_OUT_OF_RANGE st (λ n. unless (checked (cells_of_level st.heap.level (headers st.heap.row)) n) st done)) k) h) (number_is script h v))
@@ -84,7 +84,7 @@ check_kept script literals locals h v ok r f rec k =
 pub check_all_kept : (script : Script) (literals : ℕ) (locals : List Local) (h : RunState) (v : Number) → is_statement literals locals (Statement-F.CheckAll v) ≡ true →
     Means script h (Statement-F.CheckAll v) (check_within h (check_all_refusal h.debug) (not_negative (number_read h v)))
 unfolding statement
-check_all_kept script literals locals h v ok r f rec k =
+check_all_kept script literals locals h v ok r f rec at k =
     let st = state_of script h in
     check_in r script h cells_of_all_levels (not_negative (number_read h v)) k
     ∙ sym (ap (λ z. flow r (and_then (with_some (not_negative z) NUMBER_OUT_OF_RANGE st (λ n. unless (checked (cells_of_all_levels (headers st.heap.row)) n) st done)) k) h) (number_is script h v))
@@ -99,7 +99,7 @@ set_in r script h setting (Some n) k = refl
 pub fail_next_kept : (script : Script) (literals : ℕ) (locals : List Local) (h : RunState) (v : Number) → is_statement literals locals (Statement-F.FailNext v) ≡ true →
     Means script h (Statement-F.FailNext v) (set_within h (λ n. next n) (at_least_one (number_read h v)))
 unfolding statement
-fail_next_kept script literals locals h v ok r f rec k =
+fail_next_kept script literals locals h v ok r f rec at k =
     let st = state_of script h in
     set_in r script h (λ n. next n) (at_least_one (number_read h v)) k
     ∙ sym (ap (λ z. flow r (and_then (with_some (at_least_one z) NUMBER_OUT_OF_RANGE st (λ n. done (set_setting st (next n)))) k) h) (number_is script h v))
@@ -107,7 +107,7 @@ fail_next_kept script literals locals h v ok r f rec k =
 pub fail_every_kept : (script : Script) (literals : ℕ) (locals : List Local) (h : RunState) (v : Number) → is_statement literals locals (Statement-F.FailEvery v) ≡ true →
     Means script h (Statement-F.FailEvery v) (set_within h (λ n. each n n) (at_least_one (number_read h v)))
 unfolding statement
-fail_every_kept script literals locals h v ok r f rec k =
+fail_every_kept script literals locals h v ok r f rec at k =
     let st = state_of script h in
     set_in r script h (λ n. each n n) (at_least_one (number_read h v)) k
     ∙ sym (ap (λ z. flow r (and_then (with_some (at_least_one z) NUMBER_OUT_OF_RANGE st (λ n. done (set_setting st (each n n)))) k) h) (number_is script h v))
@@ -115,4 +115,4 @@ fail_every_kept script literals locals h v ok r f rec k =
 pub fail_none_kept : (script : Script) (literals : ℕ) (locals : List Local) (h : RunState) → is_statement literals locals Statement-F.FailNone ≡ true →
     Means script h Statement-F.FailNone (gone_on (with_debug h (with_setting h.debug never)))
 unfolding statement flow
-fail_none_kept script literals locals h ok r f rec k = refl
+fail_none_kept script literals locals h ok r f rec at k = refl

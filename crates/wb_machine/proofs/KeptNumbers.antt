@@ -19,7 +19,7 @@ use Rattle.wb_machine.proofs.Kept.{Means, ComesTo, and_left, and_right, number_i
 pub set_kept : (script : Script) (literals : ℕ) (locals : List Local) (h : RunState) (p q : Pointer) → is_statement literals locals (Statement-F.Set p q) ≡ true →
     Means script h (Statement-F.Set p q) (gone_on (pointer_stored h p (pointer_read h q)))
 unfolding statement and_then
-set_kept script literals locals h p q ok r f rec k =
+set_kept script literals locals h p q ok r f rec at k =
     let st = state_of script h in
     let target = and_left (is_pointer locals p) (is_pointer locals q) ok in
     let source = and_right (is_pointer locals p) (is_pointer locals q) ok in
@@ -30,7 +30,7 @@ set_kept script literals locals h p q ok r f rec k =
 pub null_kept : (script : Script) (literals : ℕ) (locals : List Local) (h : RunState) (p : Pointer) → is_statement literals locals (Statement-F.SetNull p) ≡ true →
     Means script h (Statement-F.SetNull p) (gone_on (pointer_stored h p null))
 unfolding statement and_then
-null_kept script literals locals h p ok r f rec k =
+null_kept script literals locals h p ok r f rec at k =
     let st = state_of script h in
     sym (ap (λ x. flow r (and_then x k) h) (pointer_is script locals h p (λ _. done (set_pointer st p null)) ok)
     ∙ stored_is script locals h p null r (k goes_on) ok)
@@ -38,7 +38,7 @@ null_kept script literals locals h p ok r f rec k =
 pub set_number_kept : (script : Script) (literals : ℕ) (locals : List Local) (h : RunState) (x : ℕ) (v : Number) → is_statement literals locals (Statement-F.SetNumber x v) ≡ true →
     Means script h (Statement-F.SetNumber x v) (gone_on (stored h x (number (number_read h v))))
 unfolding statement flow and_then
-set_number_kept script literals locals h x v ok r f rec k =
+set_number_kept script literals locals h x v ok r f rec at k =
     let st = state_of script h in
     sym (ap (λ z. flow r (and_then (done (set_local st x (number z))) k) h) (number_is script h v))
 
@@ -59,7 +59,7 @@ sum_kept r script h x z k = by (in_range z) k
 pub add_kept : (script : Script) (literals : ℕ) (locals : List Local) (h : RunState) (x : ℕ) (v : Number) → is_statement literals locals (Statement-F.Add x v) ≡ true →
     Means script h (Statement-F.Add x v) (add_carried h x (number_read h v))
 unfolding statement
-add_kept script literals locals h x v ok r f rec k =
+add_kept script literals locals h x v ok r f rec at k =
     let st = state_of script h in
     sum_kept r script h x (number_in (value_in h.locals x) +ℤ number_read h v) k
     ∙ sym (ap (λ y. flow r (and_then (require (in_range (number_in (value_in h.locals x) +ℤ y)) NUMBER_OUT_OF_RANGE st (λ st. done (set_local st x (number (number_in (value_in h.locals x) +ℤ y))))) k) h)

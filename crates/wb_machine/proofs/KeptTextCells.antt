@@ -12,7 +12,7 @@ use Rattle.wb_model.specs.declared.script.Local.{Local}
 use Rattle.wb_model.specs.declared.script.Pointer.{Pointer}
 use Rattle.wb_model.specs.declared.script.Number.{Number}
 use Rattle.wb_model.specs.declared.script.Refusal.{Refusal}
-use Rattle.wb_model.specs.declared.script.Refusal.TheVariants.{GivesNull, Leaves}
+use Rattle.wb_model.specs.declared.script.Refusal.TheVariants.{GivesNull}
 use Rattle.wb_model.specs.declared.script.Statement.TheOpen.{Statement-F}
 use Rattle.wb_model.specs.Sound.{is_statement, is_pointer, is_number}
 use Rattle.wb_model.specs.Row.{Cell, cell_at, cell_length}
@@ -49,29 +49,28 @@ read_empty script n =
     let empty : IsText words [] = zeros-text (cell_length (4 + 2 * n) / 4 - 4) (omega arith) in
     ap units (text-read words [] empty).text
 
-new_text_made : (r : Rule) (script : Script) (locals : List Local) (h : RunState) (p : Pointer) (o : Option ℕ) → is_pointer locals p ≡ true → FitsAfter r h (new_text_within h p o) →
-    ComesTo r script h (with_some o NUMBER_OUT_OF_RANGE (state_of script h) (λ n. allocate (4 + 2 * n) Text (units []) (state_of script h) (given_to p GivesNull))) (new_text_within h p o)
+new_text_made : (r : Rule) (script : Script) (locals : List Local) (h : RunState) (p : Pointer) (x : Refusal) (o : Option ℕ) → is_pointer locals p ≡ true → FitsAfter r h (new_text_within h p x o) →
+    ComesTo r script h (with_some o NUMBER_OUT_OF_RANGE (state_of script h) (λ n. allocate (4 + 2 * n) Text (units []) (state_of script h) (given_to p x))) (new_text_within h p x o)
 unfolding with_some
-new_text_made r script locals h p None ok f k = refl
-new_text_made r script locals h p (Some n) ok f k =
+new_text_made r script locals h p x None ok f k = refl
+new_text_made r script locals h p x (Some n) ok f k =
     let t = alloc_request h.debug.heap (4 + 2 * n) in
     let made : Made = alloc_made h.debug (4 + 2 * n) Text in
-    let fits : Fits r h.debug.rule (is_ceiling made.gave) made.debug.attempts = fits_made r h.debug.rule h p made f.1 in
-    sym (allocated r script h (4 + 2 * n) Text (units []) (given_to p GivesNull) k (answer_in h.debug t) f.0 (read_empty script n)
+    let fits : Fits r h.debug.rule (is_ceiling made.gave) made.debug.attempts = fits_made r h.debug.rule h p x made f.1 in
+    sym (allocated r script h (4 + 2 * n) Text (units []) (given_to p x) k (answer_in h.debug t) f.0 (read_empty script n)
     (answered_alike r h.debug t (after_alloc h.debug.heap t Text (zero_words t.length)) (answer_in h.debug t) refl fits)
     (fits-limit r h.debug.rule _ _ fits)
-    ∙ sym (given_kept r script locals (with_debug h made.debug) p made.gave ok k))
+    ∙ sym (given_kept r script locals (with_debug h made.debug) p x made.gave ok k))
 
 pub new_text_kept : (script : Script) (literals : ℕ) (locals : List Local) (h : RunState) (p : Pointer) (v : Number) (x : Refusal) →
-    is_statement literals locals (Statement-F.NewText p v x) ≡ true → Means script h (Statement-F.NewText p v x) (new_text_carried h p (number_read h v))
+    is_statement literals locals (Statement-F.NewText p v x) ≡ true → Means script h (Statement-F.NewText p v x) (new_text_carried h p x (number_read h v))
 unfolding statement
-new_text_kept script literals locals h p v Leaves ok r f rec k = cc
-new_text_kept script literals locals h p v GivesNull ok r f rec k =
+new_text_kept script literals locals h p v x ok r f rec at k =
     let st = state_of script h in
     let named = and_left (is_pointer locals p) (is_number locals v) ok in
-    new_text_made r script locals h p (within MOST_UNITS (number_read h v)) named f k
-    ∙ sym (ap (λ x. flow r (and_then x k) h) (pointer_is script locals h p (λ _. with_some (within MOST_UNITS (number_of st v)) NUMBER_OUT_OF_RANGE st (λ n. allocate (4 + 2 * n) Text (units []) st (given_to p GivesNull))) named)
-    ∙ ap (λ z. flow r (and_then (with_some (within MOST_UNITS z) NUMBER_OUT_OF_RANGE st (λ n. allocate (4 + 2 * n) Text (units []) st (given_to p GivesNull))) k) h) (number_is script h v))
+    new_text_made r script locals h p x (within MOST_UNITS (number_read h v)) named f k
+    ∙ sym (ap (λ y. flow r (and_then y k) h) (pointer_is script locals h p (λ _. with_some (within MOST_UNITS (number_of st v)) NUMBER_OUT_OF_RANGE st (λ n. allocate (4 + 2 * n) Text (units []) st (given_to p x))) named)
+    ∙ ap (λ z. flow r (and_then (with_some (within MOST_UNITS z) NUMBER_OUT_OF_RANGE st (λ n. allocate (4 + 2 * n) Text (units []) st (given_to p x))) k) h) (number_is script h v))
 
 -- a text that has room in a cell of another length
 text_resized_reads : (script : Script) (kind : Kind) (n : ℕ) (ws : List ℕ) → kind ≡ Text → IsText ws (text_in ws) → length (text_in ws) ≤ n → ReadsResized script kind (4 + 2 * n) ws
@@ -95,13 +94,13 @@ remade_kept r script locals h p c (Some n) ok text is f k = by (nat_le (length (
     st = state_of script h
 
     after : Bool → Carried
-    after b = cond b (made_carried h p (realloc_made h.debug c (4 + 2 * n))) (panicked h SHORTER_THAN_TEXT)
+    after b = cond b (made_carried h p GivesNull (realloc_made h.debug c (4 + 2 * n))) (panicked h SHORTER_THAN_TEXT)
 
     by : (b : Bool) → nat_le (length (text_in c.content)) n ≡ b → FitsAfter r h (after b) →
         ComesTo r script h (require b SHORTER_THAN_TEXT st (λ st. reallocate (read_cell script c) (4 + 2 * n) st st (given_to p GivesNull))) (after b)
     by false e f k = refl
     by true e f k =
-        resized_kept r script locals h p c (4 + 2 * n) (nat_lt c.head.length (cell_length (4 + 2 * n))) ok
+        resized_kept r script locals h p GivesNull c (4 + 2 * n) (nat_lt c.head.length (cell_length (4 + 2 * n))) ok
         (text_resized_reads script c.head.kind n c.content text is (leb-true (length (text_in c.content)) n e)) f k
 
 -- of a cell of any kind, and of a pointer that names none
@@ -130,7 +129,7 @@ remade_found r script locals h p z (Some c) ok texts f k = by c.head.kind (texts
 pub realloc_text_kept : (script : Script) (literals : ℕ) (locals : List Local) (h : RunState) (p q : Pointer) (v : Number) → AreTexts h.debug.heap.row →
     is_statement literals locals (Statement-F.ReallocText p q v) ≡ true → Means script h (Statement-F.ReallocText p q v) (realloc_text_carried h p (pointer_read h q) (number_read h v))
 unfolding statement with_cell
-realloc_text_kept script literals locals h p q v texts ok r f rec k =
+realloc_text_kept script literals locals h p q v texts ok r f rec at k =
     let st = state_of script h in
     let row = h.debug.heap.row in
     let old = pointer_read h q in

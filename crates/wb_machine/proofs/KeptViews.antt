@@ -93,7 +93,7 @@ line_kept r script h line k = refl
 pub length_kept : (script : Script) (literals : ℕ) (locals : List Local) (h : RunState) (x : ℕ) (t : Readable) → is_statement literals locals (Statement-F.GetLength x t) ≡ true →
     Means script h (Statement-F.GetLength x t) (length_carried script.literals h x t)
 unfolding statement
-length_kept script literals locals h x t ok r f rec =
+length_kept script literals locals h x t ok r f rec at =
     let st = state_of script h in
     let v = window_read script.literals h t in
     read_kept r script literals locals h t (λ from us. done (set_local st x (number (pos (length us))))) (gone_on (stored h x (number (pos v.length))))
@@ -103,7 +103,7 @@ length_kept script literals locals h x t ok r f rec =
 pub print_kept : (script : Script) (literals : ℕ) (locals : List Local) (h : RunState) (t : Readable) → is_statement literals locals (Statement-F.PrintText t) ≡ true →
     Means script h (Statement-F.PrintText t) (print_carried script.literals h t)
 unfolding statement
-print_kept script literals locals h t ok r f rec =
+print_kept script literals locals h t ok r f rec at =
     read_kept r script literals locals h t (λ from us. print_line (printed us) (state_of script h)) (gone_on (line_printed h (printed (window_units script.literals h (window_read script.literals h t))))) ok
     (line_kept r script h (printed (window_units script.literals h (window_read script.literals h t))))
 
@@ -120,7 +120,7 @@ part_of_kept r script h w t part =
 pub left_kept : (script : Script) (literals : ℕ) (locals : List Local) (h : RunState) (w : ℕ) (t : Readable) (z : Number) → is_statement literals locals (Statement-F.Left w t z) ≡ true →
     Means script h (Statement-F.Left w t z) (part_stored h w (left_read script.literals h t z))
 unfolding statement
-left_kept script literals locals h w t z ok r f rec =
+left_kept script literals locals h w t z ok r f rec at =
     let st = state_of script h in
     let us = window_units script.literals h (window_read script.literals h t) in
     let v = window_read script.literals h t in
@@ -136,7 +136,7 @@ left_kept script literals locals h w t z ok r f rec =
 pub right_kept : (script : Script) (literals : ℕ) (locals : List Local) (h : RunState) (w : ℕ) (t : Readable) (z : Number) → is_statement literals locals (Statement-F.Right w t z) ≡ true →
     Means script h (Statement-F.Right w t z) (part_stored h w (right_read script.literals h t z))
 unfolding statement
-right_kept script literals locals h w t z ok r f rec =
+right_kept script literals locals h w t z ok r f rec at =
     let st = state_of script h in
     let us = window_units script.literals h (window_read script.literals h t) in
     let v = window_read script.literals h t in
@@ -152,7 +152,7 @@ right_kept script literals locals h w t z ok r f rec =
 pub mid_kept : (script : Script) (literals : ℕ) (locals : List Local) (h : RunState) (w : ℕ) (t : Readable) (z y : Number) → is_statement literals locals (Statement-F.Mid w t z y) ≡ true →
     Means script h (Statement-F.Mid w t z y) (part_stored h w (mid_read script.literals h t z y))
 unfolding statement
-mid_kept script literals locals h w t z y ok r f rec =
+mid_kept script literals locals h w t z y ok r f rec at =
     let st = state_of script h in
     let us = window_units script.literals h (window_read script.literals h t) in
     let v = window_read script.literals h t in
@@ -171,7 +171,7 @@ mid_kept script literals locals h w t z y ok r f rec =
 pub max_kept : (script : Script) (literals : ℕ) (locals : List Local) (h : RunState) (x : ℕ) (d : Writable) → is_statement literals locals (Statement-F.GetMaximum x d) ≡ true →
     Means script h (Statement-F.GetMaximum x d) (max_carried h x (base_named h d))
 unfolding statement
-max_kept script literals locals h x d ok r f rec =
+max_kept script literals locals h x d ok r f rec at =
     let st = state_of script h in
     let to = base_named h d in
     same_process r script h (through (base_refusal h to) st (done (set_local st x (number (pos (base_max h to)))))) _ _

@@ -76,7 +76,7 @@ pub store_kept : (script : Script) (literals : ℕ) (locals : List Local) (h : R
     is_statement literals locals (Statement-F.Store p v w) ≡ true →
     Means script h (Statement-F.Store p v w) (store_carried h (pointer_read h p) (number_read h v) (number_read h w))
 unfolding statement with_words with_cell
-store_kept script literals locals h p v w fits ok r f rec k =
+store_kept script literals locals h p v w fits ok r f rec at k =
     let st = state_of script h in
     let q = pointer_read h p in
     let x = number_read h v in
@@ -129,7 +129,7 @@ load_found_kept r script h x p i (Some c) found k = by c.head.kind refl k
 pub load_kept : (script : Script) (literals : ℕ) (locals : List Local) (h : RunState) (x : ℕ) (p : Pointer) (v : Number) →
     is_statement literals locals (Statement-F.Load x p v) ≡ true → Means script h (Statement-F.Load x p v) (load_carried h x (pointer_read h p) (number_read h v))
 unfolding statement with_words with_cell
-load_kept script literals locals h x p v ok r f rec k =
+load_kept script literals locals h x p v ok r f rec at k =
     let st = state_of script h in
     let q = pointer_read h p in
     let named = and_left (is_pointer locals p) (is_number locals v) (and_right (is_variable locals x) (is_pointer locals p && is_number locals v) ok) in
@@ -149,7 +149,7 @@ usable_found_kept r script h x (Some c) k = refl
 pub usable_kept : (script : Script) (literals : ℕ) (locals : List Local) (h : RunState) (x : ℕ) (p : Pointer) →
     is_statement literals locals (Statement-F.AllocLen x p) ≡ true → Means script h (Statement-F.AllocLen x p) (usable_carried h x (pointer_read h p))
 unfolding statement
-usable_kept script literals locals h x p ok r f rec k =
+usable_kept script literals locals h x p ok r f rec at k =
     let st = state_of script h in
     let q = pointer_read h p in
     let go : Option (Cell Content) → Process = λ o. with_some o BAD_CELL st (λ c. done (set_local st x (number (pos (usable_of c.head))))) in

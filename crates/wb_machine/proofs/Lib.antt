@@ -1,9 +1,12 @@
 pub mod Begins
 pub mod Ends
+pub mod Falls
 pub mod Fitting
 pub mod Flows
+pub mod Heads
 pub mod Kept
 pub mod KeptCells
+pub mod KeptLeaves
 pub mod KeptLines
 pub mod KeptMarks
 pub mod KeptNumbers

@@ -1,18 +1,22 @@
 -- What is known of a script: of the body of `main`, and of literals.
-use Rattle.std.proofs.Common.{◌≡◌, ℕ, ◌<◌, ◌≤◌, suc, zero, Bool, true, false, List, [], ◌∷◌, ◌++◌, length, refl, ap, ◌∙◌, sym, arith, Option, Some, None}
+use Rattle.std.proofs.Common.{◌≡◌, ℕ, ◌<◌, ◌≤◌, suc, zero, Bool, true, false, List, [], ◌∷◌, ◌++◌, length, refl, ap, ◌∙◌, sym, subst, arith, Option, Some, None}
 use Rattle.std.specs.Prelude.{◌&&◌, slice_get, unwrap_or, nat_lt, nat_le, nat_eq}
 use Rattle.std.specs.List.{list_all}
 use Rattle.std.proofs.lemmas.Bool.{ltb-true, leb-true}
-use Rattle.std.proofs.lemmas.List.Folds.{list_all-append}
-use Rattle.wb_model.specs.declared.limits.TheConstants.{MOST_PROCEDURES, LONGEST_LITERAL}
+use Rattle.wb_model.specs.declared.limits.TheConstants.{MOST_PROCEDURES, LONGEST_LITERAL, DEEPEST_BLOCK}
 use Rattle.wb_model.specs.declared.script.Script.{Script}
 use Rattle.wb_model.specs.declared.script.Procedure.{Procedure}
-use Rattle.wb_model.specs.Statements.{no_body}
-use Rattle.wb_model.specs.Sound.{is_local, is_quotable, is_literal_text, is_body, is_procedure, is_script, are_statements}
-use Rattle.wb_machine.specs.declared.control.Piece.{Piece}
-use Rattle.wb_machine.specs.declared.control.Piece.TheVariants.{MainTrap}
+use Rattle.wb_model.specs.declared.script.Condition.{Condition}
+use Rattle.wb_model.specs.declared.script.Number.{Number}
+use Rattle.wb_model.specs.declared.script.Numbered.{Numbered}
+use Rattle.wb_model.specs.declared.script.Statement.TheOpen.{Statement-F}
+use Rattle.wb_model.specs.declared.script.Statement.TheViews.{out-Statement}
+use Rattle.wb_model.specs.Statements.{Layer, no_body}
+use Rattle.wb_model.specs.Sound.{is_local, is_number, is_variable, is_condition, is_quotable, is_literal_text, is_simple, is_nested, are_within, are_statements, is_body, is_procedure, is_script}
+use Rattle.wb_machine.specs.declared.pieces.Piece.{Piece}
+use Rattle.wb_machine.specs.declared.pieces.Piece.TheVariants.{MainTrap}
 use Rattle.wb_machine.specs.RunState.{main_of}
-use Rattle.wb_machine.specs.Flow.{is_sound_piece, are_sound}
+use Rattle.wb_machine.specs.Flow.{AreOwn, IsOwn, IsSimple, IsSoundPiece, AreSound}
 
 pub and_left : (a b : Bool) → (a && b) ≡ true → a ≡ true
 and_left true b e = refl
@@ -76,28 +80,97 @@ main_locals script ok =
     and_left (list_all is_local (main_of script).locals) (nat_le (length (main_of script).locals) 32)
     (and_left _ (are_statements (length script.literals) (main_of script).locals (main_of script).statements) (main_body script ok))
 
-pub main_statements : (script : Script) → is_script script ≡ true →
-    are_statements (length script.literals) (main_of script).locals (main_of script).statements ≡ true
-main_statements script ok =
-    and_right (list_all is_local (main_of script).locals && nat_le (length (main_of script).locals) 32)
-    (are_statements (length script.literals) (main_of script).locals (main_of script).statements) (main_body script ok)
+pub main_statements : (script : Script) → is_script script ≡ true → AreOwn script (main_of script).statements
+main_statements script ok = (
+  (main_of script).locals,
+  false,
+  suc DEEPEST_BLOCK,
+  and_right (list_all is_local (main_of script).locals && nat_le (length (main_of script).locals) 32)
+      (are_statements (length script.literals) (main_of script).locals (main_of script).statements) (main_body script ok),
+)
 
--- one more that passes
-pub all_pushed : {X : Type 0} (p : X → Bool) (below all : List X) (x : X) → all ≡ below ++ x ∷ [] → list_all p below ≡ true → p x ≡ true → list_all p all ≡ true
-all_pushed p below all x is a b =
-    ap (list_all p) is ∙ list_all-append p below (x ∷ []) ∙ and_both (list_all p below) (p x && true) a (and_both (p x) true b refl)
+-- one more piece on top
+pub sound_pushed : (script : Script) (below all : List Piece) (p : Piece) → all ≡ below ++ p ∷ [] → AreSound script below → IsSoundPiece script p → AreSound script all
+sound_pushed script below all p is a b = subst (AreSound script) (sym is) (by below a)
+  where
+    by : (ps : List Piece) → AreSound script ps → AreSound script (ps ++ p ∷ [])
+    by [] s = (b, tt)
+    by (q ∷ qs) s = (s.0, by qs s.1)
 
-pub sound_below : (script : Script) (below pieces : List Piece) (p : Piece) → pieces ≡ below ++ p ∷ [] → are_sound script pieces ≡ true → are_sound script below ≡ true
-sound_below script below pieces p is a =
-    and_left (are_sound script below) (are_sound script (p ∷ [])) (sym (ap (are_sound script) is ∙ list_all-append (is_sound_piece script) below (p ∷ [])) ∙ a)
+sound_split : (script : Script) (below : List Piece) (p : Piece) → AreSound script (below ++ p ∷ []) → AreSound script below × IsSoundPiece script p
+sound_split script [] p s = (tt, s.0)
+sound_split script (q ∷ qs) p s = let rest = sound_split script qs p s.1 in ((s.0, rest.0), rest.1)
 
-pub sound_top : (script : Script) (below pieces : List Piece) (p : Piece) → pieces ≡ below ++ p ∷ [] → are_sound script pieces ≡ true → is_sound_piece script p ≡ true
-sound_top script below pieces p is a =
-    and_left (is_sound_piece script p) true
-    (and_right (are_sound script below) (are_sound script (p ∷ [])) (sym (ap (are_sound script) is ∙ list_all-append (is_sound_piece script) below (p ∷ [])) ∙ a))
+pub sound_below : (script : Script) (below pieces : List Piece) (p : Piece) → pieces ≡ below ++ p ∷ [] → AreSound script pieces → AreSound script below
+sound_below script below pieces p is a = (sound_split script below p (subst (AreSound script) is a)).0
+
+pub sound_top : (script : Script) (below pieces : List Piece) (p : Piece) → pieces ≡ below ++ p ∷ [] → AreSound script pieces → IsSoundPiece script p
+sound_top script below pieces p is a = (sound_split script below p (subst (AreSound script) is a)).1
 
 -- the pieces of a run that was begun are the script's own
 pub sound_begun : (script : Script) (none one two : List Piece) (code : Piece) → none ≡ [] → one ≡ none ++ MainTrap ∷ [] → two ≡ one ++ code ∷ [] →
-    is_sound_piece script code ≡ true → are_sound script two ≡ true
+    IsSoundPiece script code → AreSound script two
 sound_begun script none one two code e f g ok =
-    all_pushed (is_sound_piece script) one two code g (all_pushed (is_sound_piece script) none one MainTrap f (ap (are_sound script) e) refl) ok
+    sound_pushed script one two code g (sound_pushed script none one MainTrap f (subst (AreSound script) (sym e) tt) tt) ok
+
+-- the first of statements that stand in a script, and the rest
+pub own_first : (script : Script) (s : Numbered) (ss : List Numbered) → AreOwn script (s ∷ ss) → IsOwn script (out-Statement s.statement)
+own_first script s ss (locals, trapped, zero, ok) = cc
+own_first script s ss (locals, trapped, suc depth, ok) = record {
+  locals = locals;
+  trapped = trapped;
+  depth = depth;
+  sound = and_left (is_nested (length script.literals) locals trapped (are_within (length script.literals) locals depth) (out-Statement s.statement)) _ ok;
+}
+
+pub own_rest : (script : Script) (s : Numbered) (ss : List Numbered) → AreOwn script (s ∷ ss) → AreOwn script ss
+own_rest script s ss (locals, trapped, zero, ok) = cc
+own_rest script s ss (locals, trapped, suc depth, ok) =
+    (locals, trapped, suc depth, and_right (is_nested (length script.literals) locals trapped (are_within (length script.literals) locals depth) (out-Statement s.statement)) _ ok)
+
+pub own_none : (script : Script) → AreOwn script []
+own_none script = ([], false, 1, refl)
+
+-- what stands inside a statement
+module _ (script : Script) (layer : Layer) (own : IsOwn script layer) where
+  abbrev inside : Bool → List Numbered → Bool
+  inside = are_within (length script.literals) own.locals own.depth
+
+  abbrev sound_as : Layer → Type 0
+  sound_as was = is_nested (length script.literals) own.locals own.trapped inside was ≡ true
+
+  seen_as : (was : Layer) → layer ≡ was → sound_as was
+  seen_as was e = sym (ap (is_nested (length script.literals) own.locals own.trapped inside) e) ∙ own.sound
+
+  pub own_if : (c : Condition) (first : List Numbered) → layer ≡ Statement-F.If c first → AreOwn script first
+  own_if c first e = (own.locals, own.trapped, own.depth, and_right (is_condition own.locals c) (inside own.trapped first) (seen_as _ e))
+
+  pub own_if_condition : (c : Condition) (first : List Numbered) → layer ≡ Statement-F.If c first → is_condition own.locals c ≡ true
+  own_if_condition c first e = and_left (is_condition own.locals c) (inside own.trapped first) (seen_as _ e)
+
+  pub own_choice : (c : Condition) (first other : List Numbered) → layer ≡ Statement-F.IfElse c first other → AreOwn script first × AreOwn script other
+  own_choice c first other e =
+      let parts = and_right (is_condition own.locals c) (inside own.trapped first && inside own.trapped other) (seen_as _ e) in
+      ((own.locals, own.trapped, own.depth, and_left (inside own.trapped first) _ parts), (own.locals, own.trapped, own.depth, and_right (inside own.trapped first) _ parts))
+
+  pub own_choice_condition : (c : Condition) (first other : List Numbered) → layer ≡ Statement-F.IfElse c first other → is_condition own.locals c ≡ true
+  own_choice_condition c first other e = and_left (is_condition own.locals c) (inside own.trapped first && inside own.trapped other) (seen_as _ e)
+
+  pub own_turns : (v : Number) (body : List Numbered) → layer ≡ Statement-F.Repeat v body → AreOwn script body
+  own_turns v body e = (own.locals, own.trapped, own.depth, and_right (is_number own.locals v) (inside own.trapped body) (seen_as _ e))
+
+  pub own_trapped : (x : ℕ) (body : List Numbered) → layer ≡ Statement-F.Trap x body → AreOwn script body
+  own_trapped x body e = (own.locals, true, own.depth, and_right (is_variable own.locals x) (inside true body) (seen_as _ e))
+
+  -- one that no other stands inside
+  pub own_simple : ((c : Condition) (first : List Numbered) → layer ≡ Statement-F.If c first → ⊥) →
+      ((c : Condition) (first other : List Numbered) → layer ≡ Statement-F.IfElse c first other → ⊥) →
+      ((v : Number) (body : List Numbered) → layer ≡ Statement-F.Repeat v body → ⊥) → ((x : ℕ) (body : List Numbered) → layer ≡ Statement-F.Trap x body → ⊥) → IsSimple script layer
+  own_simple no_if no_choice no_turns no_trap = record { locals = own.locals; trapped = own.trapped; sound = by layer refl }
+    where
+      by : (was : Layer) → layer ≡ was → is_simple (length script.literals) own.locals own.trapped layer ≡ true
+      by (Statement-F.If c first) e = absurd (no_if c first e)
+      by (Statement-F.IfElse c first other) e = absurd (no_choice c first other e)
+      by (Statement-F.Repeat v body) e = absurd (no_turns v body e)
+      by (Statement-F.Trap x body) e = absurd (no_trap x body e)
+      by was e = ap (is_simple (length script.literals) own.locals own.trapped) e ∙ seen_as was e

@@ -1,5 +1,6 @@
 -- The rest of a run, from turn to turn.
-use Rattle.std.proofs.Common.{◌≡◌, ℕ, ◌<◌, ◌≤◌, true, false, List, [], ◌∷◌, ◌++◌, map, refl, ap, ◌∙◌, sym, arith}
+use Rattle.std.proofs.Common.{◌≡◌, ℕ, zero, suc, ◌<◌, true, List, [], ◌∷◌, ◌++◌, map, refl, ap, ◌∙◌, sym, arith}
+use Rattle.std.specs.Prelude.{nat_lt}
 use Rattle.std.proofs.lemmas.List.{reverse-append}
 use Rattle.std.proofs.lemmas.Bool.{lt-ltb, le-ltb}
 use Rattle.wb_model.specs.declared.heap.Rule.{Rule}
@@ -7,20 +8,19 @@ use Rattle.wb_model.specs.declared.run.Why.TheVariants.{Budget}
 use Rattle.wb_model.specs.declared.script.Script.{Script}
 use Rattle.wb_model.specs.declared.script.Numbered.{Numbered}
 use Rattle.wb_model.specs.declared.script.Statement.TheViews.{out-Statement}
-use Rattle.wb_model.specs.State.{goes_on, and_then, on_plain_end, require}
-use Rattle.wb_model.specs.Statements.{all, statement}
-use Rattle.wb_model.specs.Meaning.{begun, begun_if, piece, meaning_of}
-use Rattle.wb_model.specs.Run.{main_trapped, result_of}
-use Rattle.wb_model.specs.Rest.{Pending, doing, resumed, resume, left_to_do, rest}
-use Rattle.wb_model.proofs.MeaningLemmas.{meaning_of-unfolds}
-use Rattle.wb_model.proofs.ResumeLemmas.{resume-all}
-use Rattle.wb_machine.specs.declared.control.Ending.{Ending}
-use Rattle.wb_machine.specs.declared.control.Ending.TheVariants.{GoesOn, Panics, Cut, NoCleanup}
-use Rattle.wb_machine.specs.declared.control.Piece.{Piece}
-use Rattle.wb_machine.specs.declared.control.Piece.TheVariants.{Code, MainTrap}
+use Rattle.wb_model.specs.State.{goes_on, and_then}
+use Rattle.wb_model.specs.Statements.{all, turns, Where, statement}
+use Rattle.wb_model.specs.Meaning.{begun, begun_if, meaning_of}
+use Rattle.wb_model.specs.Run.{result_of}
+use Rattle.wb_model.specs.Rest.{Pending, doing, resume, left_to_do, rest}
+use Rattle.wb_model.proofs.ResumeLemmas.{resume-all, resume-turns}
+use Rattle.wb_machine.specs.declared.pieces.Ending.{Ending}
+use Rattle.wb_machine.specs.declared.pieces.Ending.TheVariants.{GoesOn, Returns, Leaves, Panics, Cut, NoCleanup}
+use Rattle.wb_machine.specs.declared.pieces.Piece.{Piece}
+use Rattle.wb_machine.specs.declared.pieces.Piece.TheVariants.{Code, Turns, Trap, MainTrap}
 use Rattle.wb_machine.specs.RunState.{RunState, state_of}
 use Rattle.wb_machine.specs.Carried.{stepped}
-use Rattle.wb_machine.specs.Flow.{in_main_frame, is_nothing, pending_of, needs_step, pending_in, ended_by, flow, IsSameFlow, rest_from}
+use Rattle.wb_machine.specs.Flow.{where_of, is_nothing, pending_of, needs_step, pending_in, ended_by, flow, rest_from, rest_of_statement, rest_of_piece}
 
 -- one more piece on top
 pub pending_pushed : (ps : List Piece) (p : Piece) → pending_in (ps ++ p ∷ []) ≡ pending_of p ∷ pending_in ps
@@ -31,75 +31,87 @@ pub rest_flow : (script : Script) (budget : ℕ) (r : Rule) (ending : Ending) (p
     rest_from script budget r ending pieces h ≡ result_of (flow r (and_then (ended_by ending (state_of script h)) (resume script budget (pending_in pieces))) h)
 unfolding rest left_to_do flow and_then
 rest_flow script budget r GoesOn pieces h = refl
+rest_flow script budget r (Returns p) pieces h = refl
+rest_flow script budget r (Leaves code) pieces h = refl
 rest_flow script budget r (Panics p) pieces h = refl
 rest_flow script budget r (Cut why) pieces h = refl
 rest_flow script budget r NoCleanup pieces h = refl
 
 -- the same with the topmost piece by itself
-rest_pushed : (script : Script) (budget : ℕ) (r : Rule) (ending : Ending) (pieces below : List Piece) (p : Piece) (h : RunState) → pieces ≡ below ++ p ∷ [] →
+pub rest_pushed : (script : Script) (budget : ℕ) (r : Rule) (ending : Ending) (pieces below : List Piece) (p : Piece) (h : RunState) → pieces ≡ below ++ p ∷ [] →
     rest_from script budget r ending pieces h
     ≡ result_of (flow r (and_then (ended_by ending (state_of script h)) (resume script budget (pending_of p ∷ pending_in below))) h)
 rest_pushed script budget r ending pieces below p h is =
     rest_flow script budget r ending pieces h
     ∙ ap (λ ps. result_of (flow r (and_then (ended_by ending (state_of script h)) (resume script budget ps)) h)) (ap pending_in is ∙ pending_pushed below p)
 
--- a turn that begins the first statement of a block, and carries it out
-pub rest_stepped : (script : Script) (budget : ℕ) (r : Rule) (s : Numbered) (ss : List Numbered) (old new below : List Piece) (p q : Piece) (ending : Ending) (h g : RunState) →
-    old ≡ below ++ p ∷ [] → pending_of p ≡ doing in_main_frame (all (s ∷ ss)) → new ≡ below ++ q ∷ [] → pending_of q ≡ doing in_main_frame (all ss) →
-    h.steps < budget →
-    IsSameFlow r (ended_by ending (state_of script g)) g (statement script (meaning_of script budget) in_main_frame (out-Statement s.statement) (state_of script (stepped h))) (stepped h) →
-    rest_from script budget r ending new g ≡ rest_from script budget r GoesOn old h
-unfolding flow and_then begun begun_if
-rest_stepped script budget r s ss old new below p q ending h g was top is next within same =
-    rest_pushed script budget r ending new below q g is
-    ∙ ap (λ (x : Pending). result_of (flow r (and_then (ended_by ending (state_of script g)) (resume script budget (x ∷ pending_in below))) g)) next
-    ∙ ap result_of (same (resume script budget (doing in_main_frame (all ss) ∷ pending_in below)))
-    ∙ sym (rest_pushed script budget r GoesOn old below p h was
-    ∙ ap (λ (x : Pending). result_of (flow r (resume script budget (x ∷ pending_in below) goes_on (state_of script h)) h)) top
-    ∙ ap (λ x. result_of (flow r x h)) (resume-all script budget in_main_frame s ss (pending_in below) (state_of script h) (omega (arith, within)))
-    ∙ ap (λ b. result_of (flow r (begun_if b (state_of script h) (λ st. and_then (statement script (meaning_of script budget) in_main_frame (out-Statement s.statement) st)
-    (resume script budget (doing in_main_frame (all ss) ∷ pending_in below)))) h)) (lt-ltb h.steps budget within))
+-- the rest with a piece on top that goes on
+pub rest_on_top : (script : Script) (budget : ℕ) (r : Rule) (pieces below : List Piece) (p : Piece) (h : RunState) → pieces ≡ below ++ p ∷ [] →
+    rest_from script budget r GoesOn pieces h ≡ rest_of_piece script budget r (pending_of p) below h
+unfolding and_then
+rest_on_top script budget r pieces below p h is = rest_pushed script budget r GoesOn pieces below p h is
+
+-- a turn that begins the first statement of a block
+pub rest_stepped : (script : Script) (budget : ℕ) (r : Rule) (at : Where) (s : Numbered) (ss : List Numbered) (below mid new : List Piece) (q : Piece) (ending : Ending) (h g : RunState) →
+    mid ≡ below ++ q ∷ [] → pending_of q ≡ doing at (all ss) → h.steps < budget →
+    rest_from script budget r ending new g ≡ rest_of_statement script budget r at (out-Statement s.statement) mid (stepped h) →
+    rest_from script budget r ending new g ≡ rest_of_piece script budget r (doing at (all (s ∷ ss))) below h
+unfolding flow begun begun_if
+rest_stepped script budget r at s ss below mid new q ending h g is next within same =
+    let layer = out-Statement s.statement in
+    let M = meaning_of script budget in
+    same
+    ∙ ap (λ (ps : List Pending). result_of (flow r (and_then (statement script M at layer (state_of script (stepped h))) (resume script budget ps)) (stepped h)))
+    (ap pending_in is ∙ pending_pushed below q ∙ ap (λ (x : Pending). x ∷ pending_in below) next)
+    ∙ sym (ap (λ x. result_of (flow r x h)) (resume-all script budget at s ss (pending_in below) (state_of script h) (omega (arith, within)))
+    ∙ ap (λ b. result_of (flow r (begun_if b (state_of script h) (λ st. and_then (statement script M at layer st)
+    (resume script budget (doing at (all ss) ∷ pending_in below)))) h)) (lt-ltb h.steps budget within))
+
+-- a turn that begins a turn of a loop
+pub rest_turned : (script : Script) (budget : ℕ) (r : Rule) (at : Where) (left n : ℕ) (body : List Numbered) (below mid new : List Piece) (p q : Piece) (h : RunState) →
+    mid ≡ below ++ p ∷ [] → new ≡ mid ++ q ∷ [] → pending_of p ≡ doing at (turns n body) → pending_of q ≡ doing at (all body) → left ≡ suc n → h.steps < budget →
+    rest_from script budget r GoesOn new (stepped h) ≡ rest_of_piece script budget r (doing at (turns left body)) below h
+unfolding flow begun begun_if
+rest_turned script budget r at left n body below mid new p q h is next first second count within =
+    rest_on_top script budget r new mid q (stepped h) next
+    ∙ ap (λ (ps : List Pending). result_of (flow r (resume script budget ps goes_on (state_of script (stepped h))) (stepped h)))
+    (ap (λ (x : Pending). x ∷ pending_in mid) second ∙ ap (λ (ps : List Pending). doing at (all body) ∷ ps) (ap pending_in is ∙ pending_pushed below p ∙ ap (λ (x : Pending). x ∷ pending_in below) first))
+    ∙ sym (ap (λ (k : ℕ). result_of (flow r (resume script budget (doing at (turns k body) ∷ pending_in below) goes_on (state_of script h)) h)) count
+    ∙ ap (λ x. result_of (flow r x h)) (resume-turns script budget at n body (pending_in below) (state_of script h) (omega (arith, within)))
+    ∙ ap (λ b. result_of (flow r (begun_if b (state_of script h) (λ st. resume script budget (doing at (all body) ∷ doing at (turns n body) ∷ pending_in below) goes_on st)) h)) (lt-ltb h.steps budget within))
 
 -- at the budget the rest is a cut
 pub rest_cut : (script : Script) (budget : ℕ) (r : Rule) (ending : Ending) (pieces below : List Piece) (p : Piece) (h : RunState) →
     ending ≡ GoesOn → pieces ≡ below ++ p ∷ [] → needs_step p ≡ true → h.steps ≡ budget →
     rest_from script budget r (Cut Budget) pieces h ≡ rest_from script budget r ending pieces h
 unfolding flow and_then begun begun_if
-rest_cut script budget r ending pieces below (Code statements) h goes was first at = by statements.now refl
+rest_cut script budget r ending pieces below (Code standing statements) h goes was first at = by statements.now refl
   where
     by : (ss : List Numbered) → statements.now ≡ ss → rest_from script budget r (Cut Budget) pieces h ≡ rest_from script budget r ending pieces h
-    by [] e = absurd_here
-      where
-        absurd_here : rest_from script budget r (Cut Budget) pieces h ≡ rest_from script budget r ending pieces h
-        absurd_here = let x = ap is_nothing e in cc
+    by [] e = let x = ap is_nothing e in cc
     by (s ∷ ss) e =
+        let here = where_of standing in
         rest_flow script budget r (Cut Budget) pieces h
         ∙ sym (ap (λ x. rest_from script budget r x pieces h) goes
-        ∙ rest_pushed script budget r GoesOn pieces below (Code statements) h was
-        ∙ ap (λ (ss : List Numbered). result_of (flow r (resume script budget (doing in_main_frame (all ss) ∷ pending_in below) goes_on (state_of script h)) h)) e
-        ∙ ap (λ x. result_of (flow r x h)) (resume-all script budget in_main_frame s ss (pending_in below) (state_of script h) (omega (arith, at)))
-        ∙ ap (λ b. result_of (flow r (begun_if b (state_of script h) (λ st. and_then (statement script (meaning_of script budget) in_main_frame (out-Statement s.statement) st)
-        (resume script budget (doing in_main_frame (all ss) ∷ pending_in below)))) h)) (le-ltb h.steps budget (omega (arith, at))))
-rest_cut script budget r ending pieces below MainTrap h goes was first at = cc
-
--- a piece without a step is done where the one above it goes on
-pub rest_settled : (script : Script) (budget : ℕ) (r : Rule) (ending : Ending) (pieces below : List Piece) (p : Piece) (h : RunState) →
-    pieces ≡ below ++ p ∷ [] → needs_step p ≡ false → h.steps ≤ budget → ending ≡ GoesOn →
-    rest_from script budget r ending below h ≡ rest_from script budget r ending pieces h
-unfolding flow and_then resume resumed on_plain_end piece main_trapped require
-rest_settled script budget r ending pieces below (Code statements) h was none within goes = by statements.now refl
+        ∙ rest_on_top script budget r pieces below (Code standing statements) h was
+        ∙ ap (λ (ss : List Numbered). result_of (flow r (resume script budget (doing here (all ss) ∷ pending_in below) goes_on (state_of script h)) h)) e
+        ∙ ap (λ x. result_of (flow r x h)) (resume-all script budget here s ss (pending_in below) (state_of script h) (omega (arith, at)))
+        ∙ ap (λ b. result_of (flow r (begun_if b (state_of script h) (λ st. and_then (statement script (meaning_of script budget) here (out-Statement s.statement) st)
+        (resume script budget (doing here (all ss) ∷ pending_in below)))) h)) (le-ltb h.steps budget (omega (arith, at))))
+rest_cut script budget r ending pieces below (Turns standing left body) h goes was first at = by left refl
   where
-    by : (ss : List Numbered) → statements.now ≡ ss → rest_from script budget r ending below h ≡ rest_from script budget r ending pieces h
-    by (s ∷ ss) e = let x = ap is_nothing e in cc
-    by [] e =
-        ap (λ x. rest_from script budget r x below h) goes
-        ∙ rest_flow script budget r GoesOn below h
+    here : Where
+    here = where_of standing
+
+    by : (n : ℕ) → left ≡ n → rest_from script budget r (Cut Budget) pieces h ≡ rest_from script budget r ending pieces h
+    by zero e = let x = ap (λ k. nat_lt 0 k) e in cc
+    by (suc n) e =
+        rest_flow script budget r (Cut Budget) pieces h
         ∙ sym (ap (λ x. rest_from script budget r x pieces h) goes
-        ∙ rest_pushed script budget r GoesOn pieces below (Code statements) h was
-        ∙ ap (λ (ss : List Numbered). result_of (flow r (and_then (meaning_of script budget in_main_frame (all ss) (state_of script h)) (resume script budget (pending_in below))) h)) e
-        ∙ ap (λ x. result_of (flow r (and_then x (resume script budget (pending_in below))) h)) (meaning_of-unfolds script budget in_main_frame (all []) (state_of script h) within))
-rest_settled script budget r ending pieces below MainTrap h was none within goes =
-    ap (λ x. rest_from script budget r x below h) goes
-    ∙ rest_flow script budget r GoesOn below h
-    ∙ sym (ap (λ x. rest_from script budget r x pieces h) goes
-    ∙ rest_pushed script budget r GoesOn pieces below MainTrap h was)
+        ∙ rest_on_top script budget r pieces below (Turns standing left body) h was
+        ∙ ap (λ (k : ℕ). result_of (flow r (resume script budget (doing here (turns k body.now) ∷ pending_in below) goes_on (state_of script h)) h)) e
+        ∙ ap (λ x. result_of (flow r x h)) (resume-turns script budget here n body.now (pending_in below) (state_of script h) (omega (arith, at)))
+        ∙ ap (λ b. result_of (flow r (begun_if b (state_of script h) (λ st. resume script budget (doing here (all body.now) ∷ doing here (turns n body.now) ∷ pending_in below) goes_on st)) h))
+        (le-ltb h.steps budget (omega (arith, at))))
+rest_cut script budget r ending pieces below (Trap standing x) h goes was first at = cc
+rest_cut script budget r ending pieces below MainTrap h goes was first at = cc

@@ -29,7 +29,7 @@ use Rattle.wb_machine.specs.TextInvariant.{IsTextCell, AreTexts}
 use Rattle.wb_model.specs.declared.text.Base.{Base}
 use Rattle.wb_model.specs.declared.text.Base.TheVariants as B
 use Rattle.wb_model.specs.declared.text.View.{View}
-use Rattle.wb_machine.specs.declared.control.Ending.{Ending}
+use Rattle.wb_machine.specs.declared.pieces.Ending.{Ending}
 use Rattle.wb_machine.specs.RunState.{RunState, with_debug}
 use Rattle.wb_machine.specs.CarriedTexts.{IsWritten, ending_by}
 use Rattle.wb_machine.specs.TextOperands.{is_text, text_refusal, base_refusal, base_text, window_units}

@@ -1,7 +1,8 @@
 -- What carrying out a statement makes of the state of a run, and how it ends.
-use Rattle.std.specs.Prelude.{ℕ, ℤ, pos, ◌+◌, ◌+ℤ◌, List, [], ◌∷◌, ◌++◌, if◌then◌else◌, Option, Some, None, slice_index, slice_set, map}
+use Rattle.std.specs.Prelude.{ℕ, ℤ, pos, ◌+◌, ◌+ℤ◌, Bool, not, ◌&&◌, int_le, int_lt, List, [], ◌∷◌, ◌++◌, if◌then◌else◌, Option, Some, None, slice_index, slice_set, map}
 use Rattle.std.specs.Int.{w32, cast_unsigned}
 use Rattle.wb_model.specs.declared.limits.TheConstants.{LARGEST_REQUEST}
+use Rattle.wb_model.specs.declared.heap.TheConstants.{KERR_NO_MEMORY}
 use Rattle.wb_model.specs.declared.heap.TheConstants.Panic.{NUMBER_OUT_OF_RANGE, BAD_CELL, WRONG_KIND, NULL_OR_STALE}
 use Rattle.wb_model.specs.declared.heap.Ptr.{Ptr}
 use Rattle.wb_model.specs.declared.heap.Kind.TheVariants.{Raw, Cleanup}
@@ -16,6 +17,10 @@ use Rattle.wb_model.specs.declared.script.Pointer.{Pointer}
 use Rattle.wb_model.specs.declared.script.Pointer.TheVariants as P
 use Rattle.wb_model.specs.declared.script.Number.{Number}
 use Rattle.wb_model.specs.declared.script.Number.TheVariants as N
+use Rattle.wb_model.specs.declared.script.Condition.{Condition}
+use Rattle.wb_model.specs.declared.script.Condition.TheVariants.{IsNull, NotNull, Equal, Less}
+use Rattle.wb_model.specs.declared.script.Refusal.{Refusal}
+use Rattle.wb_model.specs.declared.script.Refusal.TheVariants as refusals
 use Rattle.wb_model.specs.Row.{Cell, cell_at, usable_of}
 use Rattle.wb_model.specs.CellRow.{payload_of}
 use Rattle.wb_model.specs.State.{Value, pointer, number, initial, pointer_in, number_in, null}
@@ -25,8 +30,8 @@ use Rattle.wb_model.specs.Rules.{Setting}
 use Rattle.wb_model.specs.Heap.{after_mark, after_mark_end, mark_end_refusal}
 use Rattle.wb_model.specs.Spelling.{signed}
 use Rattle.wb_model.specs.Debug.{Made, alloc_made, realloc_made, release_refusal, debug_without, debug_changed, with_setting, debug_compressed, note_of_heap, note_of_available, note_of_compress}
-use Rattle.wb_machine.specs.declared.control.Ending.{Ending}
-use Rattle.wb_machine.specs.declared.control.Ending.TheVariants.{GoesOn, Panics, Cut, NoCleanup}
+use Rattle.wb_machine.specs.declared.pieces.Ending.{Ending}
+use Rattle.wb_machine.specs.declared.pieces.Ending.TheVariants.{GoesOn, Returns, Leaves, Panics, Cut, NoCleanup}
 use Rattle.wb_machine.specs.RunState.{RunState, with_debug, value_in}
 
 pub record Carried : Type 0 where
@@ -56,6 +61,25 @@ abbrev pub number_read : RunState → Number → ℤ
 number_read h (N.Constant z) = z
 number_read h (N.Variable i) = number_in (value_in h.locals i)
 
+-- what an `if` asks
+abbrev pub condition_read : RunState → Condition → Bool
+condition_read h (IsNull p) = is_null (pointer_read h p)
+condition_read h (NotNull p) = not (is_null (pointer_read h p))
+condition_read h (Equal v w) = int_le (number_read h v) (number_read h w) && int_le (number_read h w) (number_read h v)
+condition_read h (Less v w) = int_lt (number_read h v) (number_read h w)
+
+-- it leaves with a code
+abbrev pub left_with : RunState → ℤ → Carried
+left_with h code = record { ending = Leaves code; state = h }
+
+-- it leaves with a code, or goes on
+abbrev pub left_where : RunState → Bool → ℤ → Carried
+left_where h b code = if b then left_with h code else gone_on h
+
+-- it ends the body with a pointer
+abbrev pub returned : RunState → Ptr → Carried
+returned h p = record { ending = Returns p; state = h }
+
 -- a local gets a value
 abbrev pub stored : RunState → ℕ → Value → RunState
 stored h i v = record h { locals = slice_set h.locals i v }
@@ -65,36 +89,41 @@ abbrev pub pointer_stored : RunState → Pointer → Ptr → RunState
 pointer_stored h (P.Held (H.Local i)) q = stored h i (pointer q)
 pointer_stored h _ q = h
 
--- a target gets what an attempt gave, or null
-abbrev pub given_carried : RunState → Pointer → Gave → Carried
-given_carried h p (Granted q) = gone_on (pointer_stored h p q)
-given_carried h p Denied = gone_on (pointer_stored h p null)
-given_carried h p Ceiling = record { ending = Cut why.Ceiling; state = h }
+-- a target gets null for a refused attempt, or it is a leave
+abbrev pub refused_carried : RunState → Pointer → Refusal → Carried
+refused_carried h p refusals.GivesNull = gone_on (pointer_stored h p null)
+refused_carried h p refusals.Leaves = left_with h KERR_NO_MEMORY
+
+-- a target gets what an attempt gave
+abbrev pub given_carried : RunState → Pointer → Refusal → Gave → Carried
+given_carried h p x (Granted q) = gone_on (pointer_stored h p q)
+given_carried h p x Denied = refused_carried h p x
+given_carried h p x Ceiling = record { ending = Cut why.Ceiling; state = h }
 
 -- the same once the heap made of a call what it makes
-abbrev pub made_carried : RunState → Pointer → Made → Carried
-made_carried h p made = given_carried (with_debug h made.debug) p made.gave
+abbrev pub made_carried : RunState → Pointer → Refusal → Made → Carried
+made_carried h p x made = given_carried (with_debug h made.debug) p x made.gave
 
 -- an allocation of a number of bytes, which may be out of its range
-abbrev pub alloc_within : RunState → Pointer → Option ℕ → Carried
-alloc_within h p None = panicked h NUMBER_OUT_OF_RANGE
-alloc_within h p (Some bytes) = made_carried h p (alloc_made h.debug bytes Raw)
+abbrev pub alloc_within : RunState → Pointer → Refusal → Option ℕ → Carried
+alloc_within h p x None = panicked h NUMBER_OUT_OF_RANGE
+alloc_within h p x (Some bytes) = made_carried h p x (alloc_made h.debug bytes Raw)
 
-abbrev pub alloc_carried : RunState → Pointer → ℤ → Carried
-alloc_carried h p z = alloc_within h p (within LARGEST_REQUEST z)
+abbrev pub alloc_carried : RunState → Pointer → Refusal → ℤ → Carried
+alloc_carried h p x z = alloc_within h p x (within LARGEST_REQUEST z)
 
 -- a reallocation of a cell to a number of bytes, which may be out of its range
-abbrev pub realloc_within : RunState → Pointer → Cell (List ℕ) → Option ℕ → Carried
-realloc_within h p c None = panicked h NUMBER_OUT_OF_RANGE
-realloc_within h p c (Some bytes) = made_carried h p (realloc_made h.debug c bytes)
+abbrev pub realloc_within : RunState → Pointer → Refusal → Cell (List ℕ) → Option ℕ → Carried
+realloc_within h p x c None = panicked h NUMBER_OUT_OF_RANGE
+realloc_within h p x c (Some bytes) = made_carried h p x (realloc_made h.debug c bytes)
 
-abbrev pub realloc_found : RunState → Pointer → ℤ → Option (Cell (List ℕ)) → Carried
-realloc_found h p z None = panicked h BAD_CELL
-realloc_found h p z (Some c) = if is_raw c.head.kind then realloc_within h p c (within LARGEST_REQUEST z) else panicked h WRONG_KIND
+abbrev pub realloc_found : RunState → Pointer → Refusal → ℤ → Option (Cell (List ℕ)) → Carried
+realloc_found h p x z None = panicked h BAD_CELL
+realloc_found h p x z (Some c) = if is_raw c.head.kind then realloc_within h p x c (within LARGEST_REQUEST z) else panicked h WRONG_KIND
 
 -- a reallocation; of null it is an allocation
-abbrev pub realloc_carried : RunState → Pointer → Ptr → ℤ → Carried
-realloc_carried h p q z = if is_null q then alloc_carried h p z else realloc_found h p z (cell_at q h.debug.heap.row)
+abbrev pub realloc_carried : RunState → Pointer → Refusal → Ptr → ℤ → Carried
+realloc_carried h p x q z = if is_null q then alloc_carried h p x z else realloc_found h p x z (cell_at q h.debug.heap.row)
 
 -- a release
 abbrev pub free_carried : RunState → Ptr → Carried

@@ -6,6 +6,8 @@ use Rattle.wb_model.specs.declared.heap.Kind.TheVariants.{Text}
 use Rattle.wb_model.specs.declared.heap.Panic.{Panic}
 use Rattle.wb_model.specs.declared.heap.Ptr.{Ptr}
 use Rattle.wb_model.specs.declared.script.Pointer.{Pointer}
+use Rattle.wb_model.specs.declared.script.Refusal.{Refusal}
+use Rattle.wb_model.specs.declared.script.Refusal.TheVariants.{GivesNull}
 use Rattle.wb_model.specs.declared.text.Base.{Base}
 use Rattle.wb_model.specs.declared.text.Base.TheVariants as B
 use Rattle.wb_model.specs.declared.text.View.{View}
@@ -21,19 +23,19 @@ use Rattle.wb_model.specs.TextCells.{text_in, text_at, text_changed}
 use Rattle.wb_hbuf.specs.declared.sources.Edit.{Edit}
 use Rattle.wb_hbuf.specs.declared.sources.Edit.TheVariants.{Insert}
 use Rattle.wb_hbuf.specs.Sources.{edit_text}
-use Rattle.wb_machine.specs.declared.control.Ending.{Ending}
-use Rattle.wb_machine.specs.declared.control.Ending.TheVariants.{GoesOn, Panics}
+use Rattle.wb_machine.specs.declared.pieces.Ending.{Ending}
+use Rattle.wb_machine.specs.declared.pieces.Ending.TheVariants.{GoesOn, Panics}
 use Rattle.wb_machine.specs.RunState.{RunState, with_debug}
 use Rattle.wb_machine.specs.Carried.{Carried, gone_on, panicked, stored, number_read, line_printed, made_carried}
 use Rattle.wb_machine.specs.TextOperands.{text_refusal, base_refusal, base_text, base_max, window_read, window_found, window_units}
 
 -- a new text of a number of units, which may be out of its range
-abbrev pub new_text_within : RunState → Pointer → Option ℕ → Carried
-new_text_within h p None = panicked h NUMBER_OUT_OF_RANGE
-new_text_within h p (Some n) = made_carried h p (alloc_made h.debug (4 + 2 * n) Text)
+abbrev pub new_text_within : RunState → Pointer → Refusal → Option ℕ → Carried
+new_text_within h p x None = panicked h NUMBER_OUT_OF_RANGE
+new_text_within h p x (Some n) = made_carried h p x (alloc_made h.debug (4 + 2 * n) Text)
 
-abbrev pub new_text_carried : RunState → Pointer → ℤ → Carried
-new_text_carried h p z = new_text_within h p (within MOST_UNITS z)
+abbrev pub new_text_carried : RunState → Pointer → Refusal → ℤ → Carried
+new_text_carried h p x z = new_text_within h p x (within MOST_UNITS z)
 
 -- a panic with a refusal, or what follows where there is none
 abbrev pub unless_panics : RunState → Option Panic → Carried → Carried
@@ -44,7 +46,7 @@ unless_panics h None c = c
 abbrev pub realloc_text_within : RunState → Pointer → Cell (List ℕ) → Option ℕ → Carried
 realloc_text_within h p c None = panicked h NUMBER_OUT_OF_RANGE
 realloc_text_within h p c (Some n) =
-    if nat_le (length (text_in c.content)) n then made_carried h p (realloc_made h.debug c (4 + 2 * n)) else panicked h SHORTER_THAN_TEXT
+    if nat_le (length (text_in c.content)) n then made_carried h p GivesNull (realloc_made h.debug c (4 + 2 * n)) else panicked h SHORTER_THAN_TEXT
 
 abbrev pub realloc_text_found : RunState → Pointer → ℤ → Option (Cell (List ℕ)) → Carried
 realloc_text_found h p z None = panicked h NULL_OR_STALE

@@ -1,20 +1,24 @@
 -- What is still to do as a machine holds it, and which process of the definitions that is.
-use Rattle.std.specs.Prelude.{◌≡◌, ℕ, List, [], ◌∷◌, ◌++◌, Bool, true, false, not, ◌||◌, map, reverse, length}
+use Rattle.std.specs.Prelude.{◌≡◌, ℕ, List, [], ◌∷◌, ◌++◌, Bool, true, false, not, nat_lt, ◌||◌, map, reverse, length}
 use Rattle.wb_model.specs.declared.heap.Rule.{Rule}
 use Rattle.wb_model.specs.declared.run.RunResult.{RunResult}
 use Rattle.wb_model.specs.declared.script.Script.{Script}
-use Rattle.std.specs.List.{list_all}
-use Rattle.wb_model.specs.Sound.{are_statements}
+use Rattle.wb_model.specs.declared.script.Local.{Local}
+use Rattle.wb_model.specs.declared.script.Numbered.{Numbered}
+use Rattle.wb_model.specs.Sound.{is_simple, is_nested, are_within}
 use Rattle.wb_model.specs.Space.{space_of}
-use Rattle.wb_model.specs.State.{State, Way, goes_on, panics, is_cut, no_cleanup, Process, ends, stops, and_then}
-use Rattle.wb_model.specs.Statements.{all, Where, Layer, Meaning, statement}
+use Rattle.wb_model.specs.State.{State, Way, goes_on, returns, leaves, panics, is_cut, no_cleanup, Process, ends, stops, and_then}
+use Rattle.wb_model.specs.Statements.{all, turns, Where, Layer, Meaning, statement}
+use Rattle.wb_model.specs.Meaning.{meaning_of}
+use Rattle.wb_model.specs.Run.{result_of}
 use Rattle.wb_model.specs.Account.{Settled, settled}
-use Rattle.wb_model.specs.Rest.{Fits, Pending, doing, main_catching, Progress, not_begun, going, has_stopped, rest}
-use Rattle.wb_machine.specs.declared.control.Ending.{Ending}
-use Rattle.wb_machine.specs.declared.control.Ending.TheVariants.{GoesOn, Panics, Cut, NoCleanup}
-use Rattle.wb_machine.specs.declared.control.Piece.{Piece}
-use Rattle.wb_machine.specs.declared.control.Piece.TheVariants.{Code, MainTrap}
-use Rattle.wb_machine.specs.RunState.{RunState, HasLines, first_state, main_of, state_of, account_of}
+use Rattle.wb_model.specs.Rest.{Fits, Pending, doing, catching, main_catching, Progress, not_begun, going, has_stopped, resume, rest}
+use Rattle.wb_machine.specs.declared.pieces.Ending.{Ending}
+use Rattle.wb_machine.specs.declared.pieces.Ending.TheVariants.{GoesOn, Returns, Leaves, Panics, Cut, NoCleanup}
+use Rattle.wb_machine.specs.declared.pieces.Piece.{Piece}
+use Rattle.wb_machine.specs.declared.pieces.Piece.TheVariants.{Code, Turns, Trap, MainTrap}
+use Rattle.wb_machine.specs.declared.pieces.Standing.{Standing}
+use Rattle.wb_machine.specs.RunState.{RunState, HasLines, first_state, state_of, account_of}
 
 -- `main` stands in the first frame, over no items
 abbrev pub in_main_frame : Where
@@ -24,22 +28,50 @@ abbrev pub is_nothing : {A : Type 0} → List A → Bool
 is_nothing [] = true
 is_nothing (x ∷ xs) = false
 
+abbrev pub where_of : Standing → Where
+where_of at = record { depth = at.depth; floor = at.floor }
+
+-- no item stands at a TRAP's entry, since no statement pushes one
 abbrev pub pending_of : Piece → Pending
-pending_of (Code statements) = doing in_main_frame (all statements.now)
+pending_of (Code at statements) = doing (where_of at) (all statements.now)
+pending_of (Turns at left body) = doing (where_of at) (turns left body.now)
+pending_of (Trap at x) = catching (where_of at) x 0
 pending_of MainTrap = main_catching in_main_frame
 
 -- a piece that begins with a step
 abbrev pub needs_step : Piece → Bool
-needs_step (Code statements) = not (is_nothing statements.now)
-needs_step MainTrap = false
+needs_step (Code at statements) = not (is_nothing statements.now)
+needs_step (Turns at left body) = nat_lt 0 left
+needs_step _ = false
+
+-- statements as they stand in a script
+abbrev pub AreOwn : Script → List Numbered → Type 0
+AreOwn script statements =
+    (locals : List Local) × (trapped : Bool) × (depth : ℕ) × (are_within (length script.literals) locals depth trapped statements ≡ true)
+
+-- a statement as it stands in a script
+pub record IsOwn (script : Script) (layer : Layer) : Type 0 where
+  pub locals : List Local
+  pub trapped : Bool
+  pub depth : ℕ
+  pub sound : is_nested (length script.literals) locals trapped (are_within (length script.literals) locals depth) layer ≡ true
+
+-- the same of one that no other stands inside
+pub record IsSimple (script : Script) (layer : Layer) : Type 0 where
+  pub locals : List Local
+  pub trapped : Bool
+  pub sound : is_simple (length script.literals) locals trapped layer ≡ true
 
 -- a piece of the script's own statements
-abbrev pub is_sound_piece : Script → Piece → Bool
-is_sound_piece script (Code statements) = are_statements (length script.literals) (main_of script).locals statements.now
-is_sound_piece script MainTrap = true
+abbrev pub IsSoundPiece : Script → Piece → Type 0
+IsSoundPiece script (Code at statements) = AreOwn script statements.now
+IsSoundPiece script (Turns at left body) = AreOwn script body.now
+IsSoundPiece script (Trap at x) = Unit {0}
+IsSoundPiece script MainTrap = Unit {0}
 
-abbrev pub are_sound : Script → List Piece → Bool
-are_sound script pieces = list_all (is_sound_piece script) pieces
+abbrev pub AreSound : Script → List Piece → Type 0
+AreSound script [] = Unit {0}
+AreSound script (p ∷ ps) = IsSoundPiece script p × AreSound script ps
 
 -- the pending pieces, the innermost first
 abbrev pub pending_in : List Piece → List Pending
@@ -48,12 +80,16 @@ pending_in pieces = map pending_of (reverse pieces)
 -- the process that ended so
 abbrev pub ended_by : Ending → State → Process
 ended_by GoesOn st = ends goes_on st
+ended_by (Returns p) st = ends (returns p) st
+ended_by (Leaves code) st = ends (leaves code) st
 ended_by (Panics p) st = stops (panics p) st
 ended_by (Cut why) st = stops (is_cut why) st
 ended_by NoCleanup st = stops no_cleanup st
 
 abbrev pub is_stop : Ending → Bool
 is_stop GoesOn = false
+is_stop (Returns p) = false
+is_stop (Leaves code) = false
 is_stop (Panics p) = true
 is_stop (Cut why) = true
 is_stop NoCleanup = true
@@ -69,6 +105,8 @@ IsReady ending pieces = (ending ≡ GoesOn) × (below : List Piece) × (p : Piec
 -- how far the run has come, once it was begun
 abbrev pub progress_by : Ending → List Pending → State → Progress
 progress_by GoesOn ps st = going ps goes_on st
+progress_by (Returns p) ps st = going ps (returns p) st
+progress_by (Leaves code) ps st = going ps (leaves code) st
 progress_by (Panics p) ps st = has_stopped (panics p) st
 progress_by (Cut why) ps st = has_stopped (is_cut why) st
 progress_by NoCleanup ps st = has_stopped no_cleanup st
@@ -92,8 +130,8 @@ FitsStep r h ending g = HasLines h × Fits r h.debug.rule (is_stop ending) g.deb
 -- a statement was carried out that ended so and left this state: under each rule that fits, it comes to what it means
 abbrev pub IsCarriedOut : Script → Layer → RunState → Ending → RunState → Type 0
 IsCarriedOut script layer h ending g =
-    (r : Rule) → FitsStep r h ending g → (rec : Meaning) →
-    IsSameFlow r (ended_by ending (state_of script g)) g (statement script rec in_main_frame layer (state_of script h)) h
+    (r : Rule) → FitsStep r h ending g → (rec : Meaning) (at : Where) →
+    IsSameFlow r (ended_by ending (state_of script g)) g (statement script rec at layer (state_of script h)) h
 
 -- what is left of a run that was begun gives this under a rule
 abbrev pub rest_from : Script → ℕ → Rule → Ending → List Piece → RunState → RunResult
@@ -104,6 +142,20 @@ rest_from script budget r ending pieces h =
 abbrev pub rest_at : Script → ℕ → Rule → Bool → Ending → List Piece → RunState → RunResult
 rest_at script budget r begun ending pieces h =
     rest script budget h.debug.shape r (progress_of begun ending (pending_in pieces) (state_of script h)) (account_of h)
+
+-- what a statement that begins gives under a rule, and then the pieces
+abbrev pub rest_of_statement : Script → ℕ → Rule → Where → Layer → List Piece → RunState → RunResult
+rest_of_statement script budget r at layer pieces h =
+    result_of (flow r (and_then (statement script (meaning_of script budget) at layer (state_of script h)) (resume script budget (pending_in pieces))) h)
+
+-- the same of a piece
+abbrev pub rest_of_piece : Script → ℕ → Rule → Pending → List Piece → RunState → RunResult
+rest_of_piece script budget r p pieces h = result_of (flow r (resume script budget (p ∷ pending_in pieces) goes_on (state_of script h)) h)
+
+-- the same of a piece under one that ended so
+abbrev pub rest_under : Script → ℕ → Rule → Ending → Pending → List Piece → RunState → RunResult
+rest_under script budget r ending p pieces h =
+    result_of (flow r (and_then (ended_by ending (state_of script h)) (resume script budget (p ∷ pending_in pieces))) h)
 
 -- nothing is done yet, and nothing is to do
 pub record IsFirst (ending : Ending) (pieces : List Piece) (h : RunState) : Type 0 where

@@ -1,6 +1,6 @@
 -- What each method owes that carries out a statement, or a part of one.
 use Rattle.std.specs.Prelude.{◌≡◌, ◌+◌, ◌^◌, ◌<◌, ◌≤◌, length}
-use Rattle.wb_machine.specs.declared.control.Ending.{Ending}
+use Rattle.wb_machine.specs.declared.pieces.Ending.{Ending}
 use Rattle.wb_machine.specs.RunState.{RunState}
 use Rattle.wb_machine.specs.Carried.{Carried}
 
@@ -28,3 +28,7 @@ pub record CarriesOut (before : RunState) (carried : Carried) (ending : Ending) 
   pub ends_so : ending ≡ carried.ending
   pub becomes : after ≡ carried.state
   pub keeps : KeepsCount before after
+
+-- nothing but locals changed
+abbrev pub IsSameButLocals : RunState → RunState → Type 0
+IsSameButLocals before after = after ≡ record before { locals = after.locals }

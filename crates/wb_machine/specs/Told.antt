@@ -1,12 +1,12 @@
 -- What a run that is over tells.
-use Rattle.std.specs.Prelude.{List, None}
+use Rattle.std.specs.Prelude.{List, Some, None}
 use Rattle.wb_model.specs.declared.run.Leak.{Leak}
 use Rattle.wb_model.specs.declared.run.Outcome.{Outcome}
 use Rattle.wb_model.specs.declared.run.Outcome.TheVariants as outcomes
 use Rattle.wb_model.specs.declared.run.RunResult.{RunResult}
 use Rattle.wb_model.specs.Debug.{leaks_of_heap}
-use Rattle.wb_machine.specs.declared.control.Ending.{Ending}
-use Rattle.wb_machine.specs.declared.control.Ending.TheVariants.{GoesOn, Panics, Cut, NoCleanup}
+use Rattle.wb_machine.specs.declared.pieces.Ending.{Ending}
+use Rattle.wb_machine.specs.declared.pieces.Ending.TheVariants.{GoesOn, Returns, Leaves, Panics, Cut, NoCleanup}
 use Rattle.wb_machine.specs.RunState.{RunState}
 
 -- the live cells but the cleanup stack's, by place
@@ -15,6 +15,8 @@ leaks_at_end h = leaks_of_heap h.debug
 
 abbrev pub outcome_by : Ending → List Leak → Outcome
 outcome_by GoesOn leaks = outcomes.Ended None leaks
+outcome_by (Returns p) leaks = outcomes.Ended None leaks
+outcome_by (Leaves code) leaks = outcomes.Ended (Some code) leaks
 outcome_by (Panics p) leaks = outcomes.Panicked p
 outcome_by (Cut why) leaks = outcomes.Cut why
 outcome_by NoCleanup leaks = outcomes.NoCleanup

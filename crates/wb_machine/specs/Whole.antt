@@ -7,10 +7,9 @@ use Rattle.wb_model.specs.Sound.{is_script}
 use Rattle.wb_model.specs.Run.{run}
 use Rattle.wb_model.specs.Rest.{Fits, Progress, next_line}
 use Rattle.wb_machine.specs.declared.machine.Machine.TheInside.{Inside}
-use Rattle.wb_machine.specs.declared.control.Ending.TheVariants.{GoesOn}
 use Rattle.wb_machine.specs.RunState.{HasLines, state_of}
 use Rattle.wb_machine.specs.Seen.{Seen}
-use Rattle.wb_machine.specs.Flow.{is_over, are_sound, IsReady, IsFirst, pending_in, progress_of, rest_at}
+use Rattle.wb_machine.specs.Flow.{is_stop, is_over, AreSound, IsReady, IsFirst, pending_in, progress_of, rest_at}
 use Rattle.wb_machine.specs.Told.{leaks_at_end}
 
 -- the run has ended
@@ -51,10 +50,10 @@ pub record IsSound (m : Inside) : Type 0 where
   pub first : m.begun ≡ false → IsFirst m.control.ending m.control.pieces.items m.state
   -- a step is to come, or the run is over
   pub settled : m.begun ≡ true → (is_over m.control.ending m.control.pieces.items ≡ true) ⊎ IsReady m.control.ending m.control.pieces.items
-  pub pieces : are_sound m.script.now m.control.pieces.items ≡ true
+  pub pieces : AreSound m.script.now m.control.pieces.items
   -- no statement was begun yet
   pub no_line : m.begun ≡ false → m.control.line ≡ 0
-  pub leaks : has_ended m ≡ true → m.control.ending ≡ GoesOn → m.leaks ≡ leaks_at_end m.state
+  pub leaks : has_ended m ≡ true → is_stop m.control.ending ≡ false → m.leaks ≡ leaks_at_end m.state
 
 -- under each rule that fits, the rest is the run under that rule
 abbrev pub Keeps : Inside → Type 0

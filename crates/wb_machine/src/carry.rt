@@ -1,13 +1,12 @@
 //! Which function carries out which statement.
 
-ghost use Rattle.std.specs.Prelude.{◌≡◌, ◌+◌, ◌^◌, ◌<◌, length, IfOk, OnOk, IsTrue};
-ghost use Rattle.wb_model.specs.Sound.{is_script, is_statement};
+ghost use Rattle.std.specs.Prelude.{◌≡◌, ◌+◌, ◌^◌, ◌<◌, IfOk, OnOk, IsTrue};
+ghost use Rattle.wb_model.specs.Sound.{is_script};
 ghost use Rattle.wb_model.specs.declared.script.Statement.TheViews.{out-Statement};
-ghost use Rattle.wb_machine.specs.RunState.{main_of};
-ghost use Rattle.wb_machine.specs.Flow.{IsCarriedOut};
+ghost use Rattle.wb_machine.specs.Flow.{IsSimple, IsCarriedOut};
 ghost use Rattle.wb_machine.specs.Owed.{KeepsCount, MayAttempt};
 
-use crate::control::Ending;
+use crate::pieces::Ending;
 use crate::state::State;
 use wb_hbuf::sources::Edit;
 use wb_model::memory::NoMemory;
@@ -17,15 +16,17 @@ impl State {
     /// Carries out a statement that runs no other, and tells how it ends.
     pub fn carry_out(&mut self, script: &Script, first: &Statement) -> Result<Ending, NoMemory>
         requires script { IsTrue (is_script script.now) }
-        requires statement { IsTrue (is_statement (length script.now.literals) (main_of script.now).locals (out-Statement first.now)) }
+        requires statement { IsSimple script.now (out-Statement first.now) }
         requires number { MayAttempt self.old }
         requires level { self.old.debug.heap.level + 1 < 2 ^ 32 }
         ensures kept { IfOk result (λ ending. IsCarriedOut script.now (out-Statement first.now) self.old ending self.new) }
         ensures keeps { KeepsCount self.old self.new }
     {
         match first {
-            Statement::Alloc(target, bytes, _) => self.alloc(*target, *bytes),
-            Statement::Realloc(target, source, bytes, _) => self.realloc(*target, *source, *bytes),
+            Statement::Alloc(target, bytes, refusal) => self.alloc(*target, *bytes, *refusal),
+            Statement::Realloc(target, source, bytes, refusal) => {
+                self.realloc(*target, *source, *bytes, *refusal)
+            }
             Statement::Free(pointer) => Ok(self.free(*pointer)),
             Statement::AllocLen(local, pointer) => Ok(self.alloc_len(*local, *pointer)),
             Statement::Store(pointer, index, value) => {
@@ -37,6 +38,11 @@ impl State {
             Statement::SetNumber(local, value) => Ok(self.set_number(*local, *value)),
             Statement::SetNull(target) => Ok(self.set_null(*target)),
             Statement::Add(local, value) => Ok(self.add(*local, *value)),
+            Statement::Leave(code) => Ok(self.leave(*code)),
+            Statement::LeaveIfError(code) => Ok(self.leave_if_error(*code)),
+            Statement::LeaveIfNull(pointer) => Ok(self.leave_if_null(*pointer)),
+            Statement::Return => Ok(self.end_body()),
+            Statement::ReturnPointer(pointer) => Ok(self.end_body_with(*pointer)),
             Statement::Mark => Ok(self.mark()),
             Statement::MarkEnd(count) => Ok(self.mark_end(*count)),
             Statement::Check(count) => Ok(self.check(*count)),
@@ -44,7 +50,7 @@ impl State {
             Statement::FailNext(rate) => Ok(self.fail_next(*rate)),
             Statement::FailEvery(rate) => Ok(self.fail_every(*rate)),
             Statement::FailNone => Ok(self.fail_none()),
-            Statement::NewText(target, units, _) => self.new_text(*target, *units),
+            Statement::NewText(target, units, refusal) => self.new_text(*target, *units, *refusal),
             Statement::ReallocText(target, source, units) => {
                 self.realloc_text(*target, *source, *units)
             }
@@ -78,13 +84,8 @@ impl State {
             | Statement::Pop(_)
             | Statement::PopDestroy(_)
             | Statement::PopCheck(_)
-            | Statement::Leave(_)
-            | Statement::LeaveIfError(_)
-            | Statement::LeaveIfNull(_)
             | Statement::Call(..)
             | Statement::CallTo(..)
-            | Statement::Return
-            | Statement::ReturnPointer(_)
             | Statement::If(..)
             | Statement::IfElse(..)
             | Statement::Repeat(..)

@@ -4,20 +4,21 @@ ghost use Rattle.std.specs.Prelude.{◌≡◌, ◌+◌, ◌^◌, ◌<◌, ◌≤
 ghost use Rattle.wb_model.specs.declared.heap.Kind.TheVariants.{Raw, Text};
 ghost use Rattle.wb_model.specs.Debug.{alloc_made, realloc_made};
 ghost use Rattle.wb_model.specs.Row.{cell_at};
+ghost use Rattle.wb_model.specs.Operands.{within};
 ghost use Rattle.wb_machine.specs.RunState.{with_debug};
-ghost use Rattle.wb_machine.specs.Carried.{pointer_read, number_read, given_carried, alloc_carried, realloc_carried, usable_carried, free_carried};
+ghost use Rattle.wb_machine.specs.Carried.{pointer_read, number_read, refused_carried, given_carried, alloc_carried, realloc_within, realloc_carried, usable_carried, free_carried};
 ghost use Rattle.wb_machine.specs.Owed.{CarriesOut, KeepsCount, MayAttempt};
 
-use crate::control::Ending;
 use crate::locals::{NULL, Slot};
 use crate::operands::number_within;
+use crate::pieces::Ending;
 use crate::state::State;
 use crate::words::is_raw;
-use wb_model::heap::{Gave, Kind, Panic, Ptr};
+use wb_model::heap::{Gave, KERR_NO_MEMORY, Kind, Panic, Ptr};
 use wb_model::limits::{CEILING, LARGEST_REQUEST};
 use wb_model::memory::NoMemory;
 use wb_model::run::Why;
-use wb_model::script::{Number, Pointer};
+use wb_model::script::{Number, Pointer, Refusal};
 
 impl State {
     /// An attempt to get a cell for `bytes` bytes.
@@ -52,46 +53,87 @@ impl State {
         self.heap.attempt_realloc(ptr, bytes)
     }
 
-    /// A target gets what an attempt gave, or null where it was refused.
-    pub fn give(&mut self, target: Pointer, gave: Gave) -> Ending
-        ensures { CarriesOut self.old (given_carried self.old target gave) result self.new }
+    /// A target gets null for a refused attempt, or it is a leave with `KErrNoMemory` and the target stays.
+    fn refuse(&mut self, target: Pointer, refusal: Refusal) -> Ending
+        ensures { CarriesOut self.old (refused_carried self.old target refusal) result self.new }
     {
-        match gave {
-            Gave::Granted(ptr) => self.set_pointer(target, ptr),
-            Gave::Denied => self.set_pointer(target, NULL),
-            Gave::Ceiling => return Ending::Cut(Why::Ceiling),
+        match refusal {
+            Refusal::GivesNull => {
+                self.set_pointer(target, NULL);
+                Ending::GoesOn
+            }
+            Refusal::Leaves => Ending::Leaves(KERR_NO_MEMORY),
         }
-        Ending::GoesOn
     }
 
-    /// A target gets a cell for `bytes` bytes, or null where it is refused.
-    pub fn alloc(&mut self, target: Pointer, bytes: Number) -> Result<Ending, NoMemory>
+    /// A target gets what an attempt gave.
+    pub fn give(&mut self, target: Pointer, refusal: Refusal, gave: Gave) -> Ending
+        ensures { CarriesOut self.old (given_carried self.old target refusal gave) result self.new }
+    {
+        match gave {
+            Gave::Granted(ptr) => {
+                self.set_pointer(target, ptr);
+                Ending::GoesOn
+            }
+            Gave::Denied => self.refuse(target, refusal),
+            Gave::Ceiling => Ending::Cut(Why::Ceiling),
+        }
+    }
+
+    /// A target gets a cell for `bytes` bytes.
+    pub fn alloc(
+        &mut self,
+        target: Pointer,
+        bytes: Number,
+        refusal: Refusal,
+    ) -> Result<Ending, NoMemory>
         requires number { MayAttempt self.old }
-        ensures carried { IfOk result (λ ending. CarriesOut self.old (alloc_carried self.old target (number_read self.old bytes)) ending self.new) }
+        ensures carried { IfOk result (λ ending. CarriesOut self.old (alloc_carried self.old target refusal (number_read self.old bytes)) ending self.new) }
         ensures keeps { KeepsCount self.old self.new }
     {
         let Some(bytes) = number_within(LARGEST_REQUEST, self.number(bytes)) else {
             return Ok(Ending::Panics(Panic::NUMBER_OUT_OF_RANGE));
         };
         let gave = self.attempt(bytes, Kind::Raw)?;
-        Ok(self.give(target, gave))
+        Ok(self.give(target, refusal, gave))
     }
 
-    /// A target gets the cell of a source, reallocated to `bytes` bytes, or null where that is refused; of
-    /// null it is an allocation.
+    /// A target gets a cell, reallocated to `bytes` bytes.
+    fn resize(
+        &mut self,
+        target: Pointer,
+        ptr: Ptr,
+        bytes: Number,
+        refusal: Refusal,
+    ) -> Result<Ending, NoMemory>
+        requires live { IsSome (cell_at ptr self.old.debug.heap.row) }
+        requires raw { IfSome (cell_at ptr self.old.debug.heap.row) (λ c. c.head.kind ≡ Raw) }
+        requires number { MayAttempt self.old }
+        ensures carried { IfOk result (λ ending. IfSome (cell_at ptr self.old.debug.heap.row) (λ c. CarriesOut self.old (realloc_within self.old target refusal c (within LARGEST_REQUEST (number_read self.old bytes))) ending self.new)) }
+        ensures keeps { KeepsCount self.old self.new }
+    {
+        let Some(bytes) = number_within(LARGEST_REQUEST, self.number(bytes)) else {
+            return Ok(Ending::Panics(Panic::NUMBER_OUT_OF_RANGE));
+        };
+        let gave = self.attempt_again(ptr, bytes)?;
+        Ok(self.give(target, refusal, gave))
+    }
+
+    /// A target gets the cell of a source, reallocated to `bytes` bytes; of null it is an allocation.
     pub fn realloc(
         &mut self,
         target: Pointer,
         source: Pointer,
         bytes: Number,
+        refusal: Refusal,
     ) -> Result<Ending, NoMemory>
         requires number { MayAttempt self.old }
-        ensures carried { IfOk result (λ ending. CarriesOut self.old (realloc_carried self.old target (pointer_read self.old source) (number_read self.old bytes)) ending self.new) }
+        ensures carried { IfOk result (λ ending. CarriesOut self.old (realloc_carried self.old target refusal (pointer_read self.old source) (number_read self.old bytes)) ending self.new) }
         ensures keeps { KeepsCount self.old self.new }
     {
         let ptr = self.pointer(source);
         if ptr.number == 0 {
-            return self.alloc(target, bytes);
+            return self.alloc(target, bytes, refusal);
         }
         let Some(header) = self.heap.header(ptr) else {
             return Ok(Ending::Panics(Panic::BAD_CELL));
@@ -99,11 +141,7 @@ impl State {
         if !is_raw(header.kind) {
             return Ok(Ending::Panics(Panic::WRONG_KIND));
         }
-        let Some(bytes) = number_within(LARGEST_REQUEST, self.number(bytes)) else {
-            return Ok(Ending::Panics(Panic::NUMBER_OUT_OF_RANGE));
-        };
-        let gave = self.attempt_again(ptr, bytes)?;
-        Ok(self.give(target, gave))
+        self.resize(target, ptr, bytes, refusal)
     }
 
     /// A number local gets how many bytes of a cell are usable.

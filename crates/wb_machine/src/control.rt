@@ -1,23 +1,27 @@
-//! What is still to do, as explicit pieces. What the pieces act on stands in `state`.
+//! What is still to do, as explicit pieces, and the turns of a run. What the pieces act on stands in `state`, what the head of a
+//! statement leaves in `heads`, and what becomes of pieces that are done in `unwinding`.
 
-ghost use Rattle.std.specs.Prelude.{◌≡◌, ◌+◌, ◌^◌, ◌<◌, ◌≤◌, ◌⊎◌, ◌++◌, ◌∷◌, ◌&&◌, [], ℕ, List, true, false, if◌then◌else◌, nat_lt, length, unwrap_or, vec_len, min, IsTrue, OnOk};
-ghost use Rattle.wb_model.specs.Sound.{is_script, is_statement};
-ghost use Rattle.wb_model.specs.Statements.{all};
+ghost use Rattle.std.specs.Prelude.{◌≡◌, ◌+◌, ◌^◌, ◌<◌, ◌≤◌, ◌⊎◌, ◌++◌, ◌∷◌, ◌&&◌, [], ℕ, true, false, if◌then◌else◌, nat_lt, unwrap_or, min, IsTrue, OnOk};
+ghost use Rattle.wb_model.specs.Sound.{is_script};
+ghost use Rattle.wb_model.specs.Statements.{all, turns};
 ghost use Rattle.wb_model.specs.Rest.{doing, first_line, Fits};
 ghost use Rattle.wb_model.specs.Run.{run};
 ghost use Rattle.wb_model.specs.declared.heap.Rule.{Rule};
 ghost use Rattle.wb_model.specs.declared.run.Why.TheVariants.{Budget};
 ghost use Rattle.wb_model.specs.declared.script.Script.{Script};
-ghost use Rattle.wb_model.specs.declared.script.Statement.TheViews.{out-Statement};
-ghost use Rattle.wb_machine.specs.declared.control.Piece.{Piece};
-ghost use Rattle.wb_machine.specs.declared.control.Ending.TheVariants.{GoesOn, Cut};
+ghost use Rattle.wb_machine.specs.declared.pieces.Ending.TheVariants.{GoesOn, Cut};
 ghost use Rattle.wb_machine.specs.RunState.{RunState, HasLines, first_state, main_of};
-ghost use Rattle.wb_machine.specs.Flow.{in_main_frame, pending_of, pending_in, needs_step, is_stop, is_over, are_sound, IsReady, IsFirst, rest_from, rest_at};
+ghost use Rattle.wb_machine.specs.Flow.{where_of, pending_in, is_stop, is_over, AreOwn, AreSound, IsReady, IsFirst, rest_from, rest_of_piece, rest_at};
+ghost use Rattle.wb_machine.specs.Carried.{stepped};
 ghost use Rattle.wb_machine.specs.Owed.{MayAttempt, Stays};
 
+mod heads;
+mod unwinding;
+
+use crate::pieces::{Ending, IN_MAIN, Piece, Standing};
 use crate::state::State;
 use std::alloc::{AllocError, Global};
-use wb_model::heap::{Gave, Kind, Panic};
+use wb_model::heap::{Gave, Kind};
 use wb_model::limits::LARGEST_BUDGET;
 use wb_model::memory::NoMemory;
 use wb_model::run::Why;
@@ -26,50 +30,12 @@ use wb_model::script::{Body, Numbered, Script};
 /// How many bytes the cleanup stack's cell is for at first.
 const FIRST_BYTES: u32 = 128;
 
-/// How the piece above the pending ones ended.
-#[derive(Clone, Copy)]
-pub enum Ending {
-    /// Plainly: the piece on top goes on.
-    GoesOn,
-    Panics(Panic),
-    Cut(Why),
-    /// The cleanup stack's own cell was refused.
-    NoCleanup,
-}
-
-/// A pending piece: the rest of a block, or `main`'s own TRAP.
-#[derive(Clone, Copy)]
-pub enum Piece<'a> {
-    Code(&'a [Numbered]),
-    MainTrap,
-}
-
 /// The pending pieces, the last of them on top, how the piece above them ended, and the line of the statement begun last.
 #[derive(Drop)]
 pub struct Control<'a> {
     pieces: Vec<Piece<'a>>,
     ending: Ending,
     line: u32,
-}
-
-/// Whether a piece begins with a step.
-fn needs_step(piece: &Piece) -> bool
-    ensures { result ≡ needs_step piece.now }
-{
-    match piece {
-        Piece::Code(statements) => !statements.is_empty(),
-        Piece::MainTrap => false,
-    }
-}
-
-/// Whether the run is stopped.
-fn is_stop(ending: Ending) -> bool
-    ensures { result ≡ is_stop ending }
-{
-    match ending {
-        Ending::GoesOn => false,
-        Ending::Panics(_) | Ending::Cut(_) | Ending::NoCleanup => true,
-    }
 }
 
 /// The body of `main`.
@@ -115,7 +81,7 @@ impl<'a> Control<'a> {
     pub fn is_over(&self) -> bool
         ensures { result ≡ is_over self.now.ending self.now.pieces.items }
     {
-        is_stop(self.ending) || self.pieces.is_empty()
+        self.ending.is_stop() || self.pieces.is_empty()
     }
 
     /// One more piece on top.
@@ -136,7 +102,7 @@ impl<'a> Control<'a> {
         requires start { state.old ≡ first_state state.old.debug.rule state.old.debug.shape }
         ensures kept { OnOk result ((r : Rule) (budget : ℕ) → Fits r state.old.debug.rule (is_stop self.new.ending) state.new.debug.attempts →
             rest_from script.now budget r self.new.ending self.new.pieces.items state.new ≡ run script.now r budget state.old.debug.shape) }
-        ensures sound { OnOk result (are_sound script.now self.new.pieces.items ≡ true) }
+        ensures sound { OnOk result (AreSound script.now self.new.pieces.items) }
         ensures stays { Stays state.old state.new }
         ensures level { OnOk result (state.new.debug.heap.level ≡ 0) }
         ensures steps { OnOk result (state.new.steps ≡ 0) }
@@ -148,7 +114,7 @@ impl<'a> Control<'a> {
                 let main = main_of(script);
                 state.enter(cell, main.locals.as_slice())?;
                 self.push(Piece::MainTrap)?;
-                self.push(Piece::Code(main.statements.as_slice()))?;
+                self.push(Piece::Code(IN_MAIN, main.statements.as_slice()))?;
             }
             Gave::Denied => self.ending = Ending::NoCleanup,
             Gave::Ceiling => self.ending = Ending::Cut(Why::Ceiling),
@@ -160,30 +126,55 @@ impl<'a> Control<'a> {
     fn step_code(
         &mut self,
         script: &'a Script,
+        at: Standing,
         first: &'a Numbered,
         rest: &'a [Numbered],
         state: &mut State,
     ) -> Result<(), NoMemory>
         requires script { IsTrue (is_script script.now) }
         requires going { self.old.ending ≡ GoesOn }
-        requires first { IsTrue (is_statement (length script.now.literals) (main_of script.now).locals (out-Statement first.now.statement)) }
+        requires own { AreOwn script.now (first.now ∷ rest.now) }
+        requires sound { AreSound script.now self.old.pieces.items }
         requires number { MayAttempt state.old }
         requires lines { HasLines state.old }
         requires level { state.old.debug.heap.level + 1 < 2 ^ 32 }
         requires steps { state.old.steps + 1 < 2 ^ 32 }
         ensures kept { OnOk result ((r : Rule) (budget : ℕ) → state.old.steps < budget → Fits r state.old.debug.rule (is_stop self.new.ending) state.new.debug.attempts →
-            (p : Piece) → pending_of p ≡ doing in_main_frame (all (first.now ∷ rest.now)) →
             rest_from script.now budget r self.new.ending self.new.pieces.items state.new
-            ≡ rest_from script.now budget r GoesOn (self.old.pieces.items ++ p ∷ []) state.old) }
-        ensures pieces { OnOk result ((q : Piece) × (pending_of q ≡ doing in_main_frame (all rest.now)) × (self.new.pieces.items ≡ self.old.pieces.items ++ q ∷ [])) }
+            ≡ rest_of_piece script.now budget r (doing (where_of at) (all (first.now ∷ rest.now))) self.old.pieces.items state.old) }
+        ensures sound { OnOk result (AreSound script.now self.new.pieces.items) }
         ensures stays { Stays state.old state.new }
         ensures steps { OnOk result (state.new.steps ≡ state.old.steps + 1) }
         ensures line { OnOk result (self.new.line ≡ first.now.line) }
     {
         state.tick();
-        self.push(Piece::Code(rest))?;
         self.line = first.line;
-        self.ending = state.carry_out(script, &first.statement)?;
+        self.push(Piece::Code(at, rest))?;
+        self.begin_statement(script, at, &first.statement, state)
+    }
+
+    /// A turn of a `repeat`.
+    fn step_turns(
+        &mut self,
+        at: Standing,
+        left: u32,
+        body: &'a [Numbered],
+        state: &mut State,
+    ) -> Result<(), NoMemory>
+        requires going { self.old.ending ≡ GoesOn }
+        requires left { 0 < left }
+        requires steps { state.old.steps + 1 < 2 ^ 32 }
+        ensures kept { OnOk result ((script : Script) (r : Rule) (budget : ℕ) → state.old.steps < budget →
+            rest_from script budget r self.new.ending self.new.pieces.items state.new
+            ≡ rest_of_piece script budget r (doing (where_of at) (turns left body.now)) self.old.pieces.items state.old) }
+        ensures sound { OnOk result ((script : Script) → AreOwn script body.now → AreSound script self.old.pieces.items → AreSound script self.new.pieces.items) }
+        ensures ending { OnOk result (self.new.ending ≡ GoesOn) }
+        ensures state { state.new ≡ stepped state.old }
+        ensures line { self.new.line ≡ self.old.line }
+    {
+        state.tick();
+        self.push(Piece::Turns(at, left - 1, body))?;
+        self.push(Piece::Code(at, body))?;
         Ok(())
     }
 }
@@ -193,7 +184,7 @@ impl<'a> Control<'a> {
     pub fn step(&mut self, script: &'a Script, state: &mut State) -> Result<(), NoMemory>
         requires script { IsTrue (is_script script.now) }
         requires ready { IsReady self.old.ending self.old.pieces.items }
-        requires sound { are_sound script.now self.old.pieces.items ≡ true }
+        requires sound { AreSound script.now self.old.pieces.items }
         requires number { MayAttempt state.old }
         requires lines { HasLines state.old }
         requires level { state.old.debug.heap.level + 1 < 2 ^ 32 }
@@ -201,13 +192,16 @@ impl<'a> Control<'a> {
         ensures kept { OnOk result ((r : Rule) (budget : ℕ) → state.old.steps < budget → Fits r state.old.debug.rule (is_stop self.new.ending) state.new.debug.attempts →
             rest_from script.now budget r self.new.ending self.new.pieces.items state.new
             ≡ rest_from script.now budget r self.old.ending self.old.pieces.items state.old) }
-        ensures sound { OnOk result (are_sound script.now self.new.pieces.items ≡ true) }
+        ensures sound { OnOk result (AreSound script.now self.new.pieces.items) }
         ensures stays { Stays state.old state.new }
         ensures steps { OnOk result (state.new.steps ≡ state.old.steps + 1) }
         ensures line { OnOk result (self.new.line ≡ unwrap_or (first_line (pending_in self.old.pieces.items)) self.old.line) }
     {
         match self.pieces.pop() {
-            Some(Piece::Code([first, rest @ ..])) => { self.step_code(script, first, rest, state) }
+            Some(Piece::Code(at, [first, rest @ ..])) => {
+                self.step_code(script, at, first, rest, state)
+            }
+            Some(Piece::Turns(at, left, body)) => self.step_turns(at, left, body, state),
             _ => unreachable!(),
         }
     }
@@ -224,31 +218,6 @@ impl<'a> Control<'a> {
         self.ending = Ending::Cut(Why::Budget);
     }
 
-    /// Whether the piece on top is done: it has no step, and the one above it goes on.
-    fn is_done(&self) -> bool
-        ensures yes { IsTrue result → (self.now.ending ≡ GoesOn) × (0 < vec_len self.now.pieces) × ((below : List Piece) (p : Piece) → self.now.pieces.items ≡ below ++ p ∷ [] → needs_step p ≡ false) }
-        ensures no { result ≡ false → (is_over self.now.ending self.now.pieces.items ≡ true) ⊎ IsReady self.now.ending self.now.pieces.items }
-    {
-        match (self.ending, self.pieces.last()) {
-            (Ending::GoesOn, Some(piece)) => !needs_step(piece),
-            _ => false,
-        }
-    }
-
-    /// Takes off each piece that is done, until a step is to come or the run is over.
-    pub fn settle(&mut self)
-        ensures kept { (script : Script) (r : Rule) (budget : ℕ) (h : RunState) → h.steps ≤ budget →
-            rest_from script budget r self.new.ending self.new.pieces.items h ≡ rest_from script budget r self.old.ending self.old.pieces.items h }
-        ensures ending { self.new.ending ≡ self.old.ending }
-        ensures line { self.new.line ≡ self.old.line }
-        ensures sound { (script : Script) → are_sound script self.old.pieces.items ≡ true → are_sound script self.new.pieces.items ≡ true }
-        ensures settled { (is_over self.new.ending self.new.pieces.items ≡ true) ⊎ IsReady self.new.ending self.new.pieces.items }
-    {
-        while self.is_done() {
-            self.pieces.pop();
-        }
-    }
-
     /// A turn. The first begins the run, and any other takes a step, or cuts the run where the budget is used
     /// up. Pieces that are done after it are taken off at once.
     pub fn turn(
@@ -261,7 +230,7 @@ impl<'a> Control<'a> {
         requires script { IsTrue (is_script script.now) }
         requires first { begun ≡ false → IsFirst self.old.ending self.old.pieces.items state.old }
         requires later { begun ≡ true → IsReady self.old.ending self.old.pieces.items }
-        requires sound { are_sound script.now self.old.pieces.items ≡ true }
+        requires sound { AreSound script.now self.old.pieces.items }
         requires small { budget ≤ LARGEST_BUDGET }
         requires within { state.old.steps ≤ budget }
         requires counted { state.old.debug.attempts ≤ state.old.steps + 1 }
@@ -271,7 +240,7 @@ impl<'a> Control<'a> {
             rest_from script.now budget r self.new.ending self.new.pieces.items state.new
             ≡ rest_at script.now budget r begun self.old.ending self.old.pieces.items state.old) }
         ensures settled { OnOk result ((is_over self.new.ending self.new.pieces.items ≡ true) ⊎ IsReady self.new.ending self.new.pieces.items) }
-        ensures sound { OnOk result (are_sound script.now self.new.pieces.items ≡ true) }
+        ensures sound { OnOk result (AreSound script.now self.new.pieces.items) }
         ensures stays { Stays state.old state.new }
         ensures within { OnOk result (state.new.steps ≤ budget) }
         ensures counted { OnOk result (state.new.debug.attempts ≤ state.new.steps + 1) }
@@ -289,7 +258,7 @@ impl<'a> Control<'a> {
         } else {
             self.cut();
         }
-        self.settle();
+        self.settle(state);
         Ok(())
     }
 }

@@ -4,11 +4,13 @@
 mod carry;
 mod cells;
 mod control;
+mod leaves;
 mod locals;
 pub mod machine;
 mod marks;
 mod numbers;
 mod operands;
+mod pieces;
 mod print;
 mod state;
 mod tell;

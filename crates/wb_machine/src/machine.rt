@@ -10,7 +10,8 @@ ghost use Rattle.wb_machine.specs.Flow.{is_stop};
 ghost use Rattle.wb_machine.specs.Seen.{line_after};
 ghost use Rattle.wb_machine.specs.Told.{leaks_at_end};
 
-use crate::control::{Control, Ending};
+use crate::control::Control;
+use crate::pieces::Ending;
 use crate::state::State;
 use std::alloc::Global;
 use std::marker::Model;
@@ -209,10 +210,10 @@ impl<'a> Machine<'a> {
 /// Lists the leaks of a run that ended so, where its outcome tells them. For any other outcome no memory is
 /// asked for.
 fn list_leaks(leaks: &mut Leaks, ending: Ending, state: &State) -> Result<(), NoMemory>
-    ensures told { OnOk result (ending ≡ Ending.GoesOn → leaks.new ≡ leaks_at_end state.now) }
+    ensures told { OnOk result (is_stop ending ≡ false → leaks.new ≡ leaks_at_end state.now) }
     ensures untold { is_stop ending ≡ true → (IsOk result) × (leaks.new ≡ leaks.old) }
 {
-    if let Ending::GoesOn = ending {
+    if !ending.is_stop() {
         *leaks = state.leaks()?;
     }
     Ok(())

@@ -6,12 +6,12 @@ ghost use Rattle.wb_model.specs.Statements.{at_least_one};
 ghost use Rattle.wb_model.specs.Rules.{never, next, each};
 ghost use Rattle.wb_model.specs.Debug.{check_refusal, check_all_refusal, with_setting};
 ghost use Rattle.wb_machine.specs.RunState.{with_debug};
-ghost use Rattle.wb_machine.specs.declared.control.Ending.TheVariants.{GoesOn};
+ghost use Rattle.wb_machine.specs.declared.pieces.Ending.TheVariants.{GoesOn};
 ghost use Rattle.wb_machine.specs.Carried.{gone_on, number_read, marked, mark_end_within, check_within, set_within};
 ghost use Rattle.wb_machine.specs.Owed.{CarriesOut};
 
-use crate::control::Ending;
 use crate::operands::{at_least_one, not_negative};
+use crate::pieces::Ending;
 use crate::state::State;
 use wb_model::heap::Panic;
 use wb_model::script::Number;

@@ -2,12 +2,12 @@
 
 ghost use Rattle.std.specs.Prelude.{◌≡◌};
 ghost use Rattle.wb_model.specs.State.{number, null};
-ghost use Rattle.wb_machine.specs.declared.control.Ending.TheVariants.{GoesOn};
+ghost use Rattle.wb_machine.specs.declared.pieces.Ending.TheVariants.{GoesOn};
 ghost use Rattle.wb_machine.specs.Carried.{gone_on, pointer_read, number_read, pointer_stored, stored, add_carried};
 ghost use Rattle.wb_machine.specs.Owed.{CarriesOut};
 
-use crate::control::Ending;
 use crate::locals::{NULL, Slot};
+use crate::pieces::Ending;
 use crate::state::State;
 use wb_model::heap::Panic;
 use wb_model::script::{Number, Pointer};

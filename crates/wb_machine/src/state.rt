@@ -10,8 +10,8 @@ ghost use Rattle.wb_machine.specs.Told.{leaks_at_end, outcome_by, told_by};
 ghost use Rattle.wb_machine.specs.Carried.{pointer_read, number_read, pointer_stored, stored, stepped, entered};
 ghost use Rattle.wb_machine.specs.LocalValues.{value_of};
 
-use crate::control::Ending;
 use crate::locals::{Locals, NULL, Slot};
+use crate::pieces::Ending;
 use std::alloc::Global;
 use std::marker::Model;
 use wb_debug::debug_heap::DebugHeap;
@@ -172,6 +172,11 @@ fn outcome_by(ending: Ending, leaks: Leaks) -> Outcome
 {
     match ending {
         Ending::GoesOn => Outcome::Ended { left: None, leaks },
+        Ending::Returns(_) => Outcome::Ended { left: None, leaks },
+        Ending::Leaves(code) => Outcome::Ended {
+            left: Some(code),
+            leaks,
+        },
         Ending::Panics(panic) => Outcome::Panicked(panic),
         Ending::Cut(why) => Outcome::Cut(why),
         Ending::NoCleanup => Outcome::NoCleanup,

@@ -2,11 +2,11 @@
 
 ghost use Rattle.std.specs.Prelude.{◌≡◌, IfOk, OnOk};
 ghost use Rattle.std.specs.Fmt.{signed_decimal};
-ghost use Rattle.wb_machine.specs.declared.control.Ending.TheVariants.{GoesOn};
+ghost use Rattle.wb_machine.specs.declared.pieces.Ending.TheVariants.{GoesOn};
 ghost use Rattle.wb_machine.specs.Carried.{gone_on, number_read, line_printed, with_note, heap_noted, available_noted, compress_noted};
 ghost use Rattle.wb_machine.specs.Owed.{CarriesOut, KeepsCount};
 
-use crate::control::Ending;
+use crate::pieces::Ending;
 use crate::print::number_line;
 use crate::state::State;
 use wb_model::memory::NoMemory;

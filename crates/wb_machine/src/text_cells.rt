@@ -11,13 +11,13 @@ ghost use Rattle.wb_machine.specs.Carried.{pointer_read, number_read};
 ghost use Rattle.wb_machine.specs.CarriedTexts.{new_text_carried, realloc_text_carried};
 ghost use Rattle.wb_machine.specs.Owed.{CarriesOut, KeepsCount, MayAttempt};
 
-use crate::control::Ending;
 use crate::operands::number_within;
+use crate::pieces::Ending;
 use crate::state::State;
 use wb_model::heap::{Gave, Kind, Panic, Ptr};
 use wb_model::limits::MOST_UNITS;
 use wb_model::memory::NoMemory;
-use wb_model::script::{Number, Pointer};
+use wb_model::script::{Number, Pointer, Refusal};
 use wb_text::Base;
 
 impl State {
@@ -34,17 +34,22 @@ impl State {
         wb_hbuf::remake(&mut self.heap, ptr, units)
     }
 
-    /// A target gets a cell for an empty text of `units` units, or null where it is refused.
-    pub fn new_text(&mut self, target: Pointer, units: Number) -> Result<Ending, NoMemory>
+    /// A target gets a cell for an empty text of `units` units.
+    pub fn new_text(
+        &mut self,
+        target: Pointer,
+        units: Number,
+        refusal: Refusal,
+    ) -> Result<Ending, NoMemory>
         requires number { MayAttempt self.old }
-        ensures carried { IfOk result (λ ending. CarriesOut self.old (new_text_carried self.old target (number_read self.old units)) ending self.new) }
+        ensures carried { IfOk result (λ ending. CarriesOut self.old (new_text_carried self.old target refusal (number_read self.old units)) ending self.new) }
         ensures keeps { KeepsCount self.old self.new }
     {
         let Some(units) = number_within(MOST_UNITS, self.number(units)) else {
             return Ok(Ending::Panics(Panic::NUMBER_OUT_OF_RANGE));
         };
         let gave = self.attempt(4 + 2 * units, Kind::Text)?;
-        Ok(self.give(target, gave))
+        Ok(self.give(target, refusal, gave))
     }
 
     /// A target gets the text of a source, reallocated for `units` units, or null where that is refused.
@@ -70,6 +75,6 @@ impl State {
             return Ok(Ending::Panics(Panic::SHORTER_THAN_TEXT));
         }
         let gave = self.remake(ptr, units)?;
-        Ok(self.give(target, gave))
+        Ok(self.give(target, Refusal::GivesNull, gave))
     }
 }

@@ -11,9 +11,9 @@ ghost use Rattle.wb_machine.specs.TextOperands.{base_named, base_refusal, base_t
 ghost use Rattle.wb_machine.specs.CarriedTexts.{ending_by, put_back_by, IsWritten, IsEditedBy, IsInsertedBy, IsDeletedBy, IsLengthSet, SuitsBase};
 ghost use Rattle.wb_machine.specs.Owed.{KeepsCount};
 
-use crate::control::Ending;
 use crate::locals::Slot;
 use crate::operands::not_negative;
+use crate::pieces::Ending;
 use crate::state::State;
 use crate::text_operands::is_same_base;
 use crate::windows::Window;

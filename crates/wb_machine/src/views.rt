@@ -8,9 +8,9 @@ ghost use Rattle.wb_machine.specs.TextOperands.{base_named, base_refusal, base_m
 ghost use Rattle.wb_machine.specs.CarriedTexts.{unless_panics, part_stored, count_read, left_read, right_read, mid_read, length_carried, max_carried, print_carried};
 ghost use Rattle.wb_machine.specs.Owed.{CarriesOut, KeepsCount};
 
-use crate::control::Ending;
 use crate::locals::Slot;
 use crate::operands::not_negative;
+use crate::pieces::Ending;
 use crate::state::State;
 use crate::windows::Window;
 use wb_model::heap::Panic;

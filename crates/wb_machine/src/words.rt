@@ -5,9 +5,9 @@ ghost use Rattle.wb_model.specs.Statements.{is_raw};
 ghost use Rattle.wb_machine.specs.Carried.{pointer_read, number_read, store_carried, load_carried};
 ghost use Rattle.wb_machine.specs.Owed.{CarriesOut};
 
-use crate::control::Ending;
 use crate::locals::Slot;
 use crate::operands::word_within;
+use crate::pieces::Ending;
 use crate::state::State;
 use wb_model::heap::{Kind, Panic};
 use wb_model::script::{Number, Pointer};

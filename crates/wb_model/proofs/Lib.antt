@@ -17,6 +17,7 @@ pub mod ThroughoutLemmas
 pub mod Payloads
 pub mod Rows
 pub mod Settings
+pub mod SoundLemmas
 pub mod Spellings
 pub mod ResumeLemmas
 pub mod WorkedCases

@@ -1,5 +1,5 @@
 -- Rest from turn to turn: what a machine's step does to its pending pieces.
-use Rattle.std.proofs.Common.{◌≡◌, ℕ, ◌≤◌, Bool, true, false, List, ◌∷◌, refl, ◌∙◌, ap, Option, Some, None}
+use Rattle.std.proofs.Common.{◌≡◌, ℕ, suc, ◌≤◌, Bool, true, false, List, ◌∷◌, refl, ◌∙◌, ap, Option, Some, None}
 use Rattle.std.proofs.Math.Path.{fun_ext}
 use Rattle.std.specs.Prelude.{nat_lt}
 use Rattle.wb_model.specs.declared.heap.Ptr.{Ptr}
@@ -14,7 +14,7 @@ use Rattle.wb_model.specs.declared.script.Statement.TheOpen.{Statement-F}
 use Rattle.wb_model.specs.declared.script.Statement.TheViews.{out-Statement}
 use Rattle.wb_model.specs.State.{State, Way, goes_on, Process, ends, stops, asks, notes, and_then, on_plain_end, then_do, with_some}
 use Rattle.wb_model.specs.Operands.{with_cell, with_fields, with_pointer}
-use Rattle.wb_model.specs.Statements.{all, Where, statement, with_condition, choice}
+use Rattle.wb_model.specs.Statements.{all, turns, Where, statement, with_condition, choice}
 use Rattle.wb_model.specs.Meaning.{begun, begun_if, piece, meaning_of}
 use Rattle.wb_model.specs.Rest.{Pending, doing, resumed, resume}
 use Rattle.wb_model.proofs.MeaningLemmas.{meaning_of-unfolds}
@@ -68,6 +68,16 @@ resume-all script budget at s ss ps st f =
     ap (λ p. and_then p (resume script budget ps)) (meaning_of-unfolds script budget at (all (s ∷ ss)) st f)
     ∙ begun-and_then budget st _ (resume script budget ps)
     ∙ ap (begun budget st) (fun_ext (λ st. and_then-assoc (statement script (meaning_of script budget) at (out-Statement s.statement) st) _ (resume script budget ps)))
+
+-- the turn that begins a turn of a loop
+pub resume-turns : (script : Script) (budget : ℕ) (at : Where) (n : ℕ) (body : List Numbered) (ps : List Pending) (st : State) → st.steps ≤ budget →
+    resume script budget (doing at (turns (suc n) body) ∷ ps) goes_on st
+    ≡ begun budget st (λ st. resume script budget (doing at (all body) ∷ doing at (turns n body) ∷ ps) goes_on st)
+unfolding resume resumed on_plain_end piece then_do
+resume-turns script budget at n body ps st f =
+    ap (λ p. and_then p (resume script budget ps)) (meaning_of-unfolds script budget at (turns (suc n) body) st f)
+    ∙ begun-and_then budget st _ (resume script budget ps)
+    ∙ ap (begun budget st) (fun_ext (λ st. and_then-assoc (meaning_of script budget at (all body) st) _ (resume script budget ps)))
 
 -- an `if` leaves its part before the rest of the block
 pub resume-if : (script : Script) (budget : ℕ) (at : Where) (s : Numbered) (c : Condition) (one other ss : List Numbered) (ps : List Pending) (st : State) →

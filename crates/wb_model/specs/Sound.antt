@@ -1,8 +1,8 @@
 -- Which trees are scripts: those that keep the checks and the limits of the lines that the reader knows. Whoever runs a
 -- script asks for such a tree, and the reader gives no other.
-use Rattle.std.specs.Prelude.{ℕ, pos, negsuc, List, Bool, true, false, not, ◌&&◌, nat_eq, nat_le, nat_lt, Option, Some, None, length, slice_get}
+use Rattle.std.specs.Prelude.{ℕ, zero, suc, pos, negsuc, List, Bool, true, false, not, ◌&&◌, nat_eq, nat_le, nat_lt, Option, Some, None, length, slice_get}
 use Rattle.std.specs.List.{list_all}
-use Rattle.wb_model.specs.declared.limits.TheConstants.{LONGEST_LITERAL, LARGEST_BUFFER, NINE_DIGITS, MOST_LOCALS, MOST_PROCEDURES}
+use Rattle.wb_model.specs.declared.limits.TheConstants.{LONGEST_LITERAL, LARGEST_BUFFER, NINE_DIGITS, MOST_LOCALS, MOST_PROCEDURES, DEEPEST_BLOCK}
 use Rattle.wb_model.specs.declared.script.Script.{Script}
 use Rattle.wb_model.specs.declared.script.Body.{Body}
 use Rattle.wb_model.specs.declared.script.Procedure.{Procedure}
@@ -17,7 +17,8 @@ use Rattle.wb_model.specs.declared.script.Writable.{Writable}
 use Rattle.wb_model.specs.declared.script.Writable.TheVariants.{OwnBuffer, InCell}
 use Rattle.wb_model.specs.declared.script.Readable.{Readable}
 use Rattle.wb_model.specs.declared.script.Readable.TheVariants.{Of, ViewOf, Quoted}
-use Rattle.wb_model.specs.declared.script.Refusal.TheVariants.{GivesNull}
+use Rattle.wb_model.specs.declared.script.Condition.{Condition}
+use Rattle.wb_model.specs.declared.script.Condition.TheVariants.{IsNull, NotNull, Equal, Less}
 use Rattle.wb_model.specs.declared.script.Numbered.{Numbered}
 use Rattle.wb_model.specs.declared.script.Statement.{Statement}
 use Rattle.wb_model.specs.declared.script.Statement.TheOpen.{Statement-F}
@@ -75,10 +76,17 @@ is_readable literals locals (Of w) = is_writable locals w
 is_readable literals locals (ViewOf i) = is_view locals i
 is_readable literals locals (Quoted i) = nat_lt i literals
 
--- a statement, over these locals and a number of literals
+-- what an `if` asks
+abbrev pub is_condition : List Local → Condition → Bool
+is_condition locals (IsNull p) = is_pointer locals p
+is_condition locals (NotNull p) = is_pointer locals p
+is_condition locals (Equal v w) = is_number locals v && is_number locals w
+is_condition locals (Less v w) = is_number locals v && is_number locals w
+
+-- a statement that no other stands inside, but for the ends of bodies, over these locals and a number of literals
 abbrev pub is_statement : ℕ → List Local → Statement-F Statement Numbered → Bool
-is_statement literals locals (Statement-F.Alloc p v GivesNull) = is_pointer locals p && is_number locals v
-is_statement literals locals (Statement-F.Realloc p q v GivesNull) = is_pointer locals p && (is_pointer locals q && is_number locals v)
+is_statement literals locals (Statement-F.Alloc p v refusal) = is_pointer locals p && is_number locals v
+is_statement literals locals (Statement-F.Realloc p q v refusal) = is_pointer locals p && (is_pointer locals q && is_number locals v)
 is_statement literals locals (Statement-F.Free p) = is_pointer locals p
 is_statement literals locals (Statement-F.AllocLen x p) = is_variable locals x && is_pointer locals p
 is_statement literals locals (Statement-F.Store p v w) = is_pointer locals p && (is_number locals v && is_number locals w)
@@ -87,6 +95,9 @@ is_statement literals locals (Statement-F.Set p q) = is_pointer locals p && is_p
 is_statement literals locals (Statement-F.SetNumber x v) = is_variable locals x && is_number locals v
 is_statement literals locals (Statement-F.SetNull p) = is_pointer locals p
 is_statement literals locals (Statement-F.Add x v) = is_variable locals x && is_number locals v
+is_statement literals locals (Statement-F.Leave v) = is_number locals v
+is_statement literals locals (Statement-F.LeaveIfError v) = is_number locals v
+is_statement literals locals (Statement-F.LeaveIfNull p) = is_pointer locals p
 is_statement literals locals Statement-F.Mark = true
 is_statement literals locals (Statement-F.MarkEnd v) = is_number locals v
 is_statement literals locals (Statement-F.Check v) = is_number locals v
@@ -94,7 +105,7 @@ is_statement literals locals (Statement-F.CheckAll v) = is_number locals v
 is_statement literals locals (Statement-F.FailNext v) = is_number locals v
 is_statement literals locals (Statement-F.FailEvery v) = is_number locals v
 is_statement literals locals Statement-F.FailNone = true
-is_statement literals locals (Statement-F.NewText p v GivesNull) = is_pointer locals p && is_number locals v
+is_statement literals locals (Statement-F.NewText p v refusal) = is_pointer locals p && is_number locals v
 is_statement literals locals (Statement-F.ReallocText p q v) = is_pointer locals p && (is_pointer locals q && is_number locals v)
 is_statement literals locals (Statement-F.Copy d t) = is_writable locals d && is_readable literals locals t
 is_statement literals locals (Statement-F.Append d t) = is_writable locals d && is_readable literals locals t
@@ -113,8 +124,29 @@ is_statement literals locals Statement-F.NoteAvailable = true
 is_statement literals locals Statement-F.NoteCompress = true
 is_statement literals locals _ = false
 
+-- the same and the end of a body, which doesn't stand in a TRAP
+abbrev pub is_simple : ℕ → List Local → Bool → Statement-F Statement Numbered → Bool
+is_simple literals locals trapped Statement-F.Return = not trapped
+is_simple literals locals trapped (Statement-F.ReturnPointer p) = not trapped && is_pointer locals p
+is_simple literals locals trapped layer = is_statement literals locals layer
+
+-- a statement with what stands inside it, in a TRAP or not; `inside` says which blocks may stand there
+abbrev pub is_nested : ℕ → List Local → Bool → (Bool → List Numbered → Bool) → Statement-F Statement Numbered → Bool
+is_nested literals locals trapped inside (Statement-F.If c first) = is_condition locals c && inside trapped first
+is_nested literals locals trapped inside (Statement-F.IfElse c first other) = is_condition locals c && (inside trapped first && inside trapped other)
+is_nested literals locals trapped inside (Statement-F.Repeat v body) = is_number locals v && inside trapped body
+is_nested literals locals trapped inside (Statement-F.Trap x body) = is_variable locals x && inside true body
+is_nested literals locals trapped inside layer = is_simple literals locals trapped layer
+
+-- statements, with fewer blocks inside one another than this
+abbrev pub are_within : ℕ → List Local → ℕ → Bool → List Numbered → Bool
+are_within literals locals zero trapped statements = false
+are_within literals locals (suc depth) trapped statements =
+    list_all (λ s. is_nested literals locals trapped (are_within literals locals depth) (out-Statement s.statement)) statements
+
+-- the statements of a body
 abbrev pub are_statements : ℕ → List Local → List Numbered → Bool
-are_statements literals locals statements = list_all (λ s. is_statement literals locals (out-Statement s.statement)) statements
+are_statements literals locals statements = are_within literals locals (suc DEEPEST_BLOCK) false statements
 
 abbrev pub is_body : ℕ → Body → Bool
 is_body literals body = list_all is_local body.locals && nat_le (length body.locals) MOST_LOCALS && are_statements literals body.locals body.statements

@@ -55,6 +55,9 @@ pub const MOST_PROCEDURES: u32 = 256;
 /// The greatest number of locals of a body, its parameters among them.
 pub const MOST_LOCALS: u32 = 32;
 
+/// How many blocks may stand inside one another.
+pub const DEEPEST_BLOCK: u32 = 16;
+
 /// The greatest maximum of a local buffer, in units.
 pub const LARGEST_BUFFER: u32 = 256;
 

@@ -1,8 +1,10 @@
-use Rattle.std.proofs.Common.{ap, ◌∙◌, sym, length, refl}
+use Rattle.std.proofs.Common.{ap, ◌∙◌, sym, subst, refl}
 use Rattle.std.specs.List.{list_all}
-use Rattle.wb_model.specs.Sound.{is_local, are_statements}
-use Rattle.wb_machine.specs.declared.control.Ending.TheVariants.{NoCleanup}
-use Rattle.wb_machine.specs.declared.control.Piece.TheVariants.{Code}
+use Rattle.wb_model.specs.Sound.{is_local}
+use Rattle.wb_machine.specs.declared.pieces.Ending.TheVariants.{NoCleanup}
+use Rattle.wb_machine.specs.declared.pieces.Piece.TheVariants.{Code}
+use Rattle.wb_machine.specs.declared.pieces.TheConstants.{IN_MAIN}
+use Rattle.wb_machine.specs.Flow.{AreOwn}
 use Rattle.wb_machine.specs.RunState.{RunState, main_of, with_debug}
 use Rattle.wb_machine.specs.Carried.{entered, first_made, begun_by}
 use Rattle.wb_machine.proofs.Begins.{one_attempt, run_begun, begun_pieces}
@@ -27,16 +29,15 @@ returns-in_ok-push-in-Granted-2-clause-kept c r budget f =
     (c.in_ok-enter-in-Granted.ensures.entered ∙ ap (λ x. entered x cell c.as_slice.result.now) c.in_ok-cell.ensures.made
     ∙ ap (entered after cell) (c.as_slice.ensures ∙ ap (λ b. b.locals) c.main_of-main.ensures) ∙ sym (ap (λ x. x.state) is))
     f (c.as_slice-in-Granted.ensures ∙ ap (λ b. b.statements) c.main_of-main.ensures)
-    (λ e. begun_pieces script c.args.self.now.pieces.items c.push.new.self.pieces.items c.push-in-Granted.new.self.pieces.items (Code c.as_slice-in-Granted.result) c.requires.pieces
+    (λ e. begun_pieces script c.args.self.now.pieces.items c.push.new.self.pieces.items c.push-in-Granted.new.self.pieces.items (Code IN_MAIN c.as_slice-in-Granted.result) c.requires.pieces
     c.in_ok-push-in-Granted.ensures.pieces c.in_ok-push-in-Granted-2.ensures.pieces)
 
 pub returns-in_ok-push-in-Granted-2-clause-sound : goal.returns-in_ok-push-in-Granted-2-clause-sound
 returns-in_ok-push-in-Granted-2-clause-sound c =
     let script = c.args.script.now in
-    sound_begun script c.args.self.now.pieces.items c.push.new.self.pieces.items c.push-in-Granted.new.self.pieces.items (Code c.as_slice-in-Granted.result) c.requires.pieces
+    sound_begun script c.args.self.now.pieces.items c.push.new.self.pieces.items c.push-in-Granted.new.self.pieces.items (Code IN_MAIN c.as_slice-in-Granted.result) c.requires.pieces
     c.in_ok-push-in-Granted.ensures.pieces c.in_ok-push-in-Granted-2.ensures.pieces
-    (ap (are_statements (length script.literals) (main_of script).locals) (c.as_slice-in-Granted.ensures ∙ ap (λ b. b.statements) c.main_of-main.ensures)
-    ∙ main_statements script c.requires.script)
+    (subst (AreOwn script) (sym (c.as_slice-in-Granted.ensures ∙ ap (λ b. b.statements) c.main_of-main.ensures)) (main_statements script c.requires.script))
 
 pub returns-in-Denied-clause-kept : goal.returns-in-Denied-clause-kept
 returns-in-Denied-clause-kept c r budget f =

@@ -1,25 +1,28 @@
-use Rattle.std.proofs.Common.{◌∙◌, vec_len}
-use Rattle.wb_machine.proofs.Steps.{rest_settled}
+use Rattle.std.proofs.Common.{◌++◌, ◌∙◌, ap, sym, subst, arith, ◌≡◌, ◌≤◌, ◌∷◌, []}
+use Rattle.std.specs.Prelude.{option_to_list}
+use Rattle.wb_machine.specs.RunState.{RunState}
+use Rattle.wb_machine.specs.Flow.{AreSound, rest_from}
+use Rattle.wb_machine.proofs.Steps.{rest_pushed}
 use Rattle.wb_machine.proofs.Scripts.{sound_below}
-use Rattle.wb_machine.proofs.Outcomes.{popped, popped_fewer}
 use Rattle.wb_machine.proofs.control.Control.settle.Goals as goal
 
-pub loop-self-smaller : goal.loop-self-smaller
-loop-self-smaller c =
-    let done = c.is_done.ensures.yes c.loop-self-test.true in
-    popped_fewer (vec_len c.loop-self.self.pieces) (vec_len c.pop.new.self) c.pop.result c.pop.ensures.len (c.pop.ensures.variant.1 done.1)
-
-pub loop-self-preserved : goal.loop-self-preserved
-loop-self-preserved c =
+pub loop-self-preserved-in-Some : goal.loop-self-preserved-in-Some
+loop-self-preserved-in-Some c =
     let done = c.is_done.ensures.yes c.loop-self-test.true in
     let old = c.loop-self.self.pieces.items in
     let new = c.pop.new.self.items in
-    let top = popped old new c.pop.result c.pop.ensures.items (c.pop.ensures.variant.1 done.1) in
+    let piece = c.in-Some.piece in
+    let st = c.loop-self.state in
+    let top : old ≡ new ++ piece ∷ [] = c.pop.ensures.items ∙ ap (λ o. new ++ option_to_list o) c.in-Some.is in
     record {
-      kept = λ script r budget h within.
-          rest_settled script budget r c.loop-self.self.ending old new top.0 h top.1 (done.2 new top.0 top.1) within done.0
-          ∙ c.loop-self.invariant.kept script r budget h within;
-      ending = c.loop-self.invariant.ending;
-      line = c.loop-self.invariant.line;
-      sound = λ script ok. sound_below script new old top.0 top.1 (c.loop-self.invariant.sound script ok);
+      kept = λ script r budget within.
+          let still : st.steps ≤ budget = omega (arith, within, ap (λ (x : RunState). x.steps) c.loop-self.invariant.locals) in
+          ap (λ ps. rest_from script budget r c.fall.new.self.ending ps c.fall.new.state) c.fall.ensures.pieces
+          ∙ c.fall.ensures.kept script r budget still
+          ∙ sym (rest_pushed script budget r c.loop-self.self.ending old new piece st top)
+          ∙ c.loop-self.invariant.kept script r budget within;
+      stop = c.fall.ensures.ending ∙ sym done.0 ∙ c.loop-self.invariant.stop;
+      line = c.fall.ensures.line ∙ c.loop-self.invariant.line;
+      locals = c.fall.ensures.locals ∙ ap (λ (x : RunState). record x { locals = c.fall.new.state.locals }) c.loop-self.invariant.locals;
+      sound = λ script s. subst (AreSound script) (sym c.fall.ensures.pieces) (sound_below script new old piece top (c.loop-self.invariant.sound script s));
     }

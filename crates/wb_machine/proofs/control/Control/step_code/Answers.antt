@@ -1,18 +1,29 @@
-use Rattle.std.proofs.Common.{subst, refl, ◌++◌, ◌∷◌, []}
-use Rattle.wb_model.specs.Meaning.{meaning_of}
+use Rattle.std.proofs.Common.{refl, ap, ◌∙◌, sym, subst}
 use Rattle.wb_model.specs.declared.script.Statement.TheViews.{out-Statement}
-use Rattle.wb_machine.specs.declared.control.Piece.TheVariants.{Code}
 use Rattle.wb_machine.specs.RunState.{RunState}
-use Rattle.wb_machine.specs.Flow.{IsCarriedOut}
+use Rattle.wb_machine.specs.declared.pieces.Piece.TheVariants.{Code}
+use Rattle.wb_machine.specs.Flow.{where_of, FitsStep, rest_of_statement}
+use Rattle.wb_machine.proofs.Outcomes.{on_ok_then}
 use Rattle.wb_machine.proofs.Steps.{rest_stepped}
+use Rattle.wb_machine.proofs.Scripts.{sound_pushed, own_first, own_rest}
 use Rattle.wb_machine.proofs.control.Control.step_code.Goals as goal
 
-pub returns-clause-kept : goal.returns-clause-kept
-returns-clause-kept c r budget within f p is =
+pub begin_statement-requires-clause-own : goal.begin_statement-requires-clause-own
+begin_statement-requires-clause-own c = own_first c.args.script.now c.args.first.now c.args.rest.now c.requires.own
+
+pub begin_statement-requires-clause-sound : goal.begin_statement-requires-clause-sound
+begin_statement-requires-clause-sound c =
     let script = c.args.script.now in
-    let below = c.args.self.now.pieces.items in
-    let ending = c.in_ok-self.field-0 in
-    let g = c.carry_out.new.self in
-    rest_stepped script budget r c.args.first.now c.args.rest.now (below ++ p ∷ []) c.push.new.self.pieces.items below p (Code c.args.rest) ending c.args.state.now g
-    refl is c.in_ok-push.ensures.pieces refl within
-    ((subst (λ (x : RunState). IsCarriedOut script (out-Statement c.args.first.now.statement) x ending g) c.tick.ensures c.in_ok-self.ensures.kept) r (c.requires.lines, f) (meaning_of script budget))
+    sound_pushed script c.args.self.now.pieces.items c.push.new.self.pieces.items (Code c.args.at c.args.rest) c.in_ok-push.ensures.pieces c.requires.sound
+    (own_rest script c.args.first.now c.args.rest.now c.requires.own)
+
+pub returns-clause-kept : goal.returns-clause-kept
+returns-clause-kept c =
+    on_ok_then c.begin_statement.result c.begin_statement.ensures.kept (λ kept r budget within f.
+    let script = c.args.script.now in
+    let mid = c.push.new.self.pieces.items in
+    let h = c.args.state.now in
+    rest_stepped script budget r (where_of c.args.at) c.args.first.now c.args.rest.now c.args.self.now.pieces.items mid c.begin_statement.new.self.pieces.items (Code c.args.at c.args.rest)
+    c.begin_statement.new.self.ending h c.begin_statement.new.state c.in_ok-push.ensures.pieces refl within
+    (kept r budget (subst (λ (x : RunState). FitsStep r x c.begin_statement.new.self.ending c.begin_statement.new.state) (sym c.tick.ensures) (c.requires.lines, f))
+    ∙ ap (λ (x : RunState). rest_of_statement script budget r (where_of c.args.at) (out-Statement c.args.first.now.statement) mid x) c.tick.ensures))

@@ -1,4 +1,4 @@
-use Rattle.std.proofs.Common.{◌≡◌, ◌≤◌, ap, ◌∙◌, sym, subst, arith, true, false}
+use Rattle.std.proofs.Common.{◌≡◌, ◌≤◌, ap, ◌∙◌, sym, subst, arith, false}
 use Rattle.std.proofs.Common.{ℕ}
 use Rattle.wb_model.specs.declared.heap.Rule.{Rule}
 use Rattle.wb_model.specs.declared.run.RunResult.{RunResult}
@@ -6,7 +6,7 @@ use Rattle.wb_model.specs.declared.script.Script.{Script}
 use Rattle.wb_model.specs.Rest.{Fits}
 use Rattle.wb_machine.specs.declared.control.Control.{Control}
 use Rattle.wb_machine.specs.RunState.{RunState}
-use Rattle.wb_machine.specs.Flow.{is_stop, is_over, are_sound, rest_from, rest_at}
+use Rattle.wb_machine.specs.Flow.{is_stop, is_over, AreSound, rest_from, rest_at}
 use Rattle.wb_machine.proofs.Begins.{rest_first}
 use Rattle.wb_machine.proofs.Fitting.{fits-limit, fits-before, going_on}
 use Rattle.wb_machine.proofs.control.Control.turn.Goals.{then-not-begun+in_ok-begin, else-not-begun+then-steps-budget+in_ok-step, else-not-begun+else-steps-budget}
@@ -15,11 +15,11 @@ use Rattle.wb_machine.proofs.control.Control.turn.Goals as goal
 pub returns-clause-sound : goal.returns-clause-sound
 returns-clause-sound c =
     let script = c.args.script.now in
-    let P : Control → Type 0 = λ x. are_sound script x.pieces.items ≡ true in
+    let P : Control → Type 0 = λ x. AreSound script x.pieces.items in
     c.settle.ensures.sound script (elim c.if-not-begun.branch [
       | then-not-begun+in_ok-begin w ↦ subst P (sym w.self-is) w.in_ok-begin.ensures.sound
       | else-not-begun+then-steps-budget+in_ok-step w ↦ subst P (sym w.self-is) w.in_ok-step.ensures.sound
-      | else-not-begun+else-steps-budget w ↦ subst P (sym w.self-is) (ap (are_sound script) w.cut.ensures.pieces ∙ c.requires.sound)
+      | else-not-begun+else-steps-budget w ↦ subst P (sym w.self-is) (subst (AreSound script) (sym w.cut.ensures.pieces) c.requires.sound)
     ])
 
 -- a fact of what one of the branches made
@@ -46,8 +46,8 @@ returns-clause-kept c r f =
     let mid = c.if-not-begun.self in
     let g = c.if-not-begun.state in
     let goes : is_over c.settle.new.self.ending c.settle.new.self.pieces.items ≡ false → is_stop mid.ending ≡ false =
-    λ e. sym (ap is_stop c.settle.ensures.ending) ∙ going_on c.settle.new.self.ending c.settle.new.self.pieces.items e in
-    let fits : Fits r own (is_stop mid.ending) g.debug.attempts = fits-before r own _ _ g.debug.attempts g.debug.attempts goes (omega arith) f in
+    λ e. sym c.settle.ensures.stop ∙ going_on c.settle.new.self.ending c.settle.new.self.pieces.items e in
+    let fits : Fits r own (is_stop mid.ending) g.debug.attempts = fits-before r own _ _ g.debug.attempts c.settle.new.state.debug.attempts goes (omega (arith, ap (λ (x : RunState). x.debug.attempts) c.settle.ensures.locals)) f in
     let steps : g.steps ≤ budget = elim c.if-not-begun.branch [
       | then-not-begun+in_ok-begin w ↦ steps_are g w.begin.new.state budget w.state-is (omega (arith, w.in_ok-begin.ensures.steps))
       | else-not-begun+then-steps-budget+in_ok-step w ↦ steps_are g w.step.new.state budget w.state-is (omega (arith, w.in_ok-step.ensures.steps, w.if-steps-budget.true, w.steps.ensures))
@@ -69,4 +69,4 @@ returns-clause-kept c r f =
           w.cut.ensures.kept script r budget h (omega (arith, w.if-steps-budget.false, w.steps.ensures, c.requires.within))
           ∙ sym (ap (λ b. rest_at script budget r b old.ending old.pieces.items h) w.if-not-begun.false))
     ] in
-    c.settle.ensures.kept script r budget g steps ∙ same
+    c.settle.ensures.kept script r budget steps ∙ same

@@ -1,6 +1,6 @@
-use Rattle.std.proofs.Common.{◌≡◌, ap, ◌∙◌, sym, arith, length}
+use Rattle.std.proofs.Common.{◌≡◌, ap, ◌∙◌, sym, subst, arith, length}
 use Rattle.wb_machine.specs.RunState.{first_state}
-use Rattle.wb_machine.specs.Flow.{are_sound, IsFirst}
+use Rattle.wb_machine.specs.Flow.{AreSound, IsFirst}
 use Rattle.wb_machine.proofs.Begins.{rest_first}
 use Rattle.wb_machine.proofs.Fitting.{fits-limit}
 use Rattle.wb_machine.proofs.machine.Machine.new.Goals as goal
@@ -23,7 +23,7 @@ invariant_of-result c =
         level = omega (arith, ap (λ x. x.debug.heap.level) start);
         first = λ e. is_first;
         settled = λ e. cc;
-        pieces = ap (are_sound script) c.new-2.ensures.pieces;
+        pieces = subst (AreSound script) (sym c.new-2.ensures.pieces) tt;
         no_line = λ e. c.new-2.ensures.line;
         leaks = λ e goes. cc;
       };

@@ -2,7 +2,7 @@ use Rattle.std.proofs.Common.{◌≡◌, ap, ◌∙◌, sym, subst, arith, false
 use Rattle.wb_model.specs.Rest.{Fits}
 use Rattle.std.specs.Prelude.{◌&&◌}
 use Rattle.wb_model.specs.Run.{run}
-use Rattle.wb_machine.specs.Flow.{is_over}
+use Rattle.wb_machine.specs.Flow.{is_stop, is_over}
 use Rattle.wb_machine.specs.Whole.{has_ended}
 use Rattle.wb_machine.proofs.Fitting.{fits-before}
 use Rattle.wb_machine.proofs.machine.Machine.step.Goals.{else-self-2-via-then-self-2+else-is_over, else-self-2-via-else-self-2}
@@ -30,7 +30,7 @@ invariant_of-self-2 c =
         settled = λ e. turn.settled;
         pieces = turn.sound;
         no_line = λ e. cc;
-        leaks = λ e goes. c.in_ok-list_leaks.ensures.told (c.ending.ensures ∙ goes);
+        leaks = λ e goes. c.in_ok-list_leaks.ensures.told (ap is_stop c.ending.ensures ∙ goes);
       };
       keeps = λ well r f.
           let f' = subst (λ own. Fits r own (is_over c.turn.new.self.ending c.turn.new.self.pieces.items) c.turn.new.state.debug.attempts) turn.stays.rule f in

@@ -1,0 +1,30 @@
+use Rattle.std.proofs.Common.{◌≡◌, refl, ap, ◌∙◌, sym, subst}
+use Rattle.wb_model.specs.Statements.{choice}
+use Rattle.wb_machine.specs.declared.pieces.Piece.TheVariants.{Code}
+use Rattle.wb_machine.specs.Carried.{condition_read}
+use Rattle.wb_machine.specs.Flow.{where_of, AreOwn, rest_from}
+use Rattle.wb_machine.proofs.Heads.{chosen_rest}
+use Rattle.wb_machine.proofs.Scripts.{sound_pushed}
+use Rattle.wb_machine.proofs.control.Control.begin_if.Goals.{then-holds, else-holds}
+use Rattle.wb_machine.proofs.control.Control.begin_if.Goals as goal
+
+pub returns-clause-kept : goal.returns-clause-kept
+returns-clause-kept c script r budget locals ok =
+    let h = c.args.state.now in
+    let new = c.push.new.self.pieces.items in
+    let first = c.args.first.now in
+    let other = c.args.other.now in
+    let chosen : c.if-holds.part.now ≡ choice (condition_read h c.args.condition) first other = elim c.if-holds.branch [
+      | then-holds w ↦ ap (λ x. x.now) w.part-is ∙ sym (ap (λ b. choice b first other) (sym c.holds.ensures ∙ w.if-holds.true))
+      | else-holds w ↦ ap (λ x. x.now) w.part-is ∙ sym (ap (λ b. choice b first other) (sym c.holds.ensures ∙ w.if-holds.false))
+    ] in
+    ap (λ e. rest_from script budget r e new h) (c.in_ok-push.ensures.ending ∙ c.requires)
+    ∙ chosen_rest script budget r (where_of c.args.at) locals c.args.condition first other c.if-holds.part.now c.args.self.now.pieces.items new (Code c.args.at c.if-holds.part) h
+    c.in_ok-push.ensures.pieces refl chosen ok
+
+pub returns-clause-sound : goal.returns-clause-sound
+returns-clause-sound c script first other below =
+    sound_pushed script c.args.self.now.pieces.items c.push.new.self.pieces.items (Code c.args.at c.if-holds.part) c.in_ok-push.ensures.pieces below (elim c.if-holds.branch [
+      | then-holds w ↦ subst (λ x. AreOwn script x.now) (sym w.part-is) first
+      | else-holds w ↦ subst (λ x. AreOwn script x.now) (sym w.part-is) other
+    ])

@@ -1,0 +1,63 @@
+use Rattle.std.proofs.Common.{◌≡◌, ◌∷◌, ◌++◌, [], List, ap, ◌∙◌, sym, subst}
+use Rattle.std.specs.Prelude.{option_to_list}
+use Rattle.wb_model.specs.declared.script.Numbered.{Numbered}
+use Rattle.wb_model.specs.Statements.{all}
+use Rattle.wb_model.specs.Rest.{doing}
+use Rattle.wb_machine.specs.declared.pieces.Piece.TheVariants.{Code, Turns}
+use Rattle.wb_machine.specs.Flow.{where_of, AreOwn, rest_from, rest_of_piece}
+use Rattle.wb_machine.proofs.Outcomes.{on_ok_then, split_first}
+use Rattle.wb_machine.proofs.Steps.{rest_on_top}
+use Rattle.wb_machine.proofs.Scripts.{sound_below, sound_top}
+use Rattle.wb_machine.proofs.control.Control.step.Goals as goal
+
+pub step_code-requires-clause-own : goal.step_code-requires-clause-own
+step_code-requires-clause-own c =
+    let script = c.args.script.now in
+    let arm = c.in-Some-Code-default-len1-up in
+    let below = c.pop.new.self.items in
+    let old = c.args.self.now.pieces.items in
+    let top : old ≡ below ++ Code arm.at arm.field-0-1 ∷ [] = c.pop.ensures.items ∙ ap (λ o. below ++ option_to_list o) arm.is ∙ ap (λ p. below ++ p ∷ []) arm.field-0-is in
+    subst (AreOwn script) (split_first arm.field-0-1.now c.first-item.result c.first-item.is arm.len_at_least) (sound_top script below old (Code arm.at arm.field-0-1) top c.requires.sound)
+
+pub step_code-requires-clause-sound : goal.step_code-requires-clause-sound
+step_code-requires-clause-sound c =
+    let arm = c.in-Some-Code-default-len1-up in
+    let below = c.pop.new.self.items in
+    let old = c.args.self.now.pieces.items in
+    let top : old ≡ below ++ Code arm.at arm.field-0-1 ∷ [] = c.pop.ensures.items ∙ ap (λ o. below ++ option_to_list o) arm.is ∙ ap (λ p. below ++ p ∷ []) arm.field-0-is in
+    sound_below c.args.script.now below old (Code arm.at arm.field-0-1) top c.requires.sound
+
+pub returns-in-Some-Code-default-len1-up-clause-kept : goal.returns-in-Some-Code-default-len1-up-clause-kept
+returns-in-Some-Code-default-len1-up-clause-kept c =
+    on_ok_then c.step_code.result c.step_code.ensures.kept (λ kept r budget within f.
+    let script = c.args.script.now in
+    let arm = c.in-Some-Code-default-len1-up in
+    let below = c.pop.new.self.items in
+    let old = c.args.self.now.pieces.items in
+    let h = c.args.state.now in
+    let top : old ≡ below ++ Code arm.at arm.field-0-1 ∷ [] = c.pop.ensures.items ∙ ap (λ o. below ++ option_to_list o) arm.is ∙ ap (λ p. below ++ p ∷ []) arm.field-0-is in
+    kept r budget within f
+    ∙ ap (λ (ss : List Numbered). rest_of_piece script budget r (doing (where_of arm.at) (all ss)) below h) (sym (split_first arm.field-0-1.now c.first-item.result c.first-item.is arm.len_at_least))
+    ∙ sym (ap (λ e. rest_from script budget r e old h) c.requires.ready.0 ∙ rest_on_top script budget r old below (Code arm.at arm.field-0-1) h top))
+
+pub returns-in-Some-Turns-clause-kept : goal.returns-in-Some-Turns-clause-kept
+returns-in-Some-Turns-clause-kept c =
+    on_ok_then c.step_turns.result c.step_turns.ensures.kept (λ kept r budget within f.
+    let script = c.args.script.now in
+    let arm = c.in-Some-Turns in
+    let below = c.pop.new.self.items in
+    let old = c.args.self.now.pieces.items in
+    let h = c.args.state.now in
+    let top : old ≡ below ++ Turns arm.at arm.left arm.body ∷ [] = c.pop.ensures.items ∙ ap (λ o. below ++ option_to_list o) arm.is ∙ ap (λ p. below ++ p ∷ []) arm.field-0-is in
+    kept script r budget within
+    ∙ sym (ap (λ e. rest_from script budget r e old h) c.requires.ready.0 ∙ rest_on_top script budget r old below (Turns arm.at arm.left arm.body) h top))
+
+pub returns-in-Some-Turns-clause-sound : goal.returns-in-Some-Turns-clause-sound
+returns-in-Some-Turns-clause-sound c =
+    let script = c.args.script.now in
+    let arm = c.in-Some-Turns in
+    let below = c.pop.new.self.items in
+    let old = c.args.self.now.pieces.items in
+    let top : old ≡ below ++ Turns arm.at arm.left arm.body ∷ [] = c.pop.ensures.items ∙ ap (λ o. below ++ option_to_list o) arm.is ∙ ap (λ p. below ++ p ∷ []) arm.field-0-is in
+    on_ok_then c.step_turns.result c.step_turns.ensures.sound (λ sound.
+    sound script (sound_top script below old (Turns arm.at arm.left arm.body) top c.requires.sound) (sound_below script below old (Turns arm.at arm.left arm.body) top c.requires.sound))

@@ -1,0 +1,72 @@
+//! What an `if` asks, and statements that end a body or leave.
+
+ghost use Rattle.std.specs.Prelude.{◌≡◌, pos, int_lt};
+ghost use Rattle.wb_model.specs.State.{null};
+ghost use Rattle.wb_model.specs.Statements.{is_null};
+ghost use Rattle.wb_model.specs.declared.heap.TheConstants.{KERR_NO_MEMORY};
+ghost use Rattle.wb_machine.specs.Carried.{pointer_read, number_read, condition_read, left_with, left_where, returned};
+ghost use Rattle.wb_machine.specs.Owed.{CarriesOut};
+
+use crate::locals::NULL;
+use crate::pieces::Ending;
+use crate::state::State;
+use wb_model::heap::KERR_NO_MEMORY;
+use wb_model::script::{Condition, Number, Pointer};
+
+impl State {
+    /// Whether a condition holds.
+    pub fn holds(&self, condition: Condition) -> bool
+        ensures { result ≡ condition_read self.now condition }
+    {
+        match condition {
+            Condition::IsNull(pointer) => self.pointer(pointer).number == 0,
+            Condition::NotNull(pointer) => self.pointer(pointer).number != 0,
+            Condition::Equal(one, other) => self.number(one) == self.number(other),
+            Condition::Less(one, other) => self.number(one) < self.number(other),
+        }
+    }
+
+    /// A leave with a code.
+    pub fn leave(&mut self, code: Number) -> Ending
+        ensures { CarriesOut self.old (left_with self.old (number_read self.old code)) result self.new }
+    {
+        Ending::Leaves(self.number(code))
+    }
+
+    /// A leave with a code that is negative.
+    pub fn leave_if_error(&mut self, code: Number) -> Ending
+        ensures { CarriesOut self.old (left_where self.old (int_lt (number_read self.old code) (pos 0)) (number_read self.old code)) result self.new }
+    {
+        let code = self.number(code);
+        if code < 0 {
+            Ending::Leaves(code)
+        } else {
+            Ending::GoesOn
+        }
+    }
+
+    /// A leave with `KErrNoMemory` where a pointer is null.
+    pub fn leave_if_null(&mut self, pointer: Pointer) -> Ending
+        ensures { CarriesOut self.old (left_where self.old (is_null (pointer_read self.old pointer)) KERR_NO_MEMORY) result self.new }
+    {
+        if self.pointer(pointer).number == 0 {
+            Ending::Leaves(KERR_NO_MEMORY)
+        } else {
+            Ending::GoesOn
+        }
+    }
+
+    /// The end of a body, without a result.
+    pub fn end_body(&mut self) -> Ending
+        ensures { CarriesOut self.old (returned self.old null) result self.new }
+    {
+        Ending::Returns(NULL)
+    }
+
+    /// The end of a body, with a pointer.
+    pub fn end_body_with(&mut self, pointer: Pointer) -> Ending
+        ensures { CarriesOut self.old (returned self.old (pointer_read self.old pointer)) result self.new }
+    {
+        Ending::Returns(self.pointer(pointer))
+    }
+}
