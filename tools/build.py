@@ -4,9 +4,7 @@
 `rt` builds the libraries of a program one after another. This takes the same steps by the module behind `rt`, and then
 calls `rt run`, which builds whatever is missing. `RT_JOBS` says how many processors to use, in the place of all."""
 
-import importlib.util
 import os
-import shutil
 import subprocess
 import sys
 import tempfile
@@ -14,6 +12,8 @@ from concurrent.futures import FIRST_COMPLETED, Future, ThreadPoolExecutor, wait
 from pathlib import Path
 from types import ModuleType
 from typing import Any
+
+from kit import kit
 
 ROOT = Path(__file__).resolve().parent.parent
 PROGRAM = ROOT / "crates" / "workbench"
@@ -23,18 +23,6 @@ MEMORY = 2_000_000_000
 
 # The most crates that are built at once.
 AT_ONCE = 3
-
-
-def kit() -> ModuleType:
-    """The module behind `rt`."""
-    command = shutil.which("rt")
-    if command is None:
-        sys.exit("the toolchain's command rt is not on the path")
-    sys.dont_write_bytecode = True
-    spec = importlib.util.spec_from_file_location("rtlib", Path(command).resolve().parent / "rtlib.py")
-    module = importlib.util.module_from_spec(spec)
-    spec.loader.exec_module(module)
-    return module
 
 
 class Libraries:

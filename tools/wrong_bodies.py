@@ -1,7 +1,7 @@
 #!/usr/bin/env python3
 """Tries the crates' wrong bodies in batches: the prover must refuse each, and for its own sake.
 
-    tools/wrong_bodies.py [--jobs N] [--must-fail] [--logs FOLDER] [CRATE..]
+    tools/wrong_bodies.py [--jobs N] [--must-fail] [--after-ci] [--logs FOLDER] [CRATE..]
 
 A wrong body is a file `crates/NAME/wrong-bodies/*.edit`: a first line `function: PATH`, the function that must be
 refused, as a check names it; a line `file: src/..`; and pairs of lines `old: TEXT`, `new: TEXT`, where the old text
@@ -11,7 +11,8 @@ proof stands or only waits for another's. What a round leaves open is tried agai
 
 It prints a line for each edit, and at last `N passed, M failed`; the exit status is 1 where one failed. The
 repository's own files stay as they are, what checks kept in `out/` too. `--must-fail` tries the edits of
-`crates/NAME/must-fail/` as well, and `--logs` keeps what the checks printed.
+`crates/NAME/must-fail/` as well, and `--logs` keeps what the checks printed. `--after-ci` takes the libraries that an
+`rt ci` of the same sources has just left in `out/`, so that no crate waits for those that it stands on.
 """
 
 import argparse
@@ -26,7 +27,7 @@ from functools import partial
 from pathlib import Path
 from threading import Lock
 
-from wrong_body_checks import Repository, Verdict, check, copy_room
+from wrong_body_checks import Repository, Verdict, check, copy_room, trust_libraries
 from wrong_body_edits import MUST_FAIL, WRONG_BODIES, Edit, apply, read_edits, rounds_of
 
 ROOT = Path(__file__).resolve().parent.parent
@@ -48,11 +49,14 @@ class Step:
 class Trial:
     """Tries the wrong bodies of some crates, in rooms below a folder."""
 
-    def __init__(self, root: Path, folder: Path, kinds: list[str]) -> None:
+    def __init__(self, root: Path, folder: Path, kinds: list[str], is_after_ci: bool) -> None:
         self.repository = Repository(root)
+        self.is_after_ci = is_after_ci
         self.folder = folder
         self.kinds = kinds
+        # where each crate was checked as it is, and where its library stands if not there
         self.built: dict[str, Path] = {}
+        self.libraries: dict[str, Path] = {}
         self.passed = self.failed = 0
         self.rooms = 0
         self.lock = Lock()
@@ -72,6 +76,9 @@ class Trial:
 
     def first_steps(self, crates: list[str]) -> list[Step]:
         """The steps that check these crates, and build those below, as they are."""
+        if self.is_after_ci and all(self.repository.has_libraries(it) for it in crates):
+            self.libraries = {it: self.repository.root for it in self.repository.lines}
+            return [Step([], it, 100 * self.repository.size(it), partial(self.begin, it, False, True)) for it in crates]
         lower = {it for crate in crates for it in self.repository.below(crate)}
         steps = []
         for crate in {*crates, *lower}:
@@ -84,7 +91,9 @@ class Trial:
     def begin(self, crate: str, is_lower: bool, is_tried: bool, jobs: int) -> list[Step]:
         """Builds a crate as it is, where others stand on it, and gives the rounds of its edits."""
         room = self.room()
-        self.repository.make_room(crate, room, self.built)
+        self.repository.make_room(crate, room, self.libraries or self.built)
+        if self.libraries:
+            trust_libraries(room, crate)
         verdict = check(room, crate, "lib", jobs) if is_lower else Verdict({})
         if is_tried and not verdict.functions:
             verdict = check(room, crate, "check", jobs)
@@ -181,6 +190,7 @@ def main() -> int:
     parser = argparse.ArgumentParser(description="Tries the crates' wrong bodies in batches.")
     parser.add_argument("--jobs", type=int, default=lanes_here(), metavar="N", help="how many processors to use")
     parser.add_argument("--must-fail", action="store_true", help="whether to try the edits of must-fail/ as well")
+    parser.add_argument("--after-ci", action="store_true", help="whether `rt ci` has just built the libraries")
     parser.add_argument("--logs", type=Path, metavar="FOLDER", help="where to copy what the checks print")
     parser.add_argument("crates", nargs="*", metavar="CRATE")
     given = parser.parse_args()
@@ -191,7 +201,7 @@ def main() -> int:
     kinds = [WRONG_BODIES, MUST_FAIL] if given.must_fail else [WRONG_BODIES]
     crates = [it for it in given.crates or known if any((ROOT / "crates" / it / kind).is_dir() for kind in kinds)]
     with tempfile.TemporaryDirectory(prefix="wrong-bodies-") as folder:
-        trial = Trial(ROOT, Path(folder), kinds)
+        trial = Trial(ROOT, Path(folder), kinds, given.after_ci)
         run_steps(trial.first_steps(crates), max(1, given.jobs))
         for log in Path(folder).glob("*.log") if given.logs else []:
             shutil.copy2(log, given.logs)

@@ -7,6 +7,8 @@ import subprocess
 from dataclasses import dataclass
 from pathlib import Path
 
+from kit import kit
+
 PARTS = ("src", "specs", "proofs")
 KEPT = Path("out/incremental")
 BUILT = Path("out/rlib")
@@ -101,6 +103,10 @@ class Repository:
         files = (it for part in PARTS for it in (self.root / "crates" / crate / part).rglob("*") if it.is_file())
         return sum(it.stat().st_size for it in files)
 
+    def has_libraries(self, crate: str) -> bool:
+        """Whether the libraries below the crate stand in `out/`."""
+        return all((self.root / "crates" / it / BUILT / f"{it}.rlib").is_dir() for it in self.below(crate))
+
     def make_room(self, crate: str, room: Path, built: dict[str, Path]) -> None:
         """Copies what a check of the crate needs: with what checks kept of it, and the libraries from where they are built."""
         lower = self.below(crate)
@@ -112,6 +118,12 @@ class Repository:
             copy_crate(built[name] / "crates" / name, room / "crates" / name)
         copy_crate(self.root / "crates" / crate, room / "crates" / crate)
         copy_kept(self.root / "crates" / crate, room / "crates" / crate)
+
+
+def trust_libraries(room: Path, crate: str) -> None:
+    """Has `rt` take the libraries below a crate in a room as they are: `rt ci`, which built them, leaves no stamp with them."""
+    for library in kit().Crate(str(room / "crates" / crate), str(room), {}).below():
+        Path(library.rlib).with_name("stamp").write_text(library.stamp(), encoding="utf-8")
 
 
 def copy_crate(source: Path, target: Path) -> None:

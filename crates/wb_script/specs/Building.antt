@@ -21,10 +21,11 @@ use Rattle.wb_model.specs.Forms.{role_of_form}
 use Rattle.wb_model.specs.Keys.{role_of}
 use Rattle.wb_model.specs.Names.{with_one}
 use Rattle.wb_model.specs.Passes.{first_bad, state_after}
-use Rattle.wb_model.specs.Sound.{is_local, is_procedure}
+use Rattle.wb_model.specs.Sound.{is_local}
 use Rattle.wb_model.specs.Trees.{Indexed, Marked, local_line, end_line, open_lines, body_lines, procedures_lines}
 use Rattle.wb_script.specs.declared.checks.nesting.Open.{Open}
 use Rattle.wb_script.specs.declared.checks.nesting.Open.TheVariants.{Declarations, Statements}
+use Rattle.wb_script.specs.Plain.{is_plain_procedure}
 use Rattle.wb_script.specs.declared.tree.Building.{Building}
 use Rattle.wb_script.specs.declared.tree.Left.{Left}
 use Rattle.wb_script.specs.declared.tree.Left.TheVariants.{Inside, Done}
@@ -152,4 +153,4 @@ building_counts b = counts_where b.procedures.items b.open
 -- what stands so far keeps what a script's tree has to keep
 abbrev pub is_sound : ℕ → Building → Bool
 is_sound literals b =
-    list_all (is_procedure literals) b.procedures.items && option_map_or (is_procedure literals) b.open true && nat_le (building_counts b).procedures MOST_PROCEDURES
+    list_all (is_plain_procedure literals) b.procedures.items && option_map_or (is_plain_procedure literals) b.open true && nat_le (building_counts b).procedures MOST_PROCEDURES

@@ -17,12 +17,13 @@ ghost use Rattle.wb_model.specs.declared.script.Local as model;
 ghost use Rattle.wb_model.specs.Forms.{role_of_form};
 ghost use Rattle.wb_model.specs.Grammar.{IsGrammatical};
 ghost use Rattle.wb_model.specs.Keys.{role_of};
-ghost use Rattle.wb_model.specs.Sound.{is_local, is_body, is_procedure};
+ghost use Rattle.wb_model.specs.Sound.{is_local};
 ghost use Rattle.wb_model.specs.Trees.{mark, counted, counted_from, local_line, open_lines, body_lines, procedures_lines};
 ghost use Rattle.wb_script.specs.declared.checks.nesting.Open.TheVariants.{Statements};
 ghost use Rattle.wb_script.specs.Building.{local_of, declares, is_small, fits_inside, fits, TakesLocal, TakesProcedure, counts_in, counts_with, counts_where, place_in, left_body, left_lines, left_places, building_lines, building_places, building_counts, counts_after, is_sound, AllFit, counts_of};
 ghost use Rattle.wb_script.specs.Fitting.{letters_fit, operands_fit};
 ghost use Rattle.wb_script.specs.Machine.{step, after_line};
+ghost use Rattle.wb_script.specs.Plain.{is_plain_body, is_plain_procedure};
 
 use crate::tree::scope::Scope;
 use crate::tree::statements::statement_of;
@@ -145,10 +146,10 @@ fn declared(
     key: Key,
     operands: &[Operand<Meant>],
 ) -> Result<Option<Left>, AllocError>
-    requires sound { IsTrue (is_body literals body) }
+    requires sound { IsTrue (is_plain_body literals body) }
     requires declares { role_of key ≡ Declaration }
     ensures lines { IfOk result (λ next. IfSome next (λ left. left_lines left ≡ body_lines body ++ (None, Line key operands.now) ∷ [])) }
-    ensures sound { IfOk result (λ next. IfSome next (λ left. IsTrue (is_body literals (left_body left)))) }
+    ensures sound { IfOk result (λ next. IfSome next (λ left. IsTrue (is_plain_body literals (left_body left)))) }
     ensures counts { IfOk result (λ next. IfSome next (λ left. (n : ℕ) → counts_in n (left_body left) ≡ counts_with (role_of key) (local_of key operands.now) (counts_in n body))) }
     ensures places { IfOk result (λ next. IsTrue (fits_inside literals body.locals key operands.now) → step (place_in body.statements ∷ []) (role_of key) ≡ option_map left_places next) }
 {
@@ -166,10 +167,10 @@ fn stated(
     key: Key,
     operands: &[Operand<Meant>],
 ) -> Result<Option<Left>, AllocError>
-    requires sound { IsTrue (is_body literals body) }
+    requires sound { IsTrue (is_plain_body literals body) }
     requires plain { role_of key ≡ Plain }
     ensures lines { IfOk result (λ next. IfSome next (λ left. left_lines left ≡ body_lines body ++ (Some line, Line key operands.now) ∷ [])) }
-    ensures sound { IfOk result (λ next. IfSome next (λ left. IsTrue (is_body literals (left_body left)))) }
+    ensures sound { IfOk result (λ next. IfSome next (λ left. IsTrue (is_plain_body literals (left_body left)))) }
     ensures counts { IfOk result (λ next. IfSome next (λ left. (n : ℕ) → counts_in n (left_body left) ≡ counts_with (role_of key) (local_of key operands.now) (counts_in n body))) }
     ensures places { IfOk result (λ next. IsTrue (fits_inside literals body.locals key operands.now) → step (place_in body.statements ∷ []) (role_of key) ≡ option_map left_places next) }
 {
@@ -194,9 +195,9 @@ fn inside(
     key: Key,
     operands: &[Operand<Meant>],
 ) -> Result<Option<Left>, AllocError>
-    requires sound { IsTrue (is_body literals body) }
+    requires sound { IsTrue (is_plain_body literals body) }
     ensures lines { IfOk result (λ next. IfSome next (λ left. left_lines left ≡ body_lines body ++ mark number (Line key operands.now) ∷ [])) }
-    ensures sound { IfOk result (λ next. IfSome next (λ left. IsTrue (is_body literals (left_body left)))) }
+    ensures sound { IfOk result (λ next. IfSome next (λ left. IsTrue (is_plain_body literals (left_body left)))) }
     ensures counts { IfOk result (λ next. IfSome next (λ left. (n : ℕ) → counts_in n (left_body left) ≡ counts_with (role_of key) (local_of key operands.now) (counts_in n body))) }
     ensures places { IfOk result (λ next. IsTrue (fits_inside literals body.locals key operands.now) → step (place_in body.statements ∷ []) (role_of key) ≡ option_map left_places next) }
 {
@@ -330,7 +331,7 @@ pub(crate) fn procedures_of(
     requires fit { AllFit literals lines.now }
     requires few { length lines.now ≤ LONGEST_SCRIPT }
     ensures lines { IfOk result (λ ps. procedures_lines 0 ps.items ≡ counted_from 1 lines.now) }
-    ensures sound { IfOk result (λ ps. IsTrue (list_all (is_procedure literals) ps.items)) }
+    ensures sound { IfOk result (λ ps. IsTrue (list_all (is_plain_procedure literals) ps.items)) }
     ensures count { IfOk result (λ ps. length ps.items ≡ (counts_of lines.now).procedures) }
     ensures few { IfOk result (λ ps. length ps.items ≤ MOST_PROCEDURES) }
 {
