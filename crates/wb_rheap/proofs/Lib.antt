@@ -4,4 +4,5 @@ pub mod Growing
 pub mod Kept
 pub mod LongestRuns
 pub mod Moving
+pub mod Numbers
 pub mod Reallocated

@@ -1,5 +1,5 @@
 use Rattle.std.proofs.Common.{arith}
-use Rattle.wb_heap_tests.proofs.Numbers.{below_granted}
+use Rattle.wb_rheap.proofs.Numbers.{below_granted}
 use Rattle.wb_heap_tests.proofs.heap_calls.Numbered.grant.Goals as goal
 
 pub invariant_of-self : goal.invariant_of-self

@@ -1,4 +1,4 @@
-use Rattle.wb_heap_tests.proofs.Numbers.{below_released}
+use Rattle.wb_rheap.proofs.Numbers.{below_released}
 use Rattle.wb_heap_tests.proofs.heap_calls.Numbered.release.Goals as goal
 
 pub invariant_of-self-clause-below : goal.invariant_of-self-clause-below
