@@ -5,7 +5,7 @@ use crate::debug_calls::{Call, WorkedDebugHeap, first_other};
 use std::test::Fail;
 use wb_debug::{DebugFault, DebugHeap};
 use wb_model::heap::Answer::{Granted, Refused, Simulated};
-use wb_model::heap::{Kind, Panic, Rule, Shape};
+use wb_model::heap::{Attempt, Kind, Panic, Rule, Shape};
 
 /// The shape of most heaps here.
 const SHAPE: Shape = Shape { min: 0, step: 4096 };
@@ -282,7 +282,12 @@ fn a_shape_that_no_heap_has(rt: HostRuntime) {
 fn a_trace_is_given_away(rt: HostRuntime) -> Result<(), Fail> {
     let mut heap = DebugHeap::new(rt.alloc(), Rule::Unlimited, SHAPE)?;
     heap.attempt_alloc(128, Kind::Cleanup)?;
-    let trace = heap.into_trace();
-    assert_eq!(rt; trace.len(), 1);
+    let line = Attempt {
+        number: 1,
+        length: 144,
+        place: 0,
+        answer: Granted,
+    };
+    assert!(rt; heap.into_trace().as_slice() == [line].as_slice());
     Ok(())
 }
