@@ -1,62 +1,20 @@
 -- A cell that is granted for a text reads as it.
-use Rattle.std.proofs.Common.{◌≡◌, ◌≢◌, ℕ, suc, ◌+◌, ◌*◌, ◌/◌, ◌-◌, ◌<◌, ◌≤◌, Bool, true, false, cond, List, [], ◌∷◌, length, Option, Some, None, Result, Ok, Err, AllPairs, refl, sym, ap, subst, ◌∙◌, arith, get_or}
-use Rattle.std.specs.Prelude.{IfOk, IfSome, OnOk, nat_eq, nat_lt, ◌&&◌}
-use Rattle.std.proofs.lemmas.Bool.{eq-eqb, ne_eqb}
+use Rattle.std.proofs.Common.{◌≡◌, ◌≢◌, ℕ, ◌+◌, ◌*◌, ◌/◌, ◌-◌, ◌≤◌, Bool, true, false, cond, List, [], length, Option, Some, None, Result, Ok, Err, AllPairs, refl, sym, ap, subst, ◌∙◌, arith}
+use Rattle.std.specs.Prelude.{IfOk, IfSome, OnOk, nat_lt}
 use Rattle.wb_model.specs.declared.heap.Ptr.{Ptr}
-use Rattle.wb_model.specs.declared.heap.Header.{Header}
 use Rattle.wb_model.specs.declared.heap.Kind.TheVariants.{Text}
 use Rattle.wb_model.specs.declared.heap.Answer.{Answer}
 use Rattle.wb_model.specs.declared.heap.Answer.TheVariants.{Granted, Simulated, Refused}
 use Rattle.wb_model.specs.declared.heap.Gave.{Gave}
-use Rattle.wb_model.specs.Row.{Cell, headers, is_at, pointer_to, cell_at, inserted, without, cell_length}
+use Rattle.wb_model.specs.Row.{Cell, headers, pointer_to, cell_at, inserted, without, cell_length}
 use Rattle.wb_model.specs.CellRow.{content_or_nil, resized_words}
 use Rattle.wb_model.specs.Rules.{Request}
 use Rattle.wb_model.specs.Heap.{alloc_request, new_cell, after_alloc, realloc_request, moved, after_realloc}
 use Rattle.wb_model.specs.LimitedHeap.{zero_words}
 use Rattle.wb_model.specs.Debug.{Debug, IsSoundDebug, made_by, answer_in, number_of_next, alloc_made, longer_made, shorter_made, realloc_made}
 use Rattle.wb_model.specs.TextCells.{text_in, text_at, IsText, IsTextAt, IsGrantedText, IsRemadeText}
+use Rattle.wb_model.proofs.NewCells.{found-inserted}
 use Rattle.wb_model.proofs.TextCells.{text-read, zeros-text, resized-text}
-
-own-pointer : (h : Header) → is_at (pointer_to h) h ≡ true
-own-pointer h = ap (λ b. b && nat_eq h.number h.number) (eq-eqb h.place h.place refl) ∙ eq-eqb h.number h.number refl
-
-other-number : (p : Ptr) (h : Header) → p.number ≢ h.number → is_at p h ≡ false
-other-number p h other = ap (λ b. nat_eq p.place h.place && b) (ne_eqb p.number h.number other) ∙ by (nat_eq p.place h.place)
-  where
-    by : (b : Bool) → (b && false) ≡ false
-    by true = refl
-    by false = refl
-
--- where a new cell stands
-record IsPlaced (c : Cell (List ℕ)) (row : List (Cell (List ℕ))) : Type 0 where
-  at : ℕ
-  within : at < length (headers row)
-  here : (x : Header) → get_or (headers row) at x ≡ c.head
-
-placed : (c : Cell (List ℕ)) (row : List (Cell (List ℕ))) → IsPlaced c (inserted c row)
-placed c [] = record { at = 0; within = omega arith; here = λ x. refl }
-placed c (d ∷ ds) = by (nat_lt c.head.place d.head.place) (placed c ds)
-  where
-    by : (b : Bool) → IsPlaced c (inserted c ds) → IsPlaced c (cond b (c ∷ d ∷ ds) (d ∷ inserted c ds))
-    by true rest = record { at = 0; within = omega arith; here = λ x. refl }
-    by false rest = record { at = suc rest.at; within = omega (arith, rest.within); here = rest.here }
-
--- the pointer to a new cell names it
-found-inserted : (c : Cell (List ℕ)) (row : List (Cell (List ℕ))) → AllPairs (λ g h. g.number ≢ h.number) (headers (inserted c row)) →
-    cell_at (pointer_to c.head) (inserted c row) ≡ Some c
-found-inserted c [] apart = ap (λ b. cond b (Some c) None) (own-pointer c.head)
-found-inserted c (d ∷ ds) apart = by (nat_lt c.head.place d.head.place) apart (found-inserted c ds)
-  where
-    by : (b : Bool) → AllPairs (λ g h. g.number ≢ h.number) (headers (cond b (c ∷ d ∷ ds) (d ∷ inserted c ds))) →
-        (AllPairs (λ g h. g.number ≢ h.number) (headers (inserted c ds)) → cell_at (pointer_to c.head) (inserted c ds) ≡ Some c) →
-        cell_at (pointer_to c.head) (cond b (c ∷ d ∷ ds) (d ∷ inserted c ds)) ≡ Some c
-    by true all rest = ap (λ b. cond b (Some c) (cell_at (pointer_to c.head) (d ∷ ds))) (own-pointer c.head)
-    by false all rest =
-        let here = placed c ds in
-        let differs : c.head.number ≢ d.head.number =
-        λ e. all 0 (suc here.at) d.head (omega arith) (omega (arith, here.within)) (sym (ap (λ (h : Header). h.number) (here.here d.head) ∙ e)) in
-        ap (λ b. cond b (Some d) (cell_at (pointer_to c.head) (inserted c ds))) (other-number (pointer_to c.head) d.head differs)
-        ∙ rest (λ i j x lt end. all (suc i) (suc j) x (omega (arith, lt)) (omega (arith, end)))
 
 granted-text : (new : Debug) (c : Cell (List ℕ)) (row : List (Cell (List ℕ))) (t : List ℕ) → new.heap.row ≡ inserted c row → IsSoundDebug new → c.head.kind ≡ Text →
     IsText c.content t → IsTextAt (pointer_to c.head) new × (text_at (pointer_to c.head) new ≡ t)

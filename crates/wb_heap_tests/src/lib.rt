@@ -1,5 +1,5 @@
-//! Nothing but tests: of the heap, from words of memory up to attempts, and of texts, by the public calls of the crates
-//! that hold them. They stand here so that those crates are proved once, and not again with their tests.
+//! Nothing but tests: of the heap, from words of memory up to attempts, and of texts and objects, by the public calls of the
+//! crates that hold them. They stand here so that those crates are proved once, and not again with their tests.
 #![tactic(auto)]
 
 #[cfg(test)]
@@ -22,5 +22,11 @@ mod heaps;
 mod lists;
 #[cfg(test)]
 mod literals;
+#[cfg(test)]
+mod object_calls;
+#[cfg(test)]
+mod objects;
+#[cfg(test)]
+mod stacks;
 #[cfg(test)]
 mod texts;

@@ -30,7 +30,7 @@ use Rattle.wb_machine.specs.declared.pieces.Ending.{Ending}
 use Rattle.wb_machine.specs.declared.pieces.Ending.TheVariants.{GoesOn, Cut, NoCleanup}
 use Rattle.wb_machine.specs.declared.pieces.Piece.{Piece}
 use Rattle.wb_machine.specs.declared.pieces.Piece.TheVariants.{MainTrap}
-use Rattle.wb_machine.specs.RunState.{RunState, first_state, main_of, state_of, account_of, with_debug}
+use Rattle.wb_machine.specs.RunState.{Values, RunState, first_state, main_of, state_of, account_of, with_debug}
 use Rattle.wb_machine.specs.Flow.{in_main_frame, pending_of, pending_in, is_stop, flow, rest_from, rest_at}
 use Rattle.wb_machine.specs.Carried.{entered, first_bytes, first_made, begun_by, begun_carried}
 use Rattle.wb_machine.proofs.Flows.{followed, allocated}
@@ -67,7 +67,7 @@ after_first h = with_debug h (first_made h).debug
 
 begun_rest : (r : Rule) (script : Script) (budget : ℕ) (h : RunState) (statements : List Numbered) (pieces : List Piece) (gave : Gave) →
     statements ≡ (main_of script).statements →
-    ((begun_by h (main_of script).locals gave).ending ≡ GoesOn → pending_in pieces ≡ doing in_main_frame (all statements) ∷ main_catching in_main_frame ∷ []) →
+    ((begun_by h (main_of script).locals gave).ending ≡ GoesOn → (callers : Values) → pending_in callers pieces ≡ doing in_main_frame (all statements) ∷ main_catching in_main_frame ∷ []) →
     rest_from script budget r (begun_by h (main_of script).locals gave).ending pieces (begun_by h (main_of script).locals gave).state
     ≡ result_of (flow r (followed gave (started (meaning_of script budget) script) (state_of script h)) h)
 unfolding flow started and_then
@@ -76,7 +76,7 @@ begun_rest r script budget h statements pieces (G.Granted cell) body is =
     let g : RunState = entered h cell (main_of script).locals in
     let st : State = record (state_of script h) { cleanup = cell } in
     rest_flow script budget r GoesOn pieces g
-    ∙ ap (λ (ps : List Pending). result_of (flow r (resume script budget ps goes_on (state_of script g)) g)) (is refl)
+    ∙ ap (λ (ps : List Pending). result_of (flow r (resume script budget ps goes_on (state_of script g)) g)) (is refl g.callers)
     ∙ ap (λ p. result_of (flow r p g)) (main_begins script budget st statements body)
 begun_rest r script budget h statements pieces G.Denied body is = rest_flow script budget r NoCleanup pieces h
 
@@ -114,7 +114,7 @@ rest_begun : (r own : Rule) (script : Script) (budget : ℕ) (shape : Shape) (st
     let h = first_state own shape in
     let c = begun_carried h (main_of script).locals in
     Fits r own (is_stop c.ending) c.state.debug.attempts → statements ≡ (main_of script).statements →
-    (c.ending ≡ GoesOn → pending_in pieces ≡ doing in_main_frame (all statements) ∷ main_catching in_main_frame ∷ []) →
+    (c.ending ≡ GoesOn → (callers : Values) → pending_in callers pieces ≡ doing in_main_frame (all statements) ∷ main_catching in_main_frame ∷ []) →
     rest_from script budget r c.ending pieces c.state ≡ run script r budget shape
 unfolding flow process
 rest_begun r own script budget shape statements pieces f body is =
@@ -136,7 +136,7 @@ pub run_begun : (r : Rule) (script : Script) (budget : ℕ) (h g : RunState) (en
     h ≡ first_state h.debug.rule h.debug.shape →
     ending ≡ (begun_carried h (main_of script).locals).ending → g ≡ (begun_carried h (main_of script).locals).state →
     Fits r h.debug.rule (is_stop ending) g.debug.attempts → statements ≡ (main_of script).statements →
-    (ending ≡ GoesOn → pending_in pieces ≡ doing in_main_frame (all statements) ∷ main_catching in_main_frame ∷ []) →
+    (ending ≡ GoesOn → (callers : Values) → pending_in callers pieces ≡ doing in_main_frame (all statements) ∷ main_catching in_main_frame ∷ []) →
     rest_from script budget r ending pieces g ≡ run script r budget h.debug.shape
 run_begun r script budget h g ending statements pieces start ends_so holds f body is =
     let locals = (main_of script).locals in
@@ -150,10 +150,10 @@ run_begun r script budget h g ending statements pieces start ends_so holds f bod
     ∙ rest_begun r own script budget h.debug.shape statements pieces f' body (λ x. is (e ∙ x))
 
 -- the pieces of a run that was begun
-pub begun_pieces : (script : Script) (before_it one two : List Piece) (code : Piece) → before_it ≡ [] → one ≡ before_it ++ MainTrap ∷ [] → two ≡ one ++ code ∷ [] →
-    pending_in two ≡ pending_of code ∷ main_catching in_main_frame ∷ []
-begun_pieces script before_it one two code e f g =
-    ap pending_in (g ∙ ap (λ ps. ps ++ code ∷ []) (f ∙ ap (λ ps. ps ++ MainTrap ∷ []) e))
+pub begun_pieces : (callers : Values) (before_it one two : List Piece) (code : Piece) → before_it ≡ [] → one ≡ before_it ++ MainTrap ∷ [] → two ≡ one ++ code ∷ [] →
+    pending_in callers two ≡ pending_of callers code ∷ main_catching in_main_frame ∷ []
+begun_pieces callers before_it one two code e f g =
+    ap (pending_in callers) (g ∙ ap (λ ps. ps ++ code ∷ []) (f ∙ ap (λ ps. ps ++ MainTrap ∷ []) e))
 
 -- before the first turn the rest is the run
 pub rest_first : (r : Rule) (script : Script) (budget : ℕ) (ending : Ending) (pieces : List Piece) (h : RunState) →

@@ -1,8 +1,10 @@
+pub mod Asked
 pub mod Begins
 pub mod Ends
 pub mod Falls
 pub mod Fitting
 pub mod Flows
+pub mod Frames
 pub mod Heads
 pub mod Kept
 pub mod KeptCells
@@ -15,6 +17,7 @@ pub mod KeptTextCells
 pub mod KeptTexts
 pub mod KeptViews
 pub mod KeptWords
+pub mod Later
 pub mod Outcomes
 pub mod ReadTexts
 pub mod Rows

@@ -40,10 +40,10 @@ alloc_stays h bytes kind =
 
 -- a call on the debug heap that made of it what stays, or left it
 pub called_keeps : {X Y : Type 0} (o : Result X Y) (h : RunState) (made d : Debug) → Stays h (with_debug h made) → OnOk o (d ≡ made) → OnErr o (d ≡ h.debug) → KeepsCount h (with_debug h d)
-called_keeps (Ok x) h made d stays ok err = subst (λ (x : Debug). KeepsCount h (with_debug h x)) (sym ok) (record { steps = refl; stays = stays })
+called_keeps (Ok x) h made d stays ok err = subst (λ (x : Debug). KeepsCount h (with_debug h x)) (sym ok) (record { steps = refl; stays = stays; callers = refl })
 called_keeps (Err e) h made d stays ok err =
     subst (λ (x : Debug). KeepsCount h (with_debug h x)) (sym err)
-    (record { steps = refl; stays = record { rule = refl; shape = refl; fewer = omega arith; more = omega arith; lines = refl; deeper = omega arith } })
+    (record { steps = refl; stays = record { rule = refl; shape = refl; fewer = omega arith; more = omega arith; lines = refl; deeper = omega arith }; callers = refl })
 
 realloc_after : (d : Debug) (t : Request) (c : Cell (List ℕ)) (n : ℕ) (a : Answer) → (after_realloc d.heap t c.head (resized_words t.length c.content) n a).heap.level ≡ d.heap.level
 realloc_after d t c n Granted = refl

@@ -1,5 +1,5 @@
 -- The rest of a run, from turn to turn.
-use Rattle.std.proofs.Common.{◌≡◌, ℕ, zero, suc, ◌<◌, true, List, [], ◌∷◌, ◌++◌, map, refl, ap, ◌∙◌, sym, arith}
+use Rattle.std.proofs.Common.{◌≡◌, ℕ, zero, suc, ◌<◌, true, List, [], ◌∷◌, ◌++◌, refl, ap, ◌∙◌, sym, arith}
 use Rattle.std.specs.Prelude.{nat_lt}
 use Rattle.std.proofs.lemmas.List.{reverse-append}
 use Rattle.std.proofs.lemmas.Bool.{lt-ltb, le-ltb}
@@ -17,18 +17,18 @@ use Rattle.wb_model.proofs.ResumeLemmas.{resume-all, resume-turns}
 use Rattle.wb_machine.specs.declared.pieces.Ending.{Ending}
 use Rattle.wb_machine.specs.declared.pieces.Ending.TheVariants.{GoesOn, Returns, Leaves, Panics, Cut, NoCleanup}
 use Rattle.wb_machine.specs.declared.pieces.Piece.{Piece}
-use Rattle.wb_machine.specs.declared.pieces.Piece.TheVariants.{Code, Turns, Trap, MainTrap}
-use Rattle.wb_machine.specs.RunState.{RunState, state_of}
+use Rattle.wb_machine.specs.declared.pieces.Piece.TheVariants.{Code, Turns, Trap, MainTrap, Call}
+use Rattle.wb_machine.specs.RunState.{Values, RunState, state_of}
 use Rattle.wb_machine.specs.Carried.{stepped}
-use Rattle.wb_machine.specs.Flow.{where_of, is_nothing, pending_of, needs_step, pending_in, ended_by, flow, rest_from, rest_of_statement, rest_of_piece}
+use Rattle.wb_machine.specs.Flow.{where_of, is_nothing, pending_of, callers_under, needs_step, pending_from, pending_in, flow, rest_from, rest_of_statement, rest_of_piece, rest_under}
 
 -- one more piece on top
-pub pending_pushed : (ps : List Piece) (p : Piece) → pending_in (ps ++ p ∷ []) ≡ pending_of p ∷ pending_in ps
-pending_pushed ps p = ap (map pending_of) (reverse-append ps (p ∷ []))
+pub pending_pushed : (callers : Values) (ps more : List Piece) (p : Piece) → more ≡ ps ++ p ∷ [] → pending_in callers more ≡ pending_of callers p ∷ pending_in (callers_under callers p) ps
+pending_pushed callers ps more p is = ap (λ (x : List Piece). pending_in callers x) is ∙ ap (pending_from callers) (reverse-append ps (p ∷ []))
 
 -- the rest is what the pieces make of how the one above them ended
 pub rest_flow : (script : Script) (budget : ℕ) (r : Rule) (ending : Ending) (pieces : List Piece) (h : RunState) →
-    rest_from script budget r ending pieces h ≡ result_of (flow r (and_then (ended_by ending (state_of script h)) (resume script budget (pending_in pieces))) h)
+    rest_from script budget r ending pieces h ≡ rest_under script budget r ending (pending_in h.callers pieces) h
 unfolding rest left_to_do flow and_then
 rest_flow script budget r GoesOn pieces h = refl
 rest_flow script budget r (Returns p) pieces h = refl
@@ -37,48 +37,43 @@ rest_flow script budget r (Panics p) pieces h = refl
 rest_flow script budget r (Cut why) pieces h = refl
 rest_flow script budget r NoCleanup pieces h = refl
 
--- the same with the topmost piece by itself
-pub rest_pushed : (script : Script) (budget : ℕ) (r : Rule) (ending : Ending) (pieces below : List Piece) (p : Piece) (h : RunState) → pieces ≡ below ++ p ∷ [] →
-    rest_from script budget r ending pieces h
-    ≡ result_of (flow r (and_then (ended_by ending (state_of script h)) (resume script budget (pending_of p ∷ pending_in below))) h)
-rest_pushed script budget r ending pieces below p h is =
-    rest_flow script budget r ending pieces h
-    ∙ ap (λ ps. result_of (flow r (and_then (ended_by ending (state_of script h)) (resume script budget ps)) h)) (ap pending_in is ∙ pending_pushed below p)
+-- the same of pieces that are known
+pub rest_known : (script : Script) (budget : ℕ) (r : Rule) (ending : Ending) (pieces : List Piece) (pending : List Pending) (h : RunState) → pending_in h.callers pieces ≡ pending →
+    rest_from script budget r ending pieces h ≡ rest_under script budget r ending pending h
+rest_known script budget r ending pieces pending h is = rest_flow script budget r ending pieces h ∙ ap (λ (ps : List Pending). rest_under script budget r ending ps h) is
 
 -- the rest with a piece on top that goes on
-pub rest_on_top : (script : Script) (budget : ℕ) (r : Rule) (pieces below : List Piece) (p : Piece) (h : RunState) → pieces ≡ below ++ p ∷ [] →
-    rest_from script budget r GoesOn pieces h ≡ rest_of_piece script budget r (pending_of p) below h
+pub rest_on_top : (script : Script) (budget : ℕ) (r : Rule) (pieces below : List Piece) (p : Pending) (h : RunState) → pending_in h.callers pieces ≡ p ∷ pending_in h.callers below →
+    rest_from script budget r GoesOn pieces h ≡ rest_of_piece script budget r p below h
 unfolding and_then
-rest_on_top script budget r pieces below p h is = rest_pushed script budget r GoesOn pieces below p h is
+rest_on_top script budget r pieces below p h is = rest_known script budget r GoesOn pieces (p ∷ pending_in h.callers below) h is
 
 -- a turn that begins the first statement of a block
-pub rest_stepped : (script : Script) (budget : ℕ) (r : Rule) (at : Where) (s : Numbered) (ss : List Numbered) (below mid new : List Piece) (q : Piece) (ending : Ending) (h g : RunState) →
-    mid ≡ below ++ q ∷ [] → pending_of q ≡ doing at (all ss) → h.steps < budget →
+pub rest_stepped : (script : Script) (budget : ℕ) (r : Rule) (at : Where) (s : Numbered) (ss : List Numbered) (below mid new : List Piece) (ending : Ending) (h g : RunState) →
+    pending_in h.callers mid ≡ doing at (all ss) ∷ pending_in h.callers below → h.steps < budget →
     rest_from script budget r ending new g ≡ rest_of_statement script budget r at (out-Statement s.statement) mid (stepped h) →
     rest_from script budget r ending new g ≡ rest_of_piece script budget r (doing at (all (s ∷ ss))) below h
 unfolding flow begun begun_if
-rest_stepped script budget r at s ss below mid new q ending h g is next within same =
+rest_stepped script budget r at s ss below mid new ending h g is within same =
     let layer = out-Statement s.statement in
     let M = meaning_of script budget in
     same
-    ∙ ap (λ (ps : List Pending). result_of (flow r (and_then (statement script M at layer (state_of script (stepped h))) (resume script budget ps)) (stepped h)))
-    (ap pending_in is ∙ pending_pushed below q ∙ ap (λ (x : Pending). x ∷ pending_in below) next)
-    ∙ sym (ap (λ x. result_of (flow r x h)) (resume-all script budget at s ss (pending_in below) (state_of script h) (omega (arith, within)))
+    ∙ ap (λ (ps : List Pending). result_of (flow r (and_then (statement script M at layer (state_of script (stepped h))) (resume script budget ps)) (stepped h))) is
+    ∙ sym (ap (λ x. result_of (flow r x h)) (resume-all script budget at s ss (pending_in h.callers below) (state_of script h) (omega (arith, within)))
     ∙ ap (λ b. result_of (flow r (begun_if b (state_of script h) (λ st. and_then (statement script M at layer st)
-    (resume script budget (doing at (all ss) ∷ pending_in below)))) h)) (lt-ltb h.steps budget within))
+    (resume script budget (doing at (all ss) ∷ pending_in h.callers below)))) h)) (lt-ltb h.steps budget within))
 
 -- a turn that begins a turn of a loop
-pub rest_turned : (script : Script) (budget : ℕ) (r : Rule) (at : Where) (left n : ℕ) (body : List Numbered) (below mid new : List Piece) (p q : Piece) (h : RunState) →
-    mid ≡ below ++ p ∷ [] → new ≡ mid ++ q ∷ [] → pending_of p ≡ doing at (turns n body) → pending_of q ≡ doing at (all body) → left ≡ suc n → h.steps < budget →
+pub rest_turned : (script : Script) (budget : ℕ) (r : Rule) (at : Where) (left n : ℕ) (body : List Numbered) (below mid new : List Piece) (h : RunState) →
+    pending_in h.callers mid ≡ doing at (turns n body) ∷ pending_in h.callers below → pending_in h.callers new ≡ doing at (all body) ∷ pending_in h.callers mid → left ≡ suc n → h.steps < budget →
     rest_from script budget r GoesOn new (stepped h) ≡ rest_of_piece script budget r (doing at (turns left body)) below h
 unfolding flow begun begun_if
-rest_turned script budget r at left n body below mid new p q h is next first second count within =
-    rest_on_top script budget r new mid q (stepped h) next
-    ∙ ap (λ (ps : List Pending). result_of (flow r (resume script budget ps goes_on (state_of script (stepped h))) (stepped h)))
-    (ap (λ (x : Pending). x ∷ pending_in mid) second ∙ ap (λ (ps : List Pending). doing at (all body) ∷ ps) (ap pending_in is ∙ pending_pushed below p ∙ ap (λ (x : Pending). x ∷ pending_in below) first))
-    ∙ sym (ap (λ (k : ℕ). result_of (flow r (resume script budget (doing at (turns k body) ∷ pending_in below) goes_on (state_of script h)) h)) count
-    ∙ ap (λ x. result_of (flow r x h)) (resume-turns script budget at n body (pending_in below) (state_of script h) (omega (arith, within)))
-    ∙ ap (λ b. result_of (flow r (begun_if b (state_of script h) (λ st. resume script budget (doing at (all body) ∷ doing at (turns n body) ∷ pending_in below) goes_on st)) h)) (lt-ltb h.steps budget within))
+rest_turned script budget r at left n body below mid new h is next count within =
+    rest_on_top script budget r new mid (doing at (all body)) (stepped h) next
+    ∙ ap (λ (ps : List Pending). result_of (flow r (resume script budget (doing at (all body) ∷ ps) goes_on (state_of script (stepped h))) (stepped h))) is
+    ∙ sym (ap (λ (k : ℕ). result_of (flow r (resume script budget (doing at (turns k body) ∷ pending_in h.callers below) goes_on (state_of script h)) h)) count
+    ∙ ap (λ x. result_of (flow r x h)) (resume-turns script budget at n body (pending_in h.callers below) (state_of script h) (omega (arith, within)))
+    ∙ ap (λ b. result_of (flow r (begun_if b (state_of script h) (λ st. resume script budget (doing at (all body) ∷ doing at (turns n body) ∷ pending_in h.callers below) goes_on st)) h)) (lt-ltb h.steps budget within))
 
 -- at the budget the rest is a cut
 pub rest_cut : (script : Script) (budget : ℕ) (r : Rule) (ending : Ending) (pieces below : List Piece) (p : Piece) (h : RunState) →
@@ -93,11 +88,11 @@ rest_cut script budget r ending pieces below (Code standing statements) h goes w
         let here = where_of standing in
         rest_flow script budget r (Cut Budget) pieces h
         ∙ sym (ap (λ x. rest_from script budget r x pieces h) goes
-        ∙ rest_on_top script budget r pieces below (Code standing statements) h was
-        ∙ ap (λ (ss : List Numbered). result_of (flow r (resume script budget (doing here (all ss) ∷ pending_in below) goes_on (state_of script h)) h)) e
-        ∙ ap (λ x. result_of (flow r x h)) (resume-all script budget here s ss (pending_in below) (state_of script h) (omega (arith, at)))
+        ∙ rest_on_top script budget r pieces below (doing here (all statements.now)) h (pending_pushed h.callers below pieces (Code standing statements) was)
+        ∙ ap (λ (ss : List Numbered). result_of (flow r (resume script budget (doing here (all ss) ∷ pending_in h.callers below) goes_on (state_of script h)) h)) e
+        ∙ ap (λ x. result_of (flow r x h)) (resume-all script budget here s ss (pending_in h.callers below) (state_of script h) (omega (arith, at)))
         ∙ ap (λ b. result_of (flow r (begun_if b (state_of script h) (λ st. and_then (statement script (meaning_of script budget) here (out-Statement s.statement) st)
-        (resume script budget (doing here (all ss) ∷ pending_in below)))) h)) (le-ltb h.steps budget (omega (arith, at))))
+        (resume script budget (doing here (all ss) ∷ pending_in h.callers below)))) h)) (le-ltb h.steps budget (omega (arith, at))))
 rest_cut script budget r ending pieces below (Turns standing left body) h goes was first at = by left refl
   where
     here : Where
@@ -108,10 +103,11 @@ rest_cut script budget r ending pieces below (Turns standing left body) h goes w
     by (suc n) e =
         rest_flow script budget r (Cut Budget) pieces h
         ∙ sym (ap (λ x. rest_from script budget r x pieces h) goes
-        ∙ rest_on_top script budget r pieces below (Turns standing left body) h was
-        ∙ ap (λ (k : ℕ). result_of (flow r (resume script budget (doing here (turns k body.now) ∷ pending_in below) goes_on (state_of script h)) h)) e
-        ∙ ap (λ x. result_of (flow r x h)) (resume-turns script budget here n body.now (pending_in below) (state_of script h) (omega (arith, at)))
-        ∙ ap (λ b. result_of (flow r (begun_if b (state_of script h) (λ st. resume script budget (doing here (all body.now) ∷ doing here (turns n body.now) ∷ pending_in below) goes_on st)) h))
+        ∙ rest_on_top script budget r pieces below (doing here (turns left body.now)) h (pending_pushed h.callers below pieces (Turns standing left body) was)
+        ∙ ap (λ (k : ℕ). result_of (flow r (resume script budget (doing here (turns k body.now) ∷ pending_in h.callers below) goes_on (state_of script h)) h)) e
+        ∙ ap (λ x. result_of (flow r x h)) (resume-turns script budget here n body.now (pending_in h.callers below) (state_of script h) (omega (arith, at)))
+        ∙ ap (λ b. result_of (flow r (begun_if b (state_of script h) (λ st. resume script budget (doing here (all body.now) ∷ doing here (turns n body.now) ∷ pending_in h.callers below) goes_on st)) h))
         (le-ltb h.steps budget (omega (arith, at))))
 rest_cut script budget r ending pieces below (Trap standing x) h goes was first at = cc
 rest_cut script budget r ending pieces below MainTrap h goes was first at = cc
+rest_cut script budget r ending pieces below (Call base target) h goes was first at = cc

@@ -1,5 +1,5 @@
 -- What carrying out a statement makes of the state of a run, and how it ends.
-use Rattle.std.specs.Prelude.{ℕ, ℤ, pos, ◌+◌, ◌+ℤ◌, Bool, not, ◌&&◌, int_le, int_lt, List, [], ◌∷◌, ◌++◌, if◌then◌else◌, Option, Some, None, slice_index, slice_set, map}
+use Rattle.std.specs.Prelude.{ℕ, ℤ, pos, ◌+◌, ◌+ℤ◌, Bool, not, ◌&&◌, int_le, int_lt, List, [], ◌∷◌, ◌++◌, if◌then◌else◌, Option, Some, None, slice_index, slice_set, map, take, drop}
 use Rattle.std.specs.Int.{w32, cast_unsigned}
 use Rattle.wb_model.specs.declared.limits.TheConstants.{LARGEST_REQUEST}
 use Rattle.wb_model.specs.declared.heap.TheConstants.{KERR_NO_MEMORY}
@@ -11,19 +11,19 @@ use Rattle.wb_model.specs.declared.heap.Gave.TheVariants.{Granted, Denied, Ceili
 use Rattle.wb_model.specs.declared.heap.Panic.{Panic}
 use Rattle.wb_model.specs.declared.run.Note.{Note}
 use Rattle.wb_model.specs.declared.run.Why.TheVariants as why
+use Rattle.wb_model.specs.declared.script.Argument.{Argument}
 use Rattle.wb_model.specs.declared.script.Holder.TheVariants as H
 use Rattle.wb_model.specs.declared.script.Local.{Local}
 use Rattle.wb_model.specs.declared.script.Pointer.{Pointer}
 use Rattle.wb_model.specs.declared.script.Pointer.TheVariants as P
 use Rattle.wb_model.specs.declared.script.Number.{Number}
-use Rattle.wb_model.specs.declared.script.Number.TheVariants as N
 use Rattle.wb_model.specs.declared.script.Condition.{Condition}
 use Rattle.wb_model.specs.declared.script.Condition.TheVariants.{IsNull, NotNull, Equal, Less}
 use Rattle.wb_model.specs.declared.script.Refusal.{Refusal}
 use Rattle.wb_model.specs.declared.script.Refusal.TheVariants as refusals
 use Rattle.wb_model.specs.Row.{Cell, cell_at, usable_of}
 use Rattle.wb_model.specs.CellRow.{payload_of}
-use Rattle.wb_model.specs.State.{Value, pointer, number, initial, pointer_in, number_in, null}
+use Rattle.wb_model.specs.State.{Value, pointer, number, initial, number_in, null}
 use Rattle.wb_model.specs.Operands.{within}
 use Rattle.wb_model.specs.Statements.{is_null, is_raw, index_in, in_range}
 use Rattle.wb_model.specs.Rules.{Setting}
@@ -33,6 +33,7 @@ use Rattle.wb_model.specs.Debug.{Made, alloc_made, realloc_made, release_refusal
 use Rattle.wb_machine.specs.declared.pieces.Ending.{Ending}
 use Rattle.wb_machine.specs.declared.pieces.Ending.TheVariants.{GoesOn, Returns, Leaves, Panics, Cut, NoCleanup}
 use Rattle.wb_machine.specs.RunState.{RunState, with_debug, value_in}
+use Rattle.wb_machine.specs.LocalValues.{pointer_over, number_over, called_with}
 
 pub record Carried : Type 0 where
   pub ending : Ending
@@ -53,13 +54,11 @@ unless_refused h None after = gone_on after
 
 -- the pointer of an operand
 abbrev pub pointer_read : RunState → Pointer → Ptr
-pointer_read h (P.Held (H.Local i)) = pointer_in (value_in h.locals i)
-pointer_read h _ = null
+pointer_read h p = pointer_over h.locals p
 
 -- the number of an operand
 abbrev pub number_read : RunState → Number → ℤ
-number_read h (N.Constant z) = z
-number_read h (N.Variable i) = number_in (value_in h.locals i)
+number_read h v = number_over h.locals v
 
 -- what an `if` asks
 abbrev pub condition_read : RunState → Condition → Bool
@@ -216,6 +215,14 @@ stepped h = record h { steps = h.steps + 1 }
 -- `main` begins with these locals
 abbrev pub entered : RunState → Ptr → List Local → RunState
 entered h cell locals = record h { cleanup = cell; locals = map initial locals }
+
+-- a body is called with arguments
+abbrev pub called : RunState → List Argument → List Local → RunState
+called h arguments locals = record h { callers = h.callers ++ h.locals; locals = called_with h.locals arguments locals }
+
+-- a body has ended; its caller's frame begins at a place
+abbrev pub called_back : RunState → ℕ → RunState
+called_back h base = record h { callers = take base h.callers; locals = drop base h.callers }
 
 -- the bytes of the cleanup stack's cell at first
 abbrev pub first_bytes : ℕ

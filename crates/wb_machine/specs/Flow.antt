@@ -1,24 +1,26 @@
 -- What is still to do as a machine holds it, and which process of the definitions that is.
-use Rattle.std.specs.Prelude.{◌≡◌, ℕ, List, [], ◌∷◌, ◌++◌, Bool, true, false, not, nat_lt, ◌||◌, map, reverse, length}
+use Rattle.std.specs.Prelude.{◌≡◌, ℕ, List, [], ◌∷◌, ◌++◌, Bool, true, false, not, nat_lt, ◌||◌, slice_get, reverse, length, take, drop, Option, Some, None}
 use Rattle.wb_model.specs.declared.heap.Rule.{Rule}
 use Rattle.wb_model.specs.declared.run.RunResult.{RunResult}
 use Rattle.wb_model.specs.declared.script.Script.{Script}
+use Rattle.wb_model.specs.declared.script.Argument.{Argument}
 use Rattle.wb_model.specs.declared.script.Local.{Local}
 use Rattle.wb_model.specs.declared.script.Numbered.{Numbered}
-use Rattle.wb_model.specs.Sound.{is_simple, is_nested, are_within}
+use Rattle.wb_model.specs.declared.script.Statement.TheOpen.{Statement-F}
+use Rattle.wb_model.specs.Sound.{is_simple, is_nested, are_within, declared_in}
 use Rattle.wb_model.specs.Space.{space_of}
-use Rattle.wb_model.specs.State.{State, Way, goes_on, returns, leaves, panics, is_cut, no_cleanup, Process, ends, stops, and_then}
+use Rattle.wb_model.specs.State.{State, Frame, null, Way, goes_on, returns, leaves, panics, is_cut, no_cleanup, Process, ends, stops, and_then}
 use Rattle.wb_model.specs.Statements.{all, turns, Where, Layer, Meaning, statement}
 use Rattle.wb_model.specs.Meaning.{meaning_of}
 use Rattle.wb_model.specs.Run.{result_of}
 use Rattle.wb_model.specs.Account.{Settled, settled}
-use Rattle.wb_model.specs.Rest.{Fits, Pending, doing, catching, main_catching, Progress, not_begun, going, has_stopped, resume, rest}
+use Rattle.wb_model.specs.Rest.{Fits, Afterwards, nothing_more, gives_to, Pending, doing, catching, calling, main_catching, Progress, not_begun, going, has_stopped, resume, rest}
 use Rattle.wb_machine.specs.declared.pieces.Ending.{Ending}
 use Rattle.wb_machine.specs.declared.pieces.Ending.TheVariants.{GoesOn, Returns, Leaves, Panics, Cut, NoCleanup}
 use Rattle.wb_machine.specs.declared.pieces.Piece.{Piece}
-use Rattle.wb_machine.specs.declared.pieces.Piece.TheVariants.{Code, Turns, Trap, MainTrap}
+use Rattle.wb_machine.specs.declared.pieces.Piece.TheVariants.{Code, Turns, Trap, MainTrap, Call}
 use Rattle.wb_machine.specs.declared.pieces.Standing.{Standing}
-use Rattle.wb_machine.specs.RunState.{RunState, HasLines, first_state, state_of, account_of}
+use Rattle.wb_machine.specs.RunState.{Values, RunState, HasLines, first_state, state_of, account_of}
 
 -- `main` stands in the first frame, over no items
 abbrev pub in_main_frame : Where
@@ -31,12 +33,32 @@ is_nothing (x ∷ xs) = false
 abbrev pub where_of : Standing → Where
 where_of at = record { depth = at.depth; floor = at.floor }
 
--- no item stands at a TRAP's entry, since no statement pushes one
-abbrev pub pending_of : Piece → Pending
-pending_of (Code at statements) = doing (where_of at) (all statements.now)
-pending_of (Turns at left body) = doing (where_of at) (turns left body.now)
-pending_of (Trap at x) = catching (where_of at) x 0
-pending_of MainTrap = main_catching in_main_frame
+-- what becomes of a call's result
+abbrev pub afterwards : Option ℕ → Afterwards
+afterwards (Some x) = gives_to x
+afterwards None = nothing_more
+
+-- a call, with its target
+abbrev pub call_of : Option ℕ → ℕ → List Argument → Layer
+call_of (Some x) index arguments = Statement-F.CallTo x index arguments
+call_of None index arguments = Statement-F.Call index arguments
+
+-- a frame, by its locals; no body here has an object of its own
+abbrev pub frame_with : Values → Frame
+frame_with locals = record { this = null; locals = locals }
+
+-- A piece, over the locals of the frames below the innermost one. No item stands at a TRAP's entry, since no statement pushes one.
+abbrev pub pending_of : Values → Piece → Pending
+pending_of callers (Code at statements) = doing (where_of at) (all statements.now)
+pending_of callers (Turns at left body) = doing (where_of at) (turns left body.now)
+pending_of callers (Trap at x) = catching (where_of at) x 0
+pending_of callers MainTrap = main_catching in_main_frame
+pending_of callers (Call base target) = calling (frame_with (drop base callers)) (afterwards target)
+
+-- the locals of the frames below, once a piece is done
+abbrev pub callers_under : Values → Piece → Values
+callers_under callers (Call base target) = take base callers
+callers_under callers _ = callers
 
 -- a piece that begins with a step
 abbrev pub needs_step : Piece → Bool
@@ -44,17 +66,22 @@ needs_step (Code at statements) = not (is_nothing statements.now)
 needs_step (Turns at left body) = nat_lt 0 left
 needs_step _ = false
 
+-- the statement that a piece begins with
+abbrev pub first_statement : Piece → Option Numbered
+first_statement (Code at statements) = slice_get statements.now 0
+first_statement _ = None
+
 -- statements as they stand in a script
 abbrev pub AreOwn : Script → List Numbered → Type 0
 AreOwn script statements =
-    (locals : List Local) × (trapped : Bool) × (depth : ℕ) × (are_within (length script.literals) locals depth trapped statements ≡ true)
+    (locals : List Local) × (trapped : Bool) × (depth : ℕ) × (are_within (declared_in script) locals depth trapped statements ≡ true)
 
 -- a statement as it stands in a script
 pub record IsOwn (script : Script) (layer : Layer) : Type 0 where
   pub locals : List Local
   pub trapped : Bool
   pub depth : ℕ
-  pub sound : is_nested (length script.literals) locals trapped (are_within (length script.literals) locals depth) layer ≡ true
+  pub sound : is_nested (declared_in script) locals trapped (are_within (declared_in script) locals depth) layer ≡ true
 
 -- the same of one that no other stands inside
 pub record IsSimple (script : Script) (layer : Layer) : Type 0 where
@@ -68,14 +95,19 @@ IsSoundPiece script (Code at statements) = AreOwn script statements.now
 IsSoundPiece script (Turns at left body) = AreOwn script body.now
 IsSoundPiece script (Trap at x) = Unit {0}
 IsSoundPiece script MainTrap = Unit {0}
+IsSoundPiece script (Call base target) = Unit {0}
 
 abbrev pub AreSound : Script → List Piece → Type 0
 AreSound script [] = Unit {0}
 AreSound script (p ∷ ps) = IsSoundPiece script p × AreSound script ps
 
--- the pending pieces, the innermost first
-abbrev pub pending_in : List Piece → List Pending
-pending_in pieces = map pending_of (reverse pieces)
+-- the pending pieces, the innermost first, over the locals of the frames below
+abbrev pub pending_from : Values → List Piece → List Pending
+pending_from callers [] = []
+pending_from callers (p ∷ ps) = pending_of callers p ∷ pending_from (callers_under callers p) ps
+
+abbrev pub pending_in : Values → List Piece → List Pending
+pending_in callers pieces = pending_from callers (reverse pieces)
 
 -- the process that ended so
 abbrev pub ended_by : Ending → State → Process
@@ -136,26 +168,25 @@ IsCarriedOut script layer h ending g =
 -- what is left of a run that was begun gives this under a rule
 abbrev pub rest_from : Script → ℕ → Rule → Ending → List Piece → RunState → RunResult
 rest_from script budget r ending pieces h =
-    rest script budget h.debug.shape r (progress_by ending (pending_in pieces) (state_of script h)) (account_of h)
+    rest script budget h.debug.shape r (progress_by ending (pending_in h.callers pieces) (state_of script h)) (account_of h)
 
 -- the same of a run that may not have begun
 abbrev pub rest_at : Script → ℕ → Rule → Bool → Ending → List Piece → RunState → RunResult
 rest_at script budget r begun ending pieces h =
-    rest script budget h.debug.shape r (progress_of begun ending (pending_in pieces) (state_of script h)) (account_of h)
+    rest script budget h.debug.shape r (progress_of begun ending (pending_in h.callers pieces) (state_of script h)) (account_of h)
 
 -- what a statement that begins gives under a rule, and then the pieces
 abbrev pub rest_of_statement : Script → ℕ → Rule → Where → Layer → List Piece → RunState → RunResult
 rest_of_statement script budget r at layer pieces h =
-    result_of (flow r (and_then (statement script (meaning_of script budget) at layer (state_of script h)) (resume script budget (pending_in pieces))) h)
+    result_of (flow r (and_then (statement script (meaning_of script budget) at layer (state_of script h)) (resume script budget (pending_in h.callers pieces))) h)
 
 -- the same of a piece
 abbrev pub rest_of_piece : Script → ℕ → Rule → Pending → List Piece → RunState → RunResult
-rest_of_piece script budget r p pieces h = result_of (flow r (resume script budget (p ∷ pending_in pieces) goes_on (state_of script h)) h)
+rest_of_piece script budget r p pieces h = result_of (flow r (resume script budget (p ∷ pending_in h.callers pieces) goes_on (state_of script h)) h)
 
--- the same of a piece under one that ended so
-abbrev pub rest_under : Script → ℕ → Rule → Ending → Pending → List Piece → RunState → RunResult
-rest_under script budget r ending p pieces h =
-    result_of (flow r (and_then (ended_by ending (state_of script h)) (resume script budget (p ∷ pending_in pieces))) h)
+-- the same of pieces under one that ended so
+abbrev pub rest_under : Script → ℕ → Rule → Ending → List Pending → RunState → RunResult
+rest_under script budget r ending pending h = result_of (flow r (and_then (ended_by ending (state_of script h)) (resume script budget pending)) h)
 
 -- nothing is done yet, and nothing is to do
 pub record IsFirst (ending : Ending) (pieces : List Piece) (h : RunState) : Type 0 where

@@ -1,3 +1,4 @@
+pub mod Asks
 pub mod Carried
 pub mod CarriedTexts
 pub mod Flow

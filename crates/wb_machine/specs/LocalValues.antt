@@ -1,15 +1,24 @@
--- The locals of a body as values.
-use Rattle.std.specs.Prelude.{ℕ, map}
+-- Locals as values.
+use Rattle.std.specs.Prelude.{ℕ, ℤ, ◌≤◌, ◌++◌, List, map, take, drop, vec_len}
+use Rattle.wb_model.specs.declared.heap.Ptr.{Ptr}
+use Rattle.wb_model.specs.declared.script.Argument.{Argument}
+use Rattle.wb_model.specs.declared.script.Argument.TheVariants.{Passed, Given}
+use Rattle.wb_model.specs.declared.script.Holder.TheVariants as H
+use Rattle.wb_model.specs.declared.script.Local.{Local}
+use Rattle.wb_model.specs.declared.script.Number.{Number}
+use Rattle.wb_model.specs.declared.script.Number.TheVariants.{Constant, Variable}
+use Rattle.wb_model.specs.declared.script.Pointer.{Pointer}
+use Rattle.wb_model.specs.declared.script.Pointer.TheVariants.{Held}
 use Rattle.wb_model.specs.declared.text.Base.{Base}
 use Rattle.wb_model.specs.declared.text.Base.TheVariants.{Nothing}
 use Rattle.wb_model.specs.declared.text.View.{View}
 use Rattle.wb_model.specs.Texts.{Buffer}
-use Rattle.wb_model.specs.State.{Value, pointer, number, buffer, view}
+use Rattle.wb_model.specs.State.{Value, pointer, number, buffer, view, initial, null, pointer_in, number_in}
 use Rattle.wb_model.specs.Reading.{buffer_text, max_in}
 use Rattle.wb_machine.specs.declared.locals.Slot.{Slot}
 use Rattle.wb_machine.specs.declared.locals.Slot.TheVariants as S
 use Rattle.wb_machine.specs.declared.locals.Locals.TheInside.{Inside}
-use Rattle.wb_machine.specs.RunState.{Values}
+use Rattle.wb_machine.specs.RunState.{Values, value_in}
 
 abbrev pub value_of : Slot → Value
 value_of (S.Pointer p) = pointer p
@@ -17,8 +26,44 @@ value_of (S.Number z) = number z
 value_of (S.Buffer b) = buffer b.max b.units
 value_of (S.View v) = view v
 
-abbrev pub values_in : Inside → Values
-values_in l = map value_of l.slots.items
+-- the locals of the innermost frame, and those of the frames below it, from the outermost on
+pub record Frames : Type 0 where
+  pub callers : Values
+  pub locals : Values
+
+abbrev pub frames_in : Inside → Frames
+frames_in l = record { callers = take l.base (map value_of l.slots.items); locals = drop l.base (map value_of l.slots.items) }
+
+-- a frame begins no later than the locals end
+abbrev pub IsWithin : Inside → Type 0
+IsWithin l = l.base ≤ vec_len l.slots
+
+-- the pointer of an operand, over the locals of a frame
+abbrev pub pointer_over : Values → Pointer → Ptr
+pointer_over locals (Held (H.Local i)) = pointer_in (value_in locals i)
+pointer_over locals _ = null
+
+-- the number of an operand
+abbrev pub number_over : Values → Number → ℤ
+number_over locals (Constant z) = z
+number_over locals (Variable i) = number_in (value_in locals i)
+
+-- what a parameter gets
+abbrev pub passed : Values → Argument → Value
+passed locals (Passed p) = pointer (pointer_over locals p)
+passed locals (Given v) = number (number_over locals v)
+
+-- the locals of a body that is called with arguments: its parameters, and those that it declares
+abbrev pub called_with : Values → List Argument → List Local → Values
+called_with locals arguments declared = map (passed locals) arguments ++ map initial declared
+
+-- a frame on top of the innermost one
+abbrev pub framed : Frames → List Argument → List Local → Frames
+framed f arguments declared = record { callers = f.callers ++ f.locals; locals = called_with f.locals arguments declared }
+
+-- the innermost frame is dropped; the one below it begins at a place
+abbrev pub unframed : Frames → ℕ → Frames
+unframed f base = record { callers = take base f.callers; locals = drop base f.callers }
 
 -- the buffer in a value; a value that holds none reads as an empty one of maximum 0
 abbrev pub buffer_in : Value → Buffer

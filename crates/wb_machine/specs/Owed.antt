@@ -18,10 +18,16 @@ pub record Stays (before after : RunState) : Type 0 where
   pub lines : before.debug.attempts + length after.debug.trace ≡ after.debug.attempts + length before.debug.trace
   pub deeper : after.debug.heap.level ≤ before.debug.heap.level + 1
 
--- the same of a statement, which counts no step itself
+-- the same of the head of a statement, which counts no step itself
+pub record KeepsSteps (before after : RunState) : Type 0 where
+  pub steps : after.steps ≡ before.steps
+  pub stays : Stays before after
+
+-- the same of a statement that is carried out in its own frame
 pub record KeepsCount (before after : RunState) : Type 0 where
   pub steps : after.steps ≡ before.steps
   pub stays : Stays before after
+  pub callers : after.callers ≡ before.callers
 
 -- a statement ended so and left this state, as it is to be carried out
 pub record CarriesOut (before : RunState) (carried : Carried) (ending : Ending) (after : RunState) : Type 0 where
@@ -29,6 +35,6 @@ pub record CarriesOut (before : RunState) (carried : Carried) (ending : Ending) 
   pub becomes : after ≡ carried.state
   pub keeps : KeepsCount before after
 
--- nothing but locals changed
+-- nothing but locals changed, of whatever frames
 abbrev pub IsSameButLocals : RunState → RunState → Type 0
-IsSameButLocals before after = after ≡ record before { locals = after.locals }
+IsSameButLocals before after = after ≡ record before { locals = after.locals; callers = after.callers }

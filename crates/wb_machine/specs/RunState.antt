@@ -18,18 +18,20 @@ use Rattle.wb_model.specs.Spelling.{read_as}
 abbrev pub Values : Type 0
 Values = List Value
 
--- the debug heap, the cleanup stack's cell, the locals, what was printed, the notes, and the steps
+-- the debug heap, the cleanup stack's cell, the locals of the innermost frame, those of the frames below it, from the outermost
+-- on, what was printed, the notes, and the steps
 pub record RunState : Type 0 where
   pub debug : Debug
   pub cleanup : Ptr
   pub locals : Values
+  pub callers : Values
   pub lines : List (List ℕ)
   pub notes : List Note
   pub steps : ℕ
 
 -- nothing is done yet
 abbrev pub first_state : Rule → Shape → RunState
-first_state rule shape = record { debug = first_debug rule shape; cleanup = null; locals = []; lines = []; notes = []; steps = 0 }
+first_state rule shape = record { debug = first_debug rule shape; cleanup = null; locals = []; callers = []; lines = []; notes = []; steps = 0 }
 
 -- the body of `main`
 abbrev pub main_of : Script → Body

@@ -3,4 +3,4 @@ use Rattle.wb_machine.specs.declared.state.State.TheInside.{Inside}
 use Rattle.wb_machine.specs.RunState.{RunState}
 
 abbrev pub run_state : Inside → RunState
-run_state s = record { debug = s.heap; cleanup = s.cleanup; locals = s.locals; lines = s.lines; notes = s.notes; steps = s.steps }
+run_state s = record { debug = s.heap; cleanup = s.cleanup; locals = s.locals.locals; callers = s.locals.callers; lines = s.lines; notes = s.notes; steps = s.steps }

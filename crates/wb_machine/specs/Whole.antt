@@ -1,5 +1,5 @@
 -- A whole machine: what callers see of it, and what it keeps.
-use Rattle.std.specs.Prelude.{◌≡◌, ◌⊎◌, ◌+◌, ◌≤◌, Bool, true, false, ◌&&◌}
+use Rattle.std.specs.Prelude.{◌≡◌, ◌⊎◌, ◌+◌, ◌≤◌, Bool, true, false, not, ◌&&◌}
 use Rattle.wb_model.specs.declared.limits.TheConstants.{LARGEST_BUDGET}
 use Rattle.wb_model.specs.declared.heap.Rule.{Rule}
 use Rattle.wb_model.specs.declared.run.RunResult.{RunResult}
@@ -8,6 +8,7 @@ use Rattle.wb_model.specs.Run.{run}
 use Rattle.wb_model.specs.Rest.{Fits, Progress, next_line}
 use Rattle.wb_machine.specs.declared.machine.Machine.TheInside.{Inside}
 use Rattle.wb_machine.specs.RunState.{HasLines, state_of}
+use Rattle.wb_machine.specs.Asks.{asks_next}
 use Rattle.wb_machine.specs.Seen.{Seen}
 use Rattle.wb_machine.specs.Flow.{is_stop, is_over, AreSound, IsReady, IsFirst, pending_in, progress_of, rest_at}
 use Rattle.wb_machine.specs.Told.{leaks_at_end}
@@ -17,7 +18,7 @@ abbrev pub has_ended : Inside → Bool
 has_ended m = m.begun && is_over m.control.ending m.control.pieces.items
 
 abbrev pub progress_in : Inside → Progress
-progress_in m = progress_of m.begun m.control.ending (pending_in m.control.pieces.items) (state_of m.script.now m.state)
+progress_in m = progress_of m.begun m.control.ending (pending_in m.state.callers m.control.pieces.items) (state_of m.script.now m.state)
 
 abbrev pub seen : Inside → Seen
 seen m = record {
@@ -31,6 +32,7 @@ seen m = record {
   next = next_line (progress_in m);
   begun = m.begun;
   over = has_ended m;
+  asks = not m.failed && asks_next m.script.now m.budget (progress_in m);
   failed = m.failed;
 }
 

@@ -1,24 +1,25 @@
 //! What is still to do, as explicit pieces, and the turns of a run. What the pieces act on stands in `state`, what the head of a
 //! statement leaves in `heads`, and what becomes of pieces that are done in `unwinding`.
 
-ghost use Rattle.std.specs.Prelude.{◌≡◌, ◌+◌, ◌^◌, ◌<◌, ◌≤◌, ◌⊎◌, ◌++◌, ◌∷◌, ◌&&◌, [], ℕ, true, false, if◌then◌else◌, nat_lt, unwrap_or, min, IsTrue, OnOk};
+ghost use Rattle.std.specs.Prelude.{◌≡◌, ◌+◌, ◌^◌, ◌<◌, ◌≤◌, ◌⊎◌, ◌++◌, ◌∷◌, ◌&&◌, [], ℕ, true, false, if◌then◌else◌, nat_lt, length, unwrap_or, min, IsTrue, OnOk};
 ghost use Rattle.wb_model.specs.Sound.{is_script};
-ghost use Rattle.wb_model.specs.Statements.{all, turns};
+ghost use Rattle.wb_model.specs.Statements.{all, turns, procedure_at};
 ghost use Rattle.wb_model.specs.Rest.{doing, first_line, Fits};
 ghost use Rattle.wb_model.specs.Run.{run};
 ghost use Rattle.wb_model.specs.declared.heap.Rule.{Rule};
 ghost use Rattle.wb_model.specs.declared.run.Why.TheVariants.{Budget};
 ghost use Rattle.wb_model.specs.declared.script.Script.{Script};
 ghost use Rattle.wb_machine.specs.declared.pieces.Ending.TheVariants.{GoesOn, Cut};
-ghost use Rattle.wb_machine.specs.RunState.{RunState, HasLines, first_state, main_of};
-ghost use Rattle.wb_machine.specs.Flow.{where_of, pending_in, is_stop, is_over, AreOwn, AreSound, IsReady, IsFirst, rest_from, rest_of_piece, rest_at};
+ghost use Rattle.wb_machine.specs.RunState.{RunState, HasLines, first_state, state_of};
+ghost use Rattle.wb_machine.specs.Flow.{where_of, pending_in, is_stop, is_over, progress_by, AreOwn, AreSound, IsReady, IsFirst, rest_from, rest_of_piece, rest_at};
+ghost use Rattle.wb_machine.specs.Asks.{asks_next};
 ghost use Rattle.wb_machine.specs.Carried.{stepped};
 ghost use Rattle.wb_machine.specs.Owed.{MayAttempt, Stays};
 
 mod heads;
 mod unwinding;
 
-use crate::pieces::{Ending, IN_MAIN, Piece, Standing};
+use crate::pieces::{Ending, IN_MAIN, Piece, Standing, first_statement};
 use crate::state::State;
 use std::alloc::{AllocError, Global};
 use wb_model::heap::{Gave, Kind};
@@ -38,12 +39,12 @@ pub struct Control<'a> {
     line: u32,
 }
 
-/// The body of `main`.
-fn main_of(script: &Script) -> &Body
-    requires { IsTrue (is_script script.now) }
-    ensures { result.now ≡ main_of script.now }
+/// The body of a procedure.
+fn procedure_at(script: &Script, index: u16) -> &Body
+    requires { index < length script.now.procedures }
+    ensures { result.now ≡ procedure_at script.now index }
 {
-    match script.procedures.get(script.main as usize) {
+    match script.procedures.get(index as usize) {
         Some(procedure) => &procedure.body,
         None => unreachable!(),
     }
@@ -111,7 +112,7 @@ impl<'a> Control<'a> {
     {
         match state.attempt(FIRST_BYTES, Kind::Cleanup)? {
             Gave::Granted(cell) => {
-                let main = main_of(script);
+                let main = procedure_at(script, script.main);
                 state.enter(cell, main.locals.as_slice())?;
                 self.push(Piece::MainTrap)?;
                 self.push(Piece::Code(IN_MAIN, main.statements.as_slice()))?;
@@ -195,7 +196,7 @@ impl<'a> Control<'a> {
         ensures sound { OnOk result (AreSound script.now self.new.pieces.items) }
         ensures stays { Stays state.old state.new }
         ensures steps { OnOk result (state.new.steps ≡ state.old.steps + 1) }
-        ensures line { OnOk result (self.new.line ≡ unwrap_or (first_line (pending_in self.old.pieces.items)) self.old.line) }
+        ensures line { OnOk result (self.new.line ≡ unwrap_or (first_line (pending_in state.old.callers self.old.pieces.items)) self.old.line) }
     {
         match self.pieces.pop() {
             Some(Piece::Code(at, [first, rest @ ..])) => {
@@ -203,6 +204,24 @@ impl<'a> Control<'a> {
             }
             Some(Piece::Turns(at, left, body)) => self.step_turns(at, left, body, state),
             _ => unreachable!(),
+        }
+    }
+
+    /// Whether a step asks for an attempt: it does where it begins a statement that asks.
+    pub fn asks(&self, state: &State) -> bool
+        requires { (is_over self.now.ending self.now.pieces.items ≡ true) ⊎ IsReady self.now.ending self.now.pieces.items }
+        ensures { (script : Script) (budget : ℕ) → AreSound script self.now.pieces.items → state.now.steps < budget →
+            result ≡ asks_next script budget (progress_by self.now.ending (pending_in state.now.callers self.now.pieces.items) (state_of script state.now)) }
+    {
+        if self.is_over() {
+            return false;
+        }
+        let Some(piece) = self.pieces.last() else {
+            return false;
+        };
+        match first_statement(piece) {
+            Some(first) => state.asks(&first.statement),
+            None => false,
         }
     }
 
@@ -249,7 +268,7 @@ impl<'a> Control<'a> {
         ensures one { OnOk result (begun ≡ false → state.new.debug.attempts ≡ 1) }
         ensures later { OnOk result (begun ≡ true → state.new.steps ≡ min (state.old.steps + 1) budget) }
         ensures steps { OnOk result (begun ≡ true → is_over self.new.ending self.new.pieces.items ≡ false → state.new.steps ≡ state.old.steps + 1) }
-        ensures line { OnOk result (self.new.line ≡ (if begun && nat_lt state.old.steps budget then unwrap_or (first_line (pending_in self.old.pieces.items)) self.old.line else self.old.line)) }
+        ensures line { OnOk result (self.new.line ≡ (if begun && nat_lt state.old.steps budget then unwrap_or (first_line (pending_in state.old.callers self.old.pieces.items)) self.old.line else self.old.line)) }
     {
         if !begun {
             self.begin(script, state)?;

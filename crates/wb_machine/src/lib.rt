@@ -1,6 +1,8 @@
 //! A machine that runs a script one step at a time.
 #![tactic(auto)]
 
+mod arguments;
+mod asks;
 mod carry;
 mod cells;
 mod control;

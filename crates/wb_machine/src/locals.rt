@@ -1,17 +1,18 @@
-//! The locals of a body.
+//! The locals of all frames, and what a local holds.
 
-ghost use Rattle.std.specs.Prelude.{◌≡◌, [], map, slice_set, IsTrue, OnOk};
+ghost use Rattle.std.specs.Prelude.{◌≡◌, ◌++◌, [], map, length, slice_set, vec_len, ◌≤◌, IsTrue, IfOk, OnOk};
 ghost use Rattle.std.specs.List.{list_all};
 ghost use Rattle.wb_model.specs.Sound.{is_local};
-ghost use Rattle.wb_model.specs.State.{initial, pointer_in, number_in};
+ghost use Rattle.wb_model.specs.State.{initial};
 ghost use Rattle.wb_machine.specs.RunState.{value_in};
-ghost use Rattle.wb_machine.specs.LocalValues.{value_of, buffer_in, window_in};
+ghost use Rattle.wb_machine.specs.LocalValues.{value_of, pointer_over, number_over, framed, unframed, buffer_in, window_in};
 
+use crate::arguments::{number_over, pass, pointer_over};
 use crate::windows::Window;
 use std::alloc::{AllocError, Global};
 use std::marker::Model;
 use wb_model::heap::Ptr;
-use wb_model::script::Local;
+use wb_model::script::{Argument, Local, Number, Pointer};
 use wb_text::buf::Buf;
 
 /// The pointer that names no cell.
@@ -29,20 +30,24 @@ pub enum Slot {
     View(Window),
 }
 
-/// The locals of a body, by their index.
+/// The locals of all frames, those of the innermost last. Each is named by its index in its frame.
 #[derive(Drop)]
 pub struct Locals {
     slots: Vec<Slot>,
+    /// Where the innermost frame begins.
+    base: usize,
 }
 
 impl Model for Locals {
-    ghost use Rattle.wb_machine.specs.RunState.{Values};
+    ghost use Rattle.wb_machine.specs.LocalValues.{Frames};
 
-    ghost Value = { Values };
+    ghost Value = { Frames };
 
-    ghost use Rattle.wb_machine.specs.LocalValues.{values_in};
+    ghost use Rattle.wb_machine.specs.LocalValues.{frames_in, IsWithin};
 
-    ghost view = { values_in };
+    ghost view = { frames_in };
+
+    ghost invariant = { IsWithin };
 }
 
 /// What a local holds at first.
@@ -69,53 +74,79 @@ fn copy_of(buf: &Buf) -> Buf
     }
 }
 
+/// Puts locals behind others, with what they hold at first.
+fn declare(slots: &mut Vec<Slot>, locals: &[Local]) -> Result<(), AllocError>
+    requires { IsTrue (list_all is_local locals.now) }
+    ensures declared { OnOk result (map value_of slots.new.items ≡ map value_of slots.old.items ++ map initial locals.now) }
+    ensures more { vec_len slots.old ≤ vec_len slots.new }
+{
+    for local in locals {
+        slots.push(first_slot(*local))?;
+    }
+    Ok(())
+}
+
 impl Locals {
     /// No locals, which take no memory.
     pub fn new(alloc: Global) -> Locals
-        ensures { result ≡ [] }
+        ensures { result ≡ record { callers = []; locals = [] } }
     {
         Locals {
             slots: Vec::new(alloc),
+            base: 0,
         }
     }
 
-    /// The locals that a body declares, with what they hold at first.
-    pub fn begin(&mut self, locals: &[Local]) -> Result<(), AllocError>
-        requires none { self.old ≡ [] }
-        requires locals { IsTrue (list_all is_local locals.now) }
-        ensures { OnOk result (self.new ≡ map initial locals.now) }
+    /// A frame on top, for a body that is called with these arguments and declares these locals. Answers where the
+    /// caller's frame begins. No memory is asked for where as many locals stood at once before.
+    pub fn call(&mut self, arguments: &[Argument], locals: &[Local]) -> Result<usize, AllocError>
+        requires { IsTrue (list_all is_local locals.now) }
+        ensures frames { OnOk result (self.new ≡ framed self.old arguments.now locals.now) }
+        ensures caller { IfOk result (λ base. base ≡ length self.old.callers) }
     {
-        for local in locals {
-            self.slots.push(first_slot(*local))?;
-        }
-        Ok(())
+        let caller = self.base;
+        let top = self.slots.len();
+        pass(&mut self.slots, caller, arguments)?;
+        declare(&mut self.slots, locals)?;
+        self.base = top;
+        Ok(caller)
     }
 
-    /// The pointer in a local; null where it holds none.
-    pub fn pointer(&self, index: u8) -> Ptr
-        ensures { result ≡ pointer_in (value_in self.now index) }
+    /// Drops the innermost frame. The caller's, which begins at `base`, is the innermost again.
+    pub fn end_call(&mut self, base: usize)
+        ensures { self.new ≡ unframed self.old base }
     {
-        match self.slots.get(index as usize) {
-            Some(Slot::Pointer(ptr)) => *ptr,
-            _ => NULL,
-        }
+        self.slots.truncate(self.base);
+        // a frame begins no later than the one above it
+        self.base = base.min(self.base);
     }
 
-    /// The number in a local; 0 where it holds none.
-    pub fn number(&self, index: u8) -> i32
-        ensures { result ≡ number_in (value_in self.now index) }
+    /// The locals of the innermost frame.
+    fn frame(&self) -> &[Slot]
+        ensures { map value_of result.now ≡ self.now.locals }
     {
-        match self.slots.get(index as usize) {
-            Some(Slot::Number(number)) => *number,
-            _ => 0,
-        }
+        &self.slots[self.base..]
+    }
+
+    /// The pointer of an operand; null where it names no pointer.
+    pub fn pointer(&self, operand: Pointer) -> Ptr
+        ensures { result ≡ pointer_over self.now.locals operand }
+    {
+        pointer_over(self.frame(), operand)
+    }
+
+    /// The number of an operand; 0 where it names none.
+    pub fn number(&self, operand: Number) -> i32
+        ensures { result ≡ number_over self.now.locals operand }
+    {
+        number_over(self.frame(), operand)
     }
 
     /// A copy of the buffer in a local; an empty one of maximum 0 where it holds none.
     pub fn buffer(&self, index: u8) -> Buf
-        ensures { result ≡ buffer_in (value_in self.now index) }
+        ensures { result ≡ buffer_in (value_in self.now.locals index) }
     {
-        match self.slots.get(index as usize) {
+        match self.frame().get(index as usize) {
             Some(Slot::Buffer(buf)) => copy_of(buf),
             _ => Buf::new(0),
         }
@@ -123,9 +154,9 @@ impl Locals {
 
     /// The view in a local; an empty one of nothing where it holds none.
     pub fn view(&self, index: u8) -> Window
-        ensures { result ≡ window_in (value_in self.now index) }
+        ensures { result ≡ window_in (value_in self.now.locals index) }
     {
-        match self.slots.get(index as usize) {
+        match self.frame().get(index as usize) {
             Some(Slot::View(window)) => window.copied(),
             _ => Window::nothing(),
         }
@@ -133,10 +164,11 @@ impl Locals {
 
     /// A local gets a value; one that isn't there stays so.
     pub fn set(&mut self, index: u8, slot: Slot)
-        ensures { self.new ≡ slice_set self.old index (value_of slot) }
+        ensures { self.new ≡ record self.old { locals = slice_set self.old.locals index (value_of slot) } }
     {
-        if (index as usize) < self.slots.len() {
-            self.slots[index as usize] = slot;
+        let at = self.base + index as usize;
+        if at < self.slots.len() {
+            self.slots[at] = slot;
         }
     }
 }

@@ -107,6 +107,7 @@ impl<'a> Machine<'a> {
           next = None;
           begun = false;
           over = false;
+          asks = true;
           failed = false;
         }) }
     {
@@ -170,6 +171,20 @@ impl<'a> Machine<'a> {
         list_leaks(&mut self.leaks, self.control.ending(), &self.state)?;
         self.failed = false;
         Ok(Turn::Ended)
+    }
+
+    /// Whether the next turn asks for an attempt, if it finds memory. The first turn does. One that cuts the run at the budget
+    /// asks for none; nor does any once the run is over, or after `NoMemory`.
+    pub fn will_attempt(&self) -> bool
+        ensures { result ≡ self.now.asks }
+    {
+        if self.failed {
+            return false;
+        }
+        if !self.begun {
+            return true;
+        }
+        self.state.steps() < self.budget && self.control.asks(&self.state)
     }
 
     /// How many attempts were made so far. One that the ceiling cuts isn't counted.

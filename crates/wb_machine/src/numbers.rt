@@ -44,7 +44,7 @@ impl State {
         ensures { CarriesOut self.old (add_carried self.old local (number_read self.old value)) result self.new }
     {
         let value = self.number(value);
-        let Some(sum) = self.locals.number(local).checked_add(value) else {
+        let Some(sum) = self.number(Number::Variable(local)).checked_add(value) else {
             return Ending::Panics(Panic::NUMBER_OUT_OF_RANGE);
         };
         self.set(local, Slot::Number(sum));

@@ -1,7 +1,8 @@
 //! What is still to do, as pieces, and how a piece ends.
 
 ghost use Rattle.std.specs.Prelude.{◌≡◌};
-ghost use Rattle.wb_machine.specs.Flow.{needs_step, is_stop};
+ghost use Rattle.std.specs.Option.{option_copied};
+ghost use Rattle.wb_machine.specs.Flow.{needs_step, is_stop, first_statement};
 
 use wb_model::heap::{Panic, Ptr};
 use wb_model::run::Why;
@@ -58,6 +59,8 @@ pub enum Piece<'a> {
     Trap(Standing, u8),
     /// `main`'s own TRAP.
     MainTrap,
+    /// A call: where the caller's frame begins among the locals, and the caller's local that gets the result, where one does.
+    Call(usize, Option<u8>),
 }
 
 /// Whether a piece begins with a step.
@@ -69,5 +72,16 @@ pub fn needs_step(piece: &Piece) -> bool
         Piece::Turns(_, left, _) => *left > 0,
         Piece::Trap(..) => false,
         Piece::MainTrap => false,
+        Piece::Call(..) => false,
+    }
+}
+
+/// The statement that a piece begins with, where it begins with one.
+pub fn first_statement<'a>(piece: &Piece<'a>) -> Option<&'a Numbered>
+    ensures { option_copied result ≡ first_statement piece.now }
+{
+    match piece {
+        Piece::Code(_, statements) => statements.first(),
+        Piece::Turns(..) | Piece::Trap(..) | Piece::MainTrap | Piece::Call(..) => None,
     }
 }

@@ -1,13 +1,13 @@
 //! What all bodies of a script share. What each statement does with it stands in files by subject, and what
 //! is still to do in `control`.
 
-ghost use Rattle.std.specs.Prelude.{◌≡◌, ◌+◌, ◌^◌, ◌<◌, ◌↔◌, [], false, IfOk, OnOk, IsTrue};
+ghost use Rattle.std.specs.Prelude.{◌≡◌, ◌+◌, ◌^◌, ◌<◌, ◌↔◌, [], length, false, IfOk, OnOk, IsTrue};
 ghost use Rattle.std.specs.List.{list_all};
 ghost use Rattle.wb_model.specs.Sound.{is_local};
 ghost use Rattle.wb_model.specs.Space.{is_shape};
 ghost use Rattle.wb_machine.specs.RunState.{first_state};
 ghost use Rattle.wb_machine.specs.Told.{leaks_at_end, outcome_by, told_by};
-ghost use Rattle.wb_machine.specs.Carried.{pointer_read, number_read, pointer_stored, stored, stepped, entered};
+ghost use Rattle.wb_machine.specs.Carried.{pointer_read, number_read, pointer_stored, stored, stepped, entered, called, called_back};
 ghost use Rattle.wb_machine.specs.LocalValues.{value_of};
 
 use crate::locals::{Locals, NULL, Slot};
@@ -20,7 +20,7 @@ use wb_model::heap::{Ptr, Rule, Shape};
 use wb_model::items::Items;
 use wb_model::memory::NoMemory;
 use wb_model::run::{Leaks, Lines, Notes, Outcome, RunResult};
-use wb_model::script::{Holder, Local, Number, Pointer};
+use wb_model::script::{Argument, Holder, Local, Number, Pointer};
 
 /// What all bodies share.
 #[derive(Drop)]
@@ -89,33 +89,47 @@ impl State {
     /// `main` begins, with its locals, over the cleanup stack's cell.
     pub fn enter(&mut self, cell: Ptr, locals: &[Local]) -> Result<(), NoMemory>
         requires none { self.old.locals ≡ [] }
+        requires no_caller { self.old.callers ≡ [] }
         requires locals { IsTrue (list_all is_local locals.now) }
         ensures entered { OnOk result (self.new ≡ entered self.old cell locals.now) }
         ensures debug { self.new.debug ≡ self.old.debug }
     {
         self.cleanup = cell;
-        self.locals.begin(locals)?;
+        self.locals.call(&[], locals)?;
         Ok(())
+    }
+
+    /// A body is called with arguments, in a frame of its own. Answers where the caller's frame begins.
+    pub fn call(&mut self, arguments: &[Argument], locals: &[Local]) -> Result<usize, NoMemory>
+        requires { IsTrue (list_all is_local locals.now) }
+        ensures called { OnOk result (self.new ≡ called self.old arguments.now locals.now) }
+        ensures caller { IfOk result (λ base. base ≡ length self.old.callers) }
+        ensures debug { self.new.debug ≡ self.old.debug }
+        ensures steps { self.new.steps ≡ self.old.steps }
+    {
+        let caller = self.locals.call(arguments, locals)?;
+        Ok(caller)
+    }
+
+    /// A body has ended, and its frame is dropped. The caller's begins at `base`.
+    pub fn end_call(&mut self, base: usize)
+        ensures { self.new ≡ called_back self.old base }
+    {
+        self.locals.end_call(base);
     }
 
     /// The pointer of an operand.
     pub fn pointer(&self, operand: Pointer) -> Ptr
         ensures { result ≡ pointer_read self.now operand }
     {
-        match operand {
-            Pointer::Held(Holder::Local(index)) => self.locals.pointer(index),
-            Pointer::Held(Holder::This) | Pointer::Field(..) => NULL,
-        }
+        self.locals.pointer(operand)
     }
 
     /// The number of an operand.
     pub fn number(&self, operand: Number) -> i32
         ensures { result ≡ number_read self.now operand }
     {
-        match operand {
-            Number::Constant(number) => number,
-            Number::Variable(index) => self.locals.number(index),
-        }
+        self.locals.number(operand)
     }
 
     /// A local gets a value.

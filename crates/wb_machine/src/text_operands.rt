@@ -17,7 +17,7 @@ use wb_model::script::{Readable, Script, Writable};
 use wb_text::{Base, Buf, View};
 
 /// Whether a cell holds a text.
-fn is_text(kind: Kind) -> bool
+pub fn is_text(kind: Kind) -> bool
     ensures { result ≡ is_text kind }
 {
     match kind {

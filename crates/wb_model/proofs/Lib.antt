@@ -10,6 +10,7 @@ pub mod ReallocatedHeaps
 pub mod FreeRuns
 pub mod LimitedHeaps
 pub mod ObjectCells
+pub mod NewCells
 pub mod Onward
 pub mod Parts
 pub mod KeptCells

@@ -9,10 +9,12 @@ use Rattle.wb_model.specs.declared.limits.TheConstants.{CEILING, LARGEST_MINIMUM
 use Rattle.wb_model.specs.declared.heap.Header.{Header}
 use Rattle.wb_model.specs.declared.heap.Kind.{Kind}
 use Rattle.wb_model.specs.declared.heap.Ptr.{Ptr}
+use Rattle.wb_model.specs.declared.heap.Rule.{Rule}
+use Rattle.wb_model.specs.declared.heap.Rule.TheVariants.{Unlimited, Limit, Number}
 use Rattle.wb_model.specs.declared.heap.Shape.{Shape}
 use Rattle.wb_model.specs.CellRow.{payload_of}
 use Rattle.wb_model.specs.Row.{headers, end_of, IsSpacedFrom, IsRow, IsLeastPlace, top_of}
-use Rattle.wb_model.specs.Space.{Space, committed_by, compressed_to, round_up, is_shape}
+use Rattle.wb_model.specs.Space.{Space, committed_by, compressed_to, limit_under, round_up, is_shape}
 use Rattle.wb_model.specs.LimitedHeap.{LimitedHeap, IsSoundHeap, IsCellLength, IsLiveBelow, IsFilled, space_in, place_in, zero_words, fresh_cell, empty_heap, heap_with, heap_without, heap_changed, compressed_length, heap_compressed}
 use Rattle.wb_model.proofs.Places.{place_of-least}
 use Rattle.wb_model.proofs.Rows.{headers-without, headers-changed, IsRow-filter, IsRow-inserted, All-inserted, All-placed, place_from-top, top_from-within, ends-within}
@@ -205,3 +207,9 @@ All-heap_with P heap length kind number level here rest = All-inserted P (fresh_
 
 pub All-heap_without : (P : Header → Type 0) (heap : LimitedHeap) (p : Ptr) → All P (headers heap.row) → All P (headers (heap_without heap p).row)
 All-heap_without P heap p all = subst (All P) (sym (headers-without p heap.row)) (All-filter _ P (headers heap.row) all)
+
+-- no rule lets a heap pass the ceiling
+pub limit_under-ceiling : (r : Rule) → limit_under r ≤ CEILING
+limit_under-ceiling Unlimited = omega arith
+limit_under-ceiling (Limit l) = omega arith
+limit_under-ceiling (Number n) = omega arith

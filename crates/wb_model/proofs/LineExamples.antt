@@ -1,8 +1,9 @@
 -- What the definitions make of bytes where a reader might doubt: each example is proved by computing.
 use Rattle.std.specs.Prelude.{◌≡◌, pos, negsuc, [], ◌∷◌, ◌++◌, Some, None, codes, map, replicate}
 use Rattle.std.proofs.Common.{refl}
-use Rattle.wb_model.specs.declared.script_lines.Key.TheVariants.{Proc, Ptr, Buf, Alloc, Free, Store, Set, Insert, Left, Print, Heap, Available, Compress, End}
-use Rattle.wb_model.specs.declared.script_lines.Operand.TheVariants.{Name, Number, Size, Literal}
+use Rattle.wb_model.specs.declared.script_lines.Key.TheVariants.{Proc, Ptr, Buf, Alloc, AllocL, Free, Store, Set, Leave, LeaveIfNull, Call, CallTo, Return, ReturnPointer, Insert, Left, Print, Heap, Available, Compress, IfNull, IfSome, IfEqual, IfLess, Else, Repeat, Trap, End}
+use Rattle.wb_model.specs.declared.script_lines.Operand.TheVariants.{Name, Number, Size, Literal, Parameter, Keyword}
+use Rattle.wb_model.specs.declared.script.Parameter.TheVariants.{OfPointer, OfNumber}
 use Rattle.wb_model.specs.declared.script_lines.Form.TheVariants.{Skip, Unknown, Line}
 use Rattle.wb_model.specs.Lines.{lines_of, words_of, first_foreign_line}
 use Rattle.wb_model.specs.Words.{declared_name, number_spelled}
@@ -202,3 +203,49 @@ quotes_within_words = refl
 name_is_printed : line_form (codes "print p") ≡ Line Print (Name (codes "p") ∷ [])
 unfolding keys
 name_is_printed = refl
+
+-- Procedures and calls.
+
+parameters : map line_form (codes "proc f a:ptr" ∷ codes "proc f a:int b:int c:ptr a:ptr e:int" ∷ []) ≡
+    Line Proc (Name (codes "f") ∷ Parameter (codes "a") (OfPointer None) ∷ [])
+    ∷ Line Proc (Name (codes "f") ∷ Parameter (codes "a") OfNumber ∷ Parameter (codes "b") OfNumber ∷ Parameter (codes "c") (OfPointer None) ∷ Parameter (codes "a") (OfPointer None) ∷ Parameter (codes "e") OfNumber ∷ []) ∷ []
+unfolding keys
+parameters = refl
+
+-- a kind is wanted, with nothing between it and the name, and a name that can be declared
+no_parameters : map line_form (codes "proc f a" ∷ codes "proc f a: int" ∷ codes "proc f a:buf" ∷ codes "proc f :ptr" ∷ codes "proc f self:ptr" ∷ codes "proc f int:int" ∷ codes "proc f a:b:int" ∷ codes "proc f int" ∷ []) ≡ replicate 8 Unknown
+unfolding keys
+no_parameters = refl
+
+calls : map line_form (codes "call f" ∷ codes "call f p -3 x" ∷ codes "callto p f" ∷ codes "callto p f 1" ∷ codes "call" ∷ codes "call 1" ∷ codes "callto p" ∷ codes "call f \"a\"" ∷ []) ≡
+    Line Call (Name (codes "f") ∷ []) ∷ Line Call (Name (codes "f") ∷ Name (codes "p") ∷ Number (negsuc 2) ∷ Name (codes "x") ∷ [])
+    ∷ Line CallTo (Name (codes "p") ∷ Name (codes "f") ∷ []) ∷ Line CallTo (Name (codes "p") ∷ Name (codes "f") ∷ Number (pos 1) ∷ []) ∷ replicate 4 Unknown
+unfolding keys
+calls = refl
+
+returns : map line_form (codes "return" ∷ codes "return p" ∷ codes "return 1" ∷ codes "return p q" ∷ []) ≡
+    Line Return [] ∷ Line ReturnPointer (Name (codes "p") ∷ []) ∷ replicate 2 Unknown
+unfolding keys
+returns = refl
+
+-- Blocks and leaves.
+
+conditions : map line_form (codes "if null p" ∷ codes "if some null" ∷ codes "if eq x 3" ∷ codes "if less -1 x" ∷ []) ≡
+    Line IfNull (Keyword ∷ Name (codes "p") ∷ []) ∷ Line IfSome (Keyword ∷ Name (codes "null") ∷ [])
+    ∷ Line IfEqual (Keyword ∷ Name (codes "x") ∷ Number (pos 3) ∷ []) ∷ Line IfLess (Keyword ∷ Number (negsuc 0) ∷ Name (codes "x") ∷ []) ∷ []
+unfolding keys
+conditions = refl
+
+no_conditions : map line_form (codes "if" ∷ codes "if p" ∷ codes "if null" ∷ codes "if none p" ∷ codes "if null 0" ∷ codes "if eq x" ∷ codes "if \"null\" p" ∷ []) ≡ replicate 7 Unknown
+unfolding keys
+no_conditions = refl
+
+blocks : map line_form (codes "else" ∷ codes "repeat 3" ∷ codes "repeat x" ∷ codes "trap x" ∷ codes "else if" ∷ codes "trap 1" ∷ codes "repeat" ∷ []) ≡
+    Line Else [] ∷ Line Repeat (Number (pos 3) ∷ []) ∷ Line Repeat (Name (codes "x") ∷ []) ∷ Line Trap (Name (codes "x") ∷ []) ∷ replicate 3 Unknown
+unfolding keys
+blocks = refl
+
+leaving : map line_form (codes "allocl p 4" ∷ codes "leave -4" ∷ codes "leaveifnull p" ∷ codes "leave" ∷ codes "leaveifnull 0" ∷ []) ≡
+    Line AllocL (Name (codes "p") ∷ Number (pos 4) ∷ []) ∷ Line Leave (Number (negsuc 3) ∷ []) ∷ Line LeaveIfNull (Name (codes "p") ∷ []) ∷ replicate 2 Unknown
+unfolding keys
+leaving = refl

@@ -1,24 +1,28 @@
 -- A line that says something is made of words.
-use Rattle.std.proofs.Common.{◌≡◌, ◌≢◌, inl, inr, ℕ, ℤ, pos, neg_ℤ, nat_le, length, fold, ◌≤◌, List, [], ◌∷◌, Bool, true, false, not, ◌&&◌, nat_eq, Option, Some, None, if◌then◌else◌, arith, refl, sym, subst}
+use Rattle.std.proofs.Common.{◌≡◌, ◌≢◌, inl, inr, ℕ, zero, suc, ap, ℤ, pos, neg_ℤ, nat_le, length, fold, ◌≤◌, List, [], ◌∷◌, ◌++◌, ◌-◌, take, drop, Bool, true, false, not, ◌&&◌, nat_eq, Option, Some, None, if◌then◌else◌, arith, refl, sym, subst}
 use Rattle.std.specs.Prelude.{codes}
 use Rattle.std.specs.List.{list_all}
 use Rattle.std.specs.Option.{option_map}
 use Rattle.std.specs.Str.{bytes_eq}
 use Rattle.std.specs.Cmp.Lexicographic.{same_text}
 use Rattle.std.proofs.lemmas.Bool.Decides.{nat_tests}
+use Rattle.std.proofs.lemmas.List.{take-append-drop}
 use borrow.Author.Tests.{ne_eqb, eqb-true}
 use Rattle.wb_model.specs.declared.script_lines.Key.{Key}
 use Rattle.wb_model.specs.declared.script_lines.Letter.{Letter}
 use Rattle.wb_model.specs.declared.script_lines.Operand.{Operand}
-use Rattle.wb_model.specs.declared.script_lines.Operand.TheVariants.{Name, Number, Literal}
+use Rattle.wb_model.specs.declared.script_lines.Operand.TheVariants.{Name, Number, Literal, Keyword}
+use Rattle.wb_model.specs.declared.script.Parameter.{Parameter}
+use Rattle.wb_model.specs.declared.script_lines.Keyword as model
+use Rattle.wb_model.specs.declared.script_lines.Keyword.TheVariants as keyword
 use Rattle.wb_model.specs.declared.script_lines.Form.{Form}
 use Rattle.wb_model.specs.declared.script_lines.Form.TheVariants.{Line}
 use Rattle.wb_model.specs.Lines.{is_blank, words_of}
-use Rattle.wb_model.specs.Words.{is_reserved, with_digit, is_digit, is_name_byte, is_name, is_letter, declared_name, used_name, digits_of, number_spelled, literal_spelled}
+use Rattle.wb_model.specs.Words.{is_reserved, with_digit, is_digit, is_name_byte, is_name, is_letter, declared_name, used_name, digits_of, number_spelled, literal_spelled, kind_spelled, parameter_name, parameter_kind, text_of_keyword}
 use Rattle.wb_model.specs.declared.script_lines.WordKind.{WordKind}
 use Rattle.wb_model.specs.declared.script_lines.WordKind.TheVariants as kind
-use Rattle.wb_model.specs.Keys.{keys, text_of, letters_of, word_kinds}
-use Rattle.wb_model.specs.Forms.{operand_of, operand_as, operand_among, operands_of, operands_if, either, size_of, onto, line_or, form_in, begins_comment, skipped_or, form_of}
+use Rattle.wb_model.specs.Keys.{keys, text_of, letters_for, word_kinds}
+use Rattle.wb_model.specs.Forms.{operand_of, operand_as, operand_among, operands_of, operands_if, either, size_of, parameter_of, onto, line_or, form_in, begins_comment, skipped_or, form_of}
 use Rattle.wb_model.specs.Writing.{is_plain, IsWord, AreWords, IsMadeOfWords}
 use Rattle.wb_model.proofs.WritingLemmas.{both, quoted_of_literal}
 
@@ -110,6 +114,60 @@ word_of_size word operand h = go (number_spelled word) refl h
     go (Some z) is h = word_of_number word z is
     go None is h = cc
 
+plain_append : (front back : List ℕ) → is_plain front ≡ true → is_plain back ≡ true → is_plain (front ++ back) ≡ true
+plain_append [] back f b = b
+plain_append (byte ∷ front) back f b =
+    let (here, there) = both (not (is_blank byte) && not (nat_eq byte 34)) (is_plain front) f in
+    both_hold _ (is_plain (front ++ back)) here (plain_append front back there b)
+
+plain_of_name : (word : List ℕ) → is_name word ≡ true → (word ≢ []) × (is_plain word ≡ true)
+plain_of_name [] h = cc
+plain_of_name (byte ∷ bytes) h =
+    let (here, there) = both (is_letter byte) (list_all is_name_byte bytes) h in
+    (not_empty byte bytes, both_hold _ (is_plain bytes) (high_byte byte (high_of_letter byte here)) (plain_all is_name_byte high_of_name bytes there))
+
+plain_of_kind : (bytes : List ℕ) (kind : Parameter) → kind_spelled bytes ≡ Some kind → is_plain bytes ≡ true
+plain_of_kind bytes kind h = go (bytes_eq bytes (codes ":ptr")) (bytes_eq bytes (codes ":int")) refl refl h
+  where
+    go : (ptr int : Bool) → bytes_eq bytes (codes ":ptr") ≡ ptr → bytes_eq bytes (codes ":int") ≡ int → kind_spelled bytes ≡ Some kind → is_plain bytes ≡ true
+    go true int is_ptr is_int h = subst (λ b. is_plain b ≡ true) (sym (same_text bytes (codes ":ptr") (sym is_ptr))) refl
+    go false true is_ptr is_int h = subst (λ b. is_plain b ≡ true) (sym (same_text bytes (codes ":int") (sym is_int))) refl
+    go false false is_ptr is_int h = let none : None ≡ Some kind = rw (is_ptr, is_int) at h in cc
+
+none_taken : (n : ℕ) (word : List ℕ) → word ≡ [] → take n word ≡ []
+none_taken zero word h = refl
+none_taken (suc n) word h = ap (take (suc n)) h
+
+-- two parts, the first not empty
+word_of_parts : (word : List ℕ) (n : ℕ) → take n word ≢ [] → is_plain (take n word) ≡ true → is_plain (drop n word) ≡ true → IsWord word
+word_of_parts word n some front back =
+    let whole : take n word ++ drop n word ≡ word = take-append-drop n word in
+    inl ((λ none. some (none_taken n word none)), subst (λ w. is_plain w ≡ true) whole (plain_append (take n word) (drop n word) front back))
+
+word_of_parameter : (word : List ℕ) (operand : Operand (List ℕ)) → parameter_of (parameter_name word) (parameter_kind word) ≡ Some operand → IsWord word
+word_of_parameter word operand h = go (parameter_name word) (parameter_kind word) refl refl h
+  where
+    front : List ℕ
+    front = take (length word - 4) word
+
+    go : (name : Option (List ℕ)) (kind : Option Parameter) → parameter_name word ≡ name → parameter_kind word ≡ kind → parameter_of name kind ≡ Some operand → IsWord word
+    go (Some name) (Some kind) is_name_there is_kind h =
+        let (named, _) = both (is_name front) (not (is_reserved front)) (chosen_back (is_name front && not (is_reserved front)) front name is_name_there) in
+        let (some, plain) = plain_of_name front named in
+        word_of_parts word (length word - 4) some plain (plain_of_kind (drop (length word - 4) word) kind is_kind)
+    go (Some name) None is_name_there is_kind h = cc
+    go None kind is_name_there is_kind h = cc
+
+plain_keyword : (k : model.Keyword) → IsWord (text_of_keyword k)
+plain_keyword keyword.Null = word_of_name (codes "null") refl
+plain_keyword keyword.Some = word_of_name (codes "some") refl
+plain_keyword keyword.Equal = word_of_name (codes "eq") refl
+plain_keyword keyword.Less = word_of_name (codes "less") refl
+
+word_of_keyword : (k : model.Keyword) (word : List ℕ) (same : Bool) → bytes_eq word (text_of_keyword k) ≡ same → (operand : Operand (List ℕ)) → (if same then Some Keyword else None) ≡ Some operand → IsWord word
+word_of_keyword k word true is operand h = subst IsWord (sym (same_text word (text_of_keyword k) (sym is))) (plain_keyword k)
+word_of_keyword k word false is operand h = cc
+
 -- a word of one of the kinds
 word_of_kind : (kind : WordKind) (word : List ℕ) (operand : Operand (List ℕ)) → operand_as kind word ≡ Some operand → IsWord word
 word_of_kind kind.NewName word operand h = let (name, is) = mapped_back Name (declared_name word) operand h in word_of_declared word name is
@@ -117,6 +175,8 @@ word_of_kind kind.Name word operand h = let (name, is) = mapped_back Name (used_
 word_of_kind kind.Number word operand h = let (z, is) = mapped_back Number (number_spelled word) operand h in word_of_number word z is
 word_of_kind kind.Size word operand h = word_of_size word operand h
 word_of_kind kind.Literal word operand h = let (text, is) = mapped_back Literal (literal_spelled word) operand h in word_of_literal word text is
+word_of_kind kind.Parameter word operand h = word_of_parameter word operand h
+word_of_kind (kind.Keyword k) word operand h = word_of_keyword k word (bytes_eq word (text_of_keyword k)) refl operand h
 
 word_among : (kinds : List WordKind) (word : List ℕ) (operand : Operand (List ℕ)) → operand_among kinds word ≡ Some operand → IsWord word
 word_among [] word operand h = cc
@@ -138,13 +198,13 @@ words_of_operands (letter ∷ letters) (word ∷ words) operands h =
 -- lines
 
 module _ (first : List ℕ) (words : List (List ℕ)) (key : Key) (operands : List (Operand (List ℕ))) where
-  fitting : (k : Key) (found : Option (List (Operand (List ℕ)))) (rest : Form (List ℕ)) → operands_of (letters_of k) words ≡ found → IsWord first → (rest ≡ Line key operands → AreWords (first ∷ words)) → line_or k found rest ≡ Line key operands → AreWords (first ∷ words)
-  fitting k (Some found) rest is word otherwise h = (word, words_of_operands (letters_of k) words found is)
+  fitting : (k : Key) (found : Option (List (Operand (List ℕ)))) (rest : Form (List ℕ)) → operands_of (letters_for k (length words)) words ≡ found → IsWord first → (rest ≡ Line key operands → AreWords (first ∷ words)) → line_or k found rest ≡ Line key operands → AreWords (first ∷ words)
+  fitting k (Some found) rest is word otherwise h = (word, words_of_operands (letters_for k (length words)) words found is)
   fitting k None rest is word otherwise h = otherwise h
 
   one_key : (k : Key) (same : Bool) (rest : Form (List ℕ)) → is_name (text_of k) ≡ true → bytes_eq (text_of k) first ≡ same → (rest ≡ Line key operands → AreWords (first ∷ words)) → line_or k (operands_if same k words) rest ≡ Line key operands → AreWords (first ∷ words)
   one_key k true rest named same otherwise h =
-      fitting k (operands_of (letters_of k) words) rest refl (subst IsWord (same_text (text_of k) first (sym same)) (word_of_name (text_of k) named)) otherwise h
+      fitting k (operands_of (letters_for k (length words)) words) rest refl (subst IsWord (same_text (text_of k) first (sym same)) (word_of_name (text_of k) named)) otherwise h
   one_key k false rest named same otherwise h = otherwise h
 
   words_of_form : (ks : List Key) → list_all (λ k. is_name (text_of k)) ks ≡ true → form_in ks first words ≡ Line key operands → AreWords (first ∷ words)

@@ -120,6 +120,125 @@ budget_one_step_short_run : run script_budget_one_step_short_run R.Unlimited 5 (
 unfolding everything
 budget_one_step_short_run = refl
 
+abbrev script_arguments_are_copies_run : Script
+script_arguments_are_copies_run = record { classes = []; procedures = (record { line = 1; parameters = Par.OfNumber ∷ (Par.OfPointer None) ∷ []; body = record { locals = []; statements = (on 2 (Statement-F.Add 0 (Constant (pos 1)))) ∷ (on 3 (Statement-F.SetNull (Held (H.Local 1)))) ∷ [] } }) ∷ (record { line = 5; parameters = []; body = record { locals = OfNumber ∷ (OfPointer None) ∷ []; statements = (on 8 (Statement-F.Alloc (Held (H.Local 1)) (Constant (pos 1)) GivesNull)) ∷ (on 9 (Statement-F.SetNumber 0 (Constant (pos 5)))) ∷ (on 10 (Statement-F.Call 0 ((Given (Variable 0)) ∷ (Passed (Held (H.Local 1))) ∷ []))) ∷ (on 11 (Statement-F.PrintNumber (Variable 0))) ∷ (on 12 (Statement-F.Free (Held (H.Local 1)))) ∷ [] } }) ∷ []; operations = []; literals = []; main = 1 }
+
+arguments_are_copies_run : run script_arguments_are_copies_run R.Unlimited 10000 (shaped 4096 4096) ≡ record { outcome = Ended None []; trace = (line 1 144 0 Granted) ∷ (line 2 32 144 Granted) ∷ []; lines = (53 ∷ []) ∷ []; notes = []; steps = 7 }
+unfolding everything
+arguments_are_copies_run = refl
+
+abbrev script_body_that_runs_out_gives_null_run : Script
+script_body_that_runs_out_gives_null_run = record { classes = []; procedures = (record { line = 1; parameters = []; body = record { locals = []; statements = [] } }) ∷ (record { line = 3; parameters = []; body = record { locals = (OfPointer None) ∷ []; statements = (on 5 (Statement-F.Alloc (Held (H.Local 0)) (Constant (pos 1)) GivesNull)) ∷ (on 6 (Statement-F.Free (Held (H.Local 0)))) ∷ (on 7 (Statement-F.CallTo 0 0 [])) ∷ (on 8 (Statement-F.If (IsNull (Held (H.Local 0))) ((on 9 (Statement-F.PrintText (Quoted 0))) ∷ []))) ∷ [] } }) ∷ []; operations = []; literals = (110 ∷ 117 ∷ 108 ∷ 108 ∷ []) ∷ []; main = 1 }
+
+body_that_runs_out_gives_null_run : run script_body_that_runs_out_gives_null_run R.Unlimited 10000 (shaped 4096 4096) ≡ record { outcome = Ended None []; trace = (line 1 144 0 Granted) ∷ (line 2 32 144 Granted) ∷ []; lines = (110 ∷ 117 ∷ 108 ∷ 108 ∷ []) ∷ []; notes = []; steps = 5 }
+unfolding everything
+body_that_runs_out_gives_null_run = refl
+
+abbrev script_call_of_a_later_procedure_run : Script
+script_call_of_a_later_procedure_run = record { classes = []; procedures = (record { line = 1; parameters = []; body = record { locals = []; statements = (on 2 (Statement-F.Call 1 ((Given (Constant (pos 3))) ∷ []))) ∷ [] } }) ∷ (record { line = 4; parameters = Par.OfNumber ∷ []; body = record { locals = []; statements = (on 5 (Statement-F.PrintNumber (Variable 0))) ∷ [] } }) ∷ []; operations = []; literals = []; main = 0 }
+
+call_of_a_later_procedure_run : run script_call_of_a_later_procedure_run R.Unlimited 10000 (shaped 4096 4096) ≡ record { outcome = Ended None []; trace = (line 1 144 0 Granted) ∷ []; lines = (51 ∷ []) ∷ []; notes = []; steps = 2 }
+unfolding everything
+call_of_a_later_procedure_run = refl
+
+abbrev script_callee_appends_to_a_text_that_it_was_passed_run : Script
+script_callee_appends_to_a_text_that_it_was_passed_run = record { classes = []; procedures = (record { line = 1; parameters = (Par.OfPointer None) ∷ []; body = record { locals = []; statements = (on 2 (Statement-F.Append (InCell (Held (H.Local 0))) (Quoted 0))) ∷ (on 3 (Statement-F.Append (InCell (Held (H.Local 0))) (Of (InCell (Held (H.Local 0)))))) ∷ [] } }) ∷ (record { line = 5; parameters = []; body = record { locals = (OfPointer None) ∷ OfNumber ∷ []; statements = (on 8 (Statement-F.NewText (Held (H.Local 0)) (Constant (pos 6)) Leaves)) ∷ (on 9 (Statement-F.Call 0 ((Passed (Held (H.Local 0))) ∷ []))) ∷ (on 10 (Statement-F.GetLength 1 (Of (InCell (Held (H.Local 0)))))) ∷ (on 11 (Statement-F.PrintNumber (Variable 1))) ∷ (on 12 (Statement-F.PrintText (Of (InCell (Held (H.Local 0)))))) ∷ (on 13 (Statement-F.Free (Held (H.Local 0)))) ∷ [] } }) ∷ []; operations = []; literals = (97 ∷ 98 ∷ []) ∷ []; main = 1 }
+
+callee_appends_to_a_text_that_it_was_passed_run : run script_callee_appends_to_a_text_that_it_was_passed_run R.Unlimited 10000 (shaped 4096 4096) ≡ record { outcome = Ended None []; trace = (line 1 144 0 Granted) ∷ (line 2 32 144 Granted) ∷ []; lines = (52 ∷ []) ∷ (97 ∷ 98 ∷ 97 ∷ 98 ∷ []) ∷ []; notes = []; steps = 8 }
+unfolding everything
+callee_appends_to_a_text_that_it_was_passed_run = refl
+
+abbrev script_callee_frees_what_it_was_passed_run : Script
+script_callee_frees_what_it_was_passed_run = record { classes = []; procedures = (record { line = 1; parameters = (Par.OfPointer None) ∷ []; body = record { locals = []; statements = (on 2 (Statement-F.Free (Held (H.Local 0)))) ∷ (on 3 (Statement-F.SetNull (Held (H.Local 0)))) ∷ [] } }) ∷ (record { line = 5; parameters = []; body = record { locals = (OfPointer None) ∷ OfNumber ∷ []; statements = (on 8 (Statement-F.Alloc (Held (H.Local 0)) (Constant (pos 8)) Leaves)) ∷ (on 9 (Statement-F.Call 0 ((Passed (Held (H.Local 0))) ∷ []))) ∷ (on 10 (Statement-F.If (NotNull (Held (H.Local 0))) ((on 11 (Statement-F.PrintText (Quoted 0))) ∷ []))) ∷ (on 13 (Statement-F.Load 1 (Held (H.Local 0)) (Constant (pos 0)))) ∷ [] } }) ∷ []; operations = []; literals = (107 ∷ 101 ∷ 112 ∷ 116 ∷ []) ∷ []; main = 1 }
+
+callee_frees_what_it_was_passed_run : run script_callee_frees_what_it_was_passed_run R.Unlimited 10000 (shaped 4096 4096) ≡ record { outcome = Panicked (P.Workbench 1); trace = (line 1 144 0 Granted) ∷ (line 2 32 144 Granted) ∷ []; lines = (107 ∷ 101 ∷ 112 ∷ 116 ∷ []) ∷ []; notes = []; steps = 7 }
+unfolding everything
+callee_frees_what_it_was_passed_run = refl
+
+abbrev script_callee_writes_into_what_it_was_passed_run : Script
+script_callee_writes_into_what_it_was_passed_run = record { classes = []; procedures = (record { line = 1; parameters = (Par.OfPointer None) ∷ Par.OfNumber ∷ []; body = record { locals = []; statements = (on 2 (Statement-F.Store (Held (H.Local 0)) (Constant (pos 0)) (Variable 1))) ∷ (on 3 (Statement-F.Add 1 (Constant (pos 1)))) ∷ (on 4 (Statement-F.Store (Held (H.Local 0)) (Constant (pos 1)) (Variable 1))) ∷ (on 5 (Statement-F.SetNull (Held (H.Local 0)))) ∷ [] } }) ∷ (record { line = 7; parameters = []; body = record { locals = (OfPointer None) ∷ OfNumber ∷ []; statements = (on 10 (Statement-F.Alloc (Held (H.Local 0)) (Constant (pos 8)) Leaves)) ∷ (on 11 (Statement-F.SetNumber 1 (Constant (pos 41)))) ∷ (on 12 (Statement-F.Call 0 ((Passed (Held (H.Local 0))) ∷ (Given (Variable 1)) ∷ []))) ∷ (on 13 (Statement-F.PrintNumber (Variable 1))) ∷ (on 14 (Statement-F.Load 1 (Held (H.Local 0)) (Constant (pos 0)))) ∷ (on 15 (Statement-F.PrintNumber (Variable 1))) ∷ (on 16 (Statement-F.Load 1 (Held (H.Local 0)) (Constant (pos 1)))) ∷ (on 17 (Statement-F.PrintNumber (Variable 1))) ∷ (on 18 (Statement-F.Free (Held (H.Local 0)))) ∷ [] } }) ∷ []; operations = []; literals = []; main = 1 }
+
+callee_writes_into_what_it_was_passed_run : run script_callee_writes_into_what_it_was_passed_run R.Unlimited 10000 (shaped 4096 4096) ≡ record { outcome = Ended None []; trace = (line 1 144 0 Granted) ∷ (line 2 32 144 Granted) ∷ []; lines = (52 ∷ 49 ∷ []) ∷ (52 ∷ 49 ∷ []) ∷ (52 ∷ 50 ∷ []) ∷ []; notes = []; steps = 13 }
+unfolding everything
+callee_writes_into_what_it_was_passed_run = refl
+
+abbrev script_frames_are_given_back_by_a_leave_run : Script
+script_frames_are_given_back_by_a_leave_run = record { classes = []; procedures = (record { line = 1; parameters = Par.OfNumber ∷ []; body = record { locals = []; statements = (on 2 (Statement-F.If (Equal (Variable 0) (Constant (pos 0))) ((on 3 (Statement-F.Leave (Constant (negsuc 6)))) ∷ []))) ∷ (on 5 (Statement-F.Add 0 (Constant (negsuc 0)))) ∷ (on 6 (Statement-F.Call 0 ((Given (Variable 0)) ∷ []))) ∷ [] } }) ∷ (record { line = 8; parameters = []; body = record { locals = OfNumber ∷ []; statements = (on 10 (Statement-F.Repeat (Constant (pos 3)) ((on 11 (Statement-F.Trap 0 ((on 12 (Statement-F.Call 0 ((Given (Constant (pos 100))) ∷ []))) ∷ []))) ∷ (on 14 (Statement-F.PrintNumber (Variable 0))) ∷ []))) ∷ [] } }) ∷ []; operations = []; literals = []; main = 1 }
+
+frames_are_given_back_by_a_leave_run : run script_frames_are_given_back_by_a_leave_run R.Unlimited 10000 (shaped 4096 4096) ≡ record { outcome = Ended None []; trace = (line 1 144 0 Granted) ∷ []; lines = (45 ∷ 55 ∷ []) ∷ (45 ∷ 55 ∷ []) ∷ (45 ∷ 55 ∷ []) ∷ []; notes = []; steps = 919 }
+unfolding everything
+frames_are_given_back_by_a_leave_run = refl
+
+abbrev script_frames_run_out_at_the_one_hundred_and_twenty_ninth_run : Script
+script_frames_run_out_at_the_one_hundred_and_twenty_ninth_run = record { classes = []; procedures = (record { line = 1; parameters = Par.OfNumber ∷ []; body = record { locals = []; statements = (on 2 (Statement-F.If (Less (Constant (pos 1)) (Variable 0)) ((on 3 (Statement-F.Add 0 (Constant (negsuc 0)))) ∷ (on 4 (Statement-F.Call 0 ((Given (Variable 0)) ∷ []))) ∷ []))) ∷ [] } }) ∷ (record { line = 7; parameters = []; body = record { locals = []; statements = (on 8 (Statement-F.Call 0 ((Given (Constant (pos 127))) ∷ []))) ∷ (on 9 (Statement-F.PrintText (Quoted 0))) ∷ (on 10 (Statement-F.Call 0 ((Given (Constant (pos 128))) ∷ []))) ∷ [] } }) ∷ []; operations = []; literals = (97 ∷ 115 ∷ 32 ∷ 109 ∷ 97 ∷ 110 ∷ 121 ∷ 32 ∷ 97 ∷ 115 ∷ 32 ∷ 116 ∷ 104 ∷ 101 ∷ 114 ∷ 101 ∷ 32 ∷ 109 ∷ 97 ∷ 121 ∷ 32 ∷ 98 ∷ 101 ∷ []) ∷ []; main = 1 }
+
+frames_run_out_at_the_one_hundred_and_twenty_ninth_run : run script_frames_run_out_at_the_one_hundred_and_twenty_ninth_run R.Unlimited 10000 (shaped 4096 4096) ≡ record { outcome = Panicked (P.Workbench 7); trace = (line 1 144 0 Granted) ∷ []; lines = (97 ∷ 115 ∷ 32 ∷ 109 ∷ 97 ∷ 110 ∷ 121 ∷ 32 ∷ 97 ∷ 115 ∷ 32 ∷ 116 ∷ 104 ∷ 101 ∷ 114 ∷ 101 ∷ 32 ∷ 109 ∷ 97 ∷ 121 ∷ 32 ∷ 98 ∷ 101 ∷ []) ∷ []; notes = []; steps = 763 }
+unfolding everything
+frames_run_out_at_the_one_hundred_and_twenty_ninth_run = refl
+
+abbrev script_locals_begin_anew_with_each_call_run : Script
+script_locals_begin_anew_with_each_call_run = record { classes = []; procedures = (record { line = 1; parameters = []; body = record { locals = OfNumber ∷ (OfBuffer 4) ∷ []; statements = (on 4 (Statement-F.Add 0 (Constant (pos 1)))) ∷ (on 5 (Statement-F.Append (OwnBuffer 1) (Quoted 0))) ∷ (on 6 (Statement-F.PrintNumber (Variable 0))) ∷ (on 7 (Statement-F.PrintText (Of (OwnBuffer 1)))) ∷ [] } }) ∷ (record { line = 9; parameters = []; body = record { locals = []; statements = (on 10 (Statement-F.Call 0 [])) ∷ (on 11 (Statement-F.Call 0 [])) ∷ [] } }) ∷ []; operations = []; literals = (97 ∷ []) ∷ []; main = 1 }
+
+locals_begin_anew_with_each_call_run : run script_locals_begin_anew_with_each_call_run R.Unlimited 10000 (shaped 4096 4096) ≡ record { outcome = Ended None []; trace = (line 1 144 0 Granted) ∷ []; lines = (49 ∷ []) ∷ (97 ∷ []) ∷ (49 ∷ []) ∷ (97 ∷ []) ∷ []; notes = []; steps = 10 }
+unfolding everything
+locals_begin_anew_with_each_call_run = refl
+
+abbrev script_null_leaves_with_no_memory_run : Script
+script_null_leaves_with_no_memory_run = record { classes = []; procedures = (record { line = 1; parameters = []; body = record { locals = (OfPointer None) ∷ OfNumber ∷ []; statements = (on 4 (Statement-F.Alloc (Held (H.Local 0)) (Constant (pos 0)) GivesNull)) ∷ (on 5 (Statement-F.LeaveIfNull (Held (H.Local 0)))) ∷ (on 6 (Statement-F.PrintText (Quoted 0))) ∷ (on 7 (Statement-F.Free (Held (H.Local 0)))) ∷ (on 8 (Statement-F.SetNull (Held (H.Local 0)))) ∷ (on 9 (Statement-F.Trap 1 ((on 10 (Statement-F.LeaveIfNull (Held (H.Local 0)))) ∷ (on 11 (Statement-F.PrintText (Quoted 1))) ∷ []))) ∷ (on 13 (Statement-F.PrintNumber (Variable 1))) ∷ (on 14 (Statement-F.LeaveIfNull (Held (H.Local 0)))) ∷ (on 15 (Statement-F.PrintText (Quoted 2))) ∷ [] } }) ∷ []; operations = []; literals = (116 ∷ 104 ∷ 101 ∷ 114 ∷ 101 ∷ []) ∷ (110 ∷ 101 ∷ 118 ∷ 101 ∷ 114 ∷ []) ∷ (110 ∷ 101 ∷ 118 ∷ 101 ∷ 114 ∷ []) ∷ []; main = 0 }
+
+null_leaves_with_no_memory_run : run script_null_leaves_with_no_memory_run R.Unlimited 10000 (shaped 4096 4096) ≡ record { outcome = Ended (Some (negsuc 3)) []; trace = (line 1 144 0 Granted) ∷ (line 2 16 144 Granted) ∷ []; lines = (116 ∷ 104 ∷ 101 ∷ 114 ∷ 101 ∷ []) ∷ (45 ∷ 52 ∷ []) ∷ []; notes = []; steps = 9 }
+unfolding everything
+null_leaves_with_no_memory_run = refl
+
+abbrev script_procedure_that_calls_itself_run : Script
+script_procedure_that_calls_itself_run = record { classes = []; procedures = (record { line = 1; parameters = Par.OfNumber ∷ []; body = record { locals = []; statements = (on 2 (Statement-F.If (Less (Constant (pos 0)) (Variable 0)) ((on 3 (Statement-F.PrintNumber (Variable 0))) ∷ (on 4 (Statement-F.Add 0 (Constant (negsuc 0)))) ∷ (on 5 (Statement-F.Call 0 ((Given (Variable 0)) ∷ []))) ∷ (on 6 (Statement-F.PrintNumber (Variable 0))) ∷ []))) ∷ [] } }) ∷ (record { line = 9; parameters = []; body = record { locals = []; statements = (on 10 (Statement-F.Call 0 ((Given (Constant (pos 2))) ∷ []))) ∷ [] } }) ∷ []; operations = []; literals = []; main = 1 }
+
+procedure_that_calls_itself_run : run script_procedure_that_calls_itself_run R.Unlimited 10000 (shaped 4096 4096) ≡ record { outcome = Ended None []; trace = (line 1 144 0 Granted) ∷ []; lines = (50 ∷ []) ∷ (49 ∷ []) ∷ (48 ∷ []) ∷ (49 ∷ []) ∷ []; notes = []; steps = 12 }
+unfolding everything
+procedure_that_calls_itself_run = refl
+
+abbrev script_return_ends_main_run : Script
+script_return_ends_main_run = record { classes = []; procedures = (record { line = 1; parameters = []; body = record { locals = []; statements = (on 2 (Statement-F.PrintText (Quoted 0))) ∷ (on 3 Statement-F.Return) ∷ (on 4 (Statement-F.PrintText (Quoted 1))) ∷ [] } }) ∷ []; operations = []; literals = (111 ∷ 110 ∷ 101 ∷ []) ∷ (116 ∷ 119 ∷ 111 ∷ []) ∷ []; main = 0 }
+
+return_ends_main_run : run script_return_ends_main_run R.Unlimited 10000 (shaped 4096 4096) ≡ record { outcome = Ended None []; trace = (line 1 144 0 Granted) ∷ []; lines = (111 ∷ 110 ∷ 101 ∷ []) ∷ []; notes = []; steps = 2 }
+unfolding everything
+return_ends_main_run = refl
+
+abbrev script_return_ends_the_body_at_once_run : Script
+script_return_ends_the_body_at_once_run = record { classes = []; procedures = (record { line = 1; parameters = (Par.OfPointer None) ∷ Par.OfNumber ∷ []; body = record { locals = []; statements = (on 2 (Statement-F.If (Less (Variable 1) (Constant (pos 1))) ((on 3 Statement-F.Return) ∷ []))) ∷ (on 5 (Statement-F.PrintNumber (Variable 1))) ∷ (on 6 (Statement-F.Free (Held (H.Local 0)))) ∷ [] } }) ∷ (record { line = 8; parameters = Par.OfNumber ∷ []; body = record { locals = (OfPointer None) ∷ []; statements = (on 10 (Statement-F.If (Equal (Variable 0) (Constant (pos 0))) ((on 11 Statement-F.Return) ∷ []))) ∷ (on 13 (Statement-F.Alloc (Held (H.Local 1)) (Variable 0) Leaves)) ∷ (on 14 (Statement-F.ReturnPointer (Held (H.Local 1)))) ∷ [] } }) ∷ (record { line = 16; parameters = []; body = record { locals = (OfPointer None) ∷ (OfPointer None) ∷ []; statements = (on 19 (Statement-F.CallTo 0 1 ((Given (Constant (pos 20))) ∷ []))) ∷ (on 20 (Statement-F.CallTo 1 1 ((Given (Constant (pos 0))) ∷ []))) ∷ (on 21 (Statement-F.If (NotNull (Held (H.Local 1))) ((on 22 (Statement-F.PrintText (Quoted 0))) ∷ []))) ∷ (on 24 (Statement-F.Call 0 ((Passed (Held (H.Local 0))) ∷ (Given (Constant (pos 0))) ∷ []))) ∷ (on 25 (Statement-F.Call 0 ((Passed (Held (H.Local 0))) ∷ (Given (Constant (pos 7))) ∷ []))) ∷ [] } }) ∷ []; operations = []; literals = (110 ∷ 101 ∷ 118 ∷ 101 ∷ 114 ∷ []) ∷ []; main = 2 }
+
+return_ends_the_body_at_once_run : run script_return_ends_the_body_at_once_run R.Unlimited 10000 (shaped 4096 4096) ≡ record { outcome = Ended None []; trace = (line 1 144 0 Granted) ∷ (line 2 48 144 Granted) ∷ []; lines = (55 ∷ []) ∷ []; notes = []; steps = 15 }
+unfolding everything
+return_ends_the_body_at_once_run = refl
+
+abbrev script_return_in_a_repetition_ends_the_body_run : Script
+script_return_in_a_repetition_ends_the_body_run = record { classes = []; procedures = (record { line = 1; parameters = []; body = record { locals = OfNumber ∷ []; statements = (on 3 (Statement-F.Repeat (Constant (pos 5)) ((on 4 (Statement-F.Add 0 (Constant (pos 1)))) ∷ (on 5 (Statement-F.If (Equal (Variable 0) (Constant (pos 2))) ((on 6 (Statement-F.PrintNumber (Variable 0))) ∷ (on 7 Statement-F.Return) ∷ []))) ∷ []))) ∷ (on 10 (Statement-F.PrintText (Quoted 0))) ∷ [] } }) ∷ (record { line = 12; parameters = []; body = record { locals = []; statements = (on 13 (Statement-F.Call 0 [])) ∷ [] } }) ∷ []; operations = []; literals = (110 ∷ 101 ∷ 118 ∷ 101 ∷ 114 ∷ []) ∷ []; main = 1 }
+
+return_in_a_repetition_ends_the_body_run : run script_return_in_a_repetition_ends_the_body_run R.Unlimited 10000 (shaped 4096 4096) ≡ record { outcome = Ended None []; trace = (line 1 144 0 Granted) ∷ []; lines = (50 ∷ []) ∷ []; notes = []; steps = 10 }
+unfolding everything
+return_in_a_repetition_ends_the_body_run = refl
+
+abbrev script_freed_pointer_is_not_null_run : Script
+script_freed_pointer_is_not_null_run = record { classes = []; procedures = (record { line = 1; parameters = []; body = record { locals = (OfPointer None) ∷ []; statements = (on 3 (Statement-F.If (NotNull (Held (H.Local 0))) ((on 4 (Statement-F.PrintText (Quoted 0))) ∷ []))) ∷ (on 6 (Statement-F.Alloc (Held (H.Local 0)) (Constant (pos 5)) GivesNull)) ∷ (on 7 (Statement-F.IfElse (NotNull (Held (H.Local 0))) ((on 8 (Statement-F.PrintText (Quoted 1))) ∷ []) ((on 10 (Statement-F.PrintText (Quoted 2))) ∷ []))) ∷ (on 12 (Statement-F.Free (Held (H.Local 0)))) ∷ (on 13 (Statement-F.If (NotNull (Held (H.Local 0))) ((on 14 (Statement-F.PrintText (Quoted 3))) ∷ []))) ∷ (on 16 (Statement-F.SetNull (Held (H.Local 0)))) ∷ (on 17 (Statement-F.IfElse (NotNull (Held (H.Local 0))) ((on 18 (Statement-F.PrintText (Quoted 4))) ∷ []) ((on 20 (Statement-F.PrintText (Quoted 5))) ∷ []))) ∷ [] } }) ∷ []; operations = []; literals = (110 ∷ 101 ∷ 118 ∷ 101 ∷ 114 ∷ []) ∷ (115 ∷ 111 ∷ 109 ∷ 101 ∷ []) ∷ (110 ∷ 101 ∷ 118 ∷ 101 ∷ 114 ∷ []) ∷ (115 ∷ 116 ∷ 105 ∷ 108 ∷ 108 ∷ []) ∷ (110 ∷ 101 ∷ 118 ∷ 101 ∷ 114 ∷ []) ∷ (110 ∷ 117 ∷ 108 ∷ 108 ∷ []) ∷ []; main = 0 }
+
+freed_pointer_is_not_null_run : run script_freed_pointer_is_not_null_run R.Unlimited 10000 (shaped 4096 4096) ≡ record { outcome = Ended None []; trace = (line 1 144 0 Granted) ∷ (line 2 32 144 Granted) ∷ []; lines = (115 ∷ 111 ∷ 109 ∷ 101 ∷ []) ∷ (115 ∷ 116 ∷ 105 ∷ 108 ∷ 108 ∷ []) ∷ (110 ∷ 117 ∷ 108 ∷ 108 ∷ []) ∷ []; notes = []; steps = 10 }
+unfolding everything
+freed_pointer_is_not_null_run = refl
+
+abbrev script_if_without_else_leaves_its_turn_out_run : Script
+script_if_without_else_leaves_its_turn_out_run = record { classes = []; procedures = (record { line = 1; parameters = []; body = record { locals = OfNumber ∷ []; statements = (on 3 (Statement-F.Repeat (Constant (pos 3)) ((on 4 (Statement-F.Add 0 (Constant (pos 1)))) ∷ (on 5 (Statement-F.If (Equal (Variable 0) (Constant (pos 2))) ((on 6 (Statement-F.PrintNumber (Variable 0))) ∷ []))) ∷ []))) ∷ [] } }) ∷ []; operations = []; literals = []; main = 0 }
+
+if_without_else_leaves_its_turn_out_run : run script_if_without_else_leaves_its_turn_out_run R.Unlimited 10000 (shaped 4096 4096) ≡ record { outcome = Ended None []; trace = (line 1 144 0 Granted) ∷ []; lines = (50 ∷ []) ∷ []; notes = []; steps = 11 }
+unfolding everything
+if_without_else_leaves_its_turn_out_run = refl
+
+abbrev script_numbers_are_compared_run : Script
+script_numbers_are_compared_run = record { classes = []; procedures = (record { line = 1; parameters = []; body = record { locals = OfNumber ∷ OfNumber ∷ []; statements = (on 4 (Statement-F.SetNumber 0 (Constant (pos 3)))) ∷ (on 5 (Statement-F.SetNumber 1 (Constant (negsuc 2)))) ∷ (on 6 (Statement-F.If (Less (Variable 1) (Variable 0)) ((on 7 (Statement-F.PrintText (Quoted 0))) ∷ []))) ∷ (on 9 (Statement-F.If (Less (Variable 0) (Variable 0)) ((on 10 (Statement-F.PrintText (Quoted 1))) ∷ []))) ∷ (on 12 (Statement-F.IfElse (Equal (Variable 0) (Constant (pos 3))) ((on 13 (Statement-F.PrintText (Quoted 2))) ∷ []) ((on 15 (Statement-F.PrintText (Quoted 3))) ∷ []))) ∷ (on 17 (Statement-F.IfElse (Equal (Variable 0) (Variable 1)) ((on 18 (Statement-F.PrintText (Quoted 4))) ∷ []) ((on 20 (Statement-F.PrintText (Quoted 5))) ∷ []))) ∷ [] } }) ∷ []; operations = []; literals = (108 ∷ 101 ∷ 115 ∷ 115 ∷ []) ∷ (110 ∷ 101 ∷ 118 ∷ 101 ∷ 114 ∷ []) ∷ (101 ∷ 113 ∷ 117 ∷ 97 ∷ 108 ∷ []) ∷ (110 ∷ 101 ∷ 118 ∷ 101 ∷ 114 ∷ []) ∷ (110 ∷ 101 ∷ 118 ∷ 101 ∷ 114 ∷ []) ∷ (111 ∷ 116 ∷ 104 ∷ 101 ∷ 114 ∷ []) ∷ []; main = 0 }
+
+numbers_are_compared_run : run script_numbers_are_compared_run R.Unlimited 10000 (shaped 4096 4096) ≡ record { outcome = Ended None []; trace = (line 1 144 0 Granted) ∷ []; lines = (108 ∷ 101 ∷ 115 ∷ 115 ∷ []) ∷ (101 ∷ 113 ∷ 117 ∷ 97 ∷ 108 ∷ []) ∷ (111 ∷ 116 ∷ 104 ∷ 101 ∷ 114 ∷ []) ∷ []; notes = []; steps = 9 }
+unfolding everything
+numbers_are_compared_run = refl
+
 abbrev script_buffer_edits_one_after_another_run : Script
 script_buffer_edits_one_after_another_run = record { classes = []; procedures = (record { line = 1; parameters = []; body = record { locals = (OfBuffer 8) ∷ OfView ∷ []; statements = (on 4 (Statement-F.Copy (OwnBuffer 0) (Quoted 0))) ∷ (on 5 (Statement-F.Insert (OwnBuffer 0) (Constant (pos 1)) (Quoted 1))) ∷ (on 6 (Statement-F.DeleteText (OwnBuffer 0) (Constant (pos 4)) (Constant (pos 99)))) ∷ (on 7 (Statement-F.Right 1 (Of (OwnBuffer 0)) (Constant (pos 2)))) ∷ (on 8 (Statement-F.Append (OwnBuffer 0) (ViewOf 1))) ∷ (on 9 (Statement-F.SetLength (OwnBuffer 0) (Constant (pos 8)))) ∷ (on 10 (Statement-F.PrintText (Of (OwnBuffer 0)))) ∷ [] } }) ∷ []; operations = []; literals = (97 ∷ 98 ∷ 99 ∷ 100 ∷ []) ∷ (88 ∷ 89 ∷ []) ∷ []; main = 0 }
 
@@ -260,6 +379,55 @@ notes_run : run script_notes_run R.Unlimited 10000 (shaped 4096 4096) ≡ record
 unfolding everything
 notes_run = refl
 
+abbrev script_retry_in_a_short_heap_run : Script
+script_retry_in_a_short_heap_run = record { classes = []; procedures = (record { line = 3; parameters = []; body = record { locals = (OfPointer None) ∷ (OfPointer None) ∷ OfNumber ∷ []; statements = (on 7 (Statement-F.Alloc (Held (H.Local 0)) (Constant (pos 100)) GivesNull)) ∷ (on 8 (Statement-F.Repeat (Constant (pos 3)) ((on 9 (Statement-F.If (IsNull (Held (H.Local 1))) ((on 10 (Statement-F.Add 2 (Constant (pos 1)))) ∷ (on 11 (Statement-F.Alloc (Held (H.Local 1)) (Constant (pos 300)) GivesNull)) ∷ (on 12 (Statement-F.If (IsNull (Held (H.Local 1))) ((on 14 (Statement-F.Free (Held (H.Local 0)))) ∷ (on 15 (Statement-F.SetNull (Held (H.Local 0)))) ∷ []))) ∷ []))) ∷ []))) ∷ (on 19 (Statement-F.PrintNumber (Variable 2))) ∷ (on 20 (Statement-F.Free (Held (H.Local 1)))) ∷ (on 21 (Statement-F.Free (Held (H.Local 0)))) ∷ [] } }) ∷ []; operations = []; literals = []; main = 0 }
+
+retry_in_a_short_heap_run : run script_retry_in_a_short_heap_run (R.Limit 464) 10000 (shaped 4096 4096) ≡ record { outcome = Ended None []; trace = (line 1 144 0 Granted) ∷ (line 2 128 144 Granted) ∷ (line 3 320 272 Refused) ∷ (line 4 320 144 Granted) ∷ []; lines = (50 ∷ []) ∷ []; notes = []; steps = 19 }
+unfolding everything
+retry_in_a_short_heap_run = refl
+
+abbrev script_retry_check : Script
+script_retry_check = record { classes = []; procedures = (record { line = 3; parameters = []; body = record { locals = (OfPointer None) ∷ (OfPointer None) ∷ OfNumber ∷ []; statements = (on 7 (Statement-F.Alloc (Held (H.Local 0)) (Constant (pos 100)) GivesNull)) ∷ (on 8 (Statement-F.Repeat (Constant (pos 3)) ((on 9 (Statement-F.If (IsNull (Held (H.Local 1))) ((on 10 (Statement-F.Add 2 (Constant (pos 1)))) ∷ (on 11 (Statement-F.Alloc (Held (H.Local 1)) (Constant (pos 300)) GivesNull)) ∷ (on 12 (Statement-F.If (IsNull (Held (H.Local 1))) ((on 14 (Statement-F.Free (Held (H.Local 0)))) ∷ (on 15 (Statement-F.SetNull (Held (H.Local 0)))) ∷ []))) ∷ []))) ∷ []))) ∷ (on 19 (Statement-F.PrintNumber (Variable 2))) ∷ (on 20 (Statement-F.Free (Held (H.Local 1)))) ∷ (on 21 (Statement-F.Free (Held (H.Local 0)))) ∷ [] } }) ∷ []; operations = []; literals = []; main = 0 }
+
+retry_check : (required script_retry_check 10000 (shaped 4096 4096) ≡ 592) × (rises script_retry_check 10000 (shaped 4096 4096) ≡ (rise 1 144) ∷ (rise 2 272) ∷ (rise 3 592) ∷ []) × (length (run_at script_retry_check 10000 (shaped 4096 4096) 0).trace ≡ 3) × (least_bad_or_cut script_retry_check 10000 (shaped 4096 4096) ≡ None)
+unfolding everything
+retry_check = (refl, refl, refl, refl)
+
+abbrev script_trap_by_hand_refused_run : Script
+script_trap_by_hand_refused_run = record { classes = []; procedures = (record { line = 2; parameters = []; body = record { locals = (OfPointer None) ∷ (OfPointer None) ∷ OfNumber ∷ []; statements = (on 6 (Statement-F.Trap 2 ((on 7 (Statement-F.Alloc (Held (H.Local 0)) (Constant (pos 20)) Leaves)) ∷ (on 8 (Statement-F.Alloc (Held (H.Local 1)) (Constant (pos 60)) Leaves)) ∷ (on 9 (Statement-F.Store (Held (H.Local 1)) (Constant (pos 14)) (Constant (pos 1)))) ∷ []))) ∷ (on 12 (Statement-F.Free (Held (H.Local 0)))) ∷ (on 13 (Statement-F.Free (Held (H.Local 1)))) ∷ (on 15 (Statement-F.LeaveIfError (Variable 2))) ∷ [] } }) ∷ []; operations = []; literals = []; main = 0 }
+
+trap_by_hand_refused_run : run script_trap_by_hand_refused_run (R.Number 3) 10000 (shaped 4096 4096) ≡ record { outcome = Ended (Some (negsuc 3)) []; trace = (line 1 144 0 Granted) ∷ (line 2 48 144 Granted) ∷ (line 3 80 192 Simulated) ∷ []; lines = []; notes = []; steps = 6 }
+unfolding everything
+trap_by_hand_refused_run = refl
+
+abbrev script_trap_by_hand_check : Script
+script_trap_by_hand_check = record { classes = []; procedures = (record { line = 2; parameters = []; body = record { locals = (OfPointer None) ∷ (OfPointer None) ∷ OfNumber ∷ []; statements = (on 6 (Statement-F.Trap 2 ((on 7 (Statement-F.Alloc (Held (H.Local 0)) (Constant (pos 20)) Leaves)) ∷ (on 8 (Statement-F.Alloc (Held (H.Local 1)) (Constant (pos 60)) Leaves)) ∷ (on 9 (Statement-F.Store (Held (H.Local 1)) (Constant (pos 14)) (Constant (pos 1)))) ∷ []))) ∷ (on 12 (Statement-F.Free (Held (H.Local 0)))) ∷ (on 13 (Statement-F.Free (Held (H.Local 1)))) ∷ (on 15 (Statement-F.LeaveIfError (Variable 2))) ∷ [] } }) ∷ []; operations = []; literals = []; main = 0 }
+
+trap_by_hand_check : (required script_trap_by_hand_check 10000 (shaped 4096 4096) ≡ 272) × (rises script_trap_by_hand_check 10000 (shaped 4096 4096) ≡ (rise 1 144) ∷ (rise 2 192) ∷ (rise 3 272) ∷ []) × (length (run_at script_trap_by_hand_check 10000 (shaped 4096 4096) 0).trace ≡ 3) × (least_bad_or_cut script_trap_by_hand_check 10000 (shaped 4096 4096) ≡ None)
+unfolding everything
+trap_by_hand_check = (refl, refl, refl, refl)
+
+abbrev script_two_phase_leaks_check : Script
+script_two_phase_leaks_check = record { classes = []; procedures = (record { line = 3; parameters = []; body = record { locals = (OfPointer None) ∷ []; statements = (on 5 (Statement-F.Alloc (Held (H.Local 0)) (Constant (pos 16)) Leaves)) ∷ (on 6 (Statement-F.Store (Held (H.Local 0)) (Constant (pos 0)) (Constant (pos 1)))) ∷ (on 8 (Statement-F.Realloc (Held (H.Local 0)) (Held (H.Local 0)) (Constant (pos 200)) Leaves)) ∷ (on 9 (Statement-F.ReturnPointer (Held (H.Local 0)))) ∷ [] } }) ∷ (record { line = 12; parameters = []; body = record { locals = (OfPointer None) ∷ OfNumber ∷ []; statements = (on 15 (Statement-F.Trap 1 ((on 16 (Statement-F.CallTo 0 0 [])) ∷ []))) ∷ (on 18 (Statement-F.Free (Held (H.Local 0)))) ∷ [] } }) ∷ []; operations = []; literals = []; main = 1 }
+
+two_phase_leaks_check : (required script_two_phase_leaks_check 10000 (shaped 4096 4096) ≡ 368) × (rises script_two_phase_leaks_check 10000 (shaped 4096 4096) ≡ (rise 1 144) ∷ (rise 2 176) ∷ (rise 3 368) ∷ []) × (length (run_at script_two_phase_leaks_check 10000 (shaped 4096 4096) 0).trace ≡ 3) × (least_bad_or_cut script_two_phase_leaks_check 10000 (shaped 4096 4096) ≡ Some 3) × (run_at script_two_phase_leaks_check 10000 (shaped 4096 4096) 3 ≡ record { outcome = Ended None ((record { number = 2; length = 32; place = 144 }) ∷ []); trace = (line 1 144 0 Granted) ∷ (line 2 32 144 Granted) ∷ (line 3 224 144 Simulated) ∷ []; lines = []; notes = []; steps = 6 })
+unfolding everything
+two_phase_leaks_check = (refl, refl, refl, refl, refl)
+
+abbrev script_two_phase_refused_run : Script
+script_two_phase_refused_run = record { classes = []; procedures = (record { line = 2; parameters = []; body = record { locals = (OfPointer None) ∷ OfNumber ∷ []; statements = (on 5 (Statement-F.Alloc (Held (H.Local 0)) (Constant (pos 16)) Leaves)) ∷ (on 6 (Statement-F.Store (Held (H.Local 0)) (Constant (pos 0)) (Constant (pos 1)))) ∷ (on 7 (Statement-F.Trap 1 ((on 8 (Statement-F.Realloc (Held (H.Local 0)) (Held (H.Local 0)) (Constant (pos 200)) Leaves)) ∷ []))) ∷ (on 11 (Statement-F.If (Less (Variable 1) (Constant (pos 0))) ((on 12 (Statement-F.Free (Held (H.Local 0)))) ∷ (on 13 (Statement-F.Leave (Variable 1))) ∷ []))) ∷ (on 15 (Statement-F.ReturnPointer (Held (H.Local 0)))) ∷ [] } }) ∷ (record { line = 18; parameters = []; body = record { locals = (OfPointer None) ∷ OfNumber ∷ []; statements = (on 21 (Statement-F.Trap 1 ((on 22 (Statement-F.CallTo 0 0 [])) ∷ []))) ∷ (on 24 (Statement-F.Free (Held (H.Local 0)))) ∷ [] } }) ∷ []; operations = []; literals = []; main = 1 }
+
+two_phase_refused_run : run script_two_phase_refused_run (R.Number 3) 10000 (shaped 4096 4096) ≡ record { outcome = Ended None []; trace = (line 1 144 0 Granted) ∷ (line 2 32 144 Granted) ∷ (line 3 224 144 Simulated) ∷ []; lines = []; notes = []; steps = 10 }
+unfolding everything
+two_phase_refused_run = refl
+
+abbrev script_two_phase_check : Script
+script_two_phase_check = record { classes = []; procedures = (record { line = 2; parameters = []; body = record { locals = (OfPointer None) ∷ OfNumber ∷ []; statements = (on 5 (Statement-F.Alloc (Held (H.Local 0)) (Constant (pos 16)) Leaves)) ∷ (on 6 (Statement-F.Store (Held (H.Local 0)) (Constant (pos 0)) (Constant (pos 1)))) ∷ (on 7 (Statement-F.Trap 1 ((on 8 (Statement-F.Realloc (Held (H.Local 0)) (Held (H.Local 0)) (Constant (pos 200)) Leaves)) ∷ []))) ∷ (on 11 (Statement-F.If (Less (Variable 1) (Constant (pos 0))) ((on 12 (Statement-F.Free (Held (H.Local 0)))) ∷ (on 13 (Statement-F.Leave (Variable 1))) ∷ []))) ∷ (on 15 (Statement-F.ReturnPointer (Held (H.Local 0)))) ∷ [] } }) ∷ (record { line = 18; parameters = []; body = record { locals = (OfPointer None) ∷ OfNumber ∷ []; statements = (on 21 (Statement-F.Trap 1 ((on 22 (Statement-F.CallTo 0 0 [])) ∷ []))) ∷ (on 24 (Statement-F.Free (Held (H.Local 0)))) ∷ [] } }) ∷ []; operations = []; literals = []; main = 1 }
+
+two_phase_check : (required script_two_phase_check 10000 (shaped 4096 4096) ≡ 368) × (rises script_two_phase_check 10000 (shaped 4096 4096) ≡ (rise 1 144) ∷ (rise 2 176) ∷ (rise 3 368) ∷ []) × (length (run_at script_two_phase_check 10000 (shaped 4096 4096) 0).trace ≡ 3) × (least_bad_or_cut script_two_phase_check 10000 (shaped 4096 4096) ≡ None)
+unfolding everything
+two_phase_check = (refl, refl, refl, refl)
+
 abbrev script_named_file_run : Script
 script_named_file_run = record { classes = []; procedures = (record { line = 2; parameters = []; body = record { locals = (OfPointer None) ∷ (OfPointer None) ∷ (OfPointer None) ∷ []; statements = (on 6 (Statement-F.PrintText (Quoted 0))) ∷ (on 7 (Statement-F.Alloc (Held (H.Local 0)) (Constant (pos 10)) GivesNull)) ∷ (on 8 (Statement-F.Alloc (Held (H.Local 1)) (Constant (pos 100)) GivesNull)) ∷ (on 9 (Statement-F.Free (Held (H.Local 0)))) ∷ (on 11 (Statement-F.Alloc (Held (H.Local 2)) (Constant (pos 16)) GivesNull)) ∷ (on 12 (Statement-F.Free (Held (H.Local 1)))) ∷ [] } }) ∷ []; operations = []; literals = (116 ∷ 104 ∷ 114 ∷ 101 ∷ 101 ∷ 32 ∷ 114 ∷ 101 ∷ 113 ∷ 117 ∷ 101 ∷ 115 ∷ 116 ∷ 115 ∷ []) ∷ []; main = 0 }
 
@@ -330,12 +498,26 @@ failing_requests_run : run script_failing_requests_run R.Unlimited 10000 (shaped
 unfolding everything
 failing_requests_run = refl
 
+abbrev script_leave_is_trapped_run : Script
+script_leave_is_trapped_run = record { classes = []; procedures = (record { line = 2; parameters = []; body = record { locals = (OfPointer None) ∷ (OfPointer None) ∷ OfNumber ∷ []; statements = (on 6 (Statement-F.FailNext (Constant (pos 2)))) ∷ (on 7 (Statement-F.Trap 2 ((on 8 (Statement-F.Alloc (Held (H.Local 0)) (Constant (pos 20)) Leaves)) ∷ (on 9 (Statement-F.Alloc (Held (H.Local 1)) (Constant (pos 20)) Leaves)) ∷ (on 10 (Statement-F.PrintText (Quoted 0))) ∷ []))) ∷ (on 12 (Statement-F.PrintNumber (Variable 2))) ∷ (on 13 (Statement-F.Free (Held (H.Local 0)))) ∷ (on 14 (Statement-F.Free (Held (H.Local 1)))) ∷ [] } }) ∷ []; operations = []; literals = (98 ∷ 111 ∷ 116 ∷ 104 ∷ []) ∷ []; main = 0 }
+
+leave_is_trapped_run : run script_leave_is_trapped_run R.Unlimited 10000 (shaped 4096 4096) ≡ record { outcome = Ended None []; trace = (line 1 144 0 Granted) ∷ (line 2 48 144 Granted) ∷ (line 3 48 192 Simulated) ∷ []; lines = (45 ∷ 52 ∷ []) ∷ []; notes = []; steps = 7 }
+unfolding everything
+leave_is_trapped_run = refl
+
 abbrev script_name_in_a_cell_run : Script
 script_name_in_a_cell_run = record { classes = []; procedures = (record { line = 2; parameters = []; body = record { locals = (OfPointer None) ∷ OfNumber ∷ []; statements = (on 5 (Statement-F.NewText (Held (H.Local 0)) (Constant (pos 4)) GivesNull)) ∷ (on 6 (Statement-F.GetMaximum 1 (InCell (Held (H.Local 0))))) ∷ (on 7 (Statement-F.PrintNumber (Variable 1))) ∷ (on 8 (Statement-F.Append (InCell (Held (H.Local 0))) (Quoted 0))) ∷ (on 9 (Statement-F.ReallocText (Held (H.Local 0)) (Held (H.Local 0)) (Constant (pos 10)))) ∷ (on 10 (Statement-F.Append (InCell (Held (H.Local 0))) (Quoted 1))) ∷ (on 11 (Statement-F.PrintText (Of (InCell (Held (H.Local 0)))))) ∷ (on 12 (Statement-F.Free (Held (H.Local 0)))) ∷ [] } }) ∷ []; operations = []; literals = (83 ∷ 121 ∷ 109 ∷ []) ∷ (98 ∷ 105 ∷ 97 ∷ 110 ∷ 32 ∷ 79 ∷ 83 ∷ []) ∷ []; main = 0 }
 
 name_in_a_cell_run : run script_name_in_a_cell_run R.Unlimited 10000 (shaped 4096 4096) ≡ record { outcome = Ended None []; trace = (line 1 144 0 Granted) ∷ (line 2 32 144 Granted) ∷ (line 3 48 144 Granted) ∷ []; lines = (54 ∷ []) ∷ (83 ∷ 121 ∷ 109 ∷ 98 ∷ 105 ∷ 97 ∷ 110 ∷ 32 ∷ 79 ∷ 83 ∷ []) ∷ []; notes = []; steps = 8 }
 unfolding everything
 name_in_a_cell_run = refl
+
+abbrev script_numbers_below_six_run : Script
+script_numbers_below_six_run = record { classes = []; procedures = (record { line = 2; parameters = []; body = record { locals = OfNumber ∷ OfNumber ∷ []; statements = (on 5 (Statement-F.Repeat (Constant (pos 10)) ((on 6 (Statement-F.IfElse (Less (Variable 0) (Constant (pos 6))) ((on 7 (Statement-F.Add 1 (Constant (pos 1)))) ∷ []) ((on 9 (Statement-F.PrintNumber (Variable 0))) ∷ []))) ∷ (on 11 (Statement-F.Add 0 (Constant (pos 1)))) ∷ []))) ∷ (on 13 (Statement-F.PrintNumber (Variable 1))) ∷ [] } }) ∷ []; operations = []; literals = []; main = 0 }
+
+numbers_below_six_run : run script_numbers_below_six_run R.Unlimited 10000 (shaped 4096 4096) ≡ record { outcome = Ended None []; trace = (line 1 144 0 Granted) ∷ []; lines = (54 ∷ []) ∷ (55 ∷ []) ∷ (56 ∷ []) ∷ (57 ∷ []) ∷ (54 ∷ []) ∷ []; notes = []; steps = 42 }
+unfolding everything
+numbers_below_six_run = refl
 
 abbrev script_numbers_run : Script
 script_numbers_run = record { classes = []; procedures = (record { line = 2; parameters = []; body = record { locals = OfNumber ∷ OfNumber ∷ []; statements = (on 5 (Statement-F.PrintNumber (Variable 0))) ∷ (on 6 (Statement-F.SetNumber 0 (Constant (pos 3)))) ∷ (on 7 (Statement-F.Add 0 (Constant (negsuc 0)))) ∷ (on 8 (Statement-F.SetNumber 1 (Constant (pos 40)))) ∷ (on 9 (Statement-F.Add 1 (Variable 0))) ∷ (on 10 (Statement-F.PrintNumber (Variable 1))) ∷ [] } }) ∷ []; operations = []; literals = []; main = 0 }
@@ -350,6 +532,13 @@ script_pointer_to_a_moved_cell_run = record { classes = []; procedures = (record
 pointer_to_a_moved_cell_run : run script_pointer_to_a_moved_cell_run R.Unlimited 10000 (shaped 4096 4096) ≡ record { outcome = Panicked (P.User 42); trace = (line 1 144 0 Granted) ∷ (line 2 32 144 Granted) ∷ (line 3 32 176 Granted) ∷ (line 4 48 208 Granted) ∷ []; lines = []; notes = []; steps = 8 }
 unfolding everything
 pointer_to_a_moved_cell_run = refl
+
+abbrev script_table_from_a_procedure_run : Script
+script_table_from_a_procedure_run = record { classes = []; procedures = (record { line = 2; parameters = Par.OfNumber ∷ []; body = record { locals = (OfPointer None) ∷ OfNumber ∷ []; statements = (on 6 (Statement-F.Repeat (Variable 0) ((on 7 (Statement-F.Add 2 (Constant (pos 4)))) ∷ []))) ∷ (on 9 (Statement-F.Alloc (Held (H.Local 1)) (Variable 2) GivesNull)) ∷ (on 10 (Statement-F.ReturnPointer (Held (H.Local 1)))) ∷ [] } }) ∷ (record { line = 13; parameters = (Par.OfPointer None) ∷ Par.OfNumber ∷ []; body = record { locals = OfNumber ∷ []; statements = (on 15 (Statement-F.Repeat (Variable 1) ((on 16 (Statement-F.Store (Held (H.Local 0)) (Variable 2) (Constant (pos 7)))) ∷ (on 17 (Statement-F.Add 2 (Constant (pos 1)))) ∷ []))) ∷ [] } }) ∷ (record { line = 21; parameters = []; body = record { locals = (OfPointer None) ∷ OfNumber ∷ []; statements = (on 24 (Statement-F.CallTo 0 0 ((Given (Constant (pos 3))) ∷ []))) ∷ (on 25 (Statement-F.If (NotNull (Held (H.Local 0))) ((on 26 (Statement-F.Call 1 ((Passed (Held (H.Local 0))) ∷ (Given (Constant (pos 3))) ∷ []))) ∷ (on 27 (Statement-F.Load 1 (Held (H.Local 0)) (Constant (pos 2)))) ∷ (on 28 (Statement-F.PrintNumber (Variable 1))) ∷ (on 29 (Statement-F.Free (Held (H.Local 0)))) ∷ []))) ∷ [] } }) ∷ []; operations = []; literals = []; main = 2 }
+
+table_from_a_procedure_run : run script_table_from_a_procedure_run R.Unlimited 10000 (shaped 4096 4096) ≡ record { outcome = Ended None []; trace = (line 1 144 0 Granted) ∷ (line 2 32 144 Granted) ∷ []; lines = (55 ∷ []) ∷ []; notes = []; steps = 25 }
+unfolding everything
+table_from_a_procedure_run = refl
 
 abbrev script_two_cells_run : Script
 script_two_cells_run = record { classes = []; procedures = (record { line = 2; parameters = []; body = record { locals = (OfPointer None) ∷ (OfPointer None) ∷ []; statements = (on 5 (Statement-F.Alloc (Held (H.Local 0)) (Constant (pos 10)) GivesNull)) ∷ (on 6 (Statement-F.Alloc (Held (H.Local 1)) (Constant (pos 100)) GivesNull)) ∷ (on 7 (Statement-F.Free (Held (H.Local 0)))) ∷ (on 8 (Statement-F.PrintText (Quoted 0))) ∷ [] } }) ∷ []; operations = []; literals = (111 ∷ 110 ∷ 101 ∷ 32 ∷ 105 ∷ 115 ∷ 32 ∷ 108 ∷ 101 ∷ 102 ∷ 116 ∷ []) ∷ []; main = 0 }
@@ -862,54 +1051,12 @@ words_of_a_shrunk_cell_are_gone_run : run script_words_of_a_shrunk_cell_are_gone
 unfolding everything
 words_of_a_shrunk_cell_are_gone_run = refl
 
-abbrev script_callee_appends_to_a_text_that_it_was_passed_run : Script
-script_callee_appends_to_a_text_that_it_was_passed_run = record { classes = []; procedures = (record { line = 1; parameters = (Par.OfPointer None) ∷ []; body = record { locals = []; statements = (on 2 (Statement-F.Append (InCell (Held (H.Local 0))) (Quoted 0))) ∷ (on 3 (Statement-F.Append (InCell (Held (H.Local 0))) (Of (InCell (Held (H.Local 0)))))) ∷ [] } }) ∷ (record { line = 5; parameters = []; body = record { locals = (OfPointer None) ∷ OfNumber ∷ []; statements = (on 8 (Statement-F.NewText (Held (H.Local 0)) (Constant (pos 6)) Leaves)) ∷ (on 9 (Statement-F.Call 0 ((Passed (Held (H.Local 0))) ∷ []))) ∷ (on 10 (Statement-F.GetLength 1 (Of (InCell (Held (H.Local 0)))))) ∷ (on 11 (Statement-F.PrintNumber (Variable 1))) ∷ (on 12 (Statement-F.PrintText (Of (InCell (Held (H.Local 0)))))) ∷ (on 13 (Statement-F.Free (Held (H.Local 0)))) ∷ [] } }) ∷ []; operations = []; literals = (97 ∷ 98 ∷ []) ∷ []; main = 1 }
-
-callee_appends_to_a_text_that_it_was_passed_run : run script_callee_appends_to_a_text_that_it_was_passed_run R.Unlimited 10000 (shaped 4096 4096) ≡ record { outcome = Ended None []; trace = (line 1 144 0 Granted) ∷ (line 2 32 144 Granted) ∷ []; lines = (52 ∷ []) ∷ (97 ∷ 98 ∷ 97 ∷ 98 ∷ []) ∷ []; notes = []; steps = 8 }
-unfolding everything
-callee_appends_to_a_text_that_it_was_passed_run = refl
-
-abbrev script_callee_frees_what_it_was_passed_run : Script
-script_callee_frees_what_it_was_passed_run = record { classes = []; procedures = (record { line = 1; parameters = (Par.OfPointer None) ∷ []; body = record { locals = []; statements = (on 2 (Statement-F.Free (Held (H.Local 0)))) ∷ (on 3 (Statement-F.SetNull (Held (H.Local 0)))) ∷ [] } }) ∷ (record { line = 5; parameters = []; body = record { locals = (OfPointer None) ∷ OfNumber ∷ []; statements = (on 8 (Statement-F.Alloc (Held (H.Local 0)) (Constant (pos 8)) Leaves)) ∷ (on 9 (Statement-F.Call 0 ((Passed (Held (H.Local 0))) ∷ []))) ∷ (on 10 (Statement-F.If (NotNull (Held (H.Local 0))) ((on 11 (Statement-F.PrintText (Quoted 0))) ∷ []))) ∷ (on 13 (Statement-F.Load 1 (Held (H.Local 0)) (Constant (pos 0)))) ∷ [] } }) ∷ []; operations = []; literals = (107 ∷ 101 ∷ 112 ∷ 116 ∷ []) ∷ []; main = 1 }
-
-callee_frees_what_it_was_passed_run : run script_callee_frees_what_it_was_passed_run R.Unlimited 10000 (shaped 4096 4096) ≡ record { outcome = Panicked (P.Workbench 1); trace = (line 1 144 0 Granted) ∷ (line 2 32 144 Granted) ∷ []; lines = (107 ∷ 101 ∷ 112 ∷ 116 ∷ []) ∷ []; notes = []; steps = 7 }
-unfolding everything
-callee_frees_what_it_was_passed_run = refl
-
 abbrev script_callee_pops_an_item_of_its_caller_run : Script
 script_callee_pops_an_item_of_its_caller_run = record { classes = []; procedures = (record { line = 1; parameters = []; body = record { locals = []; statements = (on 2 (Statement-F.Pop (Constant (pos 1)))) ∷ [] } }) ∷ (record { line = 4; parameters = []; body = record { locals = (OfPointer None) ∷ []; statements = (on 6 (Statement-F.Push (Held (H.Local 0)))) ∷ (on 7 (Statement-F.Call 0 [])) ∷ [] } }) ∷ []; operations = []; literals = []; main = 1 }
 
 callee_pops_an_item_of_its_caller_run : run script_callee_pops_an_item_of_its_caller_run R.Unlimited 10000 (shaped 4096 4096) ≡ record { outcome = Ended None []; trace = (line 1 144 0 Granted) ∷ []; lines = []; notes = []; steps = 3 }
 unfolding everything
 callee_pops_an_item_of_its_caller_run = refl
-
-abbrev script_callee_writes_into_what_it_was_passed_run : Script
-script_callee_writes_into_what_it_was_passed_run = record { classes = []; procedures = (record { line = 1; parameters = (Par.OfPointer None) ∷ Par.OfNumber ∷ []; body = record { locals = []; statements = (on 2 (Statement-F.Store (Held (H.Local 0)) (Constant (pos 0)) (Variable 1))) ∷ (on 3 (Statement-F.Add 1 (Constant (pos 1)))) ∷ (on 4 (Statement-F.Store (Held (H.Local 0)) (Constant (pos 1)) (Variable 1))) ∷ (on 5 (Statement-F.SetNull (Held (H.Local 0)))) ∷ [] } }) ∷ (record { line = 7; parameters = []; body = record { locals = (OfPointer None) ∷ OfNumber ∷ []; statements = (on 10 (Statement-F.Alloc (Held (H.Local 0)) (Constant (pos 8)) Leaves)) ∷ (on 11 (Statement-F.SetNumber 1 (Constant (pos 41)))) ∷ (on 12 (Statement-F.Call 0 ((Passed (Held (H.Local 0))) ∷ (Given (Variable 1)) ∷ []))) ∷ (on 13 (Statement-F.PrintNumber (Variable 1))) ∷ (on 14 (Statement-F.Load 1 (Held (H.Local 0)) (Constant (pos 0)))) ∷ (on 15 (Statement-F.PrintNumber (Variable 1))) ∷ (on 16 (Statement-F.Load 1 (Held (H.Local 0)) (Constant (pos 1)))) ∷ (on 17 (Statement-F.PrintNumber (Variable 1))) ∷ (on 18 (Statement-F.Free (Held (H.Local 0)))) ∷ [] } }) ∷ []; operations = []; literals = []; main = 1 }
-
-callee_writes_into_what_it_was_passed_run : run script_callee_writes_into_what_it_was_passed_run R.Unlimited 10000 (shaped 4096 4096) ≡ record { outcome = Ended None []; trace = (line 1 144 0 Granted) ∷ (line 2 32 144 Granted) ∷ []; lines = (52 ∷ 49 ∷ []) ∷ (52 ∷ 49 ∷ []) ∷ (52 ∷ 50 ∷ []) ∷ []; notes = []; steps = 13 }
-unfolding everything
-callee_writes_into_what_it_was_passed_run = refl
-
-abbrev script_null_leaves_with_no_memory_run : Script
-script_null_leaves_with_no_memory_run = record { classes = []; procedures = (record { line = 1; parameters = []; body = record { locals = (OfPointer None) ∷ OfNumber ∷ []; statements = (on 4 (Statement-F.Alloc (Held (H.Local 0)) (Constant (pos 0)) GivesNull)) ∷ (on 5 (Statement-F.LeaveIfNull (Held (H.Local 0)))) ∷ (on 6 (Statement-F.PrintText (Quoted 0))) ∷ (on 7 (Statement-F.Free (Held (H.Local 0)))) ∷ (on 8 (Statement-F.SetNull (Held (H.Local 0)))) ∷ (on 9 (Statement-F.Trap 1 ((on 10 (Statement-F.LeaveIfNull (Held (H.Local 0)))) ∷ (on 11 (Statement-F.PrintText (Quoted 1))) ∷ []))) ∷ (on 13 (Statement-F.PrintNumber (Variable 1))) ∷ (on 14 (Statement-F.LeaveIfNull (Held (H.Local 0)))) ∷ (on 15 (Statement-F.PrintText (Quoted 2))) ∷ [] } }) ∷ []; operations = []; literals = (116 ∷ 104 ∷ 101 ∷ 114 ∷ 101 ∷ []) ∷ (110 ∷ 101 ∷ 118 ∷ 101 ∷ 114 ∷ []) ∷ (110 ∷ 101 ∷ 118 ∷ 101 ∷ 114 ∷ []) ∷ []; main = 0 }
-
-null_leaves_with_no_memory_run : run script_null_leaves_with_no_memory_run R.Unlimited 10000 (shaped 4096 4096) ≡ record { outcome = Ended (Some (negsuc 3)) []; trace = (line 1 144 0 Granted) ∷ (line 2 16 144 Granted) ∷ []; lines = (116 ∷ 104 ∷ 101 ∷ 114 ∷ 101 ∷ []) ∷ (45 ∷ 52 ∷ []) ∷ []; notes = []; steps = 9 }
-unfolding everything
-null_leaves_with_no_memory_run = refl
-
-abbrev script_return_ends_main_run : Script
-script_return_ends_main_run = record { classes = []; procedures = (record { line = 1; parameters = []; body = record { locals = []; statements = (on 2 (Statement-F.PrintText (Quoted 0))) ∷ (on 3 Statement-F.Return) ∷ (on 4 (Statement-F.PrintText (Quoted 1))) ∷ [] } }) ∷ []; operations = []; literals = (111 ∷ 110 ∷ 101 ∷ []) ∷ (116 ∷ 119 ∷ 111 ∷ []) ∷ []; main = 0 }
-
-return_ends_main_run : run script_return_ends_main_run R.Unlimited 10000 (shaped 4096 4096) ≡ record { outcome = Ended None []; trace = (line 1 144 0 Granted) ∷ []; lines = (111 ∷ 110 ∷ 101 ∷ []) ∷ []; notes = []; steps = 2 }
-unfolding everything
-return_ends_main_run = refl
-
-abbrev script_return_ends_the_body_at_once_run : Script
-script_return_ends_the_body_at_once_run = record { classes = []; procedures = (record { line = 1; parameters = (Par.OfPointer None) ∷ Par.OfNumber ∷ []; body = record { locals = []; statements = (on 2 (Statement-F.If (Less (Variable 1) (Constant (pos 1))) ((on 3 Statement-F.Return) ∷ []))) ∷ (on 5 (Statement-F.PrintNumber (Variable 1))) ∷ (on 6 (Statement-F.Free (Held (H.Local 0)))) ∷ [] } }) ∷ (record { line = 8; parameters = Par.OfNumber ∷ []; body = record { locals = (OfPointer None) ∷ []; statements = (on 10 (Statement-F.If (Equal (Variable 0) (Constant (pos 0))) ((on 11 Statement-F.Return) ∷ []))) ∷ (on 13 (Statement-F.Alloc (Held (H.Local 1)) (Variable 0) Leaves)) ∷ (on 14 (Statement-F.ReturnPointer (Held (H.Local 1)))) ∷ [] } }) ∷ (record { line = 16; parameters = []; body = record { locals = (OfPointer None) ∷ (OfPointer None) ∷ []; statements = (on 19 (Statement-F.CallTo 0 1 ((Given (Constant (pos 20))) ∷ []))) ∷ (on 20 (Statement-F.CallTo 1 1 ((Given (Constant (pos 0))) ∷ []))) ∷ (on 21 (Statement-F.If (NotNull (Held (H.Local 1))) ((on 22 (Statement-F.PrintText (Quoted 0))) ∷ []))) ∷ (on 24 (Statement-F.Call 0 ((Passed (Held (H.Local 0))) ∷ (Given (Constant (pos 0))) ∷ []))) ∷ (on 25 (Statement-F.Call 0 ((Passed (Held (H.Local 0))) ∷ (Given (Constant (pos 7))) ∷ []))) ∷ [] } }) ∷ []; operations = []; literals = (110 ∷ 101 ∷ 118 ∷ 101 ∷ 114 ∷ []) ∷ []; main = 2 }
-
-return_ends_the_body_at_once_run : run script_return_ends_the_body_at_once_run R.Unlimited 10000 (shaped 4096 4096) ≡ record { outcome = Ended None []; trace = (line 1 144 0 Granted) ∷ (line 2 48 144 Granted) ∷ []; lines = (55 ∷ []) ∷ []; notes = []; steps = 15 }
-unfolding everything
-return_ends_the_body_at_once_run = refl
 
 abbrev script_return_from_main_with_an_item_run : Script
 script_return_from_main_with_an_item_run = record { classes = []; procedures = (record { line = 1; parameters = []; body = record { locals = (OfPointer None) ∷ []; statements = (on 3 (Statement-F.Push (Held (H.Local 0)))) ∷ (on 4 Statement-F.Return) ∷ [] } }) ∷ []; operations = []; literals = []; main = 0 }
@@ -1100,26 +1247,187 @@ too_many_items_to_destroy_destroys_none_run : run script_too_many_items_to_destr
 unfolding everything
 too_many_items_to_destroy_destroys_none_run = refl
 
-abbrev script_freed_pointer_is_not_null_run : Script
-script_freed_pointer_is_not_null_run = record { classes = []; procedures = (record { line = 1; parameters = []; body = record { locals = (OfPointer None) ∷ []; statements = (on 3 (Statement-F.If (NotNull (Held (H.Local 0))) ((on 4 (Statement-F.PrintText (Quoted 0))) ∷ []))) ∷ (on 6 (Statement-F.Alloc (Held (H.Local 0)) (Constant (pos 5)) GivesNull)) ∷ (on 7 (Statement-F.IfElse (NotNull (Held (H.Local 0))) ((on 8 (Statement-F.PrintText (Quoted 1))) ∷ []) ((on 10 (Statement-F.PrintText (Quoted 2))) ∷ []))) ∷ (on 12 (Statement-F.Free (Held (H.Local 0)))) ∷ (on 13 (Statement-F.If (NotNull (Held (H.Local 0))) ((on 14 (Statement-F.PrintText (Quoted 3))) ∷ []))) ∷ (on 16 (Statement-F.SetNull (Held (H.Local 0)))) ∷ (on 17 (Statement-F.IfElse (NotNull (Held (H.Local 0))) ((on 18 (Statement-F.PrintText (Quoted 4))) ∷ []) ((on 20 (Statement-F.PrintText (Quoted 5))) ∷ []))) ∷ [] } }) ∷ []; operations = []; literals = (110 ∷ 101 ∷ 118 ∷ 101 ∷ 114 ∷ []) ∷ (115 ∷ 111 ∷ 109 ∷ 101 ∷ []) ∷ (110 ∷ 101 ∷ 118 ∷ 101 ∷ 114 ∷ []) ∷ (115 ∷ 116 ∷ 105 ∷ 108 ∷ 108 ∷ []) ∷ (110 ∷ 101 ∷ 118 ∷ 101 ∷ 114 ∷ []) ∷ (110 ∷ 117 ∷ 108 ∷ 108 ∷ []) ∷ []; main = 0 }
+abbrev script_items_left_at_the_plain_end_of_a_trap_run : Script
+script_items_left_at_the_plain_end_of_a_trap_run = record { classes = []; procedures = (record { line = 1; parameters = []; body = record { locals = (OfPointer None) ∷ OfNumber ∷ []; statements = (on 4 (Statement-F.Alloc (Held (H.Local 0)) (Constant (pos 10)) GivesNull)) ∷ (on 5 (Statement-F.Trap 1 ((on 6 (Statement-F.Push (Held (H.Local 0)))) ∷ []))) ∷ (on 8 (Statement-F.PrintNumber (Constant (pos 1)))) ∷ [] } }) ∷ []; operations = []; literals = []; main = 0 }
 
-freed_pointer_is_not_null_run : run script_freed_pointer_is_not_null_run R.Unlimited 10000 (shaped 4096 4096) ≡ record { outcome = Ended None []; trace = (line 1 144 0 Granted) ∷ (line 2 32 144 Granted) ∷ []; lines = (115 ∷ 111 ∷ 109 ∷ 101 ∷ []) ∷ (115 ∷ 116 ∷ 105 ∷ 108 ∷ 108 ∷ []) ∷ (110 ∷ 117 ∷ 108 ∷ 108 ∷ []) ∷ []; notes = []; steps = 10 }
+items_left_at_the_plain_end_of_a_trap_run : run script_items_left_at_the_plain_end_of_a_trap_run R.Unlimited 10000 (shaped 4096 4096) ≡ record { outcome = Panicked (P.Workbench 5); trace = (line 1 144 0 Granted) ∷ (line 2 32 144 Granted) ∷ []; lines = []; notes = []; steps = 3 }
 unfolding everything
-freed_pointer_is_not_null_run = refl
+items_left_at_the_plain_end_of_a_trap_run = refl
 
-abbrev script_if_without_else_leaves_its_turn_out_run : Script
-script_if_without_else_leaves_its_turn_out_run = record { classes = []; procedures = (record { line = 1; parameters = []; body = record { locals = OfNumber ∷ []; statements = (on 3 (Statement-F.Repeat (Constant (pos 3)) ((on 4 (Statement-F.Add 0 (Constant (pos 1)))) ∷ (on 5 (Statement-F.If (Equal (Variable 0) (Constant (pos 2))) ((on 6 (Statement-F.PrintNumber (Variable 0))) ∷ []))) ∷ []))) ∷ [] } }) ∷ []; operations = []; literals = []; main = 0 }
+abbrev script_eighth_push_grows_the_cleanup_cell_size : Script
+script_eighth_push_grows_the_cleanup_cell_size = record { classes = []; procedures = (record { line = 1; parameters = []; body = record { locals = (OfPointer None) ∷ []; statements = (on 3 (Statement-F.Repeat (Constant (pos 8)) ((on 4 (Statement-F.Alloc (Held (H.Local 0)) (Constant (pos 16)) Leaves)) ∷ (on 5 (Statement-F.Push (Held (H.Local 0)))) ∷ []))) ∷ (on 7 (Statement-F.PopDestroy (Constant (pos 8)))) ∷ [] } }) ∷ []; operations = []; literals = []; main = 0 }
 
-if_without_else_leaves_its_turn_out_run : run script_if_without_else_leaves_its_turn_out_run R.Unlimited 10000 (shaped 4096 4096) ≡ record { outcome = Ended None []; trace = (line 1 144 0 Granted) ∷ []; lines = (50 ∷ []) ∷ []; notes = []; steps = 11 }
+eighth_push_grows_the_cleanup_cell_size : (required script_eighth_push_grows_the_cleanup_cell_size 10000 (shaped 4096 4096) ≡ 608) × (rises script_eighth_push_grows_the_cleanup_cell_size 10000 (shaped 4096 4096) ≡ (rise 1 144) ∷ (rise 2 176) ∷ (rise 3 208) ∷ (rise 4 240) ∷ (rise 5 272) ∷ (rise 6 304) ∷ (rise 7 336) ∷ (rise 8 368) ∷ (rise 9 400) ∷ (rise 10 608) ∷ [])
 unfolding everything
-if_without_else_leaves_its_turn_out_run = refl
+eighth_push_grows_the_cleanup_cell_size = (refl, refl)
 
-abbrev script_numbers_are_compared_run : Script
-script_numbers_are_compared_run = record { classes = []; procedures = (record { line = 1; parameters = []; body = record { locals = OfNumber ∷ OfNumber ∷ []; statements = (on 4 (Statement-F.SetNumber 0 (Constant (pos 3)))) ∷ (on 5 (Statement-F.SetNumber 1 (Constant (negsuc 2)))) ∷ (on 6 (Statement-F.If (Less (Variable 1) (Variable 0)) ((on 7 (Statement-F.PrintText (Quoted 0))) ∷ []))) ∷ (on 9 (Statement-F.If (Less (Variable 0) (Variable 0)) ((on 10 (Statement-F.PrintText (Quoted 1))) ∷ []))) ∷ (on 12 (Statement-F.IfElse (Equal (Variable 0) (Constant (pos 3))) ((on 13 (Statement-F.PrintText (Quoted 2))) ∷ []) ((on 15 (Statement-F.PrintText (Quoted 3))) ∷ []))) ∷ (on 17 (Statement-F.IfElse (Equal (Variable 0) (Variable 1)) ((on 18 (Statement-F.PrintText (Quoted 4))) ∷ []) ((on 20 (Statement-F.PrintText (Quoted 5))) ∷ []))) ∷ [] } }) ∷ []; operations = []; literals = (108 ∷ 101 ∷ 115 ∷ 115 ∷ []) ∷ (110 ∷ 101 ∷ 118 ∷ 101 ∷ 114 ∷ []) ∷ (101 ∷ 113 ∷ 117 ∷ 97 ∷ 108 ∷ []) ∷ (110 ∷ 101 ∷ 118 ∷ 101 ∷ 114 ∷ []) ∷ (110 ∷ 101 ∷ 118 ∷ 101 ∷ 114 ∷ []) ∷ (111 ∷ 116 ∷ 104 ∷ 101 ∷ 114 ∷ []) ∷ []; main = 0 }
+abbrev script_empty_main_json_size : Script
+script_empty_main_json_size = record { classes = []; procedures = (record { line = 1; parameters = []; body = record { locals = []; statements = [] } }) ∷ []; operations = []; literals = []; main = 0 }
 
-numbers_are_compared_run : run script_numbers_are_compared_run R.Unlimited 10000 (shaped 4096 4096) ≡ record { outcome = Ended None []; trace = (line 1 144 0 Granted) ∷ []; lines = (108 ∷ 101 ∷ 115 ∷ 115 ∷ []) ∷ (101 ∷ 113 ∷ 117 ∷ 97 ∷ 108 ∷ []) ∷ (111 ∷ 116 ∷ 104 ∷ 101 ∷ 114 ∷ []) ∷ []; notes = []; steps = 9 }
+empty_main_json_size : (required script_empty_main_json_size 10000 (shaped 4096 4096) ≡ 144) × (rises script_empty_main_json_size 10000 (shaped 4096 4096) ≡ (rise 1 144) ∷ [])
 unfolding everything
-numbers_are_compared_run = refl
+empty_main_json_size = (refl, refl)
+
+abbrev script_marks_never_count_the_cleanup_cell_size : Script
+script_marks_never_count_the_cleanup_cell_size = record { classes = []; procedures = (record { line = 1; parameters = []; body = record { locals = (OfPointer None) ∷ []; statements = (on 3 Statement-F.Mark) ∷ (on 4 (Statement-F.Repeat (Constant (pos 8)) ((on 5 (Statement-F.Push (Held (H.Local 0)))) ∷ []))) ∷ (on 7 (Statement-F.Pop (Constant (pos 8)))) ∷ (on 8 (Statement-F.MarkEnd (Constant (pos 0)))) ∷ [] } }) ∷ []; operations = []; literals = []; main = 0 }
+
+marks_never_count_the_cleanup_cell_size : (required script_marks_never_count_the_cleanup_cell_size 10000 (shaped 4096 4096) ≡ 208) × (rises script_marks_never_count_the_cleanup_cell_size 10000 (shaped 4096 4096) ≡ (rise 1 144) ∷ (rise 2 208) ∷ [])
+unfolding everything
+marks_never_count_the_cleanup_cell_size = (refl, refl)
+
+abbrev script_objects_that_delete_each_other_small_budget_size : Script
+script_objects_that_delete_each_other_small_budget_size = record { classes = (record { line = 1; extra = 0; fields = (Some 0) ∷ []; construct = None; destroy = Some (record { locals = []; statements = (on 4 (Statement-F.Delete (Field H.This 0 0))) ∷ [] }) }) ∷ []; procedures = (record { line = 7; parameters = []; body = record { locals = (OfPointer (Some 0)) ∷ (OfPointer (Some 0)) ∷ []; statements = (on 10 (Statement-F.New (Held (H.Local 0)) 0 Leaves)) ∷ (on 11 (Statement-F.New (Held (H.Local 1)) 0 Leaves)) ∷ (on 12 (Statement-F.Set (Field (H.Local 0) 0 0) (Held (H.Local 1)))) ∷ (on 13 (Statement-F.Set (Field (H.Local 1) 0 0) (Held (H.Local 0)))) ∷ (on 14 (Statement-F.Delete (Held (H.Local 0)))) ∷ [] } }) ∷ []; operations = []; literals = []; main = 0 }
+
+objects_that_delete_each_other_small_budget_size : (run script_objects_that_delete_each_other_small_budget_size R.Unlimited 20 (shaped 4096 4096)).outcome ≡ Cut Budget
+unfolding everything
+objects_that_delete_each_other_small_budget_size = refl
+
+abbrev script_procedure_returns_a_pushed_cell_size : Script
+script_procedure_returns_a_pushed_cell_size = record { classes = []; procedures = (record { line = 1; parameters = Par.OfNumber ∷ []; body = record { locals = (OfPointer None) ∷ []; statements = (on 3 (Statement-F.Alloc (Held (H.Local 1)) (Variable 0) Leaves)) ∷ (on 4 (Statement-F.Push (Held (H.Local 1)))) ∷ (on 5 (Statement-F.ReturnPointer (Held (H.Local 1)))) ∷ [] } }) ∷ (record { line = 7; parameters = []; body = record { locals = (OfPointer None) ∷ []; statements = (on 9 (Statement-F.CallTo 0 0 ((Given (Constant (pos 40))) ∷ []))) ∷ (on 10 (Statement-F.PopDestroy (Constant (pos 1)))) ∷ [] } }) ∷ []; operations = []; literals = []; main = 1 }
+
+procedure_returns_a_pushed_cell_size : (required script_procedure_returns_a_pushed_cell_size 10000 (shaped 4096 4096) ≡ 208) × (rises script_procedure_returns_a_pushed_cell_size 10000 (shaped 4096 4096) ≡ (rise 1 144) ∷ (rise 2 208) ∷ [])
+unfolding everything
+procedure_returns_a_pushed_cell_size = (refl, refl)
+
+abbrev script_pushed_object_made_and_deleted_size : Script
+script_pushed_object_made_and_deleted_size = record { classes = (record { line = 1; extra = 16; fields = None ∷ []; construct = Some (record { locals = []; statements = (on 4 (Statement-F.NewText (Field H.This 0 0) (Constant (pos 4)) Leaves)) ∷ [] }); destroy = Some (record { locals = []; statements = (on 7 (Statement-F.Free (Field H.This 0 0))) ∷ [] }) }) ∷ []; procedures = (record { line = 10; parameters = []; body = record { locals = (OfPointer (Some 0)) ∷ []; statements = (on 12 (Statement-F.New (Held (H.Local 0)) 0 Leaves)) ∷ (on 13 (Statement-F.PushObject (Held (H.Local 0)))) ∷ (on 14 (Statement-F.Construct (Held (H.Local 0)))) ∷ (on 15 (Statement-F.Pop (Constant (pos 1)))) ∷ (on 16 (Statement-F.Delete (Held (H.Local 0)))) ∷ [] } }) ∷ []; operations = []; literals = []; main = 0 }
+
+pushed_object_made_and_deleted_size : (required script_pushed_object_made_and_deleted_size 10000 (shaped 4096 4096) ≡ 224) × (rises script_pushed_object_made_and_deleted_size 10000 (shaped 4096 4096) ≡ (rise 1 144) ∷ (rise 2 192) ∷ (rise 3 224) ∷ [])
+unfolding everything
+pushed_object_made_and_deleted_size = (refl, refl)
+
+abbrev script_eighth_push_grows_the_cleanup_cell_check : Script
+script_eighth_push_grows_the_cleanup_cell_check = record { classes = []; procedures = (record { line = 1; parameters = []; body = record { locals = (OfPointer None) ∷ []; statements = (on 3 (Statement-F.Repeat (Constant (pos 8)) ((on 4 (Statement-F.Alloc (Held (H.Local 0)) (Constant (pos 16)) Leaves)) ∷ (on 5 (Statement-F.Push (Held (H.Local 0)))) ∷ []))) ∷ (on 7 (Statement-F.PopDestroy (Constant (pos 8)))) ∷ [] } }) ∷ []; operations = []; literals = []; main = 0 }
+
+eighth_push_grows_the_cleanup_cell_check : (required script_eighth_push_grows_the_cleanup_cell_check 10000 (shaped 4096 4096) ≡ 608) × (rises script_eighth_push_grows_the_cleanup_cell_check 10000 (shaped 4096 4096) ≡ (rise 1 144) ∷ (rise 2 176) ∷ (rise 3 208) ∷ (rise 4 240) ∷ (rise 5 272) ∷ (rise 6 304) ∷ (rise 7 336) ∷ (rise 8 368) ∷ (rise 9 400) ∷ (rise 10 608) ∷ []) × (length (run_at script_eighth_push_grows_the_cleanup_cell_check 10000 (shaped 4096 4096) 0).trace ≡ 10) × (least_bad_or_cut script_eighth_push_grows_the_cleanup_cell_check 10000 (shaped 4096 4096) ≡ None)
+unfolding everything
+eighth_push_grows_the_cleanup_cell_check = (refl, refl, refl, refl)
+
+abbrev script_eighth_push_grows_the_cleanup_cell_sweep : Script
+script_eighth_push_grows_the_cleanup_cell_sweep = record { classes = []; procedures = (record { line = 1; parameters = []; body = record { locals = (OfPointer None) ∷ []; statements = (on 3 (Statement-F.Repeat (Constant (pos 8)) ((on 4 (Statement-F.Alloc (Held (H.Local 0)) (Constant (pos 16)) Leaves)) ∷ (on 5 (Statement-F.Push (Held (H.Local 0)))) ∷ []))) ∷ (on 7 (Statement-F.PopDestroy (Constant (pos 8)))) ∷ [] } }) ∷ []; operations = []; literals = []; main = 0 }
+
+eighth_push_grows_the_cleanup_cell_sweep : (length (run_at script_eighth_push_grows_the_cleanup_cell_sweep 10000 (shaped 4096 4096) 0).trace ≡ 10) × (least_bad_or_cut script_eighth_push_grows_the_cleanup_cell_sweep 10000 (shaped 4096 4096) ≡ None)
+unfolding everything
+eighth_push_grows_the_cleanup_cell_sweep = (refl, refl)
+
+abbrev script_empty_main_json_check : Script
+script_empty_main_json_check = record { classes = []; procedures = (record { line = 1; parameters = []; body = record { locals = []; statements = [] } }) ∷ []; operations = []; literals = []; main = 0 }
+
+empty_main_json_check : (required script_empty_main_json_check 10000 (shaped 4096 4096) ≡ 144) × (rises script_empty_main_json_check 10000 (shaped 4096 4096) ≡ (rise 1 144) ∷ []) × (length (run_at script_empty_main_json_check 10000 (shaped 4096 4096) 0).trace ≡ 1) × (least_bad_or_cut script_empty_main_json_check 10000 (shaped 4096 4096) ≡ None)
+unfolding everything
+empty_main_json_check = (refl, refl, refl, refl)
+
+abbrev script_failure_that_outruns_the_budget_json_check : Script
+script_failure_that_outruns_the_budget_json_check = record { classes = []; procedures = (record { line = 1; parameters = []; body = record { locals = (OfPointer None) ∷ []; statements = (on 3 (Statement-F.Alloc (Held (H.Local 0)) (Constant (pos 16)) GivesNull)) ∷ (on 4 (Statement-F.If (IsNull (Held (H.Local 0))) ((on 5 (Statement-F.Repeat (Constant (pos 20000)) [])) ∷ []))) ∷ (on 8 (Statement-F.Free (Held (H.Local 0)))) ∷ [] } }) ∷ []; operations = []; literals = []; main = 0 }
+
+failure_that_outruns_the_budget_json_check : (required script_failure_that_outruns_the_budget_json_check 10000 (shaped 4096 4096) ≡ 176) × (rises script_failure_that_outruns_the_budget_json_check 10000 (shaped 4096 4096) ≡ (rise 1 144) ∷ (rise 2 176) ∷ []) × (least_bad_or_cut script_failure_that_outruns_the_budget_json_check 10000 (shaped 4096 4096) ≡ Some 2) × ((run_at script_failure_that_outruns_the_budget_json_check 10000 (shaped 4096 4096) 2).outcome ≡ Cut Budget)
+unfolding everything
+failure_that_outruns_the_budget_json_check = (refl, refl, refl, refl)
+
+abbrev script_leak_without_any_failure_json_sweep : Script
+script_leak_without_any_failure_json_sweep = record { classes = []; procedures = (record { line = 1; parameters = []; body = record { locals = (OfPointer None) ∷ []; statements = (on 3 (Statement-F.Alloc (Held (H.Local 0)) (Constant (pos 16)) GivesNull)) ∷ [] } }) ∷ []; operations = []; literals = []; main = 0 }
+
+leak_without_any_failure_json_sweep : (length (run_at script_leak_without_any_failure_json_sweep 10000 (shaped 4096 4096) 0).trace ≡ 2) × (least_bad_or_cut script_leak_without_any_failure_json_sweep 10000 (shaped 4096 4096) ≡ Some 0) × (run_at script_leak_without_any_failure_json_sweep 10000 (shaped 4096 4096) 0 ≡ record { outcome = Ended None ((record { number = 2; length = 32; place = 144 }) ∷ []); trace = (line 1 144 0 Granted) ∷ (line 2 32 144 Granted) ∷ []; lines = []; notes = []; steps = 1 })
+unfolding everything
+leak_without_any_failure_json_sweep = (refl, refl, refl)
+
+abbrev script_marks_never_count_the_cleanup_cell_check : Script
+script_marks_never_count_the_cleanup_cell_check = record { classes = []; procedures = (record { line = 1; parameters = []; body = record { locals = (OfPointer None) ∷ []; statements = (on 3 Statement-F.Mark) ∷ (on 4 (Statement-F.Repeat (Constant (pos 8)) ((on 5 (Statement-F.Push (Held (H.Local 0)))) ∷ []))) ∷ (on 7 (Statement-F.Pop (Constant (pos 8)))) ∷ (on 8 (Statement-F.MarkEnd (Constant (pos 0)))) ∷ [] } }) ∷ []; operations = []; literals = []; main = 0 }
+
+marks_never_count_the_cleanup_cell_check : (required script_marks_never_count_the_cleanup_cell_check 10000 (shaped 4096 4096) ≡ 208) × (rises script_marks_never_count_the_cleanup_cell_check 10000 (shaped 4096 4096) ≡ (rise 1 144) ∷ (rise 2 208) ∷ []) × (length (run_at script_marks_never_count_the_cleanup_cell_check 10000 (shaped 4096 4096) 0).trace ≡ 2) × (least_bad_or_cut script_marks_never_count_the_cleanup_cell_check 10000 (shaped 4096 4096) ≡ None)
+unfolding everything
+marks_never_count_the_cleanup_cell_check = (refl, refl, refl, refl)
+
+abbrev script_procedure_returns_a_pushed_cell_check : Script
+script_procedure_returns_a_pushed_cell_check = record { classes = []; procedures = (record { line = 1; parameters = Par.OfNumber ∷ []; body = record { locals = (OfPointer None) ∷ []; statements = (on 3 (Statement-F.Alloc (Held (H.Local 1)) (Variable 0) Leaves)) ∷ (on 4 (Statement-F.Push (Held (H.Local 1)))) ∷ (on 5 (Statement-F.ReturnPointer (Held (H.Local 1)))) ∷ [] } }) ∷ (record { line = 7; parameters = []; body = record { locals = (OfPointer None) ∷ []; statements = (on 9 (Statement-F.CallTo 0 0 ((Given (Constant (pos 40))) ∷ []))) ∷ (on 10 (Statement-F.PopDestroy (Constant (pos 1)))) ∷ [] } }) ∷ []; operations = []; literals = []; main = 1 }
+
+procedure_returns_a_pushed_cell_check : (required script_procedure_returns_a_pushed_cell_check 10000 (shaped 4096 4096) ≡ 208) × (rises script_procedure_returns_a_pushed_cell_check 10000 (shaped 4096 4096) ≡ (rise 1 144) ∷ (rise 2 208) ∷ []) × (length (run_at script_procedure_returns_a_pushed_cell_check 10000 (shaped 4096 4096) 0).trace ≡ 2) × (least_bad_or_cut script_procedure_returns_a_pushed_cell_check 10000 (shaped 4096 4096) ≡ None)
+unfolding everything
+procedure_returns_a_pushed_cell_check = (refl, refl, refl, refl)
+
+abbrev script_pushed_object_survives_every_failure_sweep : Script
+script_pushed_object_survives_every_failure_sweep = record { classes = (record { line = 1; extra = 16; fields = None ∷ []; construct = Some (record { locals = []; statements = (on 4 (Statement-F.NewText (Field H.This 0 0) (Constant (pos 4)) Leaves)) ∷ [] }); destroy = Some (record { locals = []; statements = (on 7 (Statement-F.Free (Field H.This 0 0))) ∷ [] }) }) ∷ []; procedures = (record { line = 10; parameters = []; body = record { locals = (OfPointer (Some 0)) ∷ []; statements = (on 12 (Statement-F.New (Held (H.Local 0)) 0 Leaves)) ∷ (on 13 (Statement-F.PushObject (Held (H.Local 0)))) ∷ (on 14 (Statement-F.Construct (Held (H.Local 0)))) ∷ (on 15 (Statement-F.Pop (Constant (pos 1)))) ∷ (on 16 (Statement-F.Delete (Held (H.Local 0)))) ∷ [] } }) ∷ []; operations = []; literals = []; main = 0 }
+
+pushed_object_survives_every_failure_sweep : (length (run_at script_pushed_object_survives_every_failure_sweep 10000 (shaped 4096 4096) 0).trace ≡ 3) × (least_bad_or_cut script_pushed_object_survives_every_failure_sweep 10000 (shaped 4096 4096) ≡ None)
+unfolding everything
+pushed_object_survives_every_failure_sweep = (refl, refl)
+
+abbrev script_unpushed_object_leaks_when_construction_fails_check : Script
+script_unpushed_object_leaks_when_construction_fails_check = record { classes = (record { line = 1; extra = 16; fields = None ∷ []; construct = Some (record { locals = []; statements = (on 4 (Statement-F.NewText (Field H.This 0 0) (Constant (pos 4)) Leaves)) ∷ [] }); destroy = Some (record { locals = []; statements = (on 7 (Statement-F.Free (Field H.This 0 0))) ∷ [] }) }) ∷ []; procedures = (record { line = 10; parameters = []; body = record { locals = (OfPointer (Some 0)) ∷ []; statements = (on 12 (Statement-F.New (Held (H.Local 0)) 0 Leaves)) ∷ (on 13 (Statement-F.Construct (Held (H.Local 0)))) ∷ (on 14 (Statement-F.Delete (Held (H.Local 0)))) ∷ [] } }) ∷ []; operations = []; literals = []; main = 0 }
+
+unpushed_object_leaks_when_construction_fails_check : (required script_unpushed_object_leaks_when_construction_fails_check 10000 (shaped 4096 4096) ≡ 224) × (rises script_unpushed_object_leaks_when_construction_fails_check 10000 (shaped 4096 4096) ≡ (rise 1 144) ∷ (rise 2 192) ∷ (rise 3 224) ∷ []) × (length (run_at script_unpushed_object_leaks_when_construction_fails_check 10000 (shaped 4096 4096) 0).trace ≡ 3) × (least_bad_or_cut script_unpushed_object_leaks_when_construction_fails_check 10000 (shaped 4096 4096) ≡ Some 3) × (run_at script_unpushed_object_leaks_when_construction_fails_check 10000 (shaped 4096 4096) 3 ≡ record { outcome = Ended (Some (negsuc 3)) ((record { number = 2; length = 48; place = 144 }) ∷ []); trace = (line 1 144 0 Granted) ∷ (line 2 48 144 Granted) ∷ (line 3 32 192 Simulated) ∷ []; lines = []; notes = []; steps = 3 })
+unfolding everything
+unpushed_object_leaks_when_construction_fails_check = (refl, refl, refl, refl, refl)
+
+abbrev script_unpushed_object_leaks_when_construction_fails_sweep : Script
+script_unpushed_object_leaks_when_construction_fails_sweep = record { classes = (record { line = 1; extra = 16; fields = None ∷ []; construct = Some (record { locals = []; statements = (on 4 (Statement-F.NewText (Field H.This 0 0) (Constant (pos 4)) Leaves)) ∷ [] }); destroy = Some (record { locals = []; statements = (on 7 (Statement-F.Free (Field H.This 0 0))) ∷ [] }) }) ∷ []; procedures = (record { line = 10; parameters = []; body = record { locals = (OfPointer (Some 0)) ∷ []; statements = (on 12 (Statement-F.New (Held (H.Local 0)) 0 Leaves)) ∷ (on 13 (Statement-F.Construct (Held (H.Local 0)))) ∷ (on 14 (Statement-F.Delete (Held (H.Local 0)))) ∷ [] } }) ∷ []; operations = []; literals = []; main = 0 }
+
+unpushed_object_leaks_when_construction_fails_sweep : (length (run_at script_unpushed_object_leaks_when_construction_fails_sweep 10000 (shaped 4096 4096) 0).trace ≡ 3) × (least_bad_or_cut script_unpushed_object_leaks_when_construction_fails_sweep 10000 (shaped 4096 4096) ≡ Some 3) × (run_at script_unpushed_object_leaks_when_construction_fails_sweep 10000 (shaped 4096 4096) 3 ≡ record { outcome = Ended (Some (negsuc 3)) ((record { number = 2; length = 48; place = 144 }) ∷ []); trace = (line 1 144 0 Granted) ∷ (line 2 48 144 Granted) ∷ (line 3 32 192 Simulated) ∷ []; lines = []; notes = []; steps = 3 })
+unfolding everything
+unpushed_object_leaks_when_construction_fails_sweep = (refl, refl, refl)
+
+abbrev script_leak_of_a_cell_that_a_frame_named_run : Script
+script_leak_of_a_cell_that_a_frame_named_run = record { classes = []; procedures = (record { line = 1; parameters = []; body = record { locals = (OfPointer None) ∷ []; statements = (on 3 (Statement-F.Alloc (Held (H.Local 0)) (Constant (pos 4)) Leaves)) ∷ (on 4 (Statement-F.Leave (Constant (negsuc 1)))) ∷ [] } }) ∷ (record { line = 6; parameters = []; body = record { locals = OfNumber ∷ []; statements = (on 8 (Statement-F.Trap 0 ((on 9 (Statement-F.Call 0 [])) ∷ []))) ∷ (on 11 (Statement-F.PrintNumber (Variable 0))) ∷ [] } }) ∷ []; operations = []; literals = []; main = 1 }
+
+leak_of_a_cell_that_a_frame_named_run : run script_leak_of_a_cell_that_a_frame_named_run R.Unlimited 10000 (shaped 4096 4096) ≡ record { outcome = Ended None ((record { number = 2; length = 32; place = 144 }) ∷ []); trace = (line 1 144 0 Granted) ∷ (line 2 32 144 Granted) ∷ []; lines = (45 ∷ 50 ∷ []) ∷ []; notes = []; steps = 5 }
+unfolding everything
+leak_of_a_cell_that_a_frame_named_run = refl
+
+abbrev script_leave_ends_main_run : Script
+script_leave_ends_main_run = record { classes = []; procedures = (record { line = 1; parameters = []; body = record { locals = []; statements = (on 2 (Statement-F.PrintText (Quoted 0))) ∷ (on 3 (Statement-F.Leave (Constant (negsuc 5)))) ∷ (on 4 (Statement-F.PrintText (Quoted 1))) ∷ [] } }) ∷ []; operations = []; literals = (98 ∷ 101 ∷ 102 ∷ 111 ∷ 114 ∷ 101 ∷ []) ∷ (110 ∷ 101 ∷ 118 ∷ 101 ∷ 114 ∷ []) ∷ []; main = 0 }
+
+leave_ends_main_run : run script_leave_ends_main_run R.Unlimited 10000 (shaped 4096 4096) ≡ record { outcome = Ended (Some (negsuc 5)) []; trace = (line 1 144 0 Granted) ∷ []; lines = (98 ∷ 101 ∷ 102 ∷ 111 ∷ 114 ∷ 101 ∷ []) ∷ []; notes = []; steps = 2 }
+unfolding everything
+leave_ends_main_run = refl
+
+abbrev script_leave_goes_to_the_innermost_trap_run : Script
+script_leave_goes_to_the_innermost_trap_run = record { classes = []; procedures = (record { line = 1; parameters = []; body = record { locals = OfNumber ∷ OfNumber ∷ []; statements = (on 4 (Statement-F.SetNumber 0 (Constant (pos 1)))) ∷ (on 5 (Statement-F.Trap 0 ((on 6 (Statement-F.Trap 1 ((on 7 (Statement-F.Leave (Constant (negsuc 2)))) ∷ []))) ∷ (on 9 (Statement-F.PrintNumber (Variable 1))) ∷ (on 10 (Statement-F.Leave (Constant (negsuc 3)))) ∷ []))) ∷ (on 12 (Statement-F.PrintNumber (Variable 0))) ∷ (on 13 (Statement-F.PrintNumber (Variable 1))) ∷ [] } }) ∷ []; operations = []; literals = []; main = 0 }
+
+leave_goes_to_the_innermost_trap_run : run script_leave_goes_to_the_innermost_trap_run R.Unlimited 10000 (shaped 4096 4096) ≡ record { outcome = Ended None []; trace = (line 1 144 0 Granted) ∷ []; lines = (45 ∷ 51 ∷ []) ∷ (45 ∷ 52 ∷ []) ∷ (45 ∷ 51 ∷ []) ∷ []; notes = []; steps = 8 }
+unfolding everything
+leave_goes_to_the_innermost_trap_run = refl
+
+abbrev script_leave_if_error_asks_for_less_than_zero_run : Script
+script_leave_if_error_asks_for_less_than_zero_run = record { classes = []; procedures = (record { line = 1; parameters = []; body = record { locals = OfNumber ∷ []; statements = (on 3 (Statement-F.LeaveIfError (Constant (pos 0)))) ∷ (on 4 (Statement-F.LeaveIfError (Constant (pos 4)))) ∷ (on 5 (Statement-F.Trap 0 ((on 6 (Statement-F.LeaveIfError (Constant (negsuc 0)))) ∷ (on 7 (Statement-F.PrintText (Quoted 0))) ∷ []))) ∷ (on 9 (Statement-F.PrintNumber (Variable 0))) ∷ (on 10 (Statement-F.SetNumber 0 (Constant (negsuc 11)))) ∷ (on 11 (Statement-F.LeaveIfError (Variable 0))) ∷ [] } }) ∷ []; operations = []; literals = (110 ∷ 101 ∷ 118 ∷ 101 ∷ 114 ∷ []) ∷ []; main = 0 }
+
+leave_if_error_asks_for_less_than_zero_run : run script_leave_if_error_asks_for_less_than_zero_run R.Unlimited 10000 (shaped 4096 4096) ≡ record { outcome = Ended (Some (negsuc 11)) []; trace = (line 1 144 0 Granted) ∷ []; lines = (45 ∷ 49 ∷ []) ∷ []; notes = []; steps = 7 }
+unfolding everything
+leave_if_error_asks_for_less_than_zero_run = refl
+
+abbrev script_leave_keeps_what_locals_became_run : Script
+script_leave_keeps_what_locals_became_run = record { classes = []; procedures = (record { line = 1; parameters = (Par.OfPointer None) ∷ []; body = record { locals = []; statements = (on 2 (Statement-F.Store (Held (H.Local 0)) (Constant (pos 0)) (Constant (pos 8)))) ∷ (on 3 (Statement-F.Leave (Constant (negsuc 0)))) ∷ [] } }) ∷ (record { line = 5; parameters = []; body = record { locals = OfNumber ∷ OfNumber ∷ (OfPointer None) ∷ []; statements = (on 9 (Statement-F.Alloc (Held (H.Local 2)) (Constant (pos 4)) Leaves)) ∷ (on 10 (Statement-F.Trap 0 ((on 11 (Statement-F.SetNumber 1 (Constant (pos 5)))) ∷ (on 12 (Statement-F.Call 0 ((Passed (Held (H.Local 2))) ∷ []))) ∷ []))) ∷ (on 14 (Statement-F.PrintNumber (Variable 1))) ∷ (on 15 (Statement-F.Load 1 (Held (H.Local 2)) (Constant (pos 0)))) ∷ (on 16 (Statement-F.PrintNumber (Variable 1))) ∷ (on 17 (Statement-F.Free (Held (H.Local 2)))) ∷ [] } }) ∷ []; operations = []; literals = []; main = 1 }
+
+leave_keeps_what_locals_became_run : run script_leave_keeps_what_locals_became_run R.Unlimited 10000 (shaped 4096 4096) ≡ record { outcome = Ended None []; trace = (line 1 144 0 Granted) ∷ (line 2 32 144 Granted) ∷ []; lines = (53 ∷ []) ∷ (56 ∷ []) ∷ []; notes = []; steps = 10 }
+unfolding everything
+leave_keeps_what_locals_became_run = refl
+
+abbrev script_leave_of_nothing_is_a_leave_run : Script
+script_leave_of_nothing_is_a_leave_run = record { classes = []; procedures = (record { line = 1; parameters = []; body = record { locals = OfNumber ∷ []; statements = (on 3 (Statement-F.SetNumber 0 (Constant (pos 9)))) ∷ (on 4 (Statement-F.Trap 0 ((on 5 (Statement-F.Leave (Constant (pos 0)))) ∷ (on 6 (Statement-F.PrintText (Quoted 0))) ∷ []))) ∷ (on 8 (Statement-F.PrintNumber (Variable 0))) ∷ (on 9 (Statement-F.Leave (Constant (pos 3)))) ∷ [] } }) ∷ []; operations = []; literals = (110 ∷ 101 ∷ 118 ∷ 101 ∷ 114 ∷ []) ∷ []; main = 0 }
+
+leave_of_nothing_is_a_leave_run : run script_leave_of_nothing_is_a_leave_run R.Unlimited 10000 (shaped 4096 4096) ≡ record { outcome = Ended (Some (pos 3)) []; trace = (line 1 144 0 Granted) ∷ []; lines = (48 ∷ []) ∷ []; notes = []; steps = 5 }
+unfolding everything
+leave_of_nothing_is_a_leave_run = refl
+
+abbrev script_leaving_allocation_that_is_refused_keeps_its_pointer_run : Script
+script_leaving_allocation_that_is_refused_keeps_its_pointer_run = record { classes = []; procedures = (record { line = 1; parameters = []; body = record { locals = (OfPointer None) ∷ (OfPointer None) ∷ OfNumber ∷ []; statements = (on 5 (Statement-F.Alloc (Held (H.Local 0)) (Constant (pos 4)) Leaves)) ∷ (on 6 (Statement-F.Set (Held (H.Local 1)) (Held (H.Local 0)))) ∷ (on 7 (Statement-F.Trap 2 ((on 8 (Statement-F.FailNext (Constant (pos 1)))) ∷ (on 9 (Statement-F.Alloc (Held (H.Local 1)) (Constant (pos 4)) Leaves)) ∷ []))) ∷ (on 11 (Statement-F.PrintNumber (Variable 2))) ∷ (on 12 (Statement-F.Free (Held (H.Local 1)))) ∷ (on 13 (Statement-F.Trap 2 ((on 14 (Statement-F.FailNext (Constant (pos 1)))) ∷ (on 15 (Statement-F.NewText (Held (H.Local 0)) (Constant (pos 4)) Leaves)) ∷ []))) ∷ (on 17 (Statement-F.PrintNumber (Variable 2))) ∷ (on 18 (Statement-F.If (NotNull (Held (H.Local 0))) ((on 19 (Statement-F.PrintText (Quoted 0))) ∷ []))) ∷ [] } }) ∷ []; operations = []; literals = (115 ∷ 116 ∷ 97 ∷ 108 ∷ 101 ∷ []) ∷ []; main = 0 }
+
+leaving_allocation_that_is_refused_keeps_its_pointer_run : run script_leaving_allocation_that_is_refused_keeps_its_pointer_run R.Unlimited 10000 (shaped 4096 4096) ≡ record { outcome = Ended None []; trace = (line 1 144 0 Granted) ∷ (line 2 32 144 Granted) ∷ (line 3 32 176 Simulated) ∷ (line 4 32 144 Simulated) ∷ []; lines = (45 ∷ 52 ∷ []) ∷ (45 ∷ 52 ∷ []) ∷ (115 ∷ 116 ∷ 97 ∷ 108 ∷ 101 ∷ []) ∷ []; notes = []; steps = 13 }
+unfolding everything
+leaving_allocation_that_is_refused_keeps_its_pointer_run = refl
+
+abbrev script_leaving_growth_that_is_refused_keeps_the_cell_run : Script
+script_leaving_growth_that_is_refused_keeps_the_cell_run = record { classes = []; procedures = (record { line = 1; parameters = []; body = record { locals = (OfPointer None) ∷ OfNumber ∷ []; statements = (on 4 (Statement-F.Alloc (Held (H.Local 0)) (Constant (pos 4)) Leaves)) ∷ (on 5 (Statement-F.Trap 1 ((on 6 (Statement-F.FailNext (Constant (pos 1)))) ∷ (on 7 (Statement-F.Realloc (Held (H.Local 0)) (Held (H.Local 0)) (Constant (pos 100)) Leaves)) ∷ []))) ∷ (on 9 (Statement-F.PrintNumber (Variable 1))) ∷ (on 10 (Statement-F.Free (Held (H.Local 0)))) ∷ [] } }) ∷ []; operations = []; literals = []; main = 0 }
+
+leaving_growth_that_is_refused_keeps_the_cell_run : run script_leaving_growth_that_is_refused_keeps_the_cell_run R.Unlimited 10000 (shaped 4096 4096) ≡ record { outcome = Ended None []; trace = (line 1 144 0 Granted) ∷ (line 2 32 144 Granted) ∷ (line 3 128 144 Simulated) ∷ []; lines = (45 ∷ 52 ∷ []) ∷ []; notes = []; steps = 6 }
+unfolding everything
+leaving_growth_that_is_refused_keeps_the_cell_run = refl
+
+abbrev script_trap_that_ends_plainly_is_left_run : Script
+script_trap_that_ends_plainly_is_left_run = record { classes = []; procedures = (record { line = 1; parameters = []; body = record { locals = OfNumber ∷ []; statements = (on 3 (Statement-F.SetNumber 0 (Constant (pos 9)))) ∷ (on 4 (Statement-F.Trap 0 ((on 5 (Statement-F.PrintText (Quoted 0))) ∷ []))) ∷ (on 7 (Statement-F.PrintNumber (Variable 0))) ∷ (on 8 (Statement-F.Leave (Constant (negsuc 4)))) ∷ [] } }) ∷ []; operations = []; literals = (105 ∷ 110 ∷ 32 ∷ 105 ∷ 116 ∷ []) ∷ []; main = 0 }
+
+trap_that_ends_plainly_is_left_run : run script_trap_that_ends_plainly_is_left_run R.Unlimited 10000 (shaped 4096 4096) ≡ record { outcome = Ended (Some (negsuc 4)) []; trace = (line 1 144 0 Granted) ∷ []; lines = (105 ∷ 110 ∷ 32 ∷ 105 ∷ 116 ∷ []) ∷ (48 ∷ []) ∷ []; notes = []; steps = 5 }
+unfolding everything
+trap_that_ends_plainly_is_left_run = refl
 
 abbrev script_budget_ends_before_the_frames_do_run : Script
 script_budget_ends_before_the_frames_do_run = record { classes = []; procedures = (record { line = 1; parameters = []; body = record { locals = []; statements = (on 2 (Statement-F.Call 0 [])) ∷ [] } }) ∷ (record { line = 4; parameters = []; body = record { locals = []; statements = (on 5 (Statement-F.Call 0 [])) ∷ [] } }) ∷ []; operations = []; literals = []; main = 1 }
@@ -1218,202 +1526,6 @@ script_view_past_text_from_leaving_allocation_run = record { classes = []; proce
 view_past_text_from_leaving_allocation_run : run script_view_past_text_from_leaving_allocation_run R.Unlimited 10000 (shaped 4096 4096) ≡ record { outcome = Panicked (P.User 10); trace = (line 1 144 0 Granted) ∷ (line 2 32 144 Granted) ∷ []; lines = (54 ∷ []) ∷ []; notes = []; steps = 5 }
 unfolding everything
 view_past_text_from_leaving_allocation_run = refl
-
-abbrev script_items_left_at_the_plain_end_of_a_trap_run : Script
-script_items_left_at_the_plain_end_of_a_trap_run = record { classes = []; procedures = (record { line = 1; parameters = []; body = record { locals = (OfPointer None) ∷ OfNumber ∷ []; statements = (on 4 (Statement-F.Alloc (Held (H.Local 0)) (Constant (pos 10)) GivesNull)) ∷ (on 5 (Statement-F.Trap 1 ((on 6 (Statement-F.Push (Held (H.Local 0)))) ∷ []))) ∷ (on 8 (Statement-F.PrintNumber (Constant (pos 1)))) ∷ [] } }) ∷ []; operations = []; literals = []; main = 0 }
-
-items_left_at_the_plain_end_of_a_trap_run : run script_items_left_at_the_plain_end_of_a_trap_run R.Unlimited 10000 (shaped 4096 4096) ≡ record { outcome = Panicked (P.Workbench 5); trace = (line 1 144 0 Granted) ∷ (line 2 32 144 Granted) ∷ []; lines = []; notes = []; steps = 3 }
-unfolding everything
-items_left_at_the_plain_end_of_a_trap_run = refl
-
-abbrev script_eighth_push_grows_the_cleanup_cell_size : Script
-script_eighth_push_grows_the_cleanup_cell_size = record { classes = []; procedures = (record { line = 1; parameters = []; body = record { locals = (OfPointer None) ∷ []; statements = (on 3 (Statement-F.Repeat (Constant (pos 8)) ((on 4 (Statement-F.Alloc (Held (H.Local 0)) (Constant (pos 16)) Leaves)) ∷ (on 5 (Statement-F.Push (Held (H.Local 0)))) ∷ []))) ∷ (on 7 (Statement-F.PopDestroy (Constant (pos 8)))) ∷ [] } }) ∷ []; operations = []; literals = []; main = 0 }
-
-eighth_push_grows_the_cleanup_cell_size : (required script_eighth_push_grows_the_cleanup_cell_size 10000 (shaped 4096 4096) ≡ 608) × (rises script_eighth_push_grows_the_cleanup_cell_size 10000 (shaped 4096 4096) ≡ (rise 1 144) ∷ (rise 2 176) ∷ (rise 3 208) ∷ (rise 4 240) ∷ (rise 5 272) ∷ (rise 6 304) ∷ (rise 7 336) ∷ (rise 8 368) ∷ (rise 9 400) ∷ (rise 10 608) ∷ [])
-unfolding everything
-eighth_push_grows_the_cleanup_cell_size = (refl, refl)
-
-abbrev script_empty_main_json_size : Script
-script_empty_main_json_size = record { classes = []; procedures = (record { line = 1; parameters = []; body = record { locals = []; statements = [] } }) ∷ []; operations = []; literals = []; main = 0 }
-
-empty_main_json_size : (required script_empty_main_json_size 10000 (shaped 4096 4096) ≡ 144) × (rises script_empty_main_json_size 10000 (shaped 4096 4096) ≡ (rise 1 144) ∷ [])
-unfolding everything
-empty_main_json_size = (refl, refl)
-
-abbrev script_last_cell_ends_at_the_ceiling_size : Script
-script_last_cell_ends_at_the_ceiling_size = record { classes = []; procedures = (record { line = 1; parameters = []; body = record { locals = (OfPointer None) ∷ []; statements = (on 3 (Statement-F.Repeat (Constant (pos 15)) ((on 4 (Statement-F.Alloc (Held (H.Local 0)) (Constant (pos 1048560)) GivesNull)) ∷ []))) ∷ (on 6 (Statement-F.Alloc (Held (H.Local 0)) (Constant (pos 1048416)) GivesNull)) ∷ [] } }) ∷ []; operations = []; literals = []; main = 0 }
-
-last_cell_ends_at_the_ceiling_size : (required script_last_cell_ends_at_the_ceiling_size 10000 (shaped 4096 4096) ≡ 16777216) × (rises script_last_cell_ends_at_the_ceiling_size 10000 (shaped 4096 4096) ≡ (rise 1 144) ∷ (rise 2 1048720) ∷ (rise 3 2097296) ∷ (rise 4 3145872) ∷ (rise 5 4194448) ∷ (rise 6 5243024) ∷ (rise 7 6291600) ∷ (rise 8 7340176) ∷ (rise 9 8388752) ∷ (rise 10 9437328) ∷ (rise 11 10485904) ∷ (rise 12 11534480) ∷ (rise 13 12583056) ∷ (rise 14 13631632) ∷ (rise 15 14680208) ∷ (rise 16 15728784) ∷ (rise 17 16777216) ∷ [])
-unfolding everything
-last_cell_ends_at_the_ceiling_size = (refl, refl)
-
-abbrev script_last_cell_passes_the_ceiling_size : Script
-script_last_cell_passes_the_ceiling_size = record { classes = []; procedures = (record { line = 1; parameters = []; body = record { locals = (OfPointer None) ∷ []; statements = (on 3 (Statement-F.Repeat (Constant (pos 15)) ((on 4 (Statement-F.Alloc (Held (H.Local 0)) (Constant (pos 1048560)) GivesNull)) ∷ []))) ∷ (on 6 (Statement-F.Alloc (Held (H.Local 0)) (Constant (pos 1048417)) GivesNull)) ∷ [] } }) ∷ []; operations = []; literals = []; main = 0 }
-
-last_cell_passes_the_ceiling_size : (run script_last_cell_passes_the_ceiling_size R.Unlimited 10000 (shaped 4096 4096)).outcome ≡ Cut Ceiling
-unfolding everything
-last_cell_passes_the_ceiling_size = refl
-
-abbrev script_marks_never_count_the_cleanup_cell_size : Script
-script_marks_never_count_the_cleanup_cell_size = record { classes = []; procedures = (record { line = 1; parameters = []; body = record { locals = (OfPointer None) ∷ []; statements = (on 3 Statement-F.Mark) ∷ (on 4 (Statement-F.Repeat (Constant (pos 8)) ((on 5 (Statement-F.Push (Held (H.Local 0)))) ∷ []))) ∷ (on 7 (Statement-F.Pop (Constant (pos 8)))) ∷ (on 8 (Statement-F.MarkEnd (Constant (pos 0)))) ∷ [] } }) ∷ []; operations = []; literals = []; main = 0 }
-
-marks_never_count_the_cleanup_cell_size : (required script_marks_never_count_the_cleanup_cell_size 10000 (shaped 4096 4096) ≡ 208) × (rises script_marks_never_count_the_cleanup_cell_size 10000 (shaped 4096 4096) ≡ (rise 1 144) ∷ (rise 2 208) ∷ [])
-unfolding everything
-marks_never_count_the_cleanup_cell_size = (refl, refl)
-
-abbrev script_objects_that_delete_each_other_small_budget_size : Script
-script_objects_that_delete_each_other_small_budget_size = record { classes = (record { line = 1; extra = 0; fields = (Some 0) ∷ []; construct = None; destroy = Some (record { locals = []; statements = (on 4 (Statement-F.Delete (Field H.This 0 0))) ∷ [] }) }) ∷ []; procedures = (record { line = 7; parameters = []; body = record { locals = (OfPointer (Some 0)) ∷ (OfPointer (Some 0)) ∷ []; statements = (on 10 (Statement-F.New (Held (H.Local 0)) 0 Leaves)) ∷ (on 11 (Statement-F.New (Held (H.Local 1)) 0 Leaves)) ∷ (on 12 (Statement-F.Set (Field (H.Local 0) 0 0) (Held (H.Local 1)))) ∷ (on 13 (Statement-F.Set (Field (H.Local 1) 0 0) (Held (H.Local 0)))) ∷ (on 14 (Statement-F.Delete (Held (H.Local 0)))) ∷ [] } }) ∷ []; operations = []; literals = []; main = 0 }
-
-objects_that_delete_each_other_small_budget_size : (run script_objects_that_delete_each_other_small_budget_size R.Unlimited 20 (shaped 4096 4096)).outcome ≡ Cut Budget
-unfolding everything
-objects_that_delete_each_other_small_budget_size = refl
-
-abbrev script_procedure_returns_a_pushed_cell_size : Script
-script_procedure_returns_a_pushed_cell_size = record { classes = []; procedures = (record { line = 1; parameters = Par.OfNumber ∷ []; body = record { locals = (OfPointer None) ∷ []; statements = (on 3 (Statement-F.Alloc (Held (H.Local 1)) (Variable 0) Leaves)) ∷ (on 4 (Statement-F.Push (Held (H.Local 1)))) ∷ (on 5 (Statement-F.ReturnPointer (Held (H.Local 1)))) ∷ [] } }) ∷ (record { line = 7; parameters = []; body = record { locals = (OfPointer None) ∷ []; statements = (on 9 (Statement-F.CallTo 0 0 ((Given (Constant (pos 40))) ∷ []))) ∷ (on 10 (Statement-F.PopDestroy (Constant (pos 1)))) ∷ [] } }) ∷ []; operations = []; literals = []; main = 1 }
-
-procedure_returns_a_pushed_cell_size : (required script_procedure_returns_a_pushed_cell_size 10000 (shaped 4096 4096) ≡ 208) × (rises script_procedure_returns_a_pushed_cell_size 10000 (shaped 4096 4096) ≡ (rise 1 144) ∷ (rise 2 208) ∷ [])
-unfolding everything
-procedure_returns_a_pushed_cell_size = (refl, refl)
-
-abbrev script_pushed_object_made_and_deleted_size : Script
-script_pushed_object_made_and_deleted_size = record { classes = (record { line = 1; extra = 16; fields = None ∷ []; construct = Some (record { locals = []; statements = (on 4 (Statement-F.NewText (Field H.This 0 0) (Constant (pos 4)) Leaves)) ∷ [] }); destroy = Some (record { locals = []; statements = (on 7 (Statement-F.Free (Field H.This 0 0))) ∷ [] }) }) ∷ []; procedures = (record { line = 10; parameters = []; body = record { locals = (OfPointer (Some 0)) ∷ []; statements = (on 12 (Statement-F.New (Held (H.Local 0)) 0 Leaves)) ∷ (on 13 (Statement-F.PushObject (Held (H.Local 0)))) ∷ (on 14 (Statement-F.Construct (Held (H.Local 0)))) ∷ (on 15 (Statement-F.Pop (Constant (pos 1)))) ∷ (on 16 (Statement-F.Delete (Held (H.Local 0)))) ∷ [] } }) ∷ []; operations = []; literals = []; main = 0 }
-
-pushed_object_made_and_deleted_size : (required script_pushed_object_made_and_deleted_size 10000 (shaped 4096 4096) ≡ 224) × (rises script_pushed_object_made_and_deleted_size 10000 (shaped 4096 4096) ≡ (rise 1 144) ∷ (rise 2 192) ∷ (rise 3 224) ∷ [])
-unfolding everything
-pushed_object_made_and_deleted_size = (refl, refl)
-
-abbrev script_simulated_refusal_needs_no_room_size : Script
-script_simulated_refusal_needs_no_room_size = record { classes = []; procedures = (record { line = 1; parameters = []; body = record { locals = (OfPointer None) ∷ (OfPointer None) ∷ []; statements = (on 4 (Statement-F.NewText (Held (H.Local 0)) (Constant (pos 4)) Leaves)) ∷ (on 5 (Statement-F.Append (InCell (Held (H.Local 0))) (Quoted 0))) ∷ (on 6 (Statement-F.FailNext (Constant (pos 1)))) ∷ (on 7 (Statement-F.ReallocText (Held (H.Local 1)) (Held (H.Local 0)) (Constant (pos 20)))) ∷ (on 8 (Statement-F.PrintText (Of (InCell (Held (H.Local 0)))))) ∷ (on 9 (Statement-F.Free (Held (H.Local 0)))) ∷ [] } }) ∷ []; operations = []; literals = (97 ∷ 98 ∷ 99 ∷ []) ∷ []; main = 0 }
-
-simulated_refusal_needs_no_room_size : (required script_simulated_refusal_needs_no_room_size 10000 (shaped 4096 4096) ≡ 176) × (rises script_simulated_refusal_needs_no_room_size 10000 (shaped 4096 4096) ≡ (rise 1 144) ∷ (rise 2 176) ∷ [])
-unfolding everything
-simulated_refusal_needs_no_room_size = (refl, refl)
-
-abbrev script_top_cell_grows_in_place_size : Script
-script_top_cell_grows_in_place_size = record { classes = []; procedures = (record { line = 1; parameters = []; body = record { locals = (OfPointer None) ∷ (OfPointer None) ∷ (OfPointer None) ∷ []; statements = (on 5 (Statement-F.Alloc (Held (H.Local 0)) (Constant (pos 48)) GivesNull)) ∷ (on 6 (Statement-F.Alloc (Held (H.Local 1)) (Constant (pos 16)) GivesNull)) ∷ (on 7 (Statement-F.Free (Held (H.Local 0)))) ∷ (on 8 (Statement-F.Realloc (Held (H.Local 2)) (Held (H.Local 1)) (Constant (pos 48)) GivesNull)) ∷ (on 9 (Statement-F.IfElse (IsNull (Held (H.Local 2))) ((on 10 (Statement-F.Free (Held (H.Local 1)))) ∷ []) ((on 12 (Statement-F.Free (Held (H.Local 2)))) ∷ []))) ∷ [] } }) ∷ []; operations = []; literals = []; main = 0 }
-
-top_cell_grows_in_place_size : (required script_top_cell_grows_in_place_size 10000 (shaped 4096 4096) ≡ 272) × (rises script_top_cell_grows_in_place_size 10000 (shaped 4096 4096) ≡ (rise 1 144) ∷ (rise 2 208) ∷ (rise 3 240) ∷ (rise 4 272) ∷ [])
-unfolding everything
-top_cell_grows_in_place_size = (refl, refl)
-
-abbrev script_eighth_push_grows_the_cleanup_cell_check : Script
-script_eighth_push_grows_the_cleanup_cell_check = record { classes = []; procedures = (record { line = 1; parameters = []; body = record { locals = (OfPointer None) ∷ []; statements = (on 3 (Statement-F.Repeat (Constant (pos 8)) ((on 4 (Statement-F.Alloc (Held (H.Local 0)) (Constant (pos 16)) Leaves)) ∷ (on 5 (Statement-F.Push (Held (H.Local 0)))) ∷ []))) ∷ (on 7 (Statement-F.PopDestroy (Constant (pos 8)))) ∷ [] } }) ∷ []; operations = []; literals = []; main = 0 }
-
-eighth_push_grows_the_cleanup_cell_check : (required script_eighth_push_grows_the_cleanup_cell_check 10000 (shaped 4096 4096) ≡ 608) × (rises script_eighth_push_grows_the_cleanup_cell_check 10000 (shaped 4096 4096) ≡ (rise 1 144) ∷ (rise 2 176) ∷ (rise 3 208) ∷ (rise 4 240) ∷ (rise 5 272) ∷ (rise 6 304) ∷ (rise 7 336) ∷ (rise 8 368) ∷ (rise 9 400) ∷ (rise 10 608) ∷ []) × (length (run_at script_eighth_push_grows_the_cleanup_cell_check 10000 (shaped 4096 4096) 0).trace ≡ 10) × (least_bad_or_cut script_eighth_push_grows_the_cleanup_cell_check 10000 (shaped 4096 4096) ≡ None)
-unfolding everything
-eighth_push_grows_the_cleanup_cell_check = (refl, refl, refl, refl)
-
-abbrev script_eighth_push_grows_the_cleanup_cell_sweep : Script
-script_eighth_push_grows_the_cleanup_cell_sweep = record { classes = []; procedures = (record { line = 1; parameters = []; body = record { locals = (OfPointer None) ∷ []; statements = (on 3 (Statement-F.Repeat (Constant (pos 8)) ((on 4 (Statement-F.Alloc (Held (H.Local 0)) (Constant (pos 16)) Leaves)) ∷ (on 5 (Statement-F.Push (Held (H.Local 0)))) ∷ []))) ∷ (on 7 (Statement-F.PopDestroy (Constant (pos 8)))) ∷ [] } }) ∷ []; operations = []; literals = []; main = 0 }
-
-eighth_push_grows_the_cleanup_cell_sweep : (length (run_at script_eighth_push_grows_the_cleanup_cell_sweep 10000 (shaped 4096 4096) 0).trace ≡ 10) × (least_bad_or_cut script_eighth_push_grows_the_cleanup_cell_sweep 10000 (shaped 4096 4096) ≡ None)
-unfolding everything
-eighth_push_grows_the_cleanup_cell_sweep = (refl, refl)
-
-abbrev script_empty_main_json_check : Script
-script_empty_main_json_check = record { classes = []; procedures = (record { line = 1; parameters = []; body = record { locals = []; statements = [] } }) ∷ []; operations = []; literals = []; main = 0 }
-
-empty_main_json_check : (required script_empty_main_json_check 10000 (shaped 4096 4096) ≡ 144) × (rises script_empty_main_json_check 10000 (shaped 4096 4096) ≡ (rise 1 144) ∷ []) × (length (run_at script_empty_main_json_check 10000 (shaped 4096 4096) 0).trace ≡ 1) × (least_bad_or_cut script_empty_main_json_check 10000 (shaped 4096 4096) ≡ None)
-unfolding everything
-empty_main_json_check = (refl, refl, refl, refl)
-
-abbrev script_failure_that_outruns_the_budget_json_check : Script
-script_failure_that_outruns_the_budget_json_check = record { classes = []; procedures = (record { line = 1; parameters = []; body = record { locals = (OfPointer None) ∷ []; statements = (on 3 (Statement-F.Alloc (Held (H.Local 0)) (Constant (pos 16)) GivesNull)) ∷ (on 4 (Statement-F.If (IsNull (Held (H.Local 0))) ((on 5 (Statement-F.Repeat (Constant (pos 20000)) [])) ∷ []))) ∷ (on 8 (Statement-F.Free (Held (H.Local 0)))) ∷ [] } }) ∷ []; operations = []; literals = []; main = 0 }
-
-failure_that_outruns_the_budget_json_check : (required script_failure_that_outruns_the_budget_json_check 10000 (shaped 4096 4096) ≡ 176) × (rises script_failure_that_outruns_the_budget_json_check 10000 (shaped 4096 4096) ≡ (rise 1 144) ∷ (rise 2 176) ∷ []) × (least_bad_or_cut script_failure_that_outruns_the_budget_json_check 10000 (shaped 4096 4096) ≡ Some 2) × ((run_at script_failure_that_outruns_the_budget_json_check 10000 (shaped 4096 4096) 2).outcome ≡ Cut Budget)
-unfolding everything
-failure_that_outruns_the_budget_json_check = (refl, refl, refl, refl)
-
-abbrev script_failure_that_outruns_the_budget_check : Script
-script_failure_that_outruns_the_budget_check = record { classes = []; procedures = (record { line = 1; parameters = []; body = record { locals = (OfPointer None) ∷ []; statements = (on 3 (Statement-F.Alloc (Held (H.Local 0)) (Constant (pos 16)) GivesNull)) ∷ (on 4 (Statement-F.If (IsNull (Held (H.Local 0))) ((on 5 (Statement-F.Repeat (Constant (pos 20000)) [])) ∷ []))) ∷ (on 8 (Statement-F.Free (Held (H.Local 0)))) ∷ [] } }) ∷ []; operations = []; literals = []; main = 0 }
-
-failure_that_outruns_the_budget_check : (required script_failure_that_outruns_the_budget_check 10000 (shaped 4096 4096) ≡ 176) × (rises script_failure_that_outruns_the_budget_check 10000 (shaped 4096 4096) ≡ (rise 1 144) ∷ (rise 2 176) ∷ []) × (least_bad_or_cut script_failure_that_outruns_the_budget_check 10000 (shaped 4096 4096) ≡ Some 2) × ((run_at script_failure_that_outruns_the_budget_check 10000 (shaped 4096 4096) 2).outcome ≡ Cut Budget)
-unfolding everything
-failure_that_outruns_the_budget_check = (refl, refl, refl, refl)
-
-abbrev script_failure_that_outruns_the_budget_sweep : Script
-script_failure_that_outruns_the_budget_sweep = record { classes = []; procedures = (record { line = 1; parameters = []; body = record { locals = (OfPointer None) ∷ []; statements = (on 3 (Statement-F.Alloc (Held (H.Local 0)) (Constant (pos 16)) GivesNull)) ∷ (on 4 (Statement-F.If (IsNull (Held (H.Local 0))) ((on 5 (Statement-F.Repeat (Constant (pos 20000)) [])) ∷ []))) ∷ (on 8 (Statement-F.Free (Held (H.Local 0)))) ∷ [] } }) ∷ []; operations = []; literals = []; main = 0 }
-
-failure_that_outruns_the_budget_sweep : (least_bad_or_cut script_failure_that_outruns_the_budget_sweep 10000 (shaped 4096 4096) ≡ Some 2) × ((run_at script_failure_that_outruns_the_budget_sweep 10000 (shaped 4096 4096) 2).outcome ≡ Cut Budget)
-unfolding everything
-failure_that_outruns_the_budget_sweep = (refl, refl)
-
-abbrev script_leak_that_needs_two_failures_sweep : Script
-script_leak_that_needs_two_failures_sweep = record { classes = []; procedures = (record { line = 1; parameters = []; body = record { locals = (OfPointer None) ∷ (OfPointer None) ∷ (OfPointer None) ∷ []; statements = (on 5 (Statement-F.Alloc (Held (H.Local 0)) (Constant (pos 16)) GivesNull)) ∷ (on 6 (Statement-F.Alloc (Held (H.Local 1)) (Constant (pos 16)) GivesNull)) ∷ (on 7 (Statement-F.Alloc (Held (H.Local 2)) (Constant (pos 16)) GivesNull)) ∷ (on 8 (Statement-F.If (IsNull (Held (H.Local 0))) ((on 9 (Statement-F.If (IsNull (Held (H.Local 2))) ((on 10 (Statement-F.Leave (Constant (negsuc 3)))) ∷ []))) ∷ []))) ∷ (on 13 (Statement-F.Free (Held (H.Local 0)))) ∷ (on 14 (Statement-F.Free (Held (H.Local 1)))) ∷ (on 15 (Statement-F.Free (Held (H.Local 2)))) ∷ [] } }) ∷ []; operations = []; literals = []; main = 0 }
-
-leak_that_needs_two_failures_sweep : (length (run_at script_leak_that_needs_two_failures_sweep 10000 (shaped 4096 4096) 0).trace ≡ 4) × (least_bad_or_cut script_leak_that_needs_two_failures_sweep 10000 (shaped 4096 4096) ≡ None)
-unfolding everything
-leak_that_needs_two_failures_sweep = (refl, refl)
-
-abbrev script_leak_without_any_failure_json_sweep : Script
-script_leak_without_any_failure_json_sweep = record { classes = []; procedures = (record { line = 1; parameters = []; body = record { locals = (OfPointer None) ∷ []; statements = (on 3 (Statement-F.Alloc (Held (H.Local 0)) (Constant (pos 16)) GivesNull)) ∷ [] } }) ∷ []; operations = []; literals = []; main = 0 }
-
-leak_without_any_failure_json_sweep : (length (run_at script_leak_without_any_failure_json_sweep 10000 (shaped 4096 4096) 0).trace ≡ 2) × (least_bad_or_cut script_leak_without_any_failure_json_sweep 10000 (shaped 4096 4096) ≡ Some 0) × (run_at script_leak_without_any_failure_json_sweep 10000 (shaped 4096 4096) 0 ≡ record { outcome = Ended None ((record { number = 2; length = 32; place = 144 }) ∷ []); trace = (line 1 144 0 Granted) ∷ (line 2 32 144 Granted) ∷ []; lines = []; notes = []; steps = 1 })
-unfolding everything
-leak_without_any_failure_json_sweep = (refl, refl, refl)
-
-abbrev script_marks_never_count_the_cleanup_cell_check : Script
-script_marks_never_count_the_cleanup_cell_check = record { classes = []; procedures = (record { line = 1; parameters = []; body = record { locals = (OfPointer None) ∷ []; statements = (on 3 Statement-F.Mark) ∷ (on 4 (Statement-F.Repeat (Constant (pos 8)) ((on 5 (Statement-F.Push (Held (H.Local 0)))) ∷ []))) ∷ (on 7 (Statement-F.Pop (Constant (pos 8)))) ∷ (on 8 (Statement-F.MarkEnd (Constant (pos 0)))) ∷ [] } }) ∷ []; operations = []; literals = []; main = 0 }
-
-marks_never_count_the_cleanup_cell_check : (required script_marks_never_count_the_cleanup_cell_check 10000 (shaped 4096 4096) ≡ 208) × (rises script_marks_never_count_the_cleanup_cell_check 10000 (shaped 4096 4096) ≡ (rise 1 144) ∷ (rise 2 208) ∷ []) × (length (run_at script_marks_never_count_the_cleanup_cell_check 10000 (shaped 4096 4096) 0).trace ≡ 2) × (least_bad_or_cut script_marks_never_count_the_cleanup_cell_check 10000 (shaped 4096 4096) ≡ None)
-unfolding everything
-marks_never_count_the_cleanup_cell_check = (refl, refl, refl, refl)
-
-abbrev script_procedure_returns_a_pushed_cell_check : Script
-script_procedure_returns_a_pushed_cell_check = record { classes = []; procedures = (record { line = 1; parameters = Par.OfNumber ∷ []; body = record { locals = (OfPointer None) ∷ []; statements = (on 3 (Statement-F.Alloc (Held (H.Local 1)) (Variable 0) Leaves)) ∷ (on 4 (Statement-F.Push (Held (H.Local 1)))) ∷ (on 5 (Statement-F.ReturnPointer (Held (H.Local 1)))) ∷ [] } }) ∷ (record { line = 7; parameters = []; body = record { locals = (OfPointer None) ∷ []; statements = (on 9 (Statement-F.CallTo 0 0 ((Given (Constant (pos 40))) ∷ []))) ∷ (on 10 (Statement-F.PopDestroy (Constant (pos 1)))) ∷ [] } }) ∷ []; operations = []; literals = []; main = 1 }
-
-procedure_returns_a_pushed_cell_check : (required script_procedure_returns_a_pushed_cell_check 10000 (shaped 4096 4096) ≡ 208) × (rises script_procedure_returns_a_pushed_cell_check 10000 (shaped 4096 4096) ≡ (rise 1 144) ∷ (rise 2 208) ∷ []) × (length (run_at script_procedure_returns_a_pushed_cell_check 10000 (shaped 4096 4096) 0).trace ≡ 2) × (least_bad_or_cut script_procedure_returns_a_pushed_cell_check 10000 (shaped 4096 4096) ≡ None)
-unfolding everything
-procedure_returns_a_pushed_cell_check = (refl, refl, refl, refl)
-
-abbrev script_pushed_object_survives_every_failure_sweep : Script
-script_pushed_object_survives_every_failure_sweep = record { classes = (record { line = 1; extra = 16; fields = None ∷ []; construct = Some (record { locals = []; statements = (on 4 (Statement-F.NewText (Field H.This 0 0) (Constant (pos 4)) Leaves)) ∷ [] }); destroy = Some (record { locals = []; statements = (on 7 (Statement-F.Free (Field H.This 0 0))) ∷ [] }) }) ∷ []; procedures = (record { line = 10; parameters = []; body = record { locals = (OfPointer (Some 0)) ∷ []; statements = (on 12 (Statement-F.New (Held (H.Local 0)) 0 Leaves)) ∷ (on 13 (Statement-F.PushObject (Held (H.Local 0)))) ∷ (on 14 (Statement-F.Construct (Held (H.Local 0)))) ∷ (on 15 (Statement-F.Pop (Constant (pos 1)))) ∷ (on 16 (Statement-F.Delete (Held (H.Local 0)))) ∷ [] } }) ∷ []; operations = []; literals = []; main = 0 }
-
-pushed_object_survives_every_failure_sweep : (length (run_at script_pushed_object_survives_every_failure_sweep 10000 (shaped 4096 4096) 0).trace ≡ 3) × (least_bad_or_cut script_pushed_object_survives_every_failure_sweep 10000 (shaped 4096 4096) ≡ None)
-unfolding everything
-pushed_object_survives_every_failure_sweep = (refl, refl)
-
-abbrev script_retry_that_fails_again_sweep : Script
-script_retry_that_fails_again_sweep = record { classes = []; procedures = (record { line = 1; parameters = []; body = record { locals = (OfPointer None) ∷ (OfPointer None) ∷ []; statements = (on 4 (Statement-F.Alloc (Held (H.Local 1)) (Constant (pos 16)) GivesNull)) ∷ (on 5 (Statement-F.Alloc (Held (H.Local 0)) (Constant (pos 16)) GivesNull)) ∷ (on 6 (Statement-F.If (IsNull (Held (H.Local 0))) ((on 7 (Statement-F.Alloc (Held (H.Local 0)) (Constant (pos 16)) GivesNull)) ∷ (on 8 (Statement-F.If (IsNull (Held (H.Local 0))) ((on 9 (Statement-F.Leave (Constant (negsuc 3)))) ∷ []))) ∷ []))) ∷ (on 12 (Statement-F.Free (Held (H.Local 0)))) ∷ (on 13 (Statement-F.Free (Held (H.Local 1)))) ∷ [] } }) ∷ []; operations = []; literals = []; main = 0 }
-
-retry_that_fails_again_sweep : (length (run_at script_retry_that_fails_again_sweep 10000 (shaped 4096 4096) 0).trace ≡ 3) × (least_bad_or_cut script_retry_that_fails_again_sweep 10000 (shaped 4096 4096) ≡ None)
-unfolding everything
-retry_that_fails_again_sweep = (refl, refl)
-
-abbrev script_top_cell_grows_in_place_check : Script
-script_top_cell_grows_in_place_check = record { classes = []; procedures = (record { line = 1; parameters = []; body = record { locals = (OfPointer None) ∷ (OfPointer None) ∷ (OfPointer None) ∷ []; statements = (on 5 (Statement-F.Alloc (Held (H.Local 0)) (Constant (pos 48)) GivesNull)) ∷ (on 6 (Statement-F.Alloc (Held (H.Local 1)) (Constant (pos 16)) GivesNull)) ∷ (on 7 (Statement-F.Free (Held (H.Local 0)))) ∷ (on 8 (Statement-F.Realloc (Held (H.Local 2)) (Held (H.Local 1)) (Constant (pos 48)) GivesNull)) ∷ (on 9 (Statement-F.IfElse (IsNull (Held (H.Local 2))) ((on 10 (Statement-F.Free (Held (H.Local 1)))) ∷ []) ((on 12 (Statement-F.Free (Held (H.Local 2)))) ∷ []))) ∷ [] } }) ∷ []; operations = []; literals = []; main = 0 }
-
-top_cell_grows_in_place_check : (required script_top_cell_grows_in_place_check 10000 (shaped 4096 4096) ≡ 272) × (rises script_top_cell_grows_in_place_check 10000 (shaped 4096 4096) ≡ (rise 1 144) ∷ (rise 2 208) ∷ (rise 3 240) ∷ (rise 4 272) ∷ []) × (length (run_at script_top_cell_grows_in_place_check 10000 (shaped 4096 4096) 0).trace ≡ 4) × (least_bad_or_cut script_top_cell_grows_in_place_check 10000 (shaped 4096 4096) ≡ None)
-unfolding everything
-top_cell_grows_in_place_check = (refl, refl, refl, refl)
-
-abbrev script_unpushed_object_leaks_when_construction_fails_check : Script
-script_unpushed_object_leaks_when_construction_fails_check = record { classes = (record { line = 1; extra = 16; fields = None ∷ []; construct = Some (record { locals = []; statements = (on 4 (Statement-F.NewText (Field H.This 0 0) (Constant (pos 4)) Leaves)) ∷ [] }); destroy = Some (record { locals = []; statements = (on 7 (Statement-F.Free (Field H.This 0 0))) ∷ [] }) }) ∷ []; procedures = (record { line = 10; parameters = []; body = record { locals = (OfPointer (Some 0)) ∷ []; statements = (on 12 (Statement-F.New (Held (H.Local 0)) 0 Leaves)) ∷ (on 13 (Statement-F.Construct (Held (H.Local 0)))) ∷ (on 14 (Statement-F.Delete (Held (H.Local 0)))) ∷ [] } }) ∷ []; operations = []; literals = []; main = 0 }
-
-unpushed_object_leaks_when_construction_fails_check : (required script_unpushed_object_leaks_when_construction_fails_check 10000 (shaped 4096 4096) ≡ 224) × (rises script_unpushed_object_leaks_when_construction_fails_check 10000 (shaped 4096 4096) ≡ (rise 1 144) ∷ (rise 2 192) ∷ (rise 3 224) ∷ []) × (length (run_at script_unpushed_object_leaks_when_construction_fails_check 10000 (shaped 4096 4096) 0).trace ≡ 3) × (least_bad_or_cut script_unpushed_object_leaks_when_construction_fails_check 10000 (shaped 4096 4096) ≡ Some 3) × (run_at script_unpushed_object_leaks_when_construction_fails_check 10000 (shaped 4096 4096) 3 ≡ record { outcome = Ended (Some (negsuc 3)) ((record { number = 2; length = 48; place = 144 }) ∷ []); trace = (line 1 144 0 Granted) ∷ (line 2 48 144 Granted) ∷ (line 3 32 192 Simulated) ∷ []; lines = []; notes = []; steps = 3 })
-unfolding everything
-unpushed_object_leaks_when_construction_fails_check = (refl, refl, refl, refl, refl)
-
-abbrev script_unpushed_object_leaks_when_construction_fails_sweep : Script
-script_unpushed_object_leaks_when_construction_fails_sweep = record { classes = (record { line = 1; extra = 16; fields = None ∷ []; construct = Some (record { locals = []; statements = (on 4 (Statement-F.NewText (Field H.This 0 0) (Constant (pos 4)) Leaves)) ∷ [] }); destroy = Some (record { locals = []; statements = (on 7 (Statement-F.Free (Field H.This 0 0))) ∷ [] }) }) ∷ []; procedures = (record { line = 10; parameters = []; body = record { locals = (OfPointer (Some 0)) ∷ []; statements = (on 12 (Statement-F.New (Held (H.Local 0)) 0 Leaves)) ∷ (on 13 (Statement-F.Construct (Held (H.Local 0)))) ∷ (on 14 (Statement-F.Delete (Held (H.Local 0)))) ∷ [] } }) ∷ []; operations = []; literals = []; main = 0 }
-
-unpushed_object_leaks_when_construction_fails_sweep : (length (run_at script_unpushed_object_leaks_when_construction_fails_sweep 10000 (shaped 4096 4096) 0).trace ≡ 3) × (least_bad_or_cut script_unpushed_object_leaks_when_construction_fails_sweep 10000 (shaped 4096 4096) ≡ Some 3) × (run_at script_unpushed_object_leaks_when_construction_fails_sweep 10000 (shaped 4096 4096) 3 ≡ record { outcome = Ended (Some (negsuc 3)) ((record { number = 2; length = 48; place = 144 }) ∷ []); trace = (line 1 144 0 Granted) ∷ (line 2 48 144 Granted) ∷ (line 3 32 192 Simulated) ∷ []; lines = []; notes = []; steps = 3 })
-unfolding everything
-unpushed_object_leaks_when_construction_fails_sweep = (refl, refl, refl)
-
-abbrev script_shortened_text_still_needs_its_units_run : Script
-script_shortened_text_still_needs_its_units_run = record { classes = []; procedures = (record { line = 1; parameters = []; body = record { locals = (OfPointer None) ∷ []; statements = (on 3 (Statement-F.NewText (Held (H.Local 0)) (Constant (pos 3)) Leaves)) ∷ (on 4 (Statement-F.Copy (InCell (Held (H.Local 0))) (Quoted 0))) ∷ (on 5 (Statement-F.SetLength (InCell (Held (H.Local 0))) (Constant (pos 1)))) ∷ (on 6 (Statement-F.ReallocText (Held (H.Local 0)) (Held (H.Local 0)) (Constant (pos 1)))) ∷ (on 7 (Statement-F.PrintText (Of (InCell (Held (H.Local 0)))))) ∷ (on 8 (Statement-F.ReallocText (Held (H.Local 0)) (Held (H.Local 0)) (Constant (pos 0)))) ∷ [] } }) ∷ []; operations = []; literals = (97 ∷ 98 ∷ 99 ∷ []) ∷ []; main = 0 }
-
-shortened_text_still_needs_its_units_run : run script_shortened_text_still_needs_its_units_run R.Unlimited 10000 (shaped 4096 4096) ≡ record { outcome = Panicked (P.Workbench 8); trace = (line 1 144 0 Granted) ∷ (line 2 32 144 Granted) ∷ []; lines = (97 ∷ []) ∷ []; notes = []; steps = 6 }
-unfolding everything
-shortened_text_still_needs_its_units_run = refl
-
-abbrev script_text_cell_is_made_as_long_as_its_text_run : Script
-script_text_cell_is_made_as_long_as_its_text_run = record { classes = []; procedures = (record { line = 1; parameters = []; body = record { locals = (OfPointer None) ∷ []; statements = (on 3 (Statement-F.NewText (Held (H.Local 0)) (Constant (pos 6)) Leaves)) ∷ (on 4 (Statement-F.Copy (InCell (Held (H.Local 0))) (Quoted 0))) ∷ (on 5 (Statement-F.ReallocText (Held (H.Local 0)) (Held (H.Local 0)) (Constant (pos 3)))) ∷ (on 6 (Statement-F.PrintText (Of (InCell (Held (H.Local 0)))))) ∷ (on 7 (Statement-F.ReallocText (Held (H.Local 0)) (Held (H.Local 0)) (Constant (pos 2)))) ∷ [] } }) ∷ []; operations = []; literals = (97 ∷ 98 ∷ 99 ∷ []) ∷ []; main = 0 }
-
-text_cell_is_made_as_long_as_its_text_run : run script_text_cell_is_made_as_long_as_its_text_run R.Unlimited 10000 (shaped 4096 4096) ≡ record { outcome = Panicked (P.Workbench 8); trace = (line 1 144 0 Granted) ∷ (line 2 32 144 Granted) ∷ []; lines = (97 ∷ 98 ∷ 99 ∷ []) ∷ []; notes = []; steps = 5 }
-unfolding everything
-text_cell_is_made_as_long_as_its_text_run = refl
 
 abbrev script_missing_mark_is_told_before_the_count_run : Script
 script_missing_mark_is_told_before_the_count_run = record { classes = []; procedures = (record { line = 1; parameters = []; body = record { locals = (OfPointer None) ∷ []; statements = (on 3 (Statement-F.Alloc (Held (H.Local 0)) (Constant (pos 1)) GivesNull)) ∷ (on 4 (Statement-F.MarkEnd (Constant (pos 5)))) ∷ [] } }) ∷ []; operations = []; literals = []; main = 0 }
@@ -1562,6 +1674,41 @@ second_attempt_fails_run : run script_second_attempt_fails_run (R.Number 2) 1000
 unfolding everything
 second_attempt_fails_run = refl
 
+abbrev script_fewer_turns_than_none_run : Script
+script_fewer_turns_than_none_run = record { classes = []; procedures = (record { line = 1; parameters = []; body = record { locals = []; statements = (on 2 (Statement-F.Repeat (Constant (negsuc 0)) [])) ∷ [] } }) ∷ []; operations = []; literals = []; main = 0 }
+
+fewer_turns_than_none_run : run script_fewer_turns_than_none_run R.Unlimited 10000 (shaped 4096 4096) ≡ record { outcome = Panicked (P.Workbench 9); trace = (line 1 144 0 Granted) ∷ []; lines = []; notes = []; steps = 1 }
+unfolding everything
+fewer_turns_than_none_run = refl
+
+abbrev script_more_turns_than_there_may_be_run : Script
+script_more_turns_than_there_may_be_run = record { classes = []; procedures = (record { line = 1; parameters = []; body = record { locals = OfNumber ∷ []; statements = (on 3 (Statement-F.SetNumber 0 (Constant (pos 1048576)))) ∷ (on 4 (Statement-F.Add 0 (Constant (pos 1)))) ∷ (on 5 (Statement-F.Repeat (Variable 0) [])) ∷ [] } }) ∷ []; operations = []; literals = []; main = 0 }
+
+more_turns_than_there_may_be_run : run script_more_turns_than_there_may_be_run R.Unlimited 10000 (shaped 4096 4096) ≡ record { outcome = Panicked (P.Workbench 9); trace = (line 1 144 0 Granted) ∷ []; lines = []; notes = []; steps = 3 }
+unfolding everything
+more_turns_than_there_may_be_run = refl
+
+abbrev script_no_turns_run : Script
+script_no_turns_run = record { classes = []; procedures = (record { line = 1; parameters = []; body = record { locals = []; statements = (on 2 (Statement-F.Repeat (Constant (pos 0)) ((on 3 (Statement-F.PrintText (Quoted 0))) ∷ []))) ∷ (on 5 (Statement-F.PrintText (Quoted 1))) ∷ [] } }) ∷ []; operations = []; literals = (110 ∷ 101 ∷ 118 ∷ 101 ∷ 114 ∷ []) ∷ (100 ∷ 111 ∷ 110 ∷ 101 ∷ []) ∷ []; main = 0 }
+
+no_turns_run : run script_no_turns_run R.Unlimited 10000 (shaped 4096 4096) ≡ record { outcome = Ended None []; trace = (line 1 144 0 Granted) ∷ []; lines = (100 ∷ 111 ∷ 110 ∷ 101 ∷ []) ∷ []; notes = []; steps = 2 }
+unfolding everything
+no_turns_run = refl
+
+abbrev script_number_of_turns_is_read_once_run : Script
+script_number_of_turns_is_read_once_run = record { classes = []; procedures = (record { line = 1; parameters = []; body = record { locals = OfNumber ∷ []; statements = (on 3 (Statement-F.SetNumber 0 (Constant (pos 3)))) ∷ (on 4 (Statement-F.Repeat (Variable 0) ((on 5 (Statement-F.Add 0 (Constant (pos 1)))) ∷ []))) ∷ (on 7 (Statement-F.PrintNumber (Variable 0))) ∷ [] } }) ∷ []; operations = []; literals = []; main = 0 }
+
+number_of_turns_is_read_once_run : run script_number_of_turns_is_read_once_run R.Unlimited 10000 (shaped 4096 4096) ≡ record { outcome = Ended None []; trace = (line 1 144 0 Granted) ∷ []; lines = (54 ∷ []) ∷ []; notes = []; steps = 9 }
+unfolding everything
+number_of_turns_is_read_once_run = refl
+
+abbrev script_turns_inside_turns_run : Script
+script_turns_inside_turns_run = record { classes = []; procedures = (record { line = 1; parameters = []; body = record { locals = OfNumber ∷ []; statements = (on 3 (Statement-F.Repeat (Constant (pos 3)) ((on 4 (Statement-F.Repeat (Constant (pos 2)) ((on 5 (Statement-F.Add 0 (Constant (pos 1)))) ∷ []))) ∷ []))) ∷ (on 8 (Statement-F.PrintNumber (Variable 0))) ∷ [] } }) ∷ []; operations = []; literals = []; main = 0 }
+
+turns_inside_turns_run : run script_turns_inside_turns_run R.Unlimited 10000 (shaped 4096 4096) ≡ record { outcome = Ended None []; trace = (line 1 144 0 Granted) ∷ []; lines = (54 ∷ []) ∷ []; notes = []; steps = 20 }
+unfolding everything
+turns_inside_turns_run = refl
+
 abbrev script_cell_for_zero_bytes_size : Script
 script_cell_for_zero_bytes_size = record { classes = []; procedures = (record { line = 1; parameters = []; body = record { locals = (OfPointer None) ∷ OfNumber ∷ []; statements = (on 4 (Statement-F.Alloc (Held (H.Local 0)) (Constant (pos 0)) GivesNull)) ∷ (on 5 (Statement-F.AllocLen 1 (Held (H.Local 0)))) ∷ (on 6 (Statement-F.PrintNumber (Variable 1))) ∷ (on 7 (Statement-F.Free (Held (H.Local 0)))) ∷ [] } }) ∷ []; operations = []; literals = []; main = 0 }
 
@@ -1590,6 +1737,34 @@ freed_neighbours_merge_size : (required script_freed_neighbours_merge_size 10000
 unfolding everything
 freed_neighbours_merge_size = (refl, refl)
 
+abbrev script_last_cell_ends_at_the_ceiling_size : Script
+script_last_cell_ends_at_the_ceiling_size = record { classes = []; procedures = (record { line = 1; parameters = []; body = record { locals = (OfPointer None) ∷ []; statements = (on 3 (Statement-F.Repeat (Constant (pos 15)) ((on 4 (Statement-F.Alloc (Held (H.Local 0)) (Constant (pos 1048560)) GivesNull)) ∷ []))) ∷ (on 6 (Statement-F.Alloc (Held (H.Local 0)) (Constant (pos 1048416)) GivesNull)) ∷ [] } }) ∷ []; operations = []; literals = []; main = 0 }
+
+last_cell_ends_at_the_ceiling_size : (required script_last_cell_ends_at_the_ceiling_size 10000 (shaped 4096 4096) ≡ 16777216) × (rises script_last_cell_ends_at_the_ceiling_size 10000 (shaped 4096 4096) ≡ (rise 1 144) ∷ (rise 2 1048720) ∷ (rise 3 2097296) ∷ (rise 4 3145872) ∷ (rise 5 4194448) ∷ (rise 6 5243024) ∷ (rise 7 6291600) ∷ (rise 8 7340176) ∷ (rise 9 8388752) ∷ (rise 10 9437328) ∷ (rise 11 10485904) ∷ (rise 12 11534480) ∷ (rise 13 12583056) ∷ (rise 14 13631632) ∷ (rise 15 14680208) ∷ (rise 16 15728784) ∷ (rise 17 16777216) ∷ [])
+unfolding everything
+last_cell_ends_at_the_ceiling_size = (refl, refl)
+
+abbrev script_last_cell_passes_the_ceiling_size : Script
+script_last_cell_passes_the_ceiling_size = record { classes = []; procedures = (record { line = 1; parameters = []; body = record { locals = (OfPointer None) ∷ []; statements = (on 3 (Statement-F.Repeat (Constant (pos 15)) ((on 4 (Statement-F.Alloc (Held (H.Local 0)) (Constant (pos 1048560)) GivesNull)) ∷ []))) ∷ (on 6 (Statement-F.Alloc (Held (H.Local 0)) (Constant (pos 1048417)) GivesNull)) ∷ [] } }) ∷ []; operations = []; literals = []; main = 0 }
+
+last_cell_passes_the_ceiling_size : (run script_last_cell_passes_the_ceiling_size R.Unlimited 10000 (shaped 4096 4096)).outcome ≡ Cut Ceiling
+unfolding everything
+last_cell_passes_the_ceiling_size = refl
+
+abbrev script_simulated_refusal_needs_no_room_size : Script
+script_simulated_refusal_needs_no_room_size = record { classes = []; procedures = (record { line = 1; parameters = []; body = record { locals = (OfPointer None) ∷ (OfPointer None) ∷ []; statements = (on 4 (Statement-F.NewText (Held (H.Local 0)) (Constant (pos 4)) Leaves)) ∷ (on 5 (Statement-F.Append (InCell (Held (H.Local 0))) (Quoted 0))) ∷ (on 6 (Statement-F.FailNext (Constant (pos 1)))) ∷ (on 7 (Statement-F.ReallocText (Held (H.Local 1)) (Held (H.Local 0)) (Constant (pos 20)))) ∷ (on 8 (Statement-F.PrintText (Of (InCell (Held (H.Local 0)))))) ∷ (on 9 (Statement-F.Free (Held (H.Local 0)))) ∷ [] } }) ∷ []; operations = []; literals = (97 ∷ 98 ∷ 99 ∷ []) ∷ []; main = 0 }
+
+simulated_refusal_needs_no_room_size : (required script_simulated_refusal_needs_no_room_size 10000 (shaped 4096 4096) ≡ 176) × (rises script_simulated_refusal_needs_no_room_size 10000 (shaped 4096 4096) ≡ (rise 1 144) ∷ (rise 2 176) ∷ [])
+unfolding everything
+simulated_refusal_needs_no_room_size = (refl, refl)
+
+abbrev script_top_cell_grows_in_place_size : Script
+script_top_cell_grows_in_place_size = record { classes = []; procedures = (record { line = 1; parameters = []; body = record { locals = (OfPointer None) ∷ (OfPointer None) ∷ (OfPointer None) ∷ []; statements = (on 5 (Statement-F.Alloc (Held (H.Local 0)) (Constant (pos 48)) GivesNull)) ∷ (on 6 (Statement-F.Alloc (Held (H.Local 1)) (Constant (pos 16)) GivesNull)) ∷ (on 7 (Statement-F.Free (Held (H.Local 0)))) ∷ (on 8 (Statement-F.Realloc (Held (H.Local 2)) (Held (H.Local 1)) (Constant (pos 48)) GivesNull)) ∷ (on 9 (Statement-F.IfElse (IsNull (Held (H.Local 2))) ((on 10 (Statement-F.Free (Held (H.Local 1)))) ∷ []) ((on 12 (Statement-F.Free (Held (H.Local 2)))) ∷ []))) ∷ [] } }) ∷ []; operations = []; literals = []; main = 0 }
+
+top_cell_grows_in_place_size : (required script_top_cell_grows_in_place_size 10000 (shaped 4096 4096) ≡ 272) × (rises script_top_cell_grows_in_place_size 10000 (shaped 4096 4096) ≡ (rise 1 144) ∷ (rise 2 208) ∷ (rise 3 240) ∷ (rise 4 272) ∷ [])
+unfolding everything
+top_cell_grows_in_place_size = (refl, refl)
+
 abbrev script_empty_main_check : Script
 script_empty_main_check = record { classes = []; procedures = (record { line = 1; parameters = []; body = record { locals = []; statements = [] } }) ∷ []; operations = []; literals = []; main = 0 }
 
@@ -1597,12 +1772,33 @@ empty_main_check : (required script_empty_main_check 10000 (shaped 4096 4096) �
 unfolding everything
 empty_main_check = (refl, refl, refl, refl)
 
+abbrev script_failure_that_outruns_the_budget_check : Script
+script_failure_that_outruns_the_budget_check = record { classes = []; procedures = (record { line = 1; parameters = []; body = record { locals = (OfPointer None) ∷ []; statements = (on 3 (Statement-F.Alloc (Held (H.Local 0)) (Constant (pos 16)) GivesNull)) ∷ (on 4 (Statement-F.If (IsNull (Held (H.Local 0))) ((on 5 (Statement-F.Repeat (Constant (pos 20000)) [])) ∷ []))) ∷ (on 8 (Statement-F.Free (Held (H.Local 0)))) ∷ [] } }) ∷ []; operations = []; literals = []; main = 0 }
+
+failure_that_outruns_the_budget_check : (required script_failure_that_outruns_the_budget_check 10000 (shaped 4096 4096) ≡ 176) × (rises script_failure_that_outruns_the_budget_check 10000 (shaped 4096 4096) ≡ (rise 1 144) ∷ (rise 2 176) ∷ []) × (least_bad_or_cut script_failure_that_outruns_the_budget_check 10000 (shaped 4096 4096) ≡ Some 2) × ((run_at script_failure_that_outruns_the_budget_check 10000 (shaped 4096 4096) 2).outcome ≡ Cut Budget)
+unfolding everything
+failure_that_outruns_the_budget_check = (refl, refl, refl, refl)
+
+abbrev script_failure_that_outruns_the_budget_sweep : Script
+script_failure_that_outruns_the_budget_sweep = record { classes = []; procedures = (record { line = 1; parameters = []; body = record { locals = (OfPointer None) ∷ []; statements = (on 3 (Statement-F.Alloc (Held (H.Local 0)) (Constant (pos 16)) GivesNull)) ∷ (on 4 (Statement-F.If (IsNull (Held (H.Local 0))) ((on 5 (Statement-F.Repeat (Constant (pos 20000)) [])) ∷ []))) ∷ (on 8 (Statement-F.Free (Held (H.Local 0)))) ∷ [] } }) ∷ []; operations = []; literals = []; main = 0 }
+
+failure_that_outruns_the_budget_sweep : (least_bad_or_cut script_failure_that_outruns_the_budget_sweep 10000 (shaped 4096 4096) ≡ Some 2) × ((run_at script_failure_that_outruns_the_budget_sweep 10000 (shaped 4096 4096) 2).outcome ≡ Cut Budget)
+unfolding everything
+failure_that_outruns_the_budget_sweep = (refl, refl)
+
 abbrev script_first_fit_reuses_hole_check : Script
 script_first_fit_reuses_hole_check = record { classes = []; procedures = (record { line = 1; parameters = []; body = record { locals = (OfPointer None) ∷ (OfPointer None) ∷ (OfPointer None) ∷ []; statements = (on 5 (Statement-F.Alloc (Held (H.Local 0)) (Constant (pos 10)) GivesNull)) ∷ (on 6 (Statement-F.Alloc (Held (H.Local 1)) (Constant (pos 100)) GivesNull)) ∷ (on 7 (Statement-F.Free (Held (H.Local 0)))) ∷ (on 8 (Statement-F.Alloc (Held (H.Local 2)) (Constant (pos 16)) GivesNull)) ∷ (on 9 (Statement-F.Free (Held (H.Local 1)))) ∷ (on 10 (Statement-F.Free (Held (H.Local 2)))) ∷ [] } }) ∷ []; operations = []; literals = []; main = 0 }
 
 first_fit_reuses_hole_check : (required script_first_fit_reuses_hole_check 10000 (shaped 4096 4096) ≡ 304) × (rises script_first_fit_reuses_hole_check 10000 (shaped 4096 4096) ≡ (rise 1 144) ∷ (rise 2 176) ∷ (rise 3 304) ∷ []) × (length (run_at script_first_fit_reuses_hole_check 10000 (shaped 4096 4096) 0).trace ≡ 4) × (least_bad_or_cut script_first_fit_reuses_hole_check 10000 (shaped 4096 4096) ≡ None)
 unfolding everything
 first_fit_reuses_hole_check = (refl, refl, refl, refl)
+
+abbrev script_leak_that_needs_two_failures_sweep : Script
+script_leak_that_needs_two_failures_sweep = record { classes = []; procedures = (record { line = 1; parameters = []; body = record { locals = (OfPointer None) ∷ (OfPointer None) ∷ (OfPointer None) ∷ []; statements = (on 5 (Statement-F.Alloc (Held (H.Local 0)) (Constant (pos 16)) GivesNull)) ∷ (on 6 (Statement-F.Alloc (Held (H.Local 1)) (Constant (pos 16)) GivesNull)) ∷ (on 7 (Statement-F.Alloc (Held (H.Local 2)) (Constant (pos 16)) GivesNull)) ∷ (on 8 (Statement-F.If (IsNull (Held (H.Local 0))) ((on 9 (Statement-F.If (IsNull (Held (H.Local 2))) ((on 10 (Statement-F.Leave (Constant (negsuc 3)))) ∷ []))) ∷ []))) ∷ (on 13 (Statement-F.Free (Held (H.Local 0)))) ∷ (on 14 (Statement-F.Free (Held (H.Local 1)))) ∷ (on 15 (Statement-F.Free (Held (H.Local 2)))) ∷ [] } }) ∷ []; operations = []; literals = []; main = 0 }
+
+leak_that_needs_two_failures_sweep : (length (run_at script_leak_that_needs_two_failures_sweep 10000 (shaped 4096 4096) 0).trace ≡ 4) × (least_bad_or_cut script_leak_that_needs_two_failures_sweep 10000 (shaped 4096 4096) ≡ None)
+unfolding everything
+leak_that_needs_two_failures_sweep = (refl, refl)
 
 abbrev script_leak_without_any_failure_sweep : Script
 script_leak_without_any_failure_sweep = record { classes = []; procedures = (record { line = 1; parameters = []; body = record { locals = (OfPointer None) ∷ []; statements = (on 3 (Statement-F.Alloc (Held (H.Local 0)) (Constant (pos 16)) GivesNull)) ∷ [] } }) ∷ []; operations = []; literals = []; main = 0 }
@@ -1617,6 +1813,20 @@ script_panic_without_any_failure_sweep = record { classes = []; procedures = (re
 panic_without_any_failure_sweep : (length (run_at script_panic_without_any_failure_sweep 10000 (shaped 4096 4096) 0).trace ≡ 3) × (least_bad_or_cut script_panic_without_any_failure_sweep 10000 (shaped 4096 4096) ≡ Some 0) × (run_at script_panic_without_any_failure_sweep 10000 (shaped 4096 4096) 0 ≡ record { outcome = Panicked (P.User 42); trace = (line 1 144 0 Granted) ∷ (line 2 32 144 Granted) ∷ (line 3 32 144 Granted) ∷ []; lines = []; notes = []; steps = 4 })
 unfolding everything
 panic_without_any_failure_sweep = (refl, refl, refl)
+
+abbrev script_retry_that_fails_again_sweep : Script
+script_retry_that_fails_again_sweep = record { classes = []; procedures = (record { line = 1; parameters = []; body = record { locals = (OfPointer None) ∷ (OfPointer None) ∷ []; statements = (on 4 (Statement-F.Alloc (Held (H.Local 1)) (Constant (pos 16)) GivesNull)) ∷ (on 5 (Statement-F.Alloc (Held (H.Local 0)) (Constant (pos 16)) GivesNull)) ∷ (on 6 (Statement-F.If (IsNull (Held (H.Local 0))) ((on 7 (Statement-F.Alloc (Held (H.Local 0)) (Constant (pos 16)) GivesNull)) ∷ (on 8 (Statement-F.If (IsNull (Held (H.Local 0))) ((on 9 (Statement-F.Leave (Constant (negsuc 3)))) ∷ []))) ∷ []))) ∷ (on 12 (Statement-F.Free (Held (H.Local 0)))) ∷ (on 13 (Statement-F.Free (Held (H.Local 1)))) ∷ [] } }) ∷ []; operations = []; literals = []; main = 0 }
+
+retry_that_fails_again_sweep : (length (run_at script_retry_that_fails_again_sweep 10000 (shaped 4096 4096) 0).trace ≡ 3) × (least_bad_or_cut script_retry_that_fails_again_sweep 10000 (shaped 4096 4096) ≡ None)
+unfolding everything
+retry_that_fails_again_sweep = (refl, refl)
+
+abbrev script_top_cell_grows_in_place_check : Script
+script_top_cell_grows_in_place_check = record { classes = []; procedures = (record { line = 1; parameters = []; body = record { locals = (OfPointer None) ∷ (OfPointer None) ∷ (OfPointer None) ∷ []; statements = (on 5 (Statement-F.Alloc (Held (H.Local 0)) (Constant (pos 48)) GivesNull)) ∷ (on 6 (Statement-F.Alloc (Held (H.Local 1)) (Constant (pos 16)) GivesNull)) ∷ (on 7 (Statement-F.Free (Held (H.Local 0)))) ∷ (on 8 (Statement-F.Realloc (Held (H.Local 2)) (Held (H.Local 1)) (Constant (pos 48)) GivesNull)) ∷ (on 9 (Statement-F.IfElse (IsNull (Held (H.Local 2))) ((on 10 (Statement-F.Free (Held (H.Local 1)))) ∷ []) ((on 12 (Statement-F.Free (Held (H.Local 2)))) ∷ []))) ∷ [] } }) ∷ []; operations = []; literals = []; main = 0 }
+
+top_cell_grows_in_place_check : (required script_top_cell_grows_in_place_check 10000 (shaped 4096 4096) ≡ 272) × (rises script_top_cell_grows_in_place_check 10000 (shaped 4096 4096) ≡ (rise 1 144) ∷ (rise 2 208) ∷ (rise 3 240) ∷ (rise 4 272) ∷ []) × (length (run_at script_top_cell_grows_in_place_check 10000 (shaped 4096 4096) 0).trace ≡ 4) × (least_bad_or_cut script_top_cell_grows_in_place_check 10000 (shaped 4096 4096) ≡ None)
+unfolding everything
+top_cell_grows_in_place_check = (refl, refl, refl, refl)
 
 abbrev script_append_of_null_run : Script
 script_append_of_null_run = record { classes = []; procedures = (record { line = 2; parameters = []; body = record { locals = (OfPointer None) ∷ (OfBuffer 3) ∷ []; statements = (on 5 (Statement-F.Append (OwnBuffer 1) (Of (InCell (Held (H.Local 0)))))) ∷ [] } }) ∷ []; operations = []; literals = []; main = 0 }
@@ -1933,6 +2143,13 @@ shortened_text_keeps_no_unit_run : run script_shortened_text_keeps_no_unit_run R
 unfolding everything
 shortened_text_keeps_no_unit_run = refl
 
+abbrev script_shortened_text_still_needs_its_units_run : Script
+script_shortened_text_still_needs_its_units_run = record { classes = []; procedures = (record { line = 1; parameters = []; body = record { locals = (OfPointer None) ∷ []; statements = (on 3 (Statement-F.NewText (Held (H.Local 0)) (Constant (pos 3)) Leaves)) ∷ (on 4 (Statement-F.Copy (InCell (Held (H.Local 0))) (Quoted 0))) ∷ (on 5 (Statement-F.SetLength (InCell (Held (H.Local 0))) (Constant (pos 1)))) ∷ (on 6 (Statement-F.ReallocText (Held (H.Local 0)) (Held (H.Local 0)) (Constant (pos 1)))) ∷ (on 7 (Statement-F.PrintText (Of (InCell (Held (H.Local 0)))))) ∷ (on 8 (Statement-F.ReallocText (Held (H.Local 0)) (Held (H.Local 0)) (Constant (pos 0)))) ∷ [] } }) ∷ []; operations = []; literals = (97 ∷ 98 ∷ 99 ∷ []) ∷ []; main = 0 }
+
+shortened_text_still_needs_its_units_run : run script_shortened_text_still_needs_its_units_run R.Unlimited 10000 (shaped 4096 4096) ≡ record { outcome = Panicked (P.Workbench 8); trace = (line 1 144 0 Granted) ∷ (line 2 32 144 Granted) ∷ []; lines = (97 ∷ []) ∷ []; notes = []; steps = 6 }
+unfolding everything
+shortened_text_still_needs_its_units_run = refl
+
 abbrev script_shrunk_text_loses_room_run : Script
 script_shrunk_text_loses_room_run = record { classes = []; procedures = (record { line = 1; parameters = []; body = record { locals = (OfPointer None) ∷ OfNumber ∷ []; statements = (on 4 (Statement-F.NewText (Held (H.Local 0)) (Constant (pos 20)) GivesNull)) ∷ (on 5 (Statement-F.Copy (InCell (Held (H.Local 0))) (Quoted 0))) ∷ (on 6 (Statement-F.ReallocText (Held (H.Local 0)) (Held (H.Local 0)) (Constant (pos 6)))) ∷ (on 7 (Statement-F.GetMaximum 1 (InCell (Held (H.Local 0))))) ∷ (on 8 (Statement-F.PrintNumber (Variable 1))) ∷ (on 9 (Statement-F.Append (InCell (Held (H.Local 0))) (Quoted 1))) ∷ [] } }) ∷ []; operations = []; literals = (97 ∷ 98 ∷ 99 ∷ 100 ∷ 101 ∷ 102 ∷ []) ∷ (103 ∷ []) ∷ []; main = 0 }
 
@@ -1974,6 +2191,13 @@ script_text_at_null_run = record { classes = []; procedures = (record { line = 1
 text_at_null_run : run script_text_at_null_run R.Unlimited 10000 (shaped 4096 4096) ≡ record { outcome = Panicked (P.Workbench 1); trace = (line 1 144 0 Granted) ∷ []; lines = []; notes = []; steps = 1 }
 unfolding everything
 text_at_null_run = refl
+
+abbrev script_text_cell_is_made_as_long_as_its_text_run : Script
+script_text_cell_is_made_as_long_as_its_text_run = record { classes = []; procedures = (record { line = 1; parameters = []; body = record { locals = (OfPointer None) ∷ []; statements = (on 3 (Statement-F.NewText (Held (H.Local 0)) (Constant (pos 6)) Leaves)) ∷ (on 4 (Statement-F.Copy (InCell (Held (H.Local 0))) (Quoted 0))) ∷ (on 5 (Statement-F.ReallocText (Held (H.Local 0)) (Held (H.Local 0)) (Constant (pos 3)))) ∷ (on 6 (Statement-F.PrintText (Of (InCell (Held (H.Local 0)))))) ∷ (on 7 (Statement-F.ReallocText (Held (H.Local 0)) (Held (H.Local 0)) (Constant (pos 2)))) ∷ [] } }) ∷ []; operations = []; literals = (97 ∷ 98 ∷ 99 ∷ []) ∷ []; main = 0 }
+
+text_cell_is_made_as_long_as_its_text_run : run script_text_cell_is_made_as_long_as_its_text_run R.Unlimited 10000 (shaped 4096 4096) ≡ record { outcome = Panicked (P.Workbench 8); trace = (line 1 144 0 Granted) ∷ (line 2 32 144 Granted) ∷ []; lines = (97 ∷ 98 ∷ 99 ∷ []) ∷ []; notes = []; steps = 5 }
+unfolding everything
+text_cell_is_made_as_long_as_its_text_run = refl
 
 abbrev script_text_copied_between_cells_and_buffers_run : Script
 script_text_copied_between_cells_and_buffers_run = record { classes = []; procedures = (record { line = 1; parameters = []; body = record { locals = (OfPointer None) ∷ (OfPointer None) ∷ (OfBuffer 4) ∷ []; statements = (on 5 (Statement-F.NewText (Held (H.Local 0)) (Constant (pos 6)) GivesNull)) ∷ (on 6 (Statement-F.NewText (Held (H.Local 1)) (Constant (pos 6)) GivesNull)) ∷ (on 7 (Statement-F.Copy (InCell (Held (H.Local 0))) (Quoted 0))) ∷ (on 8 (Statement-F.Copy (InCell (Held (H.Local 1))) (Of (InCell (Held (H.Local 0)))))) ∷ (on 9 (Statement-F.DeleteText (InCell (Held (H.Local 1))) (Constant (pos 0)) (Constant (pos 2)))) ∷ (on 10 (Statement-F.Copy (OwnBuffer 2) (Of (InCell (Held (H.Local 1)))))) ∷ (on 11 (Statement-F.Append (InCell (Held (H.Local 1))) (Of (OwnBuffer 2)))) ∷ [] } }) ∷ []; operations = []; literals = (97 ∷ 98 ∷ 99 ∷ 100 ∷ 101 ∷ 102 ∷ []) ∷ []; main = 0 }

@@ -1,5 +1,5 @@
 -- The form of a line: the first key whose text and letters fit its words.
-use Rattle.std.specs.Prelude.{ℕ, ℤ, pos, List, [], ◌∷◌, Option, Some, None, Bool, true, false, ◌==◌, map}
+use Rattle.std.specs.Prelude.{ℕ, ℤ, pos, List, [], ◌∷◌, Option, Some, None, Bool, true, false, ◌==◌, if◌then◌else◌, length, map}
 use Rattle.std.specs.Option.{option_map}
 use Rattle.std.specs.Str.{bytes_eq}
 use Rattle.wb_model.specs.declared.script_lines.Key.{Key}
@@ -7,14 +7,15 @@ use Rattle.wb_model.specs.declared.script_lines.Letter.{Letter}
 use Rattle.wb_model.specs.declared.script_lines.WordKind.{WordKind}
 use Rattle.wb_model.specs.declared.script_lines.WordKind.TheVariants as word
 use Rattle.wb_model.specs.declared.script_lines.Operand.{Operand}
-use Rattle.wb_model.specs.declared.script_lines.Operand.TheVariants.{Name, Number, Size, Literal}
+use Rattle.wb_model.specs.declared.script_lines.Operand.TheVariants.{Name, Number, Size, Literal, Parameter, Keyword}
 use Rattle.wb_model.specs.declared.script_lines.Form.{Form}
 use Rattle.wb_model.specs.declared.script_lines.Form.TheVariants.{Skip, Unknown, Line}
+use Rattle.wb_model.specs.declared.script.Parameter as model
 use Rattle.wb_model.specs.declared.script_lines.Role.{Role}
 use Rattle.wb_model.specs.declared.script_lines.Role.TheVariants as role
 use Rattle.wb_model.specs.Lines.{words_of}
-use Rattle.wb_model.specs.Words.{declared_name, used_name, number_spelled, literal_spelled}
-use Rattle.wb_model.specs.Keys.{keys, text_of, letters_of, role_of, word_kinds}
+use Rattle.wb_model.specs.Words.{declared_name, used_name, number_spelled, literal_spelled, parameter_name, parameter_kind, text_of_keyword}
+use Rattle.wb_model.specs.Keys.{keys, text_of, letters_for, role_of, word_kinds}
 
 -- the same with other names
 abbrev pub renamed_operand : {N M : Type 0} → (N → M) → Operand N → Operand M
@@ -22,6 +23,8 @@ renamed_operand f (Name n) = Name (f n)
 renamed_operand f (Number z) = Number z
 renamed_operand f (Size n) = Size n
 renamed_operand f (Literal n) = Literal (f n)
+renamed_operand f (Parameter n p) = Parameter (f n) p
+renamed_operand f Keyword = Keyword
 
 abbrev pub renamed : {N M : Type 0} → (N → M) → Form N → Form M
 renamed f Skip = Skip
@@ -42,6 +45,11 @@ abbrev pub size_of : Option ℤ → Option (Operand (List ℕ))
 size_of (Some (pos n)) = Some (Size n)
 size_of _ = None
 
+-- a parameter, where there is a name and a kind
+abbrev pub parameter_of : Option (List ℕ) → Option model.Parameter → Option (Operand (List ℕ))
+parameter_of (Some name) (Some kind) = Some (Parameter name kind)
+parameter_of _ _ = None
+
 -- the operand that a word of a kind is
 abbrev pub operand_as : WordKind → List ℕ → Option (Operand (List ℕ))
 operand_as word.NewName text = option_map Name (declared_name text)
@@ -49,6 +57,8 @@ operand_as word.Name text = option_map Name (used_name text)
 operand_as word.Number text = option_map Number (number_spelled text)
 operand_as word.Size text = size_of (number_spelled text)
 operand_as word.Literal text = option_map Literal (literal_spelled text)
+operand_as word.Parameter text = parameter_of (parameter_name text) (parameter_kind text)
+operand_as (word.Keyword k) text = if bytes_eq text (text_of_keyword k) then Some Keyword else None
 
 -- the operand by the first of the kinds that the word is of
 abbrev pub operand_among : List WordKind → List ℕ → Option (Operand (List ℕ))
@@ -70,7 +80,7 @@ operands_of (letter ∷ letters) (word ∷ words) = onto (operand_of letter word
 operands_of _ _ = None
 
 abbrev pub operands_if : Bool → Key → List (List ℕ) → Option (List (Operand (List ℕ)))
-operands_if true key words = operands_of (letters_of key) words
+operands_if true key words = operands_of (letters_for key (length words)) words
 operands_if false key words = None
 
 abbrev pub line_or : Key → Option (List (Operand (List ℕ))) → Form (List ℕ) → Form (List ℕ)

@@ -1,18 +1,22 @@
 -- Which operands are of the sorts that their lines take.
-use Rattle.std.specs.Prelude.{List, [], ◌∷◌, Bool, true, false, not, ◌&&◌}
+use Rattle.std.specs.Prelude.{List, [], ◌∷◌, Bool, true, false, not, ◌&&◌, ◌||◌, Option, Some, None, codes, length, slice_get}
+use Rattle.std.specs.List.{list_any}
 use Rattle.wb_model.specs.declared.script_lines.Key.{Key}
 use Rattle.wb_model.specs.declared.script_lines.Key.TheVariants as key
 use Rattle.wb_model.specs.declared.script_lines.Letter.{Letter}
+use Rattle.wb_model.specs.declared.script_lines.Letter.TheVariants as letter
+use Rattle.wb_model.specs.declared.script.Parameter as model
+use Rattle.wb_model.specs.declared.script.Parameter.TheVariants as parameter
 use Rattle.wb_model.specs.declared.script_lines.Meant.{Meant}
 use Rattle.wb_model.specs.declared.script_lines.Meant.TheVariants as meant
 use Rattle.wb_model.specs.declared.script_lines.Operand.{Operand}
-use Rattle.wb_model.specs.declared.script_lines.Operand.TheVariants.{Name, Number, Size, Literal}
+use Rattle.wb_model.specs.declared.script_lines.Operand.TheVariants.{Name, Number, Size, Literal, Parameter, Keyword}
 use Rattle.wb_model.specs.declared.script_lines.Form.{Form}
 use Rattle.wb_model.specs.declared.script_lines.Form.TheVariants.{Line}
 use Rattle.wb_model.specs.declared.script_lines.Sort.{Sort}
 use Rattle.wb_model.specs.declared.script_lines.Sort.TheVariants as sort
-use Rattle.wb_model.specs.Keys.{letters_of, takes}
-use Rattle.wb_model.specs.Names.{Text, Known}
+use Rattle.wb_model.specs.Keys.{letters_for, takes}
+use Rattle.wb_model.specs.Names.{Text, Known, Item, names_of, first_name, is_among, parameters_in, key_in}
 use Rattle.wb_model.specs.Resolved.{resolved_line}
 
 abbrev pub sort_named : Meant → Sort
@@ -21,6 +25,7 @@ sort_named (meant.Pointer index) = sort.Pointer
 sort_named (meant.Number index) = sort.Variable
 sort_named (meant.Buffer index) = sort.Buffer
 sort_named (meant.View index) = sort.View
+sort_named (meant.Procedure index) = sort.Procedure
 sort_named _ = sort.Nothing
 
 abbrev pub sort_of : Operand Meant → Sort
@@ -28,6 +33,8 @@ sort_of (Name meant) = sort_named meant
 sort_of (Number z) = sort.Number
 sort_of (Size n) = sort.Size
 sort_of (Literal text) = sort.Literal
+sort_of (Parameter name kind) = sort.Parameter
+sort_of Keyword = sort.Keyword
 
 -- an operand is of a sort that its letter takes
 abbrev pub is_right : Letter → Operand Meant → Bool
@@ -50,10 +57,57 @@ abbrev pub sides_agree : Key → List (Operand Meant) → Bool
 sides_agree key.Set (target ∷ source ∷ []) = same (is_pointer_sort (sort_of target)) (is_pointer_sort (sort_of source))
 sides_agree _ _ = true
 
-abbrev pub is_right_line : Form Meant → Bool
-is_right_line (Line key operands) = are_right (letters_of key) operands && sides_agree key operands
-is_right_line _ = true
+-- an argument of the kind that a parameter wants
+abbrev pub is_given : model.Parameter → Operand Meant → Bool
+is_given (parameter.OfPointer class) operand = is_right letter.Pointer operand
+is_given parameter.OfNumber operand = is_right letter.Value operand
 
--- a line with an operand of another sort than it takes
-abbrev pub has_wrong_kind : Known → Form Text → Bool
-has_wrong_kind known form = not (is_right_line (resolved_line known form))
+-- one for each parameter
+abbrev pub are_given : List model.Parameter → List (Operand Meant) → Bool
+are_given [] [] = true
+are_given (parameter ∷ parameters) (operand ∷ operands) = is_given parameter operand && are_given parameters operands
+are_given _ _ = false
+
+abbrev pub is_given_to : Option Item → List (Operand Meant) → Bool
+is_given_to (Some item) operands = are_given item.parameters operands
+is_given_to None operands = false
+
+-- a procedure, and then its arguments
+abbrev pub is_call : List Item → List (Operand Meant) → Bool
+is_call items (Name (meant.Procedure index) ∷ operands) = is_given_to (slice_get items index) operands
+is_call items _ = true
+
+-- A call gives what the procedure takes.
+abbrev pub arguments_agree : List Item → Key → List (Operand Meant) → Bool
+arguments_agree items key.Call operands = is_call items operands
+arguments_agree items key.CallTo (target ∷ operands) = is_call items operands
+arguments_agree items _ _ = true
+
+abbrev pub is_right_line : List Item → Form Meant → Bool
+is_right_line items (Line key operands) = are_right (letters_for key (length operands)) operands && (sides_agree key operands && arguments_agree items key operands)
+is_right_line items _ = true
+
+abbrev pub is_nothing : {X : Type 0} → List X → Bool
+is_nothing [] = true
+is_nothing (x ∷ xs) = false
+
+-- a line that gives `main` parameters
+abbrev pub gives_main_parameters : Form Text → Bool
+gives_main_parameters form = is_among (first_name form) (codes "main") && not (is_nothing (parameters_in form))
+
+abbrev pub ends_body : Key → Bool
+ends_body key.Return = true
+ends_body key.ReturnPointer = true
+ends_body _ = false
+
+abbrev pub is_trap : Key → Bool
+is_trap key.Trap = true
+is_trap _ = false
+
+-- a `return` inside a TRAP
+abbrev pub returns_in_trap : Known → Form Text → Bool
+returns_in_trap known form = list_any ends_body (key_in form) && list_any is_trap known.blocks
+
+-- a line with an operand of another sort than it takes, or that has no place where it stands
+abbrev pub has_wrong_kind : List Item → Known → Form Text → Bool
+has_wrong_kind items known form = not (is_right_line items (resolved_line (names_of items) known form)) || (gives_main_parameters form || returns_in_trap known form)

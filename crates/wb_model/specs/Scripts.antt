@@ -9,7 +9,7 @@ use Rattle.wb_model.specs.Forms.{forms_of, role_of_form}
 use Rattle.wb_model.specs.Grammar.{IsGrammatical}
 use Rattle.wb_model.specs.Kinds.{has_wrong_kind}
 use Rattle.wb_model.specs.Lines.{lines_of, first_foreign_line, is_too_long}
-use Rattle.wb_model.specs.Names.{Text, first_refused, declares_again, passes_limit, items_of, literals_of, first_declaration_of}
+use Rattle.wb_model.specs.Names.{Text, first_refused, declares_again, passes_limit, items_of, names_of, literals_of, first_declaration_of}
 use Rattle.wb_model.specs.Resolved.{resolved, uses_unknown}
 use Rattle.wb_model.specs.Trees.{counted_from, script_lines}
 
@@ -32,7 +32,7 @@ pub record IsGrammarLine (lines : List Text) (n : ℕ) : Type 0 where
 
 -- the index of `main` among the procedures
 abbrev pub main_of : List (Form Text) → Option ℕ
-main_of forms = first_declaration_of (items_of forms) (codes "main")
+main_of forms = first_declaration_of (names_of (items_of forms)) (codes "main")
 
 -- not too long, and of lines alone
 pub record IsPlainText (bytes : List ℕ) : Type 0 where
@@ -44,11 +44,21 @@ pub record IsWellFormed (bytes : List ℕ) : Type 0 where
   pub text : IsPlainText bytes
   pub grammar : AreLines (lines_of bytes)
 
+-- the first line of each kind of fault, by the script's own space
+abbrev pub first_unknown : List (Form Text) → Option ℕ
+first_unknown forms = first_refused (uses_unknown (names_of (items_of forms))) forms
+
+abbrev pub first_double : List (Form Text) → Option ℕ
+first_double forms = first_refused (declares_again (names_of (items_of forms))) forms
+
+abbrev pub first_wrong : List (Form Text) → Option ℕ
+first_wrong forms = first_refused (has_wrong_kind (items_of forms)) forms
+
 -- the names of lines are declared, each once, and their operands are of the right kinds
 pub record IsNamed (forms : List (Form Text)) : Type 0 where
-  pub known : first_refused uses_unknown forms ≡ None
-  pub once : first_refused (declares_again (items_of forms)) forms ≡ None
-  pub right : first_refused has_wrong_kind forms ≡ None
+  pub known : first_unknown forms ≡ None
+  pub once : first_double forms ≡ None
+  pub right : first_wrong forms ≡ None
 
 -- The tree that lines without a fault in their names, kinds and limits have. Its items and its statements have the numbers of
 -- their lines.
@@ -72,14 +82,14 @@ line_of index = option_map suc index
 
 -- the first fault of lines that are grammatical
 abbrev pub IsLinesFault : List (Form Text) → ScriptFault → Type 0
-IsLinesFault forms (UnknownName n) = line_of (first_refused uses_unknown forms) ≡ Some n
-IsLinesFault forms (DoubleName n) = (first_refused uses_unknown forms ≡ None) × (line_of (first_refused (declares_again (items_of forms)) forms) ≡ Some n)
-IsLinesFault forms (WrongKind n) = (first_refused uses_unknown forms ≡ None) × (first_refused (declares_again (items_of forms)) forms ≡ None) × (line_of (first_refused has_wrong_kind forms) ≡ Some n)
+IsLinesFault forms (UnknownName n) = line_of (first_unknown forms) ≡ Some n
+IsLinesFault forms (DoubleName n) = (first_unknown forms ≡ None) × (line_of (first_double forms) ≡ Some n)
+IsLinesFault forms (WrongKind n) = (first_unknown forms ≡ None) × (first_double forms ≡ None) × (line_of (first_wrong forms) ≡ Some n)
 IsLinesFault forms NoMain = IsNamed forms × (main_of forms ≡ None)
 IsLinesFault forms (TooMany n) = IsNamed forms × (main_of forms ≡ None → ⊥) × (line_of (first_refused passes_limit forms) ≡ Some n)
 IsLinesFault forms _ = ⊥
 
--- The first fault of bytes, with its line. No statement that is read leaves, so `MayLeave` is a fault of no bytes.
+-- The first fault of bytes, with its line. No body that may not leave is read, so `MayLeave` is a fault of no bytes.
 abbrev pub IsFaultOf : List ℕ → ScriptFault → Type 0
 IsFaultOf bytes TooLong = is_too_long bytes ≡ true
 IsFaultOf bytes (NotAscii n) = (is_too_long bytes ≡ false) × (first_foreign_line bytes ≡ Some n)

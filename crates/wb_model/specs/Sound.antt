@@ -1,11 +1,14 @@
 -- Which trees are scripts: those that keep the checks and the limits of the lines that the reader knows. Whoever runs a
 -- script asks for such a tree, and the reader gives no other.
-use Rattle.std.specs.Prelude.{ℕ, zero, suc, pos, negsuc, List, Bool, true, false, not, ◌&&◌, nat_eq, nat_le, nat_lt, Option, Some, None, length, slice_get}
+use Rattle.std.specs.Prelude.{ℕ, zero, suc, pos, negsuc, List, Bool, true, false, not, ◌&&◌, nat_eq, nat_le, nat_lt, Option, Some, None, [], ◌∷◌, ◌++◌, length, map, slice_get}
 use Rattle.std.specs.List.{list_all}
-use Rattle.wb_model.specs.declared.limits.TheConstants.{LONGEST_LITERAL, LARGEST_BUFFER, NINE_DIGITS, MOST_LOCALS, MOST_PROCEDURES, DEEPEST_BLOCK}
+use Rattle.wb_model.specs.declared.limits.TheConstants.{LONGEST_LITERAL, LARGEST_BUFFER, NINE_DIGITS, MOST_LOCALS, MOST_PROCEDURES, DEEPEST_BLOCK, MOST_PARAMETERS}
 use Rattle.wb_model.specs.declared.script.Script.{Script}
-use Rattle.wb_model.specs.declared.script.Body.{Body}
 use Rattle.wb_model.specs.declared.script.Procedure.{Procedure}
+use Rattle.wb_model.specs.declared.script.Parameter.{Parameter}
+use Rattle.wb_model.specs.declared.script.Parameter.TheVariants as parameter
+use Rattle.wb_model.specs.declared.script.Argument.{Argument}
+use Rattle.wb_model.specs.declared.script.Argument.TheVariants.{Passed, Given}
 use Rattle.wb_model.specs.declared.script.Local.{Local}
 use Rattle.wb_model.specs.declared.script.Local.TheVariants.{OfPointer, OfNumber, OfBuffer, OfView}
 use Rattle.wb_model.specs.declared.script.Holder.TheVariants as H
@@ -130,29 +133,73 @@ is_simple literals locals trapped Statement-F.Return = not trapped
 is_simple literals locals trapped (Statement-F.ReturnPointer p) = not trapped && is_pointer locals p
 is_simple literals locals trapped layer = is_statement literals locals layer
 
+-- what a script declares that all its statements may name: how many literals, and the parameters of each procedure
+pub record Declared : Type 0 where
+  pub literals : ℕ
+  pub signatures : List (List Parameter)
+
+-- a parameter gets an argument of its own kind
+abbrev pub is_passed : List Local → Parameter → Argument → Bool
+is_passed locals (parameter.OfPointer class) (Passed p) = is_pointer locals p
+is_passed locals parameter.OfNumber (Given v) = is_number locals v
+is_passed locals _ _ = false
+
+-- each parameter gets one
+abbrev pub are_passed : List Local → List Parameter → List Argument → Bool
+are_passed locals [] [] = true
+are_passed locals (p ∷ ps) (a ∷ arguments) = is_passed locals p a && are_passed locals ps arguments
+are_passed locals _ _ = false
+
+-- a procedure with these parameters is called with these arguments
+abbrev pub is_called : List Local → Option (List Parameter) → List Argument → Bool
+is_called locals (Some parameters) arguments = are_passed locals parameters arguments
+is_called locals None arguments = false
+
+abbrev pub is_call : List (List Parameter) → List Local → ℕ → List Argument → Bool
+is_call signatures locals index arguments = is_called locals (slice_get signatures index) arguments
+
 -- a statement with what stands inside it, in a TRAP or not; `inside` says which blocks may stand there
-abbrev pub is_nested : ℕ → List Local → Bool → (Bool → List Numbered → Bool) → Statement-F Statement Numbered → Bool
-is_nested literals locals trapped inside (Statement-F.If c first) = is_condition locals c && inside trapped first
-is_nested literals locals trapped inside (Statement-F.IfElse c first other) = is_condition locals c && (inside trapped first && inside trapped other)
-is_nested literals locals trapped inside (Statement-F.Repeat v body) = is_number locals v && inside trapped body
-is_nested literals locals trapped inside (Statement-F.Trap x body) = is_variable locals x && inside true body
-is_nested literals locals trapped inside layer = is_simple literals locals trapped layer
+abbrev pub is_nested : Declared → List Local → Bool → (Bool → List Numbered → Bool) → Statement-F Statement Numbered → Bool
+is_nested declared locals trapped inside (Statement-F.Call n arguments) = is_call declared.signatures locals n arguments
+is_nested declared locals trapped inside (Statement-F.CallTo x n arguments) = is_pointer_local (slice_get locals x) && is_call declared.signatures locals n arguments
+is_nested declared locals trapped inside (Statement-F.If c first) = is_condition locals c && inside trapped first
+is_nested declared locals trapped inside (Statement-F.IfElse c first other) = is_condition locals c && (inside trapped first && inside trapped other)
+is_nested declared locals trapped inside (Statement-F.Repeat v body) = is_number locals v && inside trapped body
+is_nested declared locals trapped inside (Statement-F.Trap x body) = is_variable locals x && inside true body
+is_nested declared locals trapped inside layer = is_simple declared.literals locals trapped layer
 
 -- statements, with fewer blocks inside one another than this
-abbrev pub are_within : ℕ → List Local → ℕ → Bool → List Numbered → Bool
-are_within literals locals zero trapped statements = false
-are_within literals locals (suc depth) trapped statements =
-    list_all (λ s. is_nested literals locals trapped (are_within literals locals depth) (out-Statement s.statement)) statements
+abbrev pub are_within : Declared → List Local → ℕ → Bool → List Numbered → Bool
+are_within declared locals zero trapped statements = false
+are_within declared locals (suc depth) trapped statements =
+    list_all (λ s. is_nested declared locals trapped (are_within declared locals depth) (out-Statement s.statement)) statements
 
 -- the statements of a body
-abbrev pub are_statements : ℕ → List Local → List Numbered → Bool
-are_statements literals locals statements = are_within literals locals (suc DEEPEST_BLOCK) false statements
+abbrev pub are_statements : Declared → List Local → List Numbered → Bool
+are_statements declared locals statements = are_within declared locals (suc DEEPEST_BLOCK) false statements
 
-abbrev pub is_body : ℕ → Body → Bool
-is_body literals body = list_all is_local body.locals && nat_le (length body.locals) MOST_LOCALS && are_statements literals body.locals body.statements
+-- a parameter is a local that its caller gives a value; it has no class
+abbrev pub is_parameter : Parameter → Bool
+is_parameter (parameter.OfPointer None) = true
+is_parameter (parameter.OfPointer (Some class)) = false
+is_parameter parameter.OfNumber = true
 
-abbrev pub is_procedure : ℕ → Procedure → Bool
-is_procedure literals p = nat_eq (length p.parameters) 0 && is_body literals p.body
+abbrev pub local_of_parameter : Parameter → Local
+local_of_parameter (parameter.OfPointer class) = OfPointer class
+local_of_parameter parameter.OfNumber = OfNumber
+
+-- the locals of a procedure: its parameters, and then those that its body declares
+abbrev pub locals_of : List Parameter → List Local → List Local
+locals_of parameters locals = map local_of_parameter parameters ++ locals
+
+-- a body over all its locals
+abbrev pub is_body : Declared → List Local → List Numbered → Bool
+is_body declared locals statements = list_all is_local locals && nat_le (length locals) MOST_LOCALS && are_statements declared locals statements
+
+abbrev pub is_procedure : Declared → Procedure → Bool
+is_procedure declared p =
+    list_all is_parameter p.parameters && nat_le (length p.parameters) MOST_PARAMETERS
+    && is_body declared (locals_of p.parameters p.body.locals) p.body.statements
 
 -- what may stand between quotes
 abbrev pub is_quotable : ℕ → Bool
@@ -162,8 +209,19 @@ is_quotable byte = nat_le 32 byte && nat_le byte 126 && not (nat_eq byte 34)
 abbrev pub is_literal_text : List ℕ → Bool
 is_literal_text text = list_all is_quotable text && nat_le (length text) LONGEST_LITERAL
 
+abbrev pub signatures_of : List Procedure → List (List Parameter)
+signatures_of procedures = map (λ p. p.parameters) procedures
+
+abbrev pub declared_in : Script → Declared
+declared_in script = record { literals = length script.literals; signatures = signatures_of script.procedures }
+
+-- a procedure that takes nothing
+abbrev pub is_entry : Option (List Parameter) → Bool
+is_entry (Some []) = true
+is_entry _ = false
+
 abbrev pub is_script : Script → Bool
 is_script script =
     nat_eq (length script.classes) 0 && nat_eq (length script.operations) 0
-    && (nat_le (length script.procedures) MOST_PROCEDURES && nat_lt script.main (length script.procedures))
-    && (list_all (is_procedure (length script.literals)) script.procedures && list_all is_literal_text script.literals)
+    && (nat_le (length script.procedures) MOST_PROCEDURES && is_entry (slice_get (signatures_of script.procedures) script.main))
+    && (list_all (is_procedure (declared_in script)) script.procedures && list_all is_literal_text script.literals)

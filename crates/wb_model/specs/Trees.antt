@@ -1,11 +1,13 @@
 -- The lines of a script's tree, with what their names and literals stand for, and with their numbers where the tree keeps them.
-use Rattle.std.specs.Prelude.{ℕ, suc, List, [], ◌∷◌, ◌++◌, Option, Some, None, map}
+use Rattle.std.specs.Prelude.{ℕ, suc, List, [], ◌∷◌, ◌++◌, Option, Some, None, length, map}
+use Rattle.std.specs.List.{flat_map}
 use Rattle.wb_model.specs.declared.script_lines.Key.TheVariants as key
 use Rattle.wb_model.specs.declared.script_lines.Key.{Key}
 use Rattle.wb_model.specs.declared.script_lines.Meant.{Meant}
 use Rattle.wb_model.specs.declared.script_lines.Meant.TheVariants as meant
 use Rattle.wb_model.specs.declared.script_lines.Operand.{Operand}
-use Rattle.wb_model.specs.declared.script_lines.Operand.TheVariants.{Name, Number, Size, Literal}
+use Rattle.wb_model.specs.declared.script_lines.Operand.TheVariants.{Name, Number, Size, Literal, Keyword}
+use Rattle.wb_model.specs.declared.script_lines.Operand.TheVariants as spelled
 use Rattle.wb_model.specs.declared.script_lines.Form.{Form}
 use Rattle.wb_model.specs.declared.script_lines.Form.TheVariants.{Skip, Unknown, Line}
 use Rattle.wb_model.specs.declared.script_lines.Role.{Role}
@@ -14,6 +16,11 @@ use Rattle.wb_model.specs.declared.script.Script.{Script}
 use Rattle.wb_model.specs.declared.script.Body.{Body}
 use Rattle.wb_model.specs.declared.script.Procedure.{Procedure}
 use Rattle.wb_model.specs.declared.script.Parameter.{Parameter}
+use Rattle.wb_model.specs.declared.script.Parameter.TheVariants as parameter
+use Rattle.wb_model.specs.declared.script.Argument.{Argument}
+use Rattle.wb_model.specs.declared.script.Argument.TheVariants.{Passed, Given}
+use Rattle.wb_model.specs.declared.script.Condition.{Condition}
+use Rattle.wb_model.specs.declared.script.Condition.TheVariants.{IsNull, NotNull, Equal, Less}
 use Rattle.wb_model.specs.declared.script.Local.{Local}
 use Rattle.wb_model.specs.declared.script.Local.TheVariants.{OfPointer, OfNumber, OfBuffer, OfView}
 use Rattle.wb_model.specs.declared.script.Holder.TheVariants as H
@@ -25,11 +32,11 @@ use Rattle.wb_model.specs.declared.script.Writable.{Writable}
 use Rattle.wb_model.specs.declared.script.Writable.TheVariants.{OwnBuffer, InCell}
 use Rattle.wb_model.specs.declared.script.Readable.{Readable}
 use Rattle.wb_model.specs.declared.script.Readable.TheVariants.{Of, ViewOf, Quoted}
-use Rattle.wb_model.specs.declared.script.Refusal.TheVariants.{GivesNull}
+use Rattle.wb_model.specs.declared.script.Refusal.TheVariants.{GivesNull, Leaves}
 use Rattle.wb_model.specs.declared.script.Numbered.{Numbered}
 use Rattle.wb_model.specs.declared.script.Statement.{Statement}
-use Rattle.wb_model.specs.declared.script.Statement.TheOpen.{Statement-F}
-use Rattle.wb_model.specs.declared.script.Statement.TheViews.{out-Statement}
+use Rattle.wb_model.specs.declared.script.Statement.TheOpen.{Statement-F, Numbered-F}
+use Rattle.wb_model.specs.declared.script.Statement.TheFolds.{fold-Statement}
 use Rattle.wb_model.specs.Forms.{role_of_form}
 
 abbrev pub Indexed : Type 0
@@ -62,7 +69,7 @@ abbrev pub counted_from : ℕ → List Indexed → List Marked
 counted_from number [] = []
 counted_from number (line ∷ lines) = counted number line ++ counted_from (suc number) lines
 
--- The operand that spells a pointer, a number or a text to print; none where no line spells it.
+-- The operand that spells a pointer, a number, a text, a procedure or a parameter; none where no line spells it.
 abbrev pub Spelled : Type 0
 Spelled = Option (Operand Meant)
 
@@ -89,6 +96,21 @@ text_operand (Of w) = writable_operand w
 text_operand (ViewOf i) = view_operand i
 text_operand (Quoted i) = Some (Literal (meant.Literal i))
 
+abbrev pub procedure_operand : ℕ → Spelled
+procedure_operand i = Some (Name (meant.Procedure i))
+
+abbrev pub parameter_operand : Parameter → Spelled
+parameter_operand (parameter.OfPointer None) = Some (spelled.Parameter meant.Parameter (parameter.OfPointer None))
+parameter_operand (parameter.OfPointer (Some class)) = None
+parameter_operand parameter.OfNumber = Some (spelled.Parameter meant.Parameter parameter.OfNumber)
+
+abbrev pub argument_operand : Argument → Spelled
+argument_operand (Passed p) = pointer_operand p
+argument_operand (Given v) = number_operand v
+
+abbrev pub keyword_operand : Spelled
+keyword_operand = Some Keyword
+
 abbrev pub and_operand : Spelled → Option (List (Operand Meant)) → Option (List (Operand Meant))
 and_operand (Some operand) (Some operands) = Some (operand ∷ operands)
 and_operand _ _ = None
@@ -104,10 +126,19 @@ line_or_unknown key None = Unknown
 abbrev pub line : Key → List Spelled → Indexed
 line k words = line_or_unknown k (all_spelled words)
 
--- The line of a statement. One that no line spells has a line of no script.
-abbrev pub statement_line : Statement-F Statement Numbered → Indexed
+-- the line of an `if`
+abbrev pub condition_line : Condition → Indexed
+condition_line (IsNull p) = line key.IfNull (keyword_operand ∷ pointer_operand p ∷ [])
+condition_line (NotNull p) = line key.IfSome (keyword_operand ∷ pointer_operand p ∷ [])
+condition_line (Equal v w) = line key.IfEqual (keyword_operand ∷ number_operand v ∷ number_operand w ∷ [])
+condition_line (Less v w) = line key.IfLess (keyword_operand ∷ number_operand v ∷ number_operand w ∷ [])
+
+-- The line that a statement begins with, whatever stands inside it. One that no line spells has a line of no script.
+abbrev pub statement_line : {A B : Type 0} → Statement-F A B → Indexed
 statement_line (Statement-F.Alloc p v GivesNull) = line key.Alloc (pointer_operand p ∷ number_operand v ∷ [])
+statement_line (Statement-F.Alloc p v Leaves) = line key.AllocL (pointer_operand p ∷ number_operand v ∷ [])
 statement_line (Statement-F.Realloc p q v GivesNull) = line key.Realloc (pointer_operand p ∷ pointer_operand q ∷ number_operand v ∷ [])
+statement_line (Statement-F.Realloc p q v Leaves) = line key.ReallocL (pointer_operand p ∷ pointer_operand q ∷ number_operand v ∷ [])
 statement_line (Statement-F.Free p) = line key.Free (pointer_operand p ∷ [])
 statement_line (Statement-F.AllocLen x p) = line key.AllocLen (variable_operand x ∷ pointer_operand p ∷ [])
 statement_line (Statement-F.Store p v w) = line key.Store (pointer_operand p ∷ number_operand v ∷ number_operand w ∷ [])
@@ -124,6 +155,7 @@ statement_line (Statement-F.FailNext v) = line key.FailNext (number_operand v �
 statement_line (Statement-F.FailEvery v) = line key.FailEvery (number_operand v ∷ [])
 statement_line Statement-F.FailNone = line key.FailNone []
 statement_line (Statement-F.NewText p v GivesNull) = line key.HNew (pointer_operand p ∷ number_operand v ∷ [])
+statement_line (Statement-F.NewText p v Leaves) = line key.HNewL (pointer_operand p ∷ number_operand v ∷ [])
 statement_line (Statement-F.ReallocText p q v) = line key.HRealloc (pointer_operand p ∷ pointer_operand q ∷ number_operand v ∷ [])
 statement_line (Statement-F.Copy d t) = line key.Copy (writable_operand d ∷ text_operand t ∷ [])
 statement_line (Statement-F.Append d t) = line key.Append (writable_operand d ∷ text_operand t ∷ [])
@@ -140,10 +172,52 @@ statement_line (Statement-F.PrintNumber v) = line key.Print (number_operand v �
 statement_line Statement-F.NoteHeap = line key.Heap []
 statement_line Statement-F.NoteAvailable = line key.Available []
 statement_line Statement-F.NoteCompress = line key.Compress []
+statement_line (Statement-F.Leave v) = line key.Leave (number_operand v ∷ [])
+statement_line (Statement-F.LeaveIfError v) = line key.LeaveIfError (number_operand v ∷ [])
+statement_line (Statement-F.LeaveIfNull p) = line key.LeaveIfNull (pointer_operand p ∷ [])
+statement_line (Statement-F.Call n arguments) = line key.Call (procedure_operand n ∷ map argument_operand arguments)
+statement_line (Statement-F.CallTo x n arguments) = line key.CallTo (pointer_operand (Held (H.Local x)) ∷ procedure_operand n ∷ map argument_operand arguments)
+statement_line Statement-F.Return = line key.Return []
+statement_line (Statement-F.ReturnPointer p) = line key.ReturnPointer (pointer_operand p ∷ [])
+statement_line (Statement-F.If c first) = condition_line c
+statement_line (Statement-F.IfElse c first other) = condition_line c
+statement_line (Statement-F.Repeat v body) = line key.Repeat (number_operand v ∷ [])
+statement_line (Statement-F.Trap x body) = line key.Trap (variable_operand x ∷ [])
 statement_line _ = Unknown
 
+abbrev pub end_line : Marked
+end_line = (None, Line key.End [])
+
+abbrev pub else_line : Marked
+else_line = (None, Line key.Else [])
+
+abbrev pub joined : {X : Type 0} → List (List X) → List X
+joined [] = []
+joined (part ∷ parts) = part ++ joined parts
+
+-- the lines behind the first of a block, with its end; a statement that is no block has none
+abbrev pub lines_inside : {A : Type 0} → Statement-F A (List Marked) → List Marked
+lines_inside (Statement-F.If c first) = joined first ++ end_line ∷ []
+lines_inside (Statement-F.IfElse c first other) = joined first ++ else_line ∷ (joined other ++ end_line ∷ [])
+lines_inside (Statement-F.Repeat v body) = joined body ++ end_line ∷ []
+lines_inside (Statement-F.Trap x body) = joined body ++ end_line ∷ []
+lines_inside _ = []
+
+-- the lines of a statement with this number, with those of each statement inside it in their places
+abbrev pub layer_lines : Statement-F (ℕ → List Marked) (List Marked) → ℕ → List Marked
+layer_lines layer number = (Some number, statement_line layer) ∷ lines_inside layer
+
+abbrev pub numbered_layer : Numbered-F (ℕ → List Marked) (List Marked) → List Marked
+numbered_layer s = s.statement s.line
+
+abbrev pub lines_of_statement : Statement → ℕ → List Marked
+lines_of_statement = fold-Statement (ℕ → List Marked) (List Marked) layer_lines numbered_layer
+
+abbrev pub numbered_lines : Numbered → List Marked
+numbered_lines s = lines_of_statement s.statement s.line
+
 abbrev pub statement_lines : List Numbered → List Marked
-statement_lines statements = map (λ s. (Some s.line, statement_line (out-Statement s.statement))) statements
+statement_lines statements = flat_map numbered_lines statements
 
 abbrev pub local_line : ℕ → Local → Indexed
 local_line index (OfPointer None) = Line key.Ptr (Name (meant.Declared index) ∷ [])
@@ -158,21 +232,17 @@ local_lines index [] = []
 local_lines index (local ∷ locals) = (None, local_line index local) ∷ local_lines (suc index) locals
 
 abbrev pub head_line : ℕ → List Parameter → Indexed
-head_line index [] = Line key.Proc (Name (meant.Declared index) ∷ [])
-head_line index _ = Unknown
+head_line index parameters = line key.Proc (Some (Name (meant.Declared index)) ∷ map parameter_operand parameters)
 
-abbrev pub body_lines : Body → List Marked
-body_lines body = local_lines 0 body.locals ++ statement_lines body.statements
+-- a body behind a number of parameters
+abbrev pub body_lines : ℕ → Body → List Marked
+body_lines parameters body = local_lines parameters body.locals ++ statement_lines body.statements
 
-abbrev pub end_line : Marked
-end_line = (None, Line key.End [])
-
--- a procedure that is open, without its end
-abbrev pub open_lines : ℕ → Procedure → List Marked
-open_lines index p = (Some p.line, head_line index p.parameters) ∷ body_lines p.body
+abbrev pub procedure_head : ℕ → Procedure → Marked
+procedure_head index p = (Some p.line, head_line index p.parameters)
 
 abbrev pub procedure_lines : ℕ → Procedure → List Marked
-procedure_lines index p = open_lines index p ++ end_line ∷ []
+procedure_lines index p = procedure_head index p ∷ (body_lines (length p.parameters) p.body ++ end_line ∷ [])
 
 -- the procedures, from an index on
 abbrev pub procedures_lines : ℕ → List Procedure → List Marked

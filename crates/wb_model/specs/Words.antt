@@ -1,8 +1,12 @@
--- What a word behind the key of a line is: a name, a number, a literal.
-use Rattle.std.specs.Prelude.{ℕ, ℤ, pos, neg_ℤ, ◌+◌, ◌-◌, ◌*◌, List, [], ◌∷◌, Bool, false, not, ◌&&◌, ◌||◌, ◌==◌, nat_le, if◌then◌else◌, Option, Some, None, codes, fold, length, slice_index, slice_range}
+-- What a word behind the key of a line is: a name, a number, a literal, a parameter, a word of the line's own.
+use Rattle.std.specs.Prelude.{ℕ, ℤ, pos, neg_ℤ, ◌+◌, ◌-◌, ◌*◌, List, [], ◌∷◌, Bool, false, not, ◌&&◌, ◌||◌, ◌==◌, nat_le, if◌then◌else◌, Option, Some, None, codes, drop, fold, length, slice_index, slice_range, take}
 use Rattle.std.specs.List.{list_all, list_any}
 use Rattle.std.specs.Option.{option_map}
 use Rattle.std.specs.Str.{bytes_eq}
+use Rattle.wb_model.specs.declared.script.Parameter.{Parameter}
+use Rattle.wb_model.specs.declared.script.Parameter.TheVariants.{OfPointer, OfNumber}
+use Rattle.wb_model.specs.declared.script_lines.Keyword as model
+use Rattle.wb_model.specs.declared.script_lines.Keyword.TheVariants as keyword
 use Rattle.wb_model.specs.Sound.{is_quotable}
 
 abbrev pub is_letter : ℕ → Bool
@@ -59,3 +63,21 @@ is_literal word =
 -- printable bytes without a quote, between two quotes; the text is without these
 abbrev pub literal_spelled : List ℕ → Option (List ℕ)
 literal_spelled word = if is_literal word then Some (inside word) else None
+
+-- the kind that a colon and three letters tell
+abbrev pub kind_spelled : List ℕ → Option Parameter
+kind_spelled bytes = if bytes_eq bytes (codes ":ptr") then Some (OfPointer None) else (if bytes_eq bytes (codes ":int") then Some OfNumber else None)
+
+-- a name that a line declares, without the kind behind it
+abbrev pub parameter_name : List ℕ → Option (List ℕ)
+parameter_name word = declared_name (take (length word - 4) word)
+
+abbrev pub parameter_kind : List ℕ → Option Parameter
+parameter_kind word = kind_spelled (drop (length word - 4) word)
+
+-- the text of a line's own word
+abbrev pub text_of_keyword : model.Keyword → List ℕ
+text_of_keyword keyword.Null = codes "null"
+text_of_keyword keyword.Some = codes "some"
+text_of_keyword keyword.Equal = codes "eq"
+text_of_keyword keyword.Less = codes "less"

@@ -52,6 +52,9 @@ pub const NINE_DIGITS: u32 = 999_999_999;
 /// The greatest number of procedures and operations together.
 pub const MOST_PROCEDURES: u32 = 256;
 
+/// The greatest number of parameters of a procedure.
+pub const MOST_PARAMETERS: u32 = 4;
+
 /// The greatest number of locals of a body, its parameters among them.
 pub const MOST_LOCALS: u32 = 32;
 

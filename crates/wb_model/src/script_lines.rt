@@ -2,8 +2,9 @@
 //! `specs/Keys.antt`.
 
 use crate::items::Items;
+use crate::script::Parameter;
 
-/// The word that begins a line.
+/// What a line is, by the words that say it: the first, and what an `if` asks.
 #[derive(Clone, Copy)]
 pub enum Key {
     Proc,
@@ -12,7 +13,9 @@ pub enum Key {
     Buf,
     View,
     Alloc,
+    AllocL,
     Realloc,
+    ReallocL,
     Free,
     AllocLen,
     Store,
@@ -20,6 +23,13 @@ pub enum Key {
     Set,
     Null,
     Add,
+    Leave,
+    LeaveIfError,
+    LeaveIfNull,
+    Call,
+    CallTo,
+    Return,
+    ReturnPointer,
     Mark,
     MarkEnd,
     Check,
@@ -28,6 +38,7 @@ pub enum Key {
     FailEvery,
     FailNone,
     HNew,
+    HNewL,
     HRealloc,
     Copy,
     Append,
@@ -43,6 +54,13 @@ pub enum Key {
     Heap,
     Available,
     Compress,
+    IfNull,
+    IfSome,
+    IfEqual,
+    IfLess,
+    Else,
+    Repeat,
+    Trap,
     End,
 }
 
@@ -72,6 +90,23 @@ pub enum Letter {
     ViewName,
     /// A number, the name of a local that holds one, or a text that can be read.
     Printed,
+    /// The name of a procedure.
+    Procedure,
+    /// A parameter that the line declares, with its kind.
+    Parameter,
+    /// What a call gives: a number, or the name of a pointer or of a local that holds a number.
+    Argument,
+    /// A word of the line's own.
+    Keyword(Keyword),
+}
+
+/// What an `if` asks, as the word for it.
+#[derive(Clone, Copy)]
+pub enum Keyword {
+    Null,
+    Some,
+    Equal,
+    Less,
 }
 
 /// What a word is to the grammar.
@@ -86,6 +121,9 @@ pub enum WordKind {
     Size,
     /// A text between quotes.
     Literal,
+    /// A name that can be declared, a colon, and a kind.
+    Parameter,
+    Keyword(Keyword),
 }
 
 /// What a local holds.
@@ -107,6 +145,10 @@ pub enum Operand<N> {
     Size(u32),
     /// Without its quotes.
     Literal(N),
+    /// A parameter's name and kind.
+    Parameter(N, Parameter),
+    /// A word of the line's own.
+    Keyword,
 }
 
 /// What a name or a literal stands for. Locals count from 0 in their body, procedures and literals in the
@@ -124,6 +166,9 @@ pub enum Meant {
     /// A local that holds a view.
     View(usize),
     Literal(usize),
+    Procedure(usize),
+    /// The next parameter of the procedure that the line begins: the order of the words tells which.
+    Parameter,
     /// Nothing: the name is declared nowhere.
     Nothing,
 }
@@ -143,6 +188,9 @@ pub enum Sort {
     Number,
     Size,
     Literal,
+    Procedure,
+    Parameter,
+    Keyword,
     /// A name that is declared nowhere.
     Nothing,
 }

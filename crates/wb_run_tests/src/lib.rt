@@ -4,6 +4,8 @@
 #![tactic(auto)]
 
 #[cfg(test)]
+mod control_runs;
+#[cfg(test)]
 mod faults;
 #[cfg(test)]
 mod limits;
@@ -17,3 +19,5 @@ mod runs;
 mod sizes;
 #[cfg(test)]
 mod sweeps;
+#[cfg(test)]
+mod turns;

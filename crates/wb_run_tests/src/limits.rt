@@ -17,7 +17,7 @@ enum Part {
 }
 
 /// The parts of a script, and its first fault, where it has one.
-static LONG_SCRIPTS: [(&[Part], Option<ScriptFault>); 6] = [
+static LONG_SCRIPTS: [(&[Part], Option<ScriptFault>); 10] = [
     (&[Part::Times(65_536, b"\n")], Some(NoMain)),
     (&[Part::Times(65_537, b"\x80")], Some(TooLong)),
     (
@@ -51,6 +51,44 @@ static LONG_SCRIPTS: [(&[Part], Option<ScriptFault>); 6] = [
             Part::Text(b"end\n"),
         ],
         Some(TooMany { line: 68 }),
+    ),
+    // Parameters count among the locals of their body.
+    (
+        &[
+            Part::Text(b"proc main\nend\nproc a p:ptr q:int r:ptr s:int\n"),
+            Part::Numbered(28, b"view ", b"\n"),
+            Part::Text(b"end\n"),
+        ],
+        None,
+    ),
+    (
+        &[
+            Part::Text(b"proc main\nend\nproc a p:ptr q:int r:ptr s:int\n"),
+            Part::Numbered(29, b"view ", b"\n"),
+            Part::Text(b"end\n"),
+        ],
+        Some(TooMany { line: 32 }),
+    ),
+    // Blocks count while they stand open, an `else` as no further one.
+    (
+        &[
+            Part::Text(b"proc main\n"),
+            Part::Times(16, b"if less 1 2\nelse\n"),
+            Part::Times(16, b"end\n"),
+            Part::Times(16, b"repeat 1\n"),
+            Part::Times(16, b"end\n"),
+            Part::Text(b"end\n"),
+        ],
+        None,
+    ),
+    (
+        &[
+            Part::Text(b"proc a n:int\nrepeat 1\nend\nend\nproc main\nint c\n"),
+            Part::Times(8, b"repeat 1\ntrap c\n"),
+            Part::Text(b"mark\nif eq c 0\n"),
+            Part::Times(18, b"end\n"),
+        ],
+        Some(TooMany { line: 24 }),
     ),
 ];
 

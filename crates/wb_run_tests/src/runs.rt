@@ -1,13 +1,13 @@
-//! Runs: how each kind of them ends, what their results tell, and the turns of a machine.
+//! Runs: how each kind of them ends, and what their results tell.
 
 use std::alloc::Global;
 use std::test::Fail;
-use wb_machine::{Machine, RunFault, Turn, run};
+use wb_machine::{RunFault, run};
 use wb_model::heap::{Panic, Rule, Shape};
 use wb_model::run::{Leak, Note, Outcome, Why};
 use wb_script::read;
 
-const SHAPE: Shape = Shape {
+pub(crate) const SHAPE: Shape = Shape {
     min: 4096,
     step: 4096,
 };
@@ -17,12 +17,12 @@ const REUSES: &[u8] =
     b"proc main\nptr a\nptr b\nptr c\nalloc a 10\nalloc b 100\nfree a\nalloc c 16\nfree b\nfree c\nend\n";
 
 /// Sixteen of the largest cells, of which the last would pass the ceiling.
-const SIXTEEN_LARGEST: &[u8] =
+pub(crate) const SIXTEEN_LARGEST: &[u8] =
     b"proc main\nptr a\nalloc a 1048576\nalloc a 1048576\nalloc a 1048576\nalloc a 1048576\nalloc a 1048576\nalloc a 1048576\nalloc a 1048576\nalloc a 1048576\nalloc a 1048576\nalloc a 1048576\nalloc a 1048576\nalloc a 1048576\nalloc a 1048576\nalloc a 1048576\nalloc a 1048576\nalloc a 1048576\nend\n";
 
 /// How a run ended, and with how many leaks.
 #[derive(Clone, Copy, Debug, PartialEq, Eq)]
-enum End {
+pub(crate) enum End {
     Plainly(usize),
     Left,
     Panicked(Panic),
@@ -32,13 +32,13 @@ enum End {
 
 /// A run under some rule and budget, and how it must end, with how many steps and attempts.
 #[derive(Clone, Copy)]
-struct WorkedRun {
-    script: &'static [u8],
-    rule: Rule,
-    budget: u32,
-    end: End,
-    steps: u32,
-    attempts: usize,
+pub(crate) struct WorkedRun {
+    pub script: &'static [u8],
+    pub rule: Rule,
+    pub budget: u32,
+    pub end: End,
+    pub steps: u32,
+    pub attempts: usize,
 }
 
 static RUNS: [WorkedRun; 7] = [
@@ -112,7 +112,7 @@ fn end_of(outcome: &Outcome) -> End {
 }
 
 /// Whether a run ends as it must.
-fn ends_so(alloc: Global, worked: &WorkedRun) -> Result<bool, Fail> {
+pub(crate) fn ends_so(alloc: Global, worked: &WorkedRun) -> Result<bool, Fail> {
     let script = read(alloc, worked.script)?;
     if worked.budget == 0 || worked.budget > 1_000_000 {
         return Ok(false);
@@ -153,28 +153,6 @@ fn a_result_tells_all(rt: HostRuntime) -> Result<(), Fail> {
     match &told.outcome {
         Outcome::Ended { left: None, leaks } => assert_eq!(rt; leaks.get(0).copied(), Some(leak)),
         _ => assert!(rt; false),
-    }
-    Ok(())
-}
-
-/// What a turn of a machine answers, and how many attempts were made by then.
-fn turned(machine: &mut Machine) -> Result<(Turn, u32), Fail> {
-    let turn = machine.step()?;
-    Ok((turn, machine.attempts()))
-}
-
-#[test]
-fn turns_of_a_machine(rt: HostRuntime) -> Result<(), Fail> {
-    let script = read(rt.alloc(), b"proc main\nptr a\nprint 1\nalloc a 1\nend")?;
-    let mut machine = Machine::new(rt.alloc(), &script, Rule::Unlimited, 9, SHAPE)?;
-    let turns = [
-        (Turn::GoesOn, 1),
-        (Turn::GoesOn, 1),
-        (Turn::Ended, 2),
-        (Turn::Ended, 2),
-    ];
-    for turn in turns {
-        assert!(rt; turned(&mut machine)? == turn);
     }
     Ok(())
 }

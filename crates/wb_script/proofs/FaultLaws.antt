@@ -7,11 +7,9 @@ use Rattle.wb_model.specs.declared.fault.ScriptFault.TheVariants.{TooLong, NotAs
 use Rattle.wb_model.specs.declared.script_lines.Form.{Form}
 use Rattle.wb_model.specs.declared.script.Script.{Script}
 use Rattle.wb_model.specs.Forms.{forms_of}
-use Rattle.wb_model.specs.Kinds.{has_wrong_kind}
 use Rattle.wb_model.specs.Lines.{lines_of, first_foreign_line, is_too_long}
-use Rattle.wb_model.specs.Names.{Text, first_refused, declares_again, passes_limit, items_of}
-use Rattle.wb_model.specs.Resolved.{uses_unknown}
-use Rattle.wb_model.specs.Scripts.{AreLines, AreFirstLines, IsGrammarLine, IsPlainText, IsWellFormed, IsTreeOf, IsScriptOf, IsLinesFault, IsFaultOf, main_of, line_of}
+use Rattle.wb_model.specs.Names.{Text, first_refused, passes_limit}
+use Rattle.wb_model.specs.Scripts.{AreLines, AreFirstLines, IsGrammarLine, IsPlainText, IsWellFormed, IsTreeOf, IsScriptOf, IsLinesFault, IsFaultOf, main_of, line_of, first_unknown, first_double, first_wrong}
 
 take_fewer : {X : Type 0} (n m : ℕ) (xs : List X) → n ≤ m → take n (take m xs) ≡ take n xs
 take_fewer zero m xs le = refl
@@ -49,14 +47,14 @@ with_wrong None forms = with_main (main_of forms) forms
 
 abbrev with_double : Option ℕ → List (Form Text) → Option ScriptFault
 with_double (Some index) forms = Some (DoubleName (suc index))
-with_double None forms = with_wrong (first_refused has_wrong_kind forms) forms
+with_double None forms = with_wrong (first_wrong forms) forms
 
 abbrev with_unknown : Option ℕ → List (Form Text) → Option ScriptFault
 with_unknown (Some index) forms = Some (UnknownName (suc index))
-with_unknown None forms = with_double (first_refused (declares_again (items_of forms)) forms) forms
+with_unknown None forms = with_double (first_double forms) forms
 
 abbrev lines_fault : List (Form Text) → Option ScriptFault
-lines_fault forms = with_unknown (first_refused uses_unknown forms) forms
+lines_fault forms = with_unknown (first_unknown forms) forms
 
 pub found_line : (o : Option ℕ) (n : ℕ) → line_of o ≡ Some n → (index : ℕ) × (o ≡ Some index) × (suc index ≡ n)
 found_line None n is = let clash : ⊥ = cc in absurd clash
@@ -64,13 +62,13 @@ found_line (Some index) n is = (index, refl, cc)
 
 lines_fault_is : (forms : List (Form Text)) (fault : ScriptFault) → IsLinesFault forms fault → lines_fault forms ≡ Some fault
 lines_fault_is forms (UnknownName n) is =
-    let (index, at, same) = found_line (first_refused uses_unknown forms) n is in
+    let (index, at, same) = found_line (first_unknown forms) n is in
     rw at (ap (λ k. Some (UnknownName k)) same)
 lines_fault_is forms (DoubleName n) (known, is) =
-    let (index, at, same) = found_line (first_refused (declares_again (items_of forms)) forms) n is in
+    let (index, at, same) = found_line (first_double forms) n is in
     rw (known, at) (ap (λ k. Some (DoubleName k)) same)
 lines_fault_is forms (WrongKind n) (known, once, is) =
-    let (index, at, same) = found_line (first_refused has_wrong_kind forms) n is in
+    let (index, at, same) = found_line (first_wrong forms) n is in
     rw (known, once, at) (ap (λ k. Some (WrongKind k)) same)
 lines_fault_is forms NoMain (named, none) = rw (named.known, named.once, named.right, none) refl
 lines_fault_is forms (TooMany n) (named, some, is) = rw (named.known, named.once, named.right) (go (main_of forms) some)

@@ -1,8 +1,8 @@
 -- Operands with indexes for names fit where they are of the sorts that their letters take.
-use Rattle.std.proofs.Common.{◌≡◌, ℤ, pos, negsuc, refl, ap, ◌∙◌, ℕ, suc, ◌+◌, ◌<◌, ◌≤◌, List, [], ◌∷◌, Bool, true, false, ◌&&◌, nat_lt, length, map, Option, Some, None, length-append, arith}
+use Rattle.std.proofs.Common.{◌≡◌, ℤ, pos, negsuc, refl, sym, ap, ◌∙◌, ℕ, suc, replicate, ◌-◌, ◌+◌, ◌<◌, ◌≤◌, List, [], ◌∷◌, Bool, true, false, ◌&&◌, nat_lt, length, map, Option, Some, None, length-append, arith}
 use Rattle.std.specs.Prelude.{slice_get}
 use Rattle.std.specs.Option.{option_map}
-use Rattle.std.specs.List.{list_any, flat_map}
+use Rattle.std.specs.List.{list_any, list_all, flat_map}
 use Rattle.std.proofs.lemmas.Option.{slice_get-map}
 use Rattle.std.proofs.lemmas.Bool.Decides.{nat_tests}
 use Rattle.wb_model.specs.declared.script_lines.Key.{Key}
@@ -16,18 +16,20 @@ use Rattle.wb_model.specs.declared.script_lines.Letter.TheVariants as letter
 use Rattle.wb_model.specs.declared.script_lines.Meant.{Meant}
 use Rattle.wb_model.specs.declared.script_lines.Meant.TheVariants as meant
 use Rattle.wb_model.specs.declared.script_lines.Operand.{Operand}
-use Rattle.wb_model.specs.declared.script_lines.Operand.TheVariants.{Name, Number, Size, Literal}
+use Rattle.wb_model.specs.declared.script_lines.Operand.TheVariants.{Name, Number, Size, Literal, Parameter, Keyword}
 use Rattle.wb_model.specs.declared.script_lines.Role.{Role}
 use Rattle.wb_model.specs.declared.script_lines.Form.TheVariants.{Line}
+use Rattle.wb_model.specs.declared.script.Parameter as model
+use Rattle.wb_model.specs.declared.script.Parameter.TheVariants as parameter
 use Rattle.wb_model.specs.declared.script.Local.{Local}
 use Rattle.wb_model.specs.declared.script.Local.TheVariants.{OfPointer, OfNumber, OfBuffer, OfView}
 use Rattle.wb_model.specs.declared.script.Number.TheVariants.{Constant}
-use Rattle.wb_model.specs.Keys.{letters_of, role_of, word_kinds}
-use Rattle.wb_model.specs.Kinds.{is_right, are_right, is_right_line}
-use Rattle.wb_model.specs.Names.{Text, Known, literal_text, literals_in, first_declaration_of}
-use Rattle.wb_model.specs.Resolved.{local_meant, meant_at, name_meant, resolved_operand, resolved_operands, resolved_line}
-use Rattle.wb_model.specs.Sound.{is_pointer_local, is_number_local, is_buffer_local, is_view_local, is_number}
-use Rattle.wb_script.specs.Fitting.{is_local_there, is_there, operand_fits, letters_fit, sides_fit, operands_fit}
+use Rattle.wb_model.specs.Keys.{letters_for, role_of, word_kinds}
+use Rattle.wb_model.specs.Kinds.{is_right, are_right, sides_agree, arguments_agree, is_given, are_given, is_given_to, is_call, is_right_line}
+use Rattle.wb_model.specs.Names.{Text, Known, Item, names_of, literal_text, literals_in, first_declaration_of}
+use Rattle.wb_model.specs.Resolved.{local_meant, meant_at, item_meant, name_meant, resolved_operand, resolved_operands, resolved_line}
+use Rattle.wb_model.specs.Sound.{is_pointer_local, is_number_local, is_buffer_local, is_view_local, is_number, is_parameter, Declared}
+use Rattle.wb_script.specs.Fitting.{is_local_there, is_there, operand_fits, letters_fit, sides_fit, argument_fits, arguments_fit, fit_signature, call_fits, operands_fit}
 use Rattle.wb_script.specs.Typed.{is_short, is_word_of, is_operand, are_operands}
 use Rattle.wb_script.proofs.TypedLemmas.{both, either_first}
 
@@ -69,6 +71,12 @@ short_of [] z is = let clash : ⊥ = cc in absurd clash
 short_of (word.Number ∷ kinds) z is = either_first (is_short z) (list_any (is_word_of (Number z)) kinds) (short_of kinds z) is
 short_of (_ ∷ kinds) z is = short_of kinds z is
 
+-- and a parameter has no class
+sound_parameter : (kinds : List WordKind) (name : Text) (p : model.Parameter) → list_any (is_word_of (Parameter name p)) kinds ≡ true → is_parameter p ≡ true
+sound_parameter [] name p is = let clash : ⊥ = cc in absurd clash
+sound_parameter (word.Parameter ∷ kinds) name p is = either_first (is_parameter p) (list_any (is_word_of (Parameter name p)) kinds) (sound_parameter kinds name p) is
+sound_parameter (_ ∷ kinds) name p is = sound_parameter kinds name p is
+
 used_there : (locals : List Local) (place : Option ℕ) → is_local_there locals (meant_at (map kind_held locals) place) ≡ true
 used_there locals None = refl
 used_there locals (Some i) = ap (λ o. is_local_there locals (local_meant i o)) (slice_get-map kind_held locals i) ∙ go (slice_get locals i) refl
@@ -80,43 +88,96 @@ used_there locals (Some i) = ap (λ o. is_local_there locals (local_meant i o)) 
     go (Some OfView) is = ap is_view_local is
     go None is = refl
 
-module _ (literals : ℕ) (known : Known) (locals : List Local) (kinds_are : known.kinds ≡ map kind_held locals) (role : Role) where
+item_there : (locals : List Local) (place : Option ℕ) → is_local_there locals (item_meant place) ≡ true
+item_there locals None = refl
+item_there locals (Some i) = refl
+
+-- an argument that is given fits
+argument_fits_given : (literals : ℕ) (locals : List Local) (p : model.Parameter) (operand : Operand Meant) → is_given p operand ≡ true → is_there literals locals operand ≡ true → argument_fits literals locals p operand ≡ true
+argument_fits_given literals locals (parameter.OfPointer class) operand right there = both_hold _ _ right there
+argument_fits_given literals locals parameter.OfNumber operand right there = both_hold _ _ right there
+
+arguments_fit_given : (literals : ℕ) (locals : List Local) (ps : List model.Parameter) (operands : List (Operand Meant)) → are_given ps operands ≡ true → list_all (is_there literals locals) operands ≡ true → arguments_fit literals locals ps operands ≡ true
+arguments_fit_given literals locals [] [] right there = refl
+arguments_fit_given literals locals [] (o ∷ os) right there = let clash : ⊥ = cc in absurd clash
+arguments_fit_given literals locals (p ∷ ps) [] right there = let clash : ⊥ = cc in absurd clash
+arguments_fit_given literals locals (p ∷ ps) (o ∷ os) right there =
+    let (right_here, right_rest) = both (is_given p o) (are_given ps os) right in
+    let (there_here, there_rest) = both (is_there literals locals o) (list_all (is_there literals locals) os) there in
+    both_hold _ _ (argument_fits_given literals locals p o right_here there_here) (arguments_fit_given literals locals ps os right_rest there_rest)
+
+abbrev pub parameters_of : List Item → List (List model.Parameter)
+parameters_of items = map (λ item. item.parameters) items
+
+-- and so does a call of one of these items
+signature_fits : (literals : ℕ) (locals : List Local) (items : List Item) (index : ℕ) (operands : List (Operand Meant)) → is_given_to (slice_get items index) operands ≡ true → list_all (is_there literals locals) operands ≡ true →
+    fit_signature literals locals (slice_get (parameters_of items) index) operands ≡ true
+signature_fits literals locals items index operands right there =
+    ap (λ o. fit_signature literals locals o operands) (slice_get-map (λ (item : Item). item.parameters) items index) ∙ go (slice_get items index) right
+  where
+    go : (o : Option Item) → is_given_to o operands ≡ true → fit_signature literals locals (option_map (λ item. item.parameters) o) operands ≡ true
+    go (Some item) given = arguments_fit_given literals locals item.parameters operands given there
+    go None given = let clash : ⊥ = cc in absurd clash
+
+-- as many as before
+pub resolved_many : (own : List Text) (known : Known) (role : Role) (letters : List Letter) (operands : List (Operand Text)) → are_operands letters operands ≡ true → length (resolved_operands own known role letters operands) ≡ length operands
+resolved_many own known role [] [] typed = refl
+resolved_many own known role [] (o ∷ os) typed = let clash : ⊥ = cc in absurd clash
+resolved_many own known role (at ∷ letters) [] typed = refl
+resolved_many own known role (at ∷ letters) (o ∷ os) typed = ap suc (resolved_many own known role letters os (both (is_operand at o) (are_operands letters os) typed).1)
+
+module _ (literals : ℕ) (items : List Item) (known : Known) (locals : List Local) (kinds_are : known.kinds ≡ map kind_held locals) (role : Role) where
+  abbrev own : List Text
+  own = names_of items
+
   meant_there : (name : Text) → is_local_there locals (meant_at known.kinds (first_declaration_of known.locals name)) ≡ true
   meant_there name = ap (λ k. is_local_there locals (meant_at k (first_declaration_of known.locals name))) kinds_are ∙ used_there locals (first_declaration_of known.locals name)
 
-  name_there : (at : Letter) (name : Text) → is_local_there locals (name_meant known role at name) ≡ true
+  name_there : (at : Letter) (name : Text) → is_local_there locals (name_meant own known role at name) ≡ true
   name_there letter.Declared name = refl
+  name_there letter.Procedure name = item_there locals (first_declaration_of own name)
   name_there _ name = meant_there name
 
-  resolved_there : (at : Letter) (operand : Operand Text) → is_operand at operand ≡ true → known.literals + length (literal_text operand) ≤ literals → is_there literals locals (resolved_operand known role at operand) ≡ true
+  resolved_there : (at : Letter) (operand : Operand Text) → is_operand at operand ≡ true → known.literals + length (literal_text operand) ≤ literals → is_there literals locals (resolved_operand own known role at operand) ≡ true
   resolved_there at (Name name) typed room = name_there at name
   resolved_there at (Number z) typed room = short_number locals z (short_of (word_kinds at) z typed)
   resolved_there at (Size n) typed room = refl
   resolved_there at (Literal text) typed room = below_test known.literals literals (omega arith)
+  resolved_there at (Parameter name p) typed room = sound_parameter (word_kinds at) name p typed
+  resolved_there at Keyword typed room = refl
 
-  letters_fit_resolved : (letters : List Letter) (operands : List (Operand Text)) → are_operands letters operands ≡ true → are_right letters (resolved_operands known role letters operands) ≡ true →
-      known.literals + length (flat_map literal_text operands) ≤ literals → letters_fit literals locals letters (resolved_operands known role letters operands) ≡ true
+  all_there : (letters : List Letter) (operands : List (Operand Text)) → are_operands letters operands ≡ true → known.literals + length (flat_map literal_text operands) ≤ literals → list_all (is_there literals locals) (resolved_operands own known role letters operands) ≡ true
+  all_there [] [] typed room = refl
+  all_there [] (o ∷ os) typed room = let clash : ⊥ = cc in absurd clash
+  all_there (at ∷ letters) [] typed room = let clash : ⊥ = cc in absurd clash
+  all_there (at ∷ letters) (o ∷ os) typed room =
+      let (typed_here, typed_rest) = both (is_operand at o) (are_operands letters os) typed in
+      let parts : length (flat_map literal_text (o ∷ os)) ≡ length (literal_text o) + length (flat_map literal_text os) = simp length-append in
+      both_hold _ _ (resolved_there at o typed_here (omega arith)) (all_there letters os typed_rest (omega arith))
+
+  letters_fit_resolved : (letters : List Letter) (operands : List (Operand Text)) → are_operands letters operands ≡ true → are_right letters (resolved_operands own known role letters operands) ≡ true →
+      known.literals + length (flat_map literal_text operands) ≤ literals → letters_fit literals locals letters (resolved_operands own known role letters operands) ≡ true
   letters_fit_resolved [] [] typed right room = refl
   letters_fit_resolved [] (o ∷ os) typed right room = let clash : ⊥ = cc in absurd clash
   letters_fit_resolved (at ∷ letters) [] typed right room = let clash : ⊥ = cc in absurd clash
   letters_fit_resolved (at ∷ letters) (o ∷ os) typed right room =
       let (typed_here, typed_rest) = both (is_operand at o) (are_operands letters os) typed in
-      let (right_here, right_rest) = both (is_right at (resolved_operand known role at o)) (are_right letters (resolved_operands known role letters os)) right in
+      let (right_here, right_rest) = both (is_right at (resolved_operand own known role at o)) (are_right letters (resolved_operands own known role letters os)) right in
       let parts : length (flat_map literal_text (o ∷ os)) ≡ length (literal_text o) + length (flat_map literal_text os) = simp length-append in
       both_hold _ _ (both_hold _ _ right_here (resolved_there at o typed_here (omega arith))) (letters_fit_resolved letters os typed_rest right_rest (omega arith))
 
   -- the sides of a `set`: two pointers, or a number's name and a number
-  sides_fit_resolved : (target source : Operand Text) → are_operands (letters_of key.Set) (target ∷ source ∷ []) ≡ true →
-      is_right_line (Line key.Set (resolved_operands known role (letters_of key.Set) (target ∷ source ∷ []))) ≡ true →
-      sides_fit literals locals (resolved_operand known role letter.Target target) (resolved_operand known role letter.Source source) ≡ true
+  sides_fit_resolved : (target source : Operand Text) → are_operands (letters_for key.Set 2) (target ∷ source ∷ []) ≡ true →
+      is_right_line items (Line key.Set (resolved_operands own known role (letters_for key.Set 2) (target ∷ source ∷ []))) ≡ true →
+      sides_fit literals locals (resolved_operand own known role letter.Target target) (resolved_operand own known role letter.Source source) ≡ true
   sides_fit_resolved (Name n) (Number z) typed right = by_target (meant_at known.kinds (first_declaration_of known.locals n)) (meant_there n) right
     where
-      by_target : (m : Meant) → is_local_there locals m ≡ true → is_right_line (Line key.Set (Name m ∷ Number z ∷ [])) ≡ true → sides_fit literals locals (Name m) (Number z) ≡ true
+      by_target : (m : Meant) → is_local_there locals m ≡ true → is_right_line items (Line key.Set (Name m ∷ Number z ∷ [])) ≡ true → sides_fit literals locals (Name m) (Number z) ≡ true
       by_target (meant.Number i) there right = both_hold _ _ there (short_number locals z (short_of (word_kinds letter.Source) z (both _ true typed).0))
       by_target _ there right = let clash : ⊥ = cc in absurd clash
   sides_fit_resolved (Name n) (Name s) typed right = by_both (meant_at known.kinds (first_declaration_of known.locals n)) (meant_at known.kinds (first_declaration_of known.locals s)) (meant_there n) (meant_there s) right
     where
-      by_both : (m o : Meant) → is_local_there locals m ≡ true → is_local_there locals o ≡ true → is_right_line (Line key.Set (Name m ∷ Name o ∷ [])) ≡ true → sides_fit literals locals (Name m) (Name o) ≡ true
+      by_both : (m o : Meant) → is_local_there locals m ≡ true → is_local_there locals o ≡ true → is_right_line items (Line key.Set (Name m ∷ Name o ∷ [])) ≡ true → sides_fit literals locals (Name m) (Name o) ≡ true
       by_both (meant.Pointer i) (meant.Pointer j) here there right = rw here there
       by_both (meant.Pointer i) _ here there right = let clash : ⊥ = cc in absurd clash
       by_both (meant.Number i) (meant.Number j) here there right = rw here there
@@ -125,11 +186,65 @@ module _ (literals : ℕ) (known : Known) (locals : List Local) (kinds_are : kno
   sides_fit_resolved (Name n) _ typed right = let clash : ⊥ = cc in absurd clash
   sides_fit_resolved _ source typed right = let clash : ⊥ = cc in absurd clash
 
-pub operands_fit_resolved : (literals : ℕ) (known : Known) (locals : List Local) → known.kinds ≡ map kind_held locals → (k : Key) (operands : List (Operand Text)) → are_operands (letters_of k) operands ≡ true → is_right_line (resolved_line known (Line k operands)) ≡ true →
-    known.literals + length (literals_in (Line k operands)) ≤ literals →
-    operands_fit literals locals k (resolved_operands known (role_of k) (letters_of k) operands) ≡ true
-operands_fit_resolved literals known locals kinds_are key.Set [] typed right room = let clash : ⊥ = cc in absurd clash
-operands_fit_resolved literals known locals kinds_are key.Set (target ∷ []) typed right room = absurd (never (is_operand letter.Target target) typed)
-operands_fit_resolved literals known locals kinds_are key.Set (target ∷ source ∷ []) typed right room = sides_fit_resolved literals known locals kinds_are (role_of key.Set) target source typed right
-operands_fit_resolved literals known locals kinds_are key.Set (target ∷ source ∷ o ∷ os) typed right room = absurd (never (is_operand letter.Source source) (both (is_operand letter.Target target) _ typed).1)
-operands_fit_resolved literals known locals kinds_are k operands typed right room = letters_fit_resolved literals known locals kinds_are (role_of k) (letters_of k) operands typed (both _ _ right).0 room
+  -- a call of a procedure that is there, with arguments that its parameters take
+  call_fits_resolved : (letters : List Letter) (operands : List (Operand Text)) → are_operands (letter.Procedure ∷ letters) operands ≡ true → are_right (letter.Procedure ∷ letters) (resolved_operands own known role (letter.Procedure ∷ letters) operands) ≡ true →
+      is_call items (resolved_operands own known role (letter.Procedure ∷ letters) operands) ≡ true → known.literals + length (flat_map literal_text operands) ≤ literals →
+      call_fits (record { literals = literals; signatures = parameters_of items }) locals (resolved_operands own known role (letter.Procedure ∷ letters) operands) ≡ true
+  call_fits_resolved letters [] typed right call room = let clash : ⊥ = cc in absurd clash
+  call_fits_resolved letters (Name name ∷ operands) typed right call room =
+      let there = all_there letters operands (both (is_operand letter.Procedure (Name name)) (are_operands letters operands) typed).1 room in
+      by_place (first_declaration_of own name) (resolved_operands own known role letters operands) right call there
+    where
+      by_place : (place : Option ℕ) (rest : List (Operand Meant)) → are_right (letter.Procedure ∷ letters) (Name (item_meant place) ∷ rest) ≡ true → is_call items (Name (item_meant place) ∷ rest) ≡ true → list_all (is_there literals locals) rest ≡ true →
+          call_fits (record { literals = literals; signatures = parameters_of items }) locals (Name (item_meant place) ∷ rest) ≡ true
+      by_place (Some index) rest right call there = signature_fits literals locals items index rest call there
+      by_place None rest right call there = let clash : ⊥ = cc in absurd clash
+  call_fits_resolved letters (_ ∷ operands) typed right call room = let clash : ⊥ = cc in absurd clash
+
+module _ (literals : ℕ) (items : List Item) (known : Known) (locals : List Local) (kinds_are : known.kinds ≡ map kind_held locals) where
+  abbrev declared : Declared
+  declared = record { literals = literals; signatures = parameters_of items }
+
+  abbrev line_resolved : Key → List (Operand Text) → List (Operand Meant)
+  line_resolved k operands = resolved_operands (names_of items) known (role_of k) (letters_for k (length operands)) operands
+
+  right_sorts : (k : Key) (operands : List (Operand Text)) → are_operands (letters_for k (length operands)) operands ≡ true → is_right_line items (resolved_line (names_of items) known (Line k operands)) ≡ true → are_right (letters_for k (length operands)) (line_resolved k operands) ≡ true
+  right_sorts k operands typed right =
+      ap (λ n. are_right (letters_for k n) (line_resolved k operands)) (sym (resolved_many (names_of items) known (role_of k) (letters_for k (length operands)) operands typed))
+      ∙ (both (are_right (letters_for k (length (line_resolved k operands))) (line_resolved k operands)) (sides_agree k (line_resolved k operands) && arguments_agree items k (line_resolved k operands)) right).0
+
+  call_fits_line : (operands : List (Operand Text)) → are_operands (letters_for key.Call (length operands)) operands ≡ true → is_right_line items (resolved_line (names_of items) known (Line key.Call operands)) ≡ true →
+      known.literals + length (literals_in (Line key.Call operands)) ≤ literals → operands_fit declared locals key.Call (line_resolved key.Call operands) ≡ true
+  call_fits_line [] typed right room = let clash : ⊥ = cc in absurd clash
+  call_fits_line (o ∷ os) typed right room =
+      let line = line_resolved key.Call (o ∷ os) in
+      let call = (both (are_right (letters_for key.Call (length line)) line) (is_call items line) right).1 in
+      call_fits_resolved literals items known locals kinds_are (role_of key.Call) (replicate (length (o ∷ os) - 1) letter.Argument) (o ∷ os) typed (right_sorts key.Call (o ∷ os) typed right) call room
+
+  callto_fits_line : (operands : List (Operand Text)) → are_operands (letters_for key.CallTo (length operands)) operands ≡ true → is_right_line items (resolved_line (names_of items) known (Line key.CallTo operands)) ≡ true →
+      known.literals + length (literals_in (Line key.CallTo operands)) ≤ literals → operands_fit declared locals key.CallTo (line_resolved key.CallTo operands) ≡ true
+  callto_fits_line [] typed right room = let clash : ⊥ = cc in absurd clash
+  callto_fits_line (t ∷ []) typed right room = absurd (never (is_operand letter.Pointer t) typed)
+  callto_fits_line (t ∷ o ∷ os) typed right room =
+      let more = replicate (length (t ∷ o ∷ os) - 2) letter.Argument in
+      let line = line_resolved key.CallTo (t ∷ o ∷ os) in
+      let rest = resolved_operands (names_of items) known (role_of key.CallTo) (letter.Procedure ∷ more) (o ∷ os) in
+      let call = (both (are_right (letters_for key.CallTo (length line)) line) (is_call items rest) right).1 in
+      let (typed_here, typed_rest) = both (is_operand letter.Pointer t) (are_operands (letter.Procedure ∷ more) (o ∷ os)) typed in
+      let (right_here, right_rest) = both (is_right letter.Pointer (resolved_operand (names_of items) known (role_of key.CallTo) letter.Pointer t)) (are_right (letter.Procedure ∷ more) rest) (right_sorts key.CallTo (t ∷ o ∷ os) typed right) in
+      let parts : length (flat_map literal_text (t ∷ o ∷ os)) ≡ length (literal_text t) + length (flat_map literal_text (o ∷ os)) = simp length-append in
+      both_hold _ _
+      (both_hold _ _ right_here (resolved_there literals items known locals kinds_are (role_of key.CallTo) letter.Pointer t typed_here (omega (arith, parts, room))))
+      (call_fits_resolved literals items known locals kinds_are (role_of key.CallTo) more (o ∷ os) typed_rest right_rest call (omega (arith, parts, room)))
+
+  pub operands_fit_resolved : (k : Key) (operands : List (Operand Text)) → are_operands (letters_for k (length operands)) operands ≡ true → is_right_line items (resolved_line (names_of items) known (Line k operands)) ≡ true →
+      known.literals + length (literals_in (Line k operands)) ≤ literals → operands_fit declared locals k (line_resolved k operands) ≡ true
+  operands_fit_resolved key.Set [] typed right room = let clash : ⊥ = cc in absurd clash
+  operands_fit_resolved key.Set (target ∷ []) typed right room = absurd (never (is_operand letter.Target target) typed)
+  operands_fit_resolved key.Set (target ∷ source ∷ []) typed right room = sides_fit_resolved literals items known locals kinds_are (role_of key.Set) target source typed right
+  operands_fit_resolved key.Set (target ∷ source ∷ o ∷ os) typed right room = absurd (never (is_operand letter.Source source) (both (is_operand letter.Target target) _ typed).1)
+  operands_fit_resolved key.Call operands typed right room = call_fits_line operands typed right room
+  operands_fit_resolved key.CallTo operands typed right room = callto_fits_line operands typed right room
+  operands_fit_resolved k operands typed right room =
+      ap (λ n. letters_fit literals locals (letters_for k n) (line_resolved k operands)) (resolved_many (names_of items) known (role_of k) (letters_for k (length operands)) operands typed)
+      ∙ letters_fit_resolved literals items known locals kinds_are (role_of k) (letters_for k (length operands)) operands typed (right_sorts k operands typed right) room

@@ -11,7 +11,7 @@ use Rattle.wb_model.specs.declared.script_lines.Kind.TheVariants as kind
 use Rattle.wb_model.specs.declared.script_lines.Letter.{Letter}
 use Rattle.wb_model.specs.declared.script_lines.Letter.TheVariants as letter
 use Rattle.wb_model.specs.declared.script_lines.Operand.{Operand}
-use Rattle.wb_model.specs.declared.script_lines.Operand.TheVariants.{Name, Number, Size, Literal}
+use Rattle.wb_model.specs.declared.script_lines.Operand.TheVariants.{Name}
 use Rattle.wb_model.specs.declared.script_lines.Role.{Role}
 use Rattle.wb_model.specs.declared.script_lines.Role.TheVariants.{Procedure, Declaration}
 use Rattle.wb_model.specs.declared.script_lines.Form.{Form}
@@ -20,12 +20,12 @@ use Rattle.wb_model.specs.declared.fault.ScriptFault.TheVariants.{UnknownName}
 use Rattle.wb_model.specs.declared.script.Script.{Script}
 use Rattle.wb_model.specs.Forms.{role_of_form, forms_of}
 use Rattle.wb_model.specs.Lines.{lines_of, is_too_long}
-use Rattle.wb_model.specs.Scripts.{IsScriptOf, IsFaultOf, line_of}
-use Rattle.wb_model.specs.Keys.{letters_of, role_of}
-use Rattle.wb_model.specs.Names.{Text, Known, known_with, known_after, nothing_known, first_name, kind_in, literals_in, first_declaration_of, first_refused}
+use Rattle.wb_model.specs.Scripts.{IsScriptOf, IsFaultOf, line_of, first_unknown}
+use Rattle.wb_model.specs.Keys.{letters_for, role_of}
+use Rattle.wb_model.specs.Names.{Text, Known, known_after, nothing_known, first_name, is_among, items_of, names_of, locals_by, locals_after, first_declaration_of, first_refused}
 use Rattle.wb_model.specs.Passes.{first_bad, first_where, state_after}
-use Rattle.wb_model.specs.Resolved.{meant_at, local_meant, resolved_operand, resolved_operands, means_nothing, uses_unknown}
-use Rattle.wb_model.specs.Undeclared.{is_among, name_used, names_used, used_names, is_inside, stays_inside, IsDeclared, UsesUndeclared, UsesDeclaredUpTo, IsFirstUndeclaredLine}
+use Rattle.wb_model.specs.Resolved.{meant_at, local_meant, item_meant, resolved_operand, resolved_operands, means_nothing, uses_unknown}
+use Rattle.wb_model.specs.Undeclared.{local_used, item_used, names_used, used_in, is_inside, stays_inside, IsDeclared, UsesUndeclared, UsesDeclaredUpTo, IsFirstUndeclaredLine}
 use Rattle.wb_script.specs.Typed.{is_typed, AreTyped}
 use Rattle.wb_script.proofs.Cuts.{lines_within}
 use Rattle.wb_script.proofs.FaultLaws.{found_line}
@@ -56,9 +56,26 @@ or_false : (b : Bool) → (b || false) ≡ b
 or_false true = refl
 or_false false = refl
 
-module _ (known : Known) (parallel : length known.kinds ≡ length known.locals) where
-  meant_nothing : (name : Text) → means_nothing (Name (meant_at known.kinds (first_declaration_of known.locals name))) ≡ not (is_among known.locals name)
-  meant_nothing name = go (first_declaration_of known.locals name) refl
+-- the names that a list doesn't have
+abbrev absent : List Text → Text → Bool
+absent names name = not (is_among names name)
+
+item_nothing : (items : List Text) (name : Text) → means_nothing (Name (item_meant (first_declaration_of items name))) ≡ absent items name
+item_nothing items name = go (first_declaration_of items name) refl
+  where
+    go : (o : Option ℕ) → first_declaration_of items name ≡ o → means_nothing (Name (item_meant o)) ≡ absent items name
+    go None is = ap not (sym (found_among (λ n. bytes_eq n name) items None is))
+    go (Some i) is = ap not (sym (found_among (λ n. bytes_eq n name) items (Some i) is))
+
+interchanged : (a b c d : Bool) → ((a || b) || (c || d)) ≡ ((a || c) || (b || d))
+interchanged true b c d = refl
+interchanged false true true d = refl
+interchanged false true false d = refl
+interchanged false false c d = refl
+
+module _ (items : List Text) (known : Known) (parallel : length known.kinds ≡ length known.locals) where
+  local_nothing : (name : Text) → means_nothing (Name (meant_at known.kinds (first_declaration_of known.locals name))) ≡ absent known.locals name
+  local_nothing name = go (first_declaration_of known.locals name) refl
     where
       of_kind : (i : ℕ) (o : Option Kind) → (o ≡ None → ⊥) → means_nothing (Name (local_meant i o)) ≡ false
       of_kind i (Some kind.Pointer) some = refl
@@ -67,48 +84,52 @@ module _ (known : Known) (parallel : length known.kinds ≡ length known.locals)
       of_kind i (Some kind.View) some = refl
       of_kind i None some = absurd (some refl)
 
-      go : (o : Option ℕ) → first_declaration_of known.locals name ≡ o → means_nothing (Name (meant_at known.kinds o)) ≡ not (is_among known.locals name)
+      go : (o : Option ℕ) → first_declaration_of known.locals name ≡ o → means_nothing (Name (meant_at known.kinds o)) ≡ absent known.locals name
       go None is = ap not (sym (found_among (λ n. bytes_eq n name) known.locals None is))
       go (Some i) is =
           let within = place_within known.locals name i is in
           of_kind i (slice_get known.kinds i) (held known.kinds i (omega (arith, within, parallel))) ∙ ap not (sym (found_among (λ n. bytes_eq n name) known.locals (Some i) is))
 
-  abbrev absent : Text → Bool
-  absent name = not (is_among known.locals name)
+  -- what a line uses of each space, that isn't in it
+  abbrev one_absent : Letter → Operand Text → Bool
+  one_absent at operand = list_any (absent known.locals) (local_used at operand) || list_any (absent items) (item_used at operand)
 
-  one_absent : (role : Role) (at : Letter) (operand : Operand Text) → means_nothing (resolved_operand known role at operand) ≡ list_any absent (name_used at operand)
-  one_absent role letter.Declared (Name name) = refl
-  one_absent role letter.Declared (Number z) = refl
-  one_absent role letter.Declared (Size n) = refl
-  one_absent role letter.Declared (Literal text) = refl
-  one_absent role _ (Name name) = meant_nothing name ∙ sym (or_false (absent name))
-  one_absent role _ (Number z) = refl
-  one_absent role _ (Size n) = refl
-  one_absent role _ (Literal text) = refl
+  one_unknown : (role : Role) (at : Letter) (operand : Operand Text) → means_nothing (resolved_operand items known role at operand) ≡ one_absent at operand
+  one_unknown role letter.Declared (Name name) = refl
+  one_unknown role letter.Declared _ = refl
+  one_unknown role letter.Procedure (Name name) = item_nothing items name ∙ sym (or_false (absent items name))
+  one_unknown role letter.Procedure _ = refl
+  one_unknown role _ (Name name) = local_nothing name ∙ sym (or_false (absent known.locals name)) ∙ sym (or_false (absent known.locals name || false))
+  one_unknown role _ _ = refl
 
-  all_absent : (role : Role) (letters : List Letter) (operands : List (Operand Text)) → list_any means_nothing (resolved_operands known role letters operands) ≡ list_any absent (names_used letters operands)
-  all_absent role [] operands = refl
-  all_absent role (at ∷ letters) [] = refl
-  all_absent role (at ∷ letters) (operand ∷ operands) =
-      ap (λ b. b || list_any means_nothing (resolved_operands known role letters operands)) (one_absent role at operand)
-      ∙ ap (λ b. list_any absent (name_used at operand) || b) (all_absent role letters operands)
-      ∙ sym (list_any-append absent (name_used at operand) (names_used letters operands))
+  all_unknown : (role : Role) (letters : List Letter) (operands : List (Operand Text)) →
+      list_any means_nothing (resolved_operands items known role letters operands) ≡ (list_any (absent known.locals) (names_used local_used letters operands) || list_any (absent items) (names_used item_used letters operands))
+  all_unknown role [] operands = refl
+  all_unknown role (at ∷ letters) [] = refl
+  all_unknown role (at ∷ letters) (operand ∷ operands) =
+      let locals = list_any (absent known.locals) (names_used local_used letters operands) in
+      let globals = list_any (absent items) (names_used item_used letters operands) in
+      ap (λ b. b || list_any means_nothing (resolved_operands items known role letters operands)) (one_unknown role at operand)
+      ∙ ap (λ b. one_absent at operand || b) (all_unknown role letters operands)
+      ∙ interchanged (list_any (absent known.locals) (local_used at operand)) (list_any (absent items) (item_used at operand)) locals globals
+      ∙ ap (λ b. b || (list_any (absent items) (item_used at operand) || globals)) (sym (list_any-append (absent known.locals) (local_used at operand) (names_used local_used letters operands)))
+      ∙ ap (λ b. list_any (absent known.locals) (names_used local_used (at ∷ letters) (operand ∷ operands)) || b) (sym (list_any-append (absent items) (item_used at operand) (names_used item_used letters operands)))
 
-  pub unknown_is_absent : (form : Form Text) → uses_unknown known form ≡ list_any absent (used_names form)
+  pub unknown_is_absent : (form : Form Text) → uses_unknown items known form ≡ (list_any (absent known.locals) (used_in local_used form) || list_any (absent items) (used_in item_used form))
   unknown_is_absent Skip = refl
   unknown_is_absent Unknown = refl
-  unknown_is_absent (Line key operands) = all_absent (role_of key) (letters_of key) operands
+  unknown_is_absent (Line key operands) = all_unknown (role_of key) (letters_for key (length operands)) operands
 
 -- one more line declares a name, or leaves those that its body declares
-locals_with : (role : Role) (names : List Text) (held_kind : Option Kind) (literals : ℕ) (known : Known) (name : Text) → is_among (known_with role names held_kind literals known).locals name ≡ true →
-    ((role ≡ Declaration) × (is_among names name ≡ true)) ⊎ ((is_among known.locals name ≡ true) × (is_inside role ≡ true))
-locals_with Procedure names held_kind literals known name is = let clash : ⊥ = cc in absurd clash
-locals_with Declaration names held_kind literals known name is = go (is_among known.locals name) refl (sym (list_any-append (λ n. bytes_eq n name) known.locals names) ∙ is)
+locals_with : (role : Role) (form : Form Text) (locals : List Text) (name : Text) → is_among (locals_after role form locals) name ≡ true →
+    (is_among (locals_by role form) name ≡ true) ⊎ ((is_among locals name ≡ true) × (is_inside role ≡ true))
+locals_with Procedure form locals name is = inl is
+locals_with Declaration form locals name is = go (is_among locals name) refl (sym (list_any-append (λ n. bytes_eq n name) locals (first_name form)) ∙ is)
   where
-    go : (b : Bool) → is_among known.locals name ≡ b → (b || is_among names name) ≡ true → ((Declaration ≡ Declaration) × (is_among names name ≡ true)) ⊎ ((is_among known.locals name ≡ true) × (true ≡ true))
+    go : (b : Bool) → is_among locals name ≡ b → (b || is_among (first_name form) name) ≡ true → (is_among (first_name form) name ≡ true) ⊎ ((is_among locals name ≡ true) × (true ≡ true))
     go true e h = inr (e, refl)
-    go false e h = inl (refl, h)
-locals_with _ names held_kind literals known name is = inr (is, refl)
+    go false e h = inl h
+locals_with _ form locals name is = inr (sym (or_false (is_among locals name)) ∙ sym (list_any-append (λ n. bytes_eq n name) locals []) ∙ is, refl)
 
 -- what the body knows, the lines declare
 declared_back : (before : List (Form Text)) (known : Known) (name : Text) → is_among (state_after known_after known before).locals name ≡ true → IsDeclared before name ⊎ ((is_among known.locals name ≡ true) × (list_all stays_inside before ≡ true))
@@ -116,42 +137,40 @@ declared_back [] known name is = inr (is, refl)
 declared_back (form ∷ forms) known name is = go (declared_back forms (known_after known form) name is)
   where
     go : IsDeclared forms name ⊎ ((is_among (known_after known form).locals name ≡ true) × (list_all stays_inside forms ≡ true)) → IsDeclared (form ∷ forms) name ⊎ ((is_among known.locals name ≡ true) × (list_all stays_inside (form ∷ forms) ≡ true))
-    go (inl (earlier, later, line, parts, declares, same, inside)) = inl (form ∷ earlier, later, line, ap (λ l. form ∷ l) parts, declares, same, inside)
-    go (inr (among, inside)) = here (locals_with (role_of_form form) (first_name form) (kind_in form) (length (literals_in form)) known name among)
+    go (inl (earlier, later, line, parts, declares, inside)) = inl (form ∷ earlier, later, line, ap (λ l. form ∷ l) parts, declares, inside)
+    go (inr (among, inside)) = here (locals_with (role_of_form form) form known.locals name among)
       where
-        here : ((role_of_form form ≡ Declaration) × (is_among (first_name form) name ≡ true)) ⊎ ((is_among known.locals name ≡ true) × (is_inside (role_of_form form) ≡ true)) → IsDeclared (form ∷ forms) name ⊎ ((is_among known.locals name ≡ true) × (list_all stays_inside (form ∷ forms) ≡ true))
-        here (inl (declares, same)) = inl ([], forms, form, refl, declares, same, inside)
+        here : (is_among (locals_by (role_of_form form) form) name ≡ true) ⊎ ((is_among known.locals name ≡ true) × (is_inside (role_of_form form) ≡ true)) → IsDeclared (form ∷ forms) name ⊎ ((is_among known.locals name ≡ true) × (list_all stays_inside (form ∷ forms) ≡ true))
+        here (inl declares) = inl ([], forms, form, refl, declares, inside)
         here (inr (among, stays)) = inr (among, rw stays inside)
 
 -- and the other way round
-kept_with : (role : Role) (names : List Text) (held_kind : Option Kind) (literals : ℕ) (known : Known) (name : Text) → is_inside role ≡ true → is_among known.locals name ≡ true → is_among (known_with role names held_kind literals known).locals name ≡ true
-kept_with Procedure names held_kind literals known name stays is = let clash : ⊥ = cc in absurd clash
-kept_with Declaration names held_kind literals known name stays is = list_any-append (λ n. bytes_eq n name) known.locals names ∙ rw is refl
-kept_with _ names held_kind literals known name stays is = is
+either_true : (a b : Bool) → (a ≡ true) ⊎ (b ≡ true) → (a || b) ≡ true
+either_true true b is = refl
+either_true false b (inl is) = let clash : ⊥ = cc in absurd clash
+either_true false b (inr is) = is
+
+kept_or_added : (role : Role) (form : Form Text) (locals : List Text) (name : Text) → ((is_inside role ≡ true) × (is_among locals name ≡ true)) ⊎ (is_among (locals_by role form) name ≡ true) → is_among (locals_after role form locals) name ≡ true
+kept_or_added Procedure form locals name (inl (stays, is)) = let clash : ⊥ = cc in absurd clash
+kept_or_added Procedure form locals name (inr is) = is
+kept_or_added role form locals name (inl (stays, is)) = list_any-append (λ n. bytes_eq n name) locals (locals_by role form) ∙ either_true (is_among locals name) (is_among (locals_by role form) name) (inl is)
+kept_or_added role form locals name (inr is) = list_any-append (λ n. bytes_eq n name) locals (locals_by role form) ∙ either_true (is_among locals name) (is_among (locals_by role form) name) (inr is)
 
 kept_through : (forms : List (Form Text)) (known : Known) (name : Text) → list_all stays_inside forms ≡ true → is_among known.locals name ≡ true → is_among (state_after known_after known forms).locals name ≡ true
 kept_through [] known name inside is = is
 kept_through (form ∷ forms) known name inside is =
     let (here, rest) = both (stays_inside form) (list_all stays_inside forms) inside in
-    kept_through forms (known_after known form) name rest (kept_with (role_of_form form) (first_name form) (kind_in form) (length (literals_in form)) known name here is)
+    kept_through forms (known_after known form) name rest (kept_or_added (role_of_form form) form known.locals name (inl (here, is)))
 
-added_with : (role : Role) (names : List Text) (held_kind : Option Kind) (literals : ℕ) (known : Known) (name : Text) → role ≡ Declaration → is_among names name ≡ true → is_among (known_with role names held_kind literals known).locals name ≡ true
-added_with Declaration names held_kind literals known name declares is = list_any-append (λ n. bytes_eq n name) known.locals names ∙ go (is_among known.locals name)
-  where
-    go : (b : Bool) → (b || is_among names name) ≡ true
-    go true = refl
-    go false = is
-added_with _ names held_kind literals known name declares is = let clash : ⊥ = cc in absurd clash
-
-declared_there : (earlier later : List (Form Text)) (form : Form Text) (known : Known) (name : Text) → role_of_form form ≡ Declaration → is_among (first_name form) name ≡ true → list_all stays_inside later ≡ true → is_among (state_after known_after known (earlier ++ form ∷ later)).locals name ≡ true
-declared_there [] later form known name declares same inside = kept_through later (known_after known form) name inside (added_with (role_of_form form) (first_name form) (kind_in form) (length (literals_in form)) known name declares same)
-declared_there (line ∷ earlier) later form known name declares same inside = declared_there earlier later form (known_after known line) name declares same inside
+declared_there : (earlier later : List (Form Text)) (form : Form Text) (known : Known) (name : Text) → is_among (locals_by (role_of_form form) form) name ≡ true → list_all stays_inside later ≡ true → is_among (state_after known_after known (earlier ++ form ∷ later)).locals name ≡ true
+declared_there [] later form known name declares inside = kept_through later (known_after known form) name inside (kept_or_added (role_of_form form) form known.locals name (inr declares))
+declared_there (line ∷ earlier) later form known name declares inside = declared_there earlier later form (known_after known line) name declares inside
 
 abbrev known_behind : List (Form Text) → Known
 known_behind before = state_after known_after nothing_known before
 
 declared_is : (before : List (Form Text)) (name : Text) → IsDeclared before name → is_among (known_behind before).locals name ≡ true
-declared_is before name (earlier, later, form, parts, declares, same, inside) = subst (λ l. is_among (known_behind l).locals name ≡ true) (sym parts) (declared_there earlier later form nothing_known name declares same inside)
+declared_is before name (earlier, later, form, parts, declares, inside) = subst (λ l. is_among (known_behind l).locals name ≡ true) (sym parts) (declared_there earlier later form nothing_known name declares inside)
 
 is_declared : (before : List (Form Text)) (name : Text) → is_among (known_behind before).locals name ≡ true → IsDeclared before name
 is_declared before name is = go (declared_back before nothing_known name is)
@@ -185,25 +204,46 @@ any_of p (n ∷ ns) name among passes = go (bytes_eq n name) (λ e. (bytes_eq-De
     go true same others h = rw (ap p (same refl) ∙ passes) refl
     go false same others h = later (p n) (others h)
 
-module _ (before : List (Form Text)) (form : Form Text) (typed : AreTyped before) where
-  undeclared : uses_unknown (known_behind before) form ≡ true → UsesUndeclared before form
-  undeclared is =
-      let known = known_behind before in
-      let (name, among, absent) = some_name (λ n. not (is_among known.locals n)) (used_names form) (sym (unknown_is_absent known (names_and_kinds before typed) form) ∙ is) in
-      (name, among, λ declares. go (is_among known.locals name) (declared_is before name declares) absent)
-    where
-      go : (b : Bool) → b ≡ true → not b ≡ true → ⊥
-      go true is no_longer = cc
-      go false is no_longer = cc
+-- which of two holds
+which : (a b : Bool) → (a || b) ≡ true → (a ≡ true) ⊎ (b ≡ true)
+which true b is = inl refl
+which false b is = inr is
 
-  is_unknown : UsesUndeclared before form → uses_unknown (known_behind before) form ≡ true
-  is_unknown (name, among, undeclared) =
-      let known = known_behind before in
-      unknown_is_absent known (names_and_kinds before typed) form ∙ any_of (λ n. not (is_among known.locals n)) (used_names form) name among (go (is_among known.locals name) (λ e. undeclared (is_declared before name e)))
+not_true : (b : Bool) → not b ≡ true → b ≡ false
+not_true true is = let clash : ⊥ = cc in absurd clash
+not_true false is = refl
+
+is_false : (b : Bool) → (b ≡ true → ⊥) → b ≡ false
+is_false true never = absurd (never refl)
+is_false false never = refl
+
+module _ (forms before : List (Form Text)) (form : Form Text) (typed : AreTyped before) where
+  abbrev items : List Text
+  items = names_of (items_of forms)
+
+  abbrev locals : List Text
+  locals = (known_behind before).locals
+
+  undeclared : uses_unknown items (known_behind before) form ≡ true → UsesUndeclared forms before form
+  undeclared is = go (which (list_any (absent locals) (used_in local_used form)) (list_any (absent items) (used_in item_used form)) (sym (unknown_is_absent items (known_behind before) (names_and_kinds before typed) form) ∙ is))
     where
-      go : (b : Bool) → (b ≡ true → ⊥) → not b ≡ true
-      go true never = absurd (never refl)
-      go false never = refl
+      go : (list_any (absent locals) (used_in local_used form) ≡ true) ⊎ (list_any (absent items) (used_in item_used form) ≡ true) → UsesUndeclared forms before form
+      go (inl some) =
+          let (name, among, missing) = some_name (absent locals) (used_in local_used form) some in
+          let none = not_true (is_among locals name) missing in
+          (name, inl (among, λ declares. let there = declared_is before name declares in cc (there, none)))
+      go (inr some) =
+          let (name, among, missing) = some_name (absent items) (used_in item_used form) some in
+          (name, inr (among, not_true (is_among items name) missing))
+
+  is_unknown : UsesUndeclared forms before form → uses_unknown items (known_behind before) form ≡ true
+  is_unknown (name, uses) =
+      unknown_is_absent items (known_behind before) (names_and_kinds before typed) form ∙ either_true (list_any (absent locals) (used_in local_used form)) (list_any (absent items) (used_in item_used form)) (go uses)
+    where
+      go : ((is_among (used_in local_used form) name ≡ true) × (IsDeclared before name → ⊥)) ⊎ ((is_among (used_in item_used form) name ≡ true) × (is_among items name ≡ false)) →
+          (list_any (absent locals) (used_in local_used form) ≡ true) ⊎ (list_any (absent items) (used_in item_used form) ≡ true)
+      go (inl (among, undeclared)) = inl (any_of (absent locals) (used_in local_used form) name among (ap not (is_false (is_among locals name) (λ e. undeclared (is_declared before name e)))))
+      go (inr (among, missing)) = inr (any_of (absent items) (used_in item_used form) name among (ap not missing))
 
 -- where a pass finds a line
 module _ {S L : Type 0} (next : S → L → S) (bad : S → L → Bool) where
@@ -231,24 +271,28 @@ module _ {S L : Type 0} (next : S → L → S) (bad : S → L → Bool) where
 front_typed : (before after : List (Form Text)) → AreTyped (before ++ after) → AreTyped before
 front_typed before after typed = (both (list_all is_typed before) (list_all is_typed after) (sym (list_all-append is_typed before after) ∙ typed)).0
 
+-- a line that uses a name of neither space
+abbrev unknown_in : List (Form Text) → Known → Form Text → Bool
+unknown_in forms = uses_unknown (names_of (items_of forms))
+
 -- nothing is found before what is found, and nothing at all where nothing is
-declared_up_to : (forms : List (Form Text)) (n : ℕ) → AreTyped forms → ((m : ℕ) → first_refused uses_unknown forms ≡ Some m → n ≤ m) → UsesDeclaredUpTo forms n
+declared_up_to : (forms : List (Form Text)) (n : ℕ) → AreTyped forms → ((m : ℕ) → first_unknown forms ≡ Some m → n ≤ m) → UsesDeclaredUpTo forms n
 declared_up_to forms n typed least before after form parts lt undeclared =
     let whole : AreTyped (before ++ form ∷ after) = subst AreTyped parts typed in
-    let (m, found, le) = found_by known_after uses_unknown before after form nothing_known (is_unknown before form (front_typed before (form ∷ after) whole) undeclared) in
-    let at_least = least m (ap (first_refused uses_unknown) parts ∙ found) in
+    let (m, found, le) = found_by known_after (unknown_in forms) before after form nothing_known (is_unknown forms before form (front_typed before (form ∷ after) whole) undeclared) in
+    let at_least = least m (ap (first_refused (unknown_in forms)) parts ∙ found) in
     omega (arith, at_least, le, lt)
 
-pub first_undeclared : (forms : List (Form Text)) (n : ℕ) → AreTyped forms → line_of (first_refused uses_unknown forms) ≡ Some n → IsFirstUndeclaredLine forms n
+pub first_undeclared : (forms : List (Form Text)) (n : ℕ) → AreTyped forms → line_of (first_unknown forms) ≡ Some n → IsFirstUndeclaredLine forms n
 first_undeclared forms n typed is =
-    let (index, found, same) = found_line (first_refused uses_unknown forms) n is in
-    let (before, after, form, parts, at, unknown) = first_split known_after uses_unknown forms nothing_known index found in
+    let (index, found, same) = found_line (first_unknown forms) n is in
+    let (before, after, form, parts, at, unknown) = first_split known_after (unknown_in forms) forms nothing_known index found in
     let whole : AreTyped (before ++ form ∷ after) = subst AreTyped parts typed in
-    let here = undeclared before form (front_typed before (form ∷ after) whole) unknown in
-    let least : (m : ℕ) → first_refused uses_unknown forms ≡ Some m → index ≤ m = λ m e. let both_are : index ≡ m = cc (found, e) in omega (arith, both_are) in
+    let here = undeclared forms before form (front_typed before (form ∷ after) whole) unknown in
+    let least : (m : ℕ) → first_unknown forms ≡ Some m → index ≤ m = λ m e. let both_are : index ≡ m = cc (found, e) in omega (arith, both_are) in
     (index, sym same, ((before, after, form, parts, at, here), declared_up_to forms index typed least))
 
-pub all_declared : (forms : List (Form Text)) → AreTyped forms → first_refused uses_unknown forms ≡ None → UsesDeclaredUpTo forms (length forms)
+pub all_declared : (forms : List (Form Text)) → AreTyped forms → first_unknown forms ≡ None → UsesDeclaredUpTo forms (length forms)
 all_declared forms typed none = declared_up_to forms (length forms) typed (λ m e. let clash : ⊥ = cc (none, e) in absurd clash)
 
 typed_lines : (bytes : List ℕ) → is_too_long bytes ≡ false → AreTyped (forms_of (lines_of bytes))

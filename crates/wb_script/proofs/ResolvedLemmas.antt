@@ -1,8 +1,8 @@
 -- Lines with indexes for names: they are of the same roles, and fit where the checks found nothing.
-use Rattle.std.proofs.Common.{◌≡◌, not, refl, sym, ap, ◌∙◌, ℕ, suc, ◌+◌, ◌<◌, ◌≤◌, List, [], ◌∷◌, ◌++◌, Bool, true, false, ◌||◌, nat_eq, nat_lt, nat_le, length, map, Option, Some, None, add-zero, zero-add, length-append, arith}
+use Rattle.std.proofs.Common.{◌≡◌, not, refl, sym, ap, ◌∙◌, ℕ, suc, ◌+◌, ◌<◌, ◌≤◌, List, [], ◌∷◌, ◌++◌, Bool, true, false, ◌&&◌, ◌||◌, nat_eq, nat_lt, nat_le, length, map, Option, Some, None, add-zero, append-nil, append_assoc, length-append, arith}
 use Rattle.std.specs.Prelude.{if◌then◌else◌}
 use Rattle.std.specs.Option.{option_map}
-use Rattle.std.specs.List.{list_all}
+use Rattle.std.specs.List.{list_all, list_any, flat_map}
 use Rattle.std.specs.Str.{bytes_eq}
 use Rattle.std.proofs.lemmas.List.{map-append, length-map}
 use Rattle.std.proofs.lemmas.Bool.Decides.{nat_tests}
@@ -12,38 +12,44 @@ use Rattle.wb_model.specs.declared.script_lines.Kind.{Kind}
 use Rattle.wb_model.specs.declared.script_lines.Meant.{Meant}
 use Rattle.wb_model.specs.declared.script_lines.Meant.TheVariants as meant
 use Rattle.wb_model.specs.declared.script_lines.Operand.{Operand}
-use Rattle.wb_model.specs.declared.script_lines.Operand.TheVariants.{Name, Size}
+use Rattle.wb_model.specs.declared.script_lines.Operand.TheVariants.{Name, Number, Size, Literal, Parameter, Keyword}
 use Rattle.wb_model.specs.declared.script_lines.Role.{Role}
 use Rattle.wb_model.specs.declared.script_lines.Role.TheVariants.{Procedure, Declaration}
 use Rattle.wb_model.specs.declared.script_lines.Form.{Form}
 use Rattle.wb_model.specs.declared.script_lines.Form.TheVariants.{Skip, Unknown, Line}
+use Rattle.wb_model.specs.declared.script_lines.Letter.{Letter}
+use Rattle.wb_model.specs.declared.script.Parameter as parameter
 use Rattle.wb_model.specs.declared.script.Local.{Local}
 use Rattle.wb_model.specs.declared.script.Local.TheVariants.{OfPointer, OfNumber, OfBuffer, OfView}
 use Rattle.wb_model.specs.Forms.{role_of_form}
-use Rattle.wb_model.specs.Keys.{letters_of, role_of}
-use Rattle.wb_model.specs.Kinds.{has_wrong_kind}
+use Rattle.wb_model.specs.Keys.{letters_for, role_of}
+use Rattle.wb_model.specs.Kinds.{has_wrong_kind, gives_main_parameters, returns_in_trap, is_right_line, ends_body, is_trap}
+use Rattle.wb_model.specs.Sound.{local_of_parameter}
 use Rattle.wb_model.specs.Passes.{first_bad, first_where, state_after, each_with}
-use Rattle.wb_model.specs.Names.{Text, Known, known_with, nothing_known, first_name, literals_in, literals_of, items_by, items_of, kind_in, known_after, first_declaration_of, passes_limit, first_refused}
-use Rattle.wb_model.specs.Resolved.{resolved_operands, resolved_line, resolved}
-use Rattle.wb_script.specs.Building.{Counts, nothing_counted, counts_after, counts_of, is_small, is_local_due, is_due, fits, unfit, AllFit}
-use Rattle.wb_script.specs.Typed.{are_operands, is_typed, AreTyped}
+use Rattle.wb_model.specs.Names.{Text, Known, Item, nothing_known, names_of, parameters_in, name_passed, kind_passed, kind_of_parameter, literals_in, literals_of, items_by, items_of, blocks_after, known_after, first_declaration_of, has_long_name, has_more_parameters, is_one_more, is_large, passes_limit, first_refused}
+use Rattle.wb_model.specs.Resolved.{resolved_operand, resolved_operands, resolved_line, resolved_among, resolved}
+use Rattle.wb_script.specs.Building.{Counts, nothing_counted, counts_after, counts_of, is_small, is_due, may_stand, declares, fits, unfit, AllFit}
+use Rattle.wb_script.specs.Typed.{is_operand, are_operands, is_typed, AreTyped}
 use Rattle.wb_script.proofs.Steps.{good_first}
 use Rattle.wb_script.proofs.TypedLemmas.{both}
-use Rattle.wb_script.proofs.FitLemmas.{kind_held, operands_fit_resolved}
+use Rattle.wb_script.proofs.FitLemmas.{kind_held, both_hold, parameters_of, operands_fit_resolved}
 
-resolved_role : (known : Known) (form : Form Text) → role_of_form (resolved_line known form) ≡ role_of_form form
-resolved_role known Skip = refl
-resolved_role known Unknown = refl
-resolved_role known (Line key operands) = refl
+resolved_role : (own : List Text) (known : Known) (form : Form Text) → role_of_form (resolved_line own known form) ≡ role_of_form form
+resolved_role own known Skip = refl
+resolved_role own known Unknown = refl
+resolved_role own known (Line key operands) = refl
 
-roles_from : (known : Known) (forms : List (Form Text)) → map role_of_form (each_with known_after resolved_line known forms) ≡ map role_of_form forms
-roles_from known [] = refl
-roles_from known (form ∷ forms) =
-    ap (λ r. r ∷ map role_of_form (each_with known_after resolved_line (known_after known form) forms)) (resolved_role known form)
-    ∙ ap (λ l. role_of_form form ∷ l) (roles_from (known_after known form) forms)
+roles_from : (own : List Text) (known : Known) (forms : List (Form Text)) → map role_of_form (each_with known_after (resolved_line own) known forms) ≡ map role_of_form forms
+roles_from own known [] = refl
+roles_from own known (form ∷ forms) =
+    ap (λ r. r ∷ map role_of_form (each_with known_after (resolved_line own) (known_after known form) forms)) (resolved_role own known form)
+    ∙ ap (λ l. role_of_form form ∷ l) (roles_from own (known_after known form) forms)
+
+pub roles-among : (own : List Text) (forms : List (Form Text)) → map role_of_form (resolved_among own forms) ≡ map role_of_form forms
+roles-among own forms = roles_from own nothing_known forms
 
 pub roles-resolved : (forms : List (Form Text)) → map role_of_form (resolved forms) ≡ map role_of_form forms
-roles-resolved forms = roles_from nothing_known forms
+roles-resolved forms = roles-among (names_of (items_of forms)) forms
 
 -- a name that is declared has an index
 where_within : (p : Text → Bool) (names : List Text) (i : ℕ) → first_where p names ≡ Some i → i < length names
@@ -58,75 +64,147 @@ where_within p (n ∷ ns) i is = go (p n) (first_where p ns) (where_within p ns)
 pub place_within : (names : List Text) (name : Text) (i : ℕ) → first_declaration_of names name ≡ Some i → i < length names
 place_within names name i is = where_within (λ n. bytes_eq n name) names i is
 
+-- the parameters stay what they are
+parameters_resolved : (own : List Text) (known : Known) (role : Role) (letters : List Letter) (operands : List (Operand Text)) → are_operands letters operands ≡ true → flat_map kind_passed (resolved_operands own known role letters operands) ≡ flat_map kind_passed operands
+parameters_resolved own known role [] [] typed = refl
+parameters_resolved own known role [] (o ∷ os) typed = let clash : ⊥ = cc in absurd clash
+parameters_resolved own known role (at ∷ letters) [] typed = refl
+parameters_resolved own known role (at ∷ letters) (o ∷ os) typed = ap (λ l. l ++ flat_map kind_passed (resolved_operands own known role letters os)) (one o) ∙ ap (λ l. kind_passed o ++ l) (parameters_resolved own known role letters os (both (is_operand at o) (are_operands letters os) typed).1)
+  where
+    one : (o : Operand Text) → kind_passed (resolved_operand own known role at o) ≡ kind_passed o
+    one (Name n) = refl
+    one (Number z) = refl
+    one (Size n) = refl
+    one (Literal n) = refl
+    one (Parameter n p) = refl
+    one Keyword = refl
+
+line_parameters : (own : List Text) (known : Known) (form : Form Text) → is_typed form ≡ true → parameters_in (resolved_line own known form) ≡ parameters_in form
+line_parameters own known Skip typed = refl
+line_parameters own known Unknown typed = refl
+line_parameters own known (Line k operands) typed = parameters_resolved own known (role_of k) (letters_for k (length operands)) operands typed
+
+-- as many names as kinds
+names_passed : (operands : List (Operand Text)) → length (flat_map name_passed operands) ≡ length (flat_map kind_passed operands)
+names_passed [] = refl
+names_passed (Parameter n p ∷ os) = ap suc (names_passed os)
+names_passed (_ ∷ os) = names_passed os
+
+held_by_parameters : (ps : List parameter.Parameter) → map kind_of_parameter ps ≡ map kind_held (map local_of_parameter ps)
+held_by_parameters [] = refl
+held_by_parameters (parameter.TheVariants.OfPointer class ∷ ps) = ap (λ l. kind_held (OfPointer class) ∷ l) (held_by_parameters ps)
+held_by_parameters (parameter.TheVariants.OfNumber ∷ ps) = ap (λ l. kind_held OfNumber ∷ l) (held_by_parameters ps)
+
 -- the counts are those of what is known
 pub record Counted (known : Known) (counts : Counts) : Type 0 where
-  pub items : counts.procedures ≡ known.items
+  pub items : length counts.procedures ≡ known.items
   pub kinds : known.kinds ≡ map kind_held counts.locals
   pub locals : length known.locals ≡ length counts.locals
+  pub blocks : counts.blocks ≡ known.blocks
 
 same_test : (a : ℕ) → nat_eq a a ≡ true
 same_test a = grind (arith, nat_tests)
 
-not_above : (most n : ℕ) → nat_le most n ≡ false → nat_lt n most ≡ true
-not_above most n above = grind (arith, nat_tests)
+equal_test : (a b : ℕ) → a ≡ b → nat_eq a b ≡ true
+equal_test a b e = grind (arith, nat_tests)
 
-due_local : (known : Known) (counts : Counts) (rest : List (Operand Meant)) → Counted known counts → nat_le 32 (length known.locals) ≡ false → is_small (Name (meant.Declared (length known.locals)) ∷ rest) ≡ true →
-    is_local_due Declaration counts.locals (Name (meant.Declared (length known.locals)) ∷ rest) ≡ true
-due_local known counts rest counted within small =
-    let next : nat_eq (length known.locals) (length counts.locals) ≡ true = ap (λ n. nat_eq n (length counts.locals)) counted.locals ∙ same_test (length counts.locals) in
-    let room : nat_lt (length counts.locals) 32 ≡ true = ap (λ n. nat_lt n 32) (sym counted.locals) ∙ not_above 32 (length known.locals) within in
-    rw (next, room) small
+not_above : (most n m : ℕ) → n ≡ m → nat_le most n ≡ false → nat_lt m most ≡ true
+not_above most n m e above = grind (arith, nat_tests)
 
--- what the limits say of a declaration
-room_for_local : (named one_more large : Bool) → (named || (one_more || large)) ≡ false → (one_more ≡ false) × (large ≡ false)
-room_for_local false false false e = (refl, refl)
-room_for_local true b c e = let clash : ⊥ = cc in absurd clash
-room_for_local false true c e = let clash : ⊥ = cc in absurd clash
-room_for_local false false true e = let clash : ⊥ = cc in absurd clash
+at_most_test : (most n m : ℕ) → n ≡ m → nat_lt most n ≡ false → nat_le m most ≡ true
+at_most_test most n m e above = grind (arith, nat_tests)
 
-not_large : (max : ℕ) → nat_lt 256 max ≡ false → nat_le max 256 ≡ true
-not_large max e = grind (arith, nat_tests)
+-- what the limits say of a line
+none_passed : (named more one_more large : Bool) → ((named || more) || (one_more || large)) ≡ false → (more ≡ false) × (one_more ≡ false) × (large ≡ false)
+none_passed false false false false e = (refl, refl, refl)
+none_passed true b c d e = let clash : ⊥ = cc in absurd clash
+none_passed false true c d e = let clash : ⊥ = cc in absurd clash
+none_passed false false true d e = let clash : ⊥ = cc in absurd clash
+none_passed false false false true e = let clash : ⊥ = cc in absurd clash
 
-due : (known : Known) (counts : Counts) (k : Key) (operands : List (Operand Text)) → Counted known counts → are_operands (letters_of k) operands ≡ true → passes_limit known (Line k operands) ≡ false →
-    is_due (role_of k) counts (resolved_operands known (role_of k) (letters_of k) operands) ≡ true
-due known counts key.Proc [] counted typed within = let clash : ⊥ = cc in absurd clash
-due known counts key.Proc (Name n ∷ []) counted typed within =
-    let room = (room_for_local (nat_lt 32 (length n) || false) (nat_le 256 known.items) false within).0 in
-    rw (counted.items, same_test known.items) (not_above 256 known.items room)
-due known counts key.Proc (Name n ∷ o ∷ os) counted typed within = let clash : ⊥ = cc in absurd clash
-due known counts key.Proc (_ ∷ os) counted typed within = let clash : ⊥ = cc in absurd clash
-due known counts key.Ptr [] counted typed within = let clash : ⊥ = cc in absurd clash
-due known counts key.Ptr (Name n ∷ []) counted typed within = due_local known counts [] counted (room_for_local (nat_lt 32 (length n) || false) (nat_le 32 (length known.locals)) false within).0 refl
-due known counts key.Ptr (Name n ∷ o ∷ os) counted typed within = let clash : ⊥ = cc in absurd clash
-due known counts key.Ptr (_ ∷ os) counted typed within = let clash : ⊥ = cc in absurd clash
-due known counts key.Int [] counted typed within = let clash : ⊥ = cc in absurd clash
-due known counts key.Int (Name n ∷ []) counted typed within = due_local known counts [] counted (room_for_local (nat_lt 32 (length n) || false) (nat_le 32 (length known.locals)) false within).0 refl
-due known counts key.Int (Name n ∷ o ∷ os) counted typed within = let clash : ⊥ = cc in absurd clash
-due known counts key.Int (_ ∷ os) counted typed within = let clash : ⊥ = cc in absurd clash
-due known counts key.View [] counted typed within = let clash : ⊥ = cc in absurd clash
-due known counts key.View (Name n ∷ []) counted typed within = due_local known counts [] counted (room_for_local (nat_lt 32 (length n) || false) (nat_le 32 (length known.locals)) false within).0 refl
-due known counts key.View (Name n ∷ o ∷ os) counted typed within = let clash : ⊥ = cc in absurd clash
-due known counts key.View (_ ∷ os) counted typed within = let clash : ⊥ = cc in absurd clash
-due known counts key.Buf (Name n ∷ Size max ∷ []) counted typed within =
-    let (room, small) = room_for_local (nat_lt 32 (length n) || false) (nat_le 32 (length known.locals)) (nat_lt 256 max) within in
-    due_local known counts (Size max ∷ []) counted room (not_large max small)
-due known counts key.Buf [] counted typed within = let clash : ⊥ = cc in absurd clash
-due known counts key.Buf (Name n ∷ []) counted typed within = let clash : ⊥ = cc in absurd clash
-due known counts key.Buf (Name n ∷ Size max ∷ o ∷ os) counted typed within = let clash : ⊥ = cc in absurd clash
-due known counts key.Buf (Name n ∷ _ ∷ os) counted typed within = let clash : ⊥ = cc in absurd clash
-due known counts key.Buf (_ ∷ os) counted typed within = let clash : ⊥ = cc in absurd clash
-due known counts _ operands counted typed within = refl
+module _ (own : List Text) (known : Known) (counts : Counts) (counted : Counted known counts) where
+  limits : (k : Key) (operands : List (Operand Text)) → passes_limit known (Line k operands) ≡ false → (has_more_parameters (Line k operands) ≡ false) × (is_one_more (role_of k) known ≡ false) × (is_large (Line k operands) ≡ false)
+  limits k operands within = none_passed (has_long_name (Line k operands)) (has_more_parameters (Line k operands)) (is_one_more (role_of k) known) (is_large (Line k operands)) within
+
+  due_procedure : (operands : List (Operand Text)) → are_operands (letters_for key.Proc (length operands)) operands ≡ true → passes_limit known (Line key.Proc operands) ≡ false →
+      is_due Procedure counts (resolved_line own known (Line key.Proc operands)) (resolved_operands own known Procedure (letters_for key.Proc (length operands)) operands) ≡ true
+  due_procedure [] typed within = let clash : ⊥ = cc in absurd clash
+  due_procedure (Name n ∷ os) typed within =
+      let (more, one_more, large) = limits key.Proc (Name n ∷ os) within in
+      let parameters = ap length (line_parameters own known (Line key.Proc (Name n ∷ os)) typed) in
+      both_hold _ _ (equal_test known.items (length counts.procedures) (sym counted.items))
+      (both_hold _ _ (not_above 256 known.items (length counts.procedures) (sym counted.items) one_more)
+      (at_most_test 4 (length (parameters_in (Line key.Proc (Name n ∷ os)))) (length (parameters_in (resolved_line own known (Line key.Proc (Name n ∷ os))))) (sym parameters) more))
+  due_procedure (_ ∷ os) typed within = let clash : ⊥ = cc in absurd clash
+
+  due_local : (rest : List (Operand Meant)) → is_one_more Declaration known ≡ false → is_small (Name (meant.Declared (length known.locals)) ∷ rest) ≡ true →
+      (declares (length counts.locals) (Name (meant.Declared (length known.locals)) ∷ rest) && (nat_lt (length counts.locals) 32 && is_small (Name (meant.Declared (length known.locals)) ∷ rest))) ≡ true
+  due_local rest within small =
+      both_hold _ _ (equal_test (length known.locals) (length counts.locals) counted.locals) (both_hold _ _ (not_above 32 (length known.locals) (length counts.locals) counted.locals within) small)
+
+  due_block : nat_le 16 (length known.blocks) ≡ false → nat_lt (length counts.blocks) 16 ≡ true
+  due_block within = not_above 16 (length known.blocks) (length counts.blocks) (ap length (sym counted.blocks)) within
+
+  due : (k : Key) (operands : List (Operand Text)) → are_operands (letters_for k (length operands)) operands ≡ true → passes_limit known (Line k operands) ≡ false →
+      is_due (role_of k) counts (resolved_line own known (Line k operands)) (resolved_operands own known (role_of k) (letters_for k (length operands)) operands) ≡ true
+  due key.Proc operands typed within = due_procedure operands typed within
+  due key.Ptr [] typed within = let clash : ⊥ = cc in absurd clash
+  due key.Ptr (Name n ∷ []) typed within = due_local [] (limits key.Ptr (Name n ∷ []) within).1 refl
+  due key.Ptr (Name n ∷ o ∷ os) typed within = let clash : ⊥ = cc in absurd clash
+  due key.Ptr (_ ∷ os) typed within = let clash : ⊥ = cc in absurd clash
+  due key.Int [] typed within = let clash : ⊥ = cc in absurd clash
+  due key.Int (Name n ∷ []) typed within = due_local [] (limits key.Int (Name n ∷ []) within).1 refl
+  due key.Int (Name n ∷ o ∷ os) typed within = let clash : ⊥ = cc in absurd clash
+  due key.Int (_ ∷ os) typed within = let clash : ⊥ = cc in absurd clash
+  due key.View [] typed within = let clash : ⊥ = cc in absurd clash
+  due key.View (Name n ∷ []) typed within = due_local [] (limits key.View (Name n ∷ []) within).1 refl
+  due key.View (Name n ∷ o ∷ os) typed within = let clash : ⊥ = cc in absurd clash
+  due key.View (_ ∷ os) typed within = let clash : ⊥ = cc in absurd clash
+  due key.Buf (Name n ∷ Size max ∷ []) typed within =
+      let (more, room, small) = limits key.Buf (Name n ∷ Size max ∷ []) within in
+      due_local (Size max ∷ []) room (at_most_test 256 max max refl small)
+  due key.Buf [] typed within = let clash : ⊥ = cc in absurd clash
+  due key.Buf (Name n ∷ []) typed within = let clash : ⊥ = cc in absurd clash
+  due key.Buf (Name n ∷ Size max ∷ o ∷ os) typed within = let clash : ⊥ = cc in absurd clash
+  due key.Buf (Name n ∷ _ ∷ os) typed within = let clash : ⊥ = cc in absurd clash
+  due key.Buf (_ ∷ os) typed within = let clash : ⊥ = cc in absurd clash
+  due key.IfNull operands typed within = due_block (limits key.IfNull operands within).1
+  due key.IfSome operands typed within = due_block (limits key.IfSome operands within).1
+  due key.IfEqual operands typed within = due_block (limits key.IfEqual operands within).1
+  due key.IfLess operands typed within = due_block (limits key.IfLess operands within).1
+  due key.Repeat operands typed within = due_block (limits key.Repeat operands within).1
+  due key.Trap operands typed within = due_block (limits key.Trap operands within).1
+  due _ operands typed within = refl
 
 holds : (b : Bool) → not b ≡ false → b ≡ true
 holds true e = refl
 holds false e = let clash : ⊥ = cc in absurd clash
 
-line_fits : (literals : ℕ) (known : Known) (counts : Counts) (form : Form Text) → Counted known counts → is_typed form ≡ true → has_wrong_kind known form ≡ false → passes_limit known form ≡ false →
-    known.literals + length (literals_in form) ≤ literals → fits literals counts (resolved_line known form) ≡ true
-line_fits literals known counts Skip counted typed right within room = refl
-line_fits literals known counts Unknown counted typed right within room = refl
-line_fits literals known counts (Line k operands) counted typed right within room =
-    rw (operands_fit_resolved literals known counts.locals counted.kinds k operands typed (holds _ right) room) (due known counts k operands counted typed within)
+-- what is found right of a line
+pub none_wrong : (right main trapped : Bool) → (not right || (main || trapped)) ≡ false → (right ≡ true) × (main ≡ false) × (trapped ≡ false)
+none_wrong true false false e = (refl, refl, refl)
+none_wrong true true c e = let clash : ⊥ = cc in absurd clash
+none_wrong true false true e = let clash : ⊥ = cc in absurd clash
+none_wrong false b c e = let clash : ⊥ = cc in absurd clash
+
+stands : (known counted : List Key) (k : Key) → counted ≡ known → ((ends_body k || false) && list_any is_trap known) ≡ false → may_stand counted k ≡ true
+stands known counted k same e = go (ends_body k) e
+  where
+    none : list_any is_trap known ≡ false → not (list_any is_trap counted) ≡ true
+    none no_trap = ap (λ (b : List Key). not (list_any is_trap b)) same ∙ ap not no_trap
+
+    go : (b : Bool) → ((b || false) && list_any is_trap known) ≡ false → not (b && list_any is_trap counted) ≡ true
+    go true no_trap = none no_trap
+    go false no_trap = refl
+
+line_fits : (literals : ℕ) (items : List Item) (known : Known) (counts : Counts) (form : Form Text) → Counted known counts → is_typed form ≡ true → has_wrong_kind items known form ≡ false → passes_limit known form ≡ false →
+    known.literals + length (literals_in form) ≤ literals → fits (record { literals = literals; signatures = parameters_of items }) counts (resolved_line (names_of items) known form) ≡ true
+line_fits literals items known counts Skip counted typed right within room = refl
+line_fits literals items known counts Unknown counted typed right within room = refl
+line_fits literals items known counts (Line k operands) counted typed wrong within room =
+    let (right, main, trapped) = none_wrong (is_right_line items (resolved_line (names_of items) known (Line k operands))) (gives_main_parameters (Line k operands)) (returns_in_trap known (Line k operands)) wrong in
+    both_hold _ _ (operands_fit_resolved literals items known counts.locals counted.kinds k operands typed right room)
+    (both_hold _ _ (due (names_of items) known counts counted k operands typed within) (stands known.blocks counts.blocks k counted.blocks trapped))
 
 -- one more local
 more_kinds : (kinds : List Kind) (locals : List Local) (local : Local) → kinds ≡ map kind_held locals → kinds ++ kind_held local ∷ [] ≡ map kind_held (locals ++ local ∷ [])
@@ -135,89 +213,106 @@ more_kinds kinds locals local are = ap (λ l. l ++ kind_held local ∷ []) are �
 more_locals : (names : List Text) (name : Text) (locals : List Local) (local : Local) → length names ≡ length locals → length (names ++ name ∷ []) ≡ length (locals ++ local ∷ [])
 more_locals names name locals local same = simp (length-append, same)
 
-line_counts : (known : Known) (counts : Counts) (form : Form Text) → is_typed form ≡ true → Counted known counts → Counted (known_after known form) (counts_after counts (resolved_line known form))
-line_counts known counts Skip typed counted = record { items = counted.items; kinds = counted.kinds; locals = counted.locals }
-line_counts known counts Unknown typed counted = record { items = counted.items; kinds = counted.kinds; locals = counted.locals }
-line_counts known counts (Line key.Proc []) typed counted = let clash : ⊥ = cc in absurd clash
-line_counts known counts (Line key.Proc (Name n ∷ [])) typed counted = record { items = omega (arith, counted.items); kinds = refl; locals = refl }
-line_counts known counts (Line key.Proc (Name n ∷ o ∷ os)) typed counted = let clash : ⊥ = cc in absurd clash
-line_counts known counts (Line key.Proc (_ ∷ os)) typed counted = let clash : ⊥ = cc in absurd clash
-line_counts known counts (Line key.Ptr []) typed counted = let clash : ⊥ = cc in absurd clash
-line_counts known counts (Line key.Ptr (Name n ∷ [])) typed counted = record { items = counted.items; kinds = more_kinds known.kinds counts.locals (OfPointer None) counted.kinds; locals = more_locals known.locals n counts.locals (OfPointer None) counted.locals }
-line_counts known counts (Line key.Ptr (Name n ∷ o ∷ os)) typed counted = let clash : ⊥ = cc in absurd clash
-line_counts known counts (Line key.Ptr (_ ∷ os)) typed counted = let clash : ⊥ = cc in absurd clash
-line_counts known counts (Line key.Int []) typed counted = let clash : ⊥ = cc in absurd clash
-line_counts known counts (Line key.Int (Name n ∷ [])) typed counted = record { items = counted.items; kinds = more_kinds known.kinds counts.locals OfNumber counted.kinds; locals = more_locals known.locals n counts.locals OfNumber counted.locals }
-line_counts known counts (Line key.Int (Name n ∷ o ∷ os)) typed counted = let clash : ⊥ = cc in absurd clash
-line_counts known counts (Line key.Int (_ ∷ os)) typed counted = let clash : ⊥ = cc in absurd clash
-line_counts known counts (Line key.View []) typed counted = let clash : ⊥ = cc in absurd clash
-line_counts known counts (Line key.View (Name n ∷ [])) typed counted = record { items = counted.items; kinds = more_kinds known.kinds counts.locals OfView counted.kinds; locals = more_locals known.locals n counts.locals OfView counted.locals }
-line_counts known counts (Line key.View (Name n ∷ o ∷ os)) typed counted = let clash : ⊥ = cc in absurd clash
-line_counts known counts (Line key.View (_ ∷ os)) typed counted = let clash : ⊥ = cc in absurd clash
-line_counts known counts (Line key.Buf (Name n ∷ Size max ∷ [])) typed counted = record { items = counted.items; kinds = more_kinds known.kinds counts.locals (OfBuffer max) counted.kinds; locals = more_locals known.locals n counts.locals (OfBuffer max) counted.locals }
-line_counts known counts (Line key.Buf []) typed counted = let clash : ⊥ = cc in absurd clash
-line_counts known counts (Line key.Buf (Name n ∷ [])) typed counted = let clash : ⊥ = cc in absurd clash
-line_counts known counts (Line key.Buf (Name n ∷ Size max ∷ o ∷ os)) typed counted = let clash : ⊥ = cc in absurd clash
-line_counts known counts (Line key.Buf (Name n ∷ _ ∷ os)) typed counted = let clash : ⊥ = cc in absurd clash
-line_counts known counts (Line key.Buf (_ ∷ os)) typed counted = let clash : ⊥ = cc in absurd clash
-line_counts known counts (Line _ operands) typed counted = record { items = counted.items; kinds = counted.kinds; locals = counted.locals }
+module _ (own : List Text) (known : Known) (counts : Counts) (counted : Counted known counts) where
+  -- a line that declares no local, and begins no procedure, and leaves the blocks as it leaves them
+  abbrev After : Form Text → Type 0
+  After form = Counted (known_after known form) (counts_after counts (resolved_line own known form))
 
--- a line adds its literals
-literals_after : (known : Known) (form : Form Text) → (known_after known form).literals ≡ known.literals + length (literals_in form)
-literals_after known form = by_role (role_of_form form)
-  where
-    by_role : (role : Role) → (known_with role (first_name form) (kind_in form) (length (literals_in form)) known).literals ≡ known.literals + length (literals_in form)
-    by_role Procedure = refl
-    by_role Declaration = refl
-    by_role _ = refl
+  no_more : length counts.procedures ≡ known.items + 0
+  no_more = counted.items ∙ sym (add-zero known.items)
 
--- and the names that it declares in the script's own space
-items_after : (known : Known) (form : Form Text) → (known_after known form).items ≡ known.items + length (items_by (role_of_form form) form)
-items_after known form = by_role (role_of_form form)
-  where
-    by_role : (role : Role) → (known_with role (first_name form) (kind_in form) (length (literals_in form)) known).items ≡ known.items + length (items_by role form)
-    by_role Procedure = refl
-    by_role _ = sym (add-zero known.items)
+  same_locals : length (known.locals ++ []) ≡ length counts.locals
+  same_locals = ap length (append-nil known.locals) ∙ counted.locals
+
+  line_counts : (form : Form Text) → is_typed form ≡ true → After form
+  line_counts Skip typed = record { items = no_more; kinds = counted.kinds; locals = same_locals; blocks = counted.blocks }
+  line_counts Unknown typed = record { items = no_more; kinds = counted.kinds; locals = same_locals; blocks = counted.blocks }
+  line_counts (Line key.Proc []) typed = let clash : ⊥ = cc in absurd clash
+  line_counts (Line key.Proc (Name n ∷ os)) typed =
+      let parameters = line_parameters own known (Line key.Proc (Name n ∷ os)) typed in
+      record {
+        items = length-append counts.procedures (parameters_in (resolved_line own known (Line key.Proc (Name n ∷ os))) ∷ []) ∙ ap (λ m. m + 1) counted.items;
+        kinds = held_by_parameters (parameters_in (Line key.Proc (Name n ∷ os))) ∙ ap (λ ps. map kind_held (map local_of_parameter ps)) (sym parameters);
+        locals = names_passed (Name n ∷ os) ∙ sym (ap length parameters) ∙ sym (length-map (parameters_in (resolved_line own known (Line key.Proc (Name n ∷ os)))) local_of_parameter);
+        blocks = refl;
+      }
+  line_counts (Line key.Proc (_ ∷ os)) typed = let clash : ⊥ = cc in absurd clash
+  line_counts (Line key.Ptr []) typed = let clash : ⊥ = cc in absurd clash
+  line_counts (Line key.Ptr (Name n ∷ [])) typed = record { items = no_more; kinds = more_kinds known.kinds counts.locals (OfPointer None) counted.kinds; locals = more_locals known.locals n counts.locals (OfPointer None) counted.locals; blocks = counted.blocks }
+  line_counts (Line key.Ptr (Name n ∷ o ∷ os)) typed = let clash : ⊥ = cc in absurd clash
+  line_counts (Line key.Ptr (_ ∷ os)) typed = let clash : ⊥ = cc in absurd clash
+  line_counts (Line key.Int []) typed = let clash : ⊥ = cc in absurd clash
+  line_counts (Line key.Int (Name n ∷ [])) typed = record { items = no_more; kinds = more_kinds known.kinds counts.locals OfNumber counted.kinds; locals = more_locals known.locals n counts.locals OfNumber counted.locals; blocks = counted.blocks }
+  line_counts (Line key.Int (Name n ∷ o ∷ os)) typed = let clash : ⊥ = cc in absurd clash
+  line_counts (Line key.Int (_ ∷ os)) typed = let clash : ⊥ = cc in absurd clash
+  line_counts (Line key.View []) typed = let clash : ⊥ = cc in absurd clash
+  line_counts (Line key.View (Name n ∷ [])) typed = record { items = no_more; kinds = more_kinds known.kinds counts.locals OfView counted.kinds; locals = more_locals known.locals n counts.locals OfView counted.locals; blocks = counted.blocks }
+  line_counts (Line key.View (Name n ∷ o ∷ os)) typed = let clash : ⊥ = cc in absurd clash
+  line_counts (Line key.View (_ ∷ os)) typed = let clash : ⊥ = cc in absurd clash
+  line_counts (Line key.Buf (Name n ∷ Size max ∷ [])) typed = record { items = no_more; kinds = more_kinds known.kinds counts.locals (OfBuffer max) counted.kinds; locals = more_locals known.locals n counts.locals (OfBuffer max) counted.locals; blocks = counted.blocks }
+  line_counts (Line key.Buf []) typed = let clash : ⊥ = cc in absurd clash
+  line_counts (Line key.Buf (Name n ∷ [])) typed = let clash : ⊥ = cc in absurd clash
+  line_counts (Line key.Buf (Name n ∷ Size max ∷ o ∷ os)) typed = let clash : ⊥ = cc in absurd clash
+  line_counts (Line key.Buf (Name n ∷ _ ∷ os)) typed = let clash : ⊥ = cc in absurd clash
+  line_counts (Line key.Buf (_ ∷ os)) typed = let clash : ⊥ = cc in absurd clash
+  line_counts (Line k operands) typed = record { items = no_more; kinds = counted.kinds; locals = same_locals; blocks = ap (λ b. blocks_after (role_of k) (Line k operands) b) counted.blocks }
 
 nothing_yet : Counted nothing_known nothing_counted
-nothing_yet = record { items = refl; kinds = refl; locals = refl }
+nothing_yet = record { items = refl; kinds = refl; locals = refl; blocks = refl }
 
-fits_from : (literals : ℕ) (forms : List (Form Text)) (known : Known) (counts : Counts) → Counted known counts → AreTyped forms → first_bad known_after has_wrong_kind known forms ≡ None → first_bad known_after passes_limit known forms ≡ None →
-    known.literals + length (literals_of forms) ≤ literals → first_bad counts_after (unfit literals) counts (each_with known_after resolved_line known forms) ≡ None
-fits_from literals [] known counts counted typed right within room = refl
-fits_from literals (form ∷ forms) known counts counted typed right within room =
-    let (here, rest) = both (is_typed form) (list_all is_typed forms) typed in
-    let next = known_after known form in
-    let (right_here, right_later) = good_first (has_wrong_kind known form) (first_bad known_after has_wrong_kind next forms) right in
-    let (within_here, within_later) = good_first (passes_limit known form) (first_bad known_after passes_limit next forms) within in
-    let parts : length (literals_of (form ∷ forms)) ≡ length (literals_in form) + length (literals_of forms) = simp length-append in
-    let longer = literals_after known form in
-    let fit = line_fits literals known counts form counted here right_here within_here (omega arith) in
-    rw fit (ap (option_map suc) (fits_from literals forms next (counts_after counts (resolved_line known form)) (line_counts known counts form here counted) rest right_later within_later (omega arith)))
+module _ (items : List Item) where
+  abbrev lines_from : Known → List (Form Text) → List (Form Meant)
+  lines_from known forms = each_with known_after (resolved_line (names_of items)) known forms
 
-pub all_fit : (forms : List (Form Text)) → AreTyped forms → first_refused has_wrong_kind forms ≡ None → first_refused passes_limit forms ≡ None → AllFit (length (literals_of forms)) (resolved forms)
-all_fit forms typed right within = fits_from (length (literals_of forms)) forms nothing_known nothing_counted nothing_yet typed right within (omega arith)
+  fits_from : (literals : ℕ) (forms : List (Form Text)) (known : Known) (counts : Counts) → Counted known counts → AreTyped forms → first_bad known_after (has_wrong_kind items) known forms ≡ None → first_bad known_after passes_limit known forms ≡ None →
+      known.literals + length (literals_of forms) ≤ literals → first_bad counts_after (unfit (record { literals = literals; signatures = parameters_of items })) counts (lines_from known forms) ≡ None
+  fits_from literals [] known counts counted typed right within room = refl
+  fits_from literals (form ∷ forms) known counts counted typed right within room =
+      let (here, rest) = both (is_typed form) (list_all is_typed forms) typed in
+      let next = known_after known form in
+      let (right_here, right_later) = good_first (has_wrong_kind items known form) (first_bad known_after (has_wrong_kind items) next forms) right in
+      let (within_here, within_later) = good_first (passes_limit known form) (first_bad known_after passes_limit next forms) within in
+      let parts : length (literals_of (form ∷ forms)) ≡ length (literals_in form) + length (literals_of forms) = simp length-append in
+      let fit = line_fits literals items known counts form counted here right_here within_here (omega arith) in
+      rw fit (ap (option_map suc) (fits_from literals forms next (counts_after counts (resolved_line (names_of items) known form)) (line_counts (names_of items) known counts counted form here) rest right_later within_later (omega arith)))
 
-counted_of : (forms : List (Form Text)) (known : Known) (counts : Counts) → Counted known counts → AreTyped forms → Counted (state_after known_after known forms) (state_after counts_after counts (each_with known_after resolved_line known forms))
-counted_of [] known counts counted typed = counted
-counted_of (form ∷ forms) known counts counted typed =
-    let (here, rest) = both (is_typed form) (list_all is_typed forms) typed in
-    counted_of forms (known_after known form) (counts_after counts (resolved_line known form)) (line_counts known counts form here counted) rest
+  counted_of : (forms : List (Form Text)) (known : Known) (counts : Counts) → Counted known counts → AreTyped forms → Counted (state_after known_after known forms) (state_after counts_after counts (lines_from known forms))
+  counted_of [] known counts counted typed = counted
+  counted_of (form ∷ forms) known counts counted typed =
+      let (here, rest) = both (is_typed form) (list_all is_typed forms) typed in
+      counted_of forms (known_after known form) (counts_after counts (resolved_line (names_of items) known form)) (line_counts (names_of items) known counts counted form here) rest
+
+-- where no operand is wrong and no limit is passed, all lines fit
+pub all_fit : (forms : List (Form Text)) → AreTyped forms → first_refused (has_wrong_kind (items_of forms)) forms ≡ None → first_refused passes_limit forms ≡ None →
+    AllFit (record { literals = length (literals_of forms); signatures = parameters_of (items_of forms) }) (resolved forms)
+all_fit forms typed right within = fits_from (items_of forms) (length (literals_of forms)) forms nothing_known nothing_counted nothing_yet typed right within (omega arith)
 
 -- each local that is known has its kind
 pub names_and_kinds : (forms : List (Form Text)) → AreTyped forms → length (state_after known_after nothing_known forms).kinds ≡ length (state_after known_after nothing_known forms).locals
 names_and_kinds forms typed =
-    let counted = counted_of forms nothing_known nothing_counted nothing_yet typed in
-    ap length counted.kinds ∙ length-map (state_after counts_after nothing_counted (resolved forms)).locals kind_held ∙ sym counted.locals
+    let counted = counted_of [] forms nothing_known nothing_counted nothing_yet typed in
+    ap length counted.kinds ∙ length-map (state_after counts_after nothing_counted (resolved_among [] forms)).locals kind_held ∙ sym counted.locals
 
-counts_from : (forms : List (Form Text)) (known : Known) (counts : Counts) → Counted known counts → AreTyped forms → (state_after counts_after counts (each_with known_after resolved_line known forms)).procedures ≡ known.items + length (items_of forms)
-counts_from [] known counts counted typed = counted.items ∙ sym (add-zero known.items)
-counts_from (form ∷ forms) known counts counted typed =
-    let (here, rest) = both (is_typed form) (list_all is_typed forms) typed in
-    let parts : length (items_of (form ∷ forms)) ≡ length (items_by (role_of_form form) form) + length (items_of forms) = simp length-append in
-    let more = items_after known form in
-    let later = counts_from forms (known_after known form) (counts_after counts (resolved_line known form)) (line_counts known counts form here counted) rest in
-    omega (arith, later, more, parts)
+-- a line adds its procedure, by its parameters
+module _ (own : List Text) where
+  line_procedures : (known : Known) (counts : Counts) (form : Form Text) → is_typed form ≡ true →
+      (counts_after counts (resolved_line own known form)).procedures ≡ counts.procedures ++ parameters_of (items_by (role_of_form form) form)
+  line_procedures known counts (Line key.Proc []) typed = let clash : ⊥ = cc in absurd clash
+  line_procedures known counts (Line key.Proc (Name n ∷ os)) typed = ap (λ p. counts.procedures ++ p ∷ []) (line_parameters own known (Line key.Proc (Name n ∷ os)) typed)
+  line_procedures known counts (Line key.Proc (_ ∷ os)) typed = let clash : ⊥ = cc in absurd clash
+  line_procedures known counts (Line k operands) typed = sym (append-nil counts.procedures)
+  line_procedures known counts _ typed = sym (append-nil counts.procedures)
 
-pub counts-resolved : (forms : List (Form Text)) → AreTyped forms → (counts_of (resolved forms)).procedures ≡ length (items_of forms)
-counts-resolved forms typed = counts_from forms nothing_known nothing_counted nothing_yet typed ∙ zero-add (length (items_of forms))
+  procedures_from : (forms : List (Form Text)) (known : Known) (counts : Counts) → AreTyped forms →
+      (state_after counts_after counts (each_with known_after (resolved_line own) known forms)).procedures ≡ counts.procedures ++ parameters_of (items_of forms)
+  procedures_from [] known counts typed = sym (append-nil counts.procedures)
+  procedures_from (form ∷ forms) known counts typed =
+      let (here, rest) = both (is_typed form) (list_all is_typed forms) typed in
+      let items = items_by (role_of_form form) form in
+      procedures_from forms (known_after known form) (counts_after counts (resolved_line own known form)) rest
+      ∙ ap (λ l. l ++ parameters_of (items_of forms)) (line_procedures known counts form here)
+      ∙ append_assoc counts.procedures (parameters_of items) (parameters_of (items_of forms))
+      ∙ ap (λ l. counts.procedures ++ l) (sym (map-append (λ (item : Item). item.parameters) items (items_of forms)))
+
+pub counts-resolved : (forms : List (Form Text)) → AreTyped forms → (counts_of (resolved forms)).procedures ≡ parameters_of (items_of forms)
+counts-resolved forms typed = procedures_from (names_of (items_of forms)) forms nothing_known nothing_counted typed

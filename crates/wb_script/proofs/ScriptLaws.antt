@@ -1,37 +1,28 @@
 -- The lines of a script tell which script it is.
-use Rattle.std.proofs.Common.{◌≡◌, refl, sym, ap, subst, ◌∙◌, ℕ, suc, List, [], ◌∷◌, ◌++◌, true, Some, None, append-nil}
+use Rattle.std.proofs.Common.{◌≡◌, refl, sym, ap, subst, ◌∙◌, ℕ, suc, List, [], ◌∷◌, ◌++◌, true, Option, Some, None, length, map, append-nil, append_assoc}
 use Rattle.std.specs.List.{list_all}
-use Rattle.std.proofs.lemmas.List.Folds.{list_all-append}
 use Rattle.wb_model.specs.declared.script_lines.Key.TheVariants as key
+use Rattle.wb_model.specs.declared.script_lines.Meant.{Meant}
 use Rattle.wb_model.specs.declared.script_lines.Meant.TheVariants as meant
+use Rattle.wb_model.specs.declared.script_lines.Operand.{Operand}
 use Rattle.wb_model.specs.declared.script_lines.Operand.TheVariants.{Name}
-use Rattle.wb_model.specs.declared.script_lines.Form.TheVariants.{Line}
 use Rattle.wb_model.specs.declared.script.Script.{Script}
 use Rattle.wb_model.specs.declared.script.Body.{Body}
 use Rattle.wb_model.specs.declared.script.Procedure.{Procedure}
-use Rattle.wb_model.specs.declared.script.Parameter.{Parameter}
 use Rattle.wb_model.specs.declared.script.Local.{Local}
 use Rattle.wb_model.specs.declared.script.Local.TheVariants.{OfPointer, OfNumber, OfBuffer, OfView}
-use Rattle.wb_model.specs.declared.script.Numbered.{Numbered}
-use Rattle.wb_model.specs.declared.script.Statement.TheViews.{out-Statement, roll-out-Statement}
 use Rattle.wb_model.specs.Forms.{forms_of}
 use Rattle.wb_model.specs.Grammar.{IsGrammatical}
 use Rattle.wb_model.specs.Lines.{lines_of}
 use Rattle.wb_model.specs.Resolved.{resolved}
 use Rattle.wb_model.specs.Scripts.{IsScriptOf}
-use Rattle.wb_model.specs.Trees.{Marked, counted_from, local_line, statement_line, statement_lines, local_lines, head_line, end_line, body_lines, procedure_lines, procedures_lines}
+use Rattle.wb_model.specs.Trees.{Marked, counted_from, parameter_operand, and_operand, all_spelled, line_or_unknown, statement_lines, local_line, local_lines, head_line, end_line, body_lines, procedure_lines, procedures_lines}
 use Rattle.wb_script.proofs.ResolvedLemmas.{roles-resolved}
 use Rattle.wb_script.proofs.TypedLemmas.{both}
 use Rattle.wb_script.proofs.KnownLines.{is_known, is_told, known_lines}
-use Rattle.wb_script.proofs.StatementLaws.{Part, nothing, with_line, with_lines, with_lines-append, statement_said}
-
-statements_said : (ss : List Numbered) (part : Part) → list_all is_told (statement_lines ss) ≡ true → with_lines (statement_lines ss) part ≡ record part { statements = ss ++ part.statements }
-statements_said [] part known = refl
-statements_said (s ∷ ss) part known =
-    let (here, rest) = both (is_known (statement_line (out-Statement s.statement))) (list_all is_told (statement_lines ss)) known in
-    ap (with_line s.line (statement_line (out-Statement s.statement))) (statements_said ss part rest)
-    ∙ statement_said s.line (out-Statement s.statement) (record part { statements = ss ++ part.statements }) here
-    ∙ ap (λ t. record part { statements = record { line = s.line; statement = t } ∷ (ss ++ part.statements) }) (roll-out-Statement s.statement)
+use Rattle.wb_script.proofs.StatementLaws.{Part, nothing, opened, with_line, with_lines, with_lines-append}
+use Rattle.wb_script.proofs.OperandLaws.{parameters_back}
+use Rattle.wb_script.proofs.BlockLaws.{inside_is, statements_said, behind, all_said}
 
 locals_said : (index : ℕ) (locals : List Local) (part : Part) → list_all is_told (local_lines index locals) ≡ true → with_lines (local_lines index locals) part ≡ record part { locals = locals ++ part.locals }
 locals_said index [] part known = refl
@@ -41,36 +32,47 @@ locals_said index (OfView ∷ locals) part known = ap (with_line 0 (local_line i
 locals_said index (OfNumber ∷ locals) part known = ap (with_line 0 (local_line index OfNumber)) (locals_said (suc index) locals part known)
 locals_said index (_ ∷ locals) part known = let clash : ⊥ = cc in absurd clash
 
-body_said : (body : Body) (procedures : List Procedure) → list_all is_told (body_lines body) ≡ true →
-    with_lines (body_lines body) (record { locals = []; statements = []; procedures = procedures }) ≡ record { locals = body.locals; statements = body.statements; procedures = procedures }
-body_said body procedures known =
-    let (locals, statements) = both (list_all is_told (local_lines 0 body.locals)) (list_all is_told (statement_lines body.statements)) (sym (list_all-append is_told (local_lines 0 body.locals) (statement_lines body.statements)) ∙ known) in
-    let part : Part = record { locals = []; statements = []; procedures = procedures } in
-    with_lines-append (local_lines 0 body.locals) (statement_lines body.statements) part
-    ∙ ap (with_lines (local_lines 0 body.locals)) (statements_said body.statements part statements ∙ ap (λ l. record part { statements = l }) (append-nil body.statements))
-    ∙ locals_said 0 body.locals (record part { statements = body.statements }) locals
-    ∙ ap (λ l. record { locals = l; statements = body.statements; procedures = procedures }) (append-nil body.locals)
+-- what the lines of procedures say
+abbrev so_far : List Procedure → Part
+so_far procedures = record nothing { procedures = procedures }
 
-procedure_said : (index : ℕ) (p : Procedure) (parameters : List Parameter) (procedures : List Procedure) → p.parameters ≡ parameters → list_all is_told (procedure_lines index p) ≡ true →
-    with_lines (procedure_lines index p) (record { locals = []; statements = []; procedures = procedures }) ≡ record { locals = []; statements = []; procedures = p ∷ procedures }
-procedure_said index p [] procedures is known =
-    let rest : list_all is_told (body_lines p.body ++ end_line ∷ []) ≡ true = (both (is_known (head_line index p.parameters)) (list_all is_told (body_lines p.body ++ end_line ∷ [])) known).1 in
-    let inner : list_all is_told (body_lines p.body) ≡ true = (both (list_all is_told (body_lines p.body)) true (sym (list_all-append is_told (body_lines p.body) (end_line ∷ [])) ∙ rest)).0 in
-    let part : Part = record { locals = []; statements = []; procedures = procedures } in
-    ap (λ l. with_line p.line (head_line index l) (with_lines (body_lines p.body ++ end_line ∷ []) part)) is
-    ∙ ap (with_line p.line (Line key.Proc (Name (meant.Declared index) ∷ []))) (with_lines-append (body_lines p.body) (end_line ∷ []) part ∙ body_said p.body procedures inner)
-    ∙ ap (λ l. record { locals = []; statements = []; procedures = record { line = p.line; parameters = l; body = p.body } ∷ procedures }) (sym is)
-procedure_said index p (q ∷ qs) procedures is known =
-    let hidden = rw is at known in
-    let clash : ⊥ = cc hidden in absurd clash
+body_said : (index : ℕ) (body : Body) (procedures : List Procedure) → list_all is_told (body_lines index body) ≡ true →
+    with_lines (body_lines index body ++ end_line ∷ []) (so_far procedures) ≡ record (opened (so_far procedures)) { locals = body.locals; inner = record { here = body.statements; other = None } }
+body_said index body procedures known =
+    let start = opened (so_far procedures) in
+    let locals = local_lines index body.locals in
+    let lines = statement_lines body.statements in
+    let (declared, told) = behind locals lines known in
+    let is = inside_is body.statements in
+    let said_all : with_lines (lines ++ end_line ∷ []) (so_far procedures) ≡ record start { inner = record { here = body.statements; other = None } } =
+    ap (λ l. with_lines (l ++ end_line ∷ []) (so_far procedures)) (sym is)
+    ∙ statements_said body.statements (all_said body.statements) (end_line ∷ []) (so_far procedures) (ap (list_all is_told) is ∙ told)
+    ∙ ap (λ l. record start { inner = record { here = l; other = None } }) (append-nil body.statements) in
+    ap (λ l. with_lines l (so_far procedures)) (append_assoc locals lines (end_line ∷ []))
+    ∙ with_lines-append locals (lines ++ end_line ∷ []) (so_far procedures)
+    ∙ ap (with_lines locals) said_all
+    ∙ locals_said index body.locals (record start { inner = record { here = body.statements; other = None } }) declared
+    ∙ ap (λ l. record start { locals = l; inner = record { here = body.statements; other = None } }) (append-nil body.locals)
 
-procedures_said : (index : ℕ) (procedures : List Procedure) → list_all is_told (procedures_lines index procedures) ≡ true → with_lines (procedures_lines index procedures) nothing ≡ record nothing { procedures = procedures }
+procedure_said : (index : ℕ) (p : Procedure) (procedures : List Procedure) → list_all is_told (procedure_lines index p) ≡ true → with_lines (procedure_lines index p) (so_far procedures) ≡ so_far (p ∷ procedures)
+procedure_said index p procedures known =
+    let (head, rest) = both (is_known (head_line index p.parameters)) (list_all is_told (body_lines (length p.parameters) p.body ++ end_line ∷ [])) known in
+    let (told, end) = behind (body_lines (length p.parameters) p.body) (end_line ∷ []) rest in
+    ap (with_line p.line (head_line index p.parameters)) (body_said (length p.parameters) p.body procedures told)
+    ∙ by_parameters (all_spelled (map parameter_operand p.parameters)) refl head
+  where
+    by_parameters : (o : Option (List (Operand Meant))) → all_spelled (map parameter_operand p.parameters) ≡ o → is_known (line_or_unknown key.Proc (and_operand (Some (Name (meant.Declared index))) o)) ≡ true →
+        with_line p.line (line_or_unknown key.Proc (and_operand (Some (Name (meant.Declared index))) o)) (record (opened (so_far procedures)) { locals = p.body.locals; inner = record { here = p.body.statements; other = None } }) ≡ so_far (p ∷ procedures)
+    by_parameters (Some operands) is known = ap (λ l. so_far (record { line = p.line; parameters = l; body = p.body } ∷ procedures)) (parameters_back p.parameters operands is)
+    by_parameters None is known = let clash : ⊥ = cc in absurd clash
+
+procedures_said : (index : ℕ) (procedures : List Procedure) → list_all is_told (procedures_lines index procedures) ≡ true → with_lines (procedures_lines index procedures) nothing ≡ so_far procedures
 procedures_said index [] known = refl
 procedures_said index (p ∷ ps) known =
-    let (here, rest) = both (list_all is_told (procedure_lines index p)) (list_all is_told (procedures_lines (suc index) ps)) (sym (list_all-append is_told (procedure_lines index p) (procedures_lines (suc index) ps)) ∙ known) in
+    let (here, rest) = behind (procedure_lines index p) (procedures_lines (suc index) ps) known in
     with_lines-append (procedure_lines index p) (procedures_lines (suc index) ps) nothing
     ∙ ap (with_lines (procedure_lines index p)) (procedures_said (suc index) ps rest)
-    ∙ procedure_said index p p.parameters ps refl here
+    ∙ procedure_said index p ps here
 
 -- lines of a script are those of one list of procedures
 one_tree : (lines : List Marked) (procedures others : List Procedure) → list_all is_told lines ≡ true → procedures_lines 0 procedures ≡ lines → procedures_lines 0 others ≡ lines → procedures ≡ others

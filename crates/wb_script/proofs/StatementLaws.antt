@@ -1,14 +1,17 @@
 -- The line of a statement tells which statement it is.
-use Rattle.std.proofs.Common.{◌≡◌, refl, ap, subst, ◌∙◌, ℕ, List, [], ◌∷◌, ◌++◌, true, Some, None}
+use Rattle.std.proofs.Common.{◌≡◌, refl, ap, subst, ◌∙◌, ℕ, List, [], ◌∷◌, ◌++◌, true, Option, Some, None, map}
+use Rattle.std.specs.List.{flat_map}
 use Rattle.std.specs.Prelude.{unwrap_or}
 use Rattle.wb_model.specs.declared.script_lines.Key.{Key}
 use Rattle.wb_model.specs.declared.script_lines.Key.TheVariants as key
 use Rattle.wb_model.specs.declared.script_lines.Meant.{Meant}
 use Rattle.wb_model.specs.declared.script_lines.Meant.TheVariants as meant
 use Rattle.wb_model.specs.declared.script_lines.Operand.{Operand}
-use Rattle.wb_model.specs.declared.script_lines.Operand.TheVariants.{Name, Number, Size, Literal}
-use Rattle.wb_model.specs.declared.script_lines.Form.TheVariants.{Line}
+use Rattle.wb_model.specs.declared.script_lines.Operand.TheVariants.{Name, Number, Size}
+use Rattle.wb_model.specs.declared.script_lines.Form.TheVariants.{Unknown, Line}
 use Rattle.wb_model.specs.declared.script.Procedure.{Procedure}
+use Rattle.wb_model.specs.declared.script.Condition.{Condition}
+use Rattle.wb_model.specs.declared.script.Condition.TheVariants.{IsNull, NotNull, Equal, Less}
 use Rattle.wb_model.specs.declared.script.Local.{Local}
 use Rattle.wb_model.specs.declared.script.Local.TheVariants.{OfPointer, OfNumber, OfBuffer, OfView}
 use Rattle.wb_model.specs.declared.script.Holder.TheVariants as H
@@ -16,58 +19,40 @@ use Rattle.wb_model.specs.declared.script.Pointer.{Pointer}
 use Rattle.wb_model.specs.declared.script.Pointer.TheVariants.{Held}
 use Rattle.wb_model.specs.declared.script.Number as N
 use Rattle.wb_model.specs.declared.script.Number.TheVariants.{Constant, Variable}
-use Rattle.wb_model.specs.declared.script.Writable.{Writable}
 use Rattle.wb_model.specs.declared.script.Writable.TheVariants.{OwnBuffer, InCell}
-use Rattle.wb_model.specs.declared.script.Readable.{Readable}
 use Rattle.wb_model.specs.declared.script.Readable.TheVariants.{Of, ViewOf, Quoted}
 use Rattle.wb_model.specs.declared.script.Refusal.TheVariants.{GivesNull, Leaves}
 use Rattle.wb_model.specs.declared.script.Numbered.{Numbered}
 use Rattle.wb_model.specs.declared.script.Statement.{Statement}
 use Rattle.wb_model.specs.declared.script.Statement.TheOpen.{Statement-F}
 use Rattle.wb_model.specs.declared.script.Statement.TheViews.{roll-Statement}
-use Rattle.wb_model.specs.Trees.{Indexed, Marked, Spelled, pointer_operand, variable_operand, number_operand, writable_operand, view_operand, text_operand, line, statement_line}
+use Rattle.wb_model.specs.Names.{kind_passed}
+use Rattle.wb_model.specs.Trees.{Indexed, Marked, Spelled, pointer_operand, variable_operand, number_operand, writable_operand, view_operand, text_operand, procedure_operand, argument_operand, and_operand, all_spelled, line, line_or_unknown, condition_line, statement_line}
 use Rattle.wb_script.proofs.KnownLines.{is_known}
+use Rattle.wb_script.proofs.OperandLaws.{pointer_in, variable_in, number_in, writable_in, view_in, text_in, argument_in, local_in, procedure_in, pointer_back, variable_back, number_back, writable_back, view_back, text_back, arguments_back}
 
--- what lines say, read from the last to the first
+-- the statements of a block that were read, and those behind its `else`
+pub record Level : Type 0 where
+  pub here : List Numbered
+  pub other : Option (List Numbered)
+
+abbrev pub no_statements : Level
+no_statements = record { here = []; other = None }
+
+-- What lines say, read from the last to the first: an `end` opens a block, and the block's head closes it.
 pub record Part : Type 0 where
   pub locals : List Local
-  pub statements : List Numbered
+  pub inner : Level
+  pub outer : List Level
   pub procedures : List Procedure
 
 abbrev pub nothing : Part
-nothing = record { locals = []; statements = []; procedures = [] }
-
--- the pointer, the number or the local that an operand spells
-abbrev pointer_in : Operand Meant → Pointer
-pointer_in (Name (meant.Pointer i)) = Held (H.Local i)
-pointer_in _ = Held H.This
-
-abbrev variable_in : Operand Meant → ℕ
-variable_in (Name (meant.Number i)) = i
-variable_in _ = 0
-
-abbrev number_in : Operand Meant → N.Number
-number_in (Number z) = Constant z
-number_in operand = Variable (variable_in operand)
+nothing = record { locals = []; inner = no_statements; outer = []; procedures = [] }
 
 -- a `set`, by what its target is
 abbrev set_in : Operand Meant → Operand Meant → Statement-F Statement Numbered
 set_in (Name (meant.Number i)) source = Statement-F.SetNumber i (number_in source)
 set_in target source = Statement-F.Set (pointer_in target) (pointer_in source)
-
--- the text that an operand spells
-abbrev writable_in : Operand Meant → Writable
-writable_in (Name (meant.Buffer i)) = OwnBuffer i
-writable_in operand = InCell (pointer_in operand)
-
-abbrev view_in : Operand Meant → ℕ
-view_in (Name (meant.View i)) = i
-view_in _ = 0
-
-abbrev text_in : Operand Meant → Readable
-text_in (Literal (meant.Literal i)) = Quoted i
-text_in (Name (meant.View i)) = ViewOf i
-text_in operand = Of (writable_in operand)
 
 abbrev print_in : Operand Meant → Statement-F Statement Numbered
 print_in (Number z) = Statement-F.PrintNumber (Constant z)
@@ -76,7 +61,16 @@ print_in operand = Statement-F.PrintText (text_in operand)
 
 abbrev statement_in : Indexed → Statement-F Statement Numbered
 statement_in (Line key.Alloc (a ∷ b ∷ [])) = Statement-F.Alloc (pointer_in a) (number_in b) GivesNull
+statement_in (Line key.AllocL (a ∷ b ∷ [])) = Statement-F.Alloc (pointer_in a) (number_in b) Leaves
 statement_in (Line key.Realloc (a ∷ b ∷ c ∷ [])) = Statement-F.Realloc (pointer_in a) (pointer_in b) (number_in c) GivesNull
+statement_in (Line key.ReallocL (a ∷ b ∷ c ∷ [])) = Statement-F.Realloc (pointer_in a) (pointer_in b) (number_in c) Leaves
+statement_in (Line key.Leave (a ∷ [])) = Statement-F.Leave (number_in a)
+statement_in (Line key.LeaveIfError (a ∷ [])) = Statement-F.LeaveIfError (number_in a)
+statement_in (Line key.LeaveIfNull (a ∷ [])) = Statement-F.LeaveIfNull (pointer_in a)
+statement_in (Line key.Call (a ∷ operands)) = Statement-F.Call (procedure_in a) (map argument_in operands)
+statement_in (Line key.CallTo (a ∷ b ∷ operands)) = Statement-F.CallTo (local_in a) (procedure_in b) (map argument_in operands)
+statement_in (Line key.ReturnPointer (a ∷ [])) = Statement-F.ReturnPointer (pointer_in a)
+statement_in (Line key.HNewL (a ∷ b ∷ [])) = Statement-F.NewText (pointer_in a) (number_in b) Leaves
 statement_in (Line key.Free (a ∷ [])) = Statement-F.Free (pointer_in a)
 statement_in (Line key.AllocLen (a ∷ b ∷ [])) = Statement-F.AllocLen (variable_in a) (pointer_in b)
 statement_in (Line key.Store (a ∷ b ∷ c ∷ [])) = Statement-F.Store (pointer_in a) (number_in b) (number_in c)
@@ -109,18 +103,49 @@ statement_in (Line key.Set (a ∷ b ∷ [])) = set_in a b
 statement_in (Line key.Print (a ∷ [])) = print_in a
 statement_in _ = Statement-F.Return
 
+-- an `if`, by whether an `else` was read
+abbrev choice_with : Condition → List Numbered → Option (List Numbered) → Statement-F Statement Numbered
+choice_with condition here None = Statement-F.If condition here
+choice_with condition here (Some behind) = Statement-F.IfElse condition here behind
+
+abbrev pub choice : Condition → Level → Statement-F Statement Numbered
+choice condition level = choice_with condition level.here level.other
+
+-- the part with one more statement before the others
+abbrev pub with_statement : ℕ → Statement-F Statement Numbered → Part → Part
+with_statement number s part = record part { inner = record part.inner { here = record { line = number; statement = roll-Statement s } ∷ part.inner.here } }
+
+-- a new block inside the others, and out of the innermost again
+abbrev pub opened : Part → Part
+opened part = record part { inner = no_statements; outer = part.inner ∷ part.outer }
+
+abbrev left : List Level → Part → Part
+left [] part = record part { inner = no_statements }
+left (level ∷ outer) part = record part { inner = level; outer = outer }
+
+abbrev pub closed : Part → Part
+closed part = left part.outer part
+
 abbrev pub with_line : ℕ → Indexed → Part → Part
 with_line number (Line key.Proc operands) part = record {
   locals = [];
-  statements = [];
-  procedures = record { line = number; parameters = []; body = record { locals = part.locals; statements = part.statements } } ∷ part.procedures;
+  inner = (closed part).inner;
+  outer = (closed part).outer;
+  procedures = record { line = number; parameters = flat_map kind_passed operands; body = record { locals = part.locals; statements = part.inner.here } } ∷ part.procedures;
 }
-with_line number (Line key.Ptr operands) part = record { locals = OfPointer None ∷ part.locals; statements = part.statements; procedures = part.procedures }
-with_line number (Line key.Int operands) part = record { locals = OfNumber ∷ part.locals; statements = part.statements; procedures = part.procedures }
-with_line number (Line key.Buf (name ∷ Size max ∷ [])) part = record { locals = OfBuffer max ∷ part.locals; statements = part.statements; procedures = part.procedures }
-with_line number (Line key.View operands) part = record { locals = OfView ∷ part.locals; statements = part.statements; procedures = part.procedures }
-with_line number (Line key.End operands) part = part
-with_line number line part = record { locals = part.locals; statements = record { line = number; statement = roll-Statement (statement_in line) } ∷ part.statements; procedures = part.procedures }
+with_line number (Line key.Ptr operands) part = record part { locals = OfPointer None ∷ part.locals }
+with_line number (Line key.Int operands) part = record part { locals = OfNumber ∷ part.locals }
+with_line number (Line key.Buf (name ∷ Size max ∷ [])) part = record part { locals = OfBuffer max ∷ part.locals }
+with_line number (Line key.View operands) part = record part { locals = OfView ∷ part.locals }
+with_line number (Line key.End operands) part = opened part
+with_line number (Line key.Else operands) part = record part { inner = record { here = []; other = Some part.inner.here } }
+with_line number (Line key.IfNull (word ∷ a ∷ [])) part = with_statement number (choice (IsNull (pointer_in a)) part.inner) (closed part)
+with_line number (Line key.IfSome (word ∷ a ∷ [])) part = with_statement number (choice (NotNull (pointer_in a)) part.inner) (closed part)
+with_line number (Line key.IfEqual (word ∷ a ∷ b ∷ [])) part = with_statement number (choice (Equal (number_in a) (number_in b)) part.inner) (closed part)
+with_line number (Line key.IfLess (word ∷ a ∷ b ∷ [])) part = with_statement number (choice (Less (number_in a) (number_in b)) part.inner) (closed part)
+with_line number (Line key.Repeat (a ∷ [])) part = with_statement number (Statement-F.Repeat (number_in a) part.inner.here) (closed part)
+with_line number (Line key.Trap (a ∷ [])) part = with_statement number (Statement-F.Trap (variable_in a) part.inner.here) (closed part)
+with_line number line part = with_statement number (statement_in line) part
 
 abbrev pub with_lines : List Marked → Part → Part
 with_lines [] part = part
@@ -129,37 +154,6 @@ with_lines (line ∷ lines) part = with_line (unwrap_or line.0 0) line.1 (with_l
 pub with_lines-append : (lines more : List Marked) (part : Part) → with_lines (lines ++ more) part ≡ with_lines lines (with_lines more part)
 with_lines-append [] more part = refl
 with_lines-append (line ∷ lines) more part = ap (with_line (unwrap_or line.0 0) line.1) (with_lines-append lines more part)
-
--- an operand that is spelled tells what it spells
-pointer_back : (p : Pointer) (a : Operand Meant) → pointer_operand p ≡ Some a → pointer_in a ≡ p
-pointer_back (Held (H.Local i)) a is = let same : Name (meant.Pointer i) ≡ a = cc in subst (λ o. pointer_in o ≡ Held (H.Local i)) same refl
-pointer_back _ a is = let clash : ⊥ = cc in absurd clash
-
-variable_back : (x : ℕ) (a : Operand Meant) → variable_operand x ≡ Some a → variable_in a ≡ x
-variable_back x a is = let same : Name (meant.Number x) ≡ a = cc in subst (λ o. variable_in o ≡ x) same refl
-
-number_back : (v : N.Number) (a : Operand Meant) → number_operand v ≡ Some a → number_in a ≡ v
-number_back (Constant z) a is = let same : Number z ≡ a = cc in subst (λ o. number_in o ≡ Constant z) same refl
-number_back (Variable i) a is = let same : Name (meant.Number i) ≡ a = cc in subst (λ o. number_in o ≡ Variable i) same refl
-
-writable_back : (d : Writable) (a : Operand Meant) → writable_operand d ≡ Some a → writable_in a ≡ d
-writable_back (OwnBuffer i) a is = let same : Name (meant.Buffer i) ≡ a = cc in subst (λ o. writable_in o ≡ OwnBuffer i) same refl
-writable_back (InCell (Held (H.Local i))) a is = let same : Name (meant.Pointer i) ≡ a = cc in subst (λ o. writable_in o ≡ InCell (Held (H.Local i))) same refl
-writable_back (InCell _) a is = let clash : ⊥ = cc in absurd clash
-
-view_back : (y : ℕ) (a : Operand Meant) → view_operand y ≡ Some a → view_in a ≡ y
-view_back y a is = let same : Name (meant.View y) ≡ a = cc in subst (λ o. view_in o ≡ y) same refl
-
-text_back : (t : Readable) (a : Operand Meant) → text_operand t ≡ Some a → text_in a ≡ t
-text_back (Of (OwnBuffer i)) a is = let same : Name (meant.Buffer i) ≡ a = cc in subst (λ o. text_in o ≡ Of (OwnBuffer i)) same refl
-text_back (Of (InCell (Held (H.Local i)))) a is = let same : Name (meant.Pointer i) ≡ a = cc in subst (λ o. text_in o ≡ Of (InCell (Held (H.Local i)))) same refl
-text_back (Of (InCell _)) a is = let clash : ⊥ = cc in absurd clash
-text_back (ViewOf i) a is = let same : Name (meant.View i) ≡ a = cc in subst (λ o. text_in o ≡ ViewOf i) same refl
-text_back (Quoted i) a is = let same : Literal (meant.Literal i) ≡ a = cc in subst (λ o. text_in o ≡ Quoted i) same refl
-
--- the part with one more statement before the others
-abbrev pub with_statement : ℕ → Statement-F Statement Numbered → Part → Part
-with_statement number s part = record { locals = part.locals; statements = record { line = number; statement = roll-Statement s } ∷ part.statements; procedures = part.procedures }
 
 -- A line whose operands are spelled has the statement that these tell.
 module _ (number : ℕ) (k : Key) (whole : Statement-F Statement Numbered) (part : Part) where
@@ -189,17 +183,30 @@ module _ (number : ℕ) (k : Key) (whole : Statement-F Statement Numbered) (part
   four_said make (Some a) None u v says back known = let clash : ⊥ = cc in absurd clash
   four_said make None t u v says back known = let clash : ⊥ = cc in absurd clash
 
-pub statement_said : (number : ℕ) (s : Statement-F Statement Numbered) (part : Part) → is_known (statement_line s) ≡ true → with_line number (statement_line s) part ≡ with_statement number s part
-statement_said number (Statement-F.Alloc p v Leaves) part known = let clash : ⊥ = cc in absurd clash
-statement_said number (Statement-F.Realloc p q v Leaves) part known = let clash : ⊥ = cc in absurd clash
-statement_said number (Statement-F.NewText p v Leaves) part known = let clash : ⊥ = cc in absurd clash
+-- the line of a statement that has no others inside it
+abbrev pub plain_line : Statement-F Statement Numbered → Indexed
+plain_line (Statement-F.If c first) = Unknown
+plain_line (Statement-F.IfElse c first other) = Unknown
+plain_line (Statement-F.Repeat v body) = Unknown
+plain_line (Statement-F.Trap x body) = Unknown
+plain_line s = statement_line s
+
+pub statement_said : (number : ℕ) (s : Statement-F Statement Numbered) (part : Part) → is_known (plain_line s) ≡ true → with_line number (plain_line s) part ≡ with_statement number s part
 statement_said number (Statement-F.Alloc p v GivesNull) part known =
     two_said number key.Alloc (Statement-F.Alloc p v GivesNull) part (λ a b. Statement-F.Alloc (pointer_in a) (number_in b) GivesNull) (pointer_operand p) (number_operand v) (λ a b. refl)
     (λ a b ea eb. ap (λ z. Statement-F.Alloc z (number_in b) GivesNull) (pointer_back p a ea) ∙ ap (λ z. Statement-F.Alloc p z GivesNull) (number_back v b eb))
     known
+statement_said number (Statement-F.Alloc p v Leaves) part known =
+    two_said number key.AllocL (Statement-F.Alloc p v Leaves) part (λ a b. Statement-F.Alloc (pointer_in a) (number_in b) Leaves) (pointer_operand p) (number_operand v) (λ a b. refl)
+    (λ a b ea eb. ap (λ z. Statement-F.Alloc z (number_in b) Leaves) (pointer_back p a ea) ∙ ap (λ z. Statement-F.Alloc p z Leaves) (number_back v b eb))
+    known
 statement_said number (Statement-F.Realloc p q v GivesNull) part known =
     three_said number key.Realloc (Statement-F.Realloc p q v GivesNull) part (λ a b c. Statement-F.Realloc (pointer_in a) (pointer_in b) (number_in c) GivesNull) (pointer_operand p) (pointer_operand q) (number_operand v) (λ a b c. refl)
     (λ a b c ea eb ec. ap (λ z. Statement-F.Realloc z (pointer_in b) (number_in c) GivesNull) (pointer_back p a ea) ∙ ap (λ z. Statement-F.Realloc p z (number_in c) GivesNull) (pointer_back q b eb) ∙ ap (λ z. Statement-F.Realloc p q z GivesNull) (number_back v c ec))
+    known
+statement_said number (Statement-F.Realloc p q v Leaves) part known =
+    three_said number key.ReallocL (Statement-F.Realloc p q v Leaves) part (λ a b c. Statement-F.Realloc (pointer_in a) (pointer_in b) (number_in c) Leaves) (pointer_operand p) (pointer_operand q) (number_operand v) (λ a b c. refl)
+    (λ a b c ea eb ec. ap (λ z. Statement-F.Realloc z (pointer_in b) (number_in c) Leaves) (pointer_back p a ea) ∙ ap (λ z. Statement-F.Realloc p z (number_in c) Leaves) (pointer_back q b eb) ∙ ap (λ z. Statement-F.Realloc p q z Leaves) (number_back v c ec))
     known
 statement_said number (Statement-F.Free p) part known =
     one_said number key.Free (Statement-F.Free p) part (λ a. Statement-F.Free (pointer_in a)) (pointer_operand p) (λ a. refl)
@@ -253,6 +260,10 @@ statement_said number Statement-F.NoteCompress part known = refl
 statement_said number (Statement-F.NewText p v GivesNull) part known =
     two_said number key.HNew (Statement-F.NewText p v GivesNull) part (λ a b. Statement-F.NewText (pointer_in a) (number_in b) GivesNull) (pointer_operand p) (number_operand v) (λ a b. refl)
     (λ a b ea eb. ap (λ z. Statement-F.NewText z (number_in b) GivesNull) (pointer_back p a ea) ∙ ap (λ z. Statement-F.NewText p z GivesNull) (number_back v b eb))
+    known
+statement_said number (Statement-F.NewText p v Leaves) part known =
+    two_said number key.HNewL (Statement-F.NewText p v Leaves) part (λ a b. Statement-F.NewText (pointer_in a) (number_in b) Leaves) (pointer_operand p) (number_operand v) (λ a b. refl)
+    (λ a b ea eb. ap (λ z. Statement-F.NewText z (number_in b) Leaves) (pointer_back p a ea) ∙ ap (λ z. Statement-F.NewText p z Leaves) (number_back v b eb))
     known
 statement_said number (Statement-F.ReallocText p q v) part known =
     three_said number key.HRealloc (Statement-F.ReallocText p q v) part (λ a b c. Statement-F.ReallocText (pointer_in a) (pointer_in b) (number_in c)) (pointer_operand p) (pointer_operand q) (number_operand v) (λ a b c. refl)
@@ -318,4 +329,43 @@ statement_said number (Statement-F.PrintText (Quoted i)) part known = refl
 statement_said number (Statement-F.PrintText (ViewOf i)) part known = refl
 statement_said number (Statement-F.PrintText (Of (OwnBuffer i))) part known = refl
 statement_said number (Statement-F.PrintText (Of (InCell (Held (H.Local i))))) part known = refl
+statement_said number (Statement-F.Leave v) part known =
+    one_said number key.Leave (Statement-F.Leave v) part (λ a. Statement-F.Leave (number_in a)) (number_operand v) (λ a. refl) (λ a ea. ap (λ z. Statement-F.Leave z) (number_back v a ea)) known
+statement_said number (Statement-F.LeaveIfError v) part known =
+    one_said number key.LeaveIfError (Statement-F.LeaveIfError v) part (λ a. Statement-F.LeaveIfError (number_in a)) (number_operand v) (λ a. refl) (λ a ea. ap (λ z. Statement-F.LeaveIfError z) (number_back v a ea)) known
+statement_said number (Statement-F.LeaveIfNull p) part known =
+    one_said number key.LeaveIfNull (Statement-F.LeaveIfNull p) part (λ a. Statement-F.LeaveIfNull (pointer_in a)) (pointer_operand p) (λ a. refl) (λ a ea. ap (λ z. Statement-F.LeaveIfNull z) (pointer_back p a ea)) known
+statement_said number (Statement-F.ReturnPointer p) part known =
+    one_said number key.ReturnPointer (Statement-F.ReturnPointer p) part (λ a. Statement-F.ReturnPointer (pointer_in a)) (pointer_operand p) (λ a. refl) (λ a ea. ap (λ z. Statement-F.ReturnPointer z) (pointer_back p a ea)) known
+statement_said number Statement-F.Return part known = refl
+statement_said number (Statement-F.Call n arguments) part known = call_said (all_spelled (map argument_operand arguments)) refl known
+  where
+    call_said : (o : Option (List (Operand Meant))) → all_spelled (map argument_operand arguments) ≡ o → is_known (line_or_unknown key.Call (and_operand (procedure_operand n) o)) ≡ true →
+        with_line number (line_or_unknown key.Call (and_operand (procedure_operand n) o)) part ≡ with_statement number (Statement-F.Call n arguments) part
+    call_said (Some operands) is known = ap (λ z. with_statement number (Statement-F.Call n z) part) (arguments_back arguments operands is)
+    call_said None is known = let clash : ⊥ = cc in absurd clash
+statement_said number (Statement-F.CallTo x n arguments) part known = call_said (all_spelled (map argument_operand arguments)) refl known
+  where
+    call_said : (o : Option (List (Operand Meant))) → all_spelled (map argument_operand arguments) ≡ o → is_known (line_or_unknown key.CallTo (and_operand (pointer_operand (Held (H.Local x))) (and_operand (procedure_operand n) o))) ≡ true →
+        with_line number (line_or_unknown key.CallTo (and_operand (pointer_operand (Held (H.Local x))) (and_operand (procedure_operand n) o))) part ≡ with_statement number (Statement-F.CallTo x n arguments) part
+    call_said (Some operands) is known = ap (λ z. with_statement number (Statement-F.CallTo x n z) part) (arguments_back arguments operands is)
+    call_said None is known = let clash : ⊥ = cc in absurd clash
 statement_said number _ part known = let clash : ⊥ = cc in absurd clash
+
+-- a statement with others inside it takes them out of its block
+pub choice_said : (number : ℕ) (c : Condition) (part : Part) → is_known (condition_line c) ≡ true → with_line number (condition_line c) part ≡ with_statement number (choice c part.inner) (closed part)
+choice_said number (IsNull (Held (H.Local i))) part known = refl
+choice_said number (NotNull (Held (H.Local i))) part known = refl
+choice_said number (Equal (Constant y) (Constant z)) part known = refl
+choice_said number (Equal (Constant y) (Variable i)) part known = refl
+choice_said number (Equal (Variable i) (Constant z)) part known = refl
+choice_said number (Equal (Variable i) (Variable j)) part known = refl
+choice_said number (Less (Constant y) (Constant z)) part known = refl
+choice_said number (Less (Constant y) (Variable i)) part known = refl
+choice_said number (Less (Variable i) (Constant z)) part known = refl
+choice_said number (Less (Variable i) (Variable j)) part known = refl
+choice_said number _ part known = let clash : ⊥ = cc in absurd clash
+
+pub loop_said : (number : ℕ) (v : N.Number) (part : Part) → with_line number (line key.Repeat (number_operand v ∷ [])) part ≡ with_statement number (Statement-F.Repeat v part.inner.here) (closed part)
+loop_said number (Constant z) part = refl
+loop_said number (Variable i) part = refl

@@ -7,6 +7,7 @@ use Rattle.wb_model.specs.declared.script_lines.Role.TheVariants as role
 use Rattle.wb_model.specs.Forms.{role_of_form}
 use Rattle.wb_model.specs.Grammar.{IsGrammatical}
 use Rattle.wb_model.specs.Passes.{first_bad, state_after}
+use Rattle.wb_model.specs.Sound.{Declared}
 use Rattle.wb_model.specs.Trees.{Indexed, counted, counted_from}
 use Rattle.wb_script.specs.declared.checks.nesting.Open.{Open}
 use Rattle.wb_script.specs.Building.{AllFit, counts_of, fits, unfit, counts_after, nothing_counted}
@@ -54,8 +55,8 @@ module _ {S L : Type 0} (next : S → L → S) where
   state_more (line ∷ lines) state zero d lt = refl
   state_more (line ∷ lines) state (suc n) d lt = state_more lines (next state line) n d (omega arith)
 
-pub line_fits : (literals : ℕ) (lines : List Indexed) (n : ℕ) (line : Indexed) → AllFit literals lines → n < length lines → line ≡ get_or lines n line → IsTrue (fits literals (counts_of (take n lines)) line)
-line_fits literals lines n line all lt is = go (fits literals (counts_of (take n lines)) line) (ap (unfit literals (counts_of (take n lines))) is ∙ never_bad counts_after (unfit literals) lines nothing_counted n line all lt)
+pub line_fits : (declared : Declared) (lines : List Indexed) (n : ℕ) (line : Indexed) → AllFit declared lines → n < length lines → line ≡ get_or lines n line → IsTrue (fits declared (counts_of (take n lines)) line)
+line_fits declared lines n line all lt is = go (fits declared (counts_of (take n lines)) line) (ap (unfit declared (counts_of (take n lines))) is ∙ never_bad counts_after (unfit declared) lines nothing_counted n line all lt)
   where
     go : (b : Bool) → not b ≡ false → IsTrue b
     go true e = refl

@@ -1,25 +1,26 @@
 -- The form of a line has operands of the letters of its key.
-use Rattle.std.proofs.Common.{◌≡◌, refl, subst, ℕ, ℤ, zero, suc, pos, neg_ℤ, ◌+◌, ◌-◌, ◌^◌, ◌<◌, ◌≤◌, List, [], ◌∷◌, Bool, true, false, ◌&&◌, ◌||◌, nat_eq, nat_lt, nat_le, length, drop, Option, Some, None, fold, arith, length-drop}
-use Rattle.std.specs.Prelude.{if◌then◌else◌}
+use Rattle.std.proofs.Common.{◌≡◌, ◌∙◌, refl, sym, ap, subst, ℕ, ℤ, zero, suc, pos, neg_ℤ, ◌+◌, ◌-◌, ◌^◌, ◌<◌, ◌≤◌, List, [], ◌∷◌, Bool, true, false, ◌&&◌, ◌||◌, nat_eq, nat_lt, nat_le, length, drop, Option, Some, None, fold, arith, length-drop}
+use Rattle.std.specs.Prelude.{if◌then◌else◌, codes}
 use Rattle.std.specs.Option.{option_map}
 use Rattle.std.specs.List.{list_all, list_any}
 use Rattle.std.specs.Str.{bytes_eq}
 use Rattle.std.proofs.lemmas.Bool.{le-leb}
 use Rattle.std.proofs.lemmas.Bool.Decides.{nat_tests}
 use Rattle.std.proofs.lemmas.List.{length-take}
+use Rattle.wb_model.specs.declared.script.Parameter as model
 use Rattle.wb_model.specs.declared.script_lines.Key.{Key}
 use Rattle.wb_model.specs.declared.script_lines.Letter.{Letter}
 use Rattle.wb_model.specs.declared.script_lines.WordKind.{WordKind}
 use Rattle.wb_model.specs.declared.script_lines.WordKind.TheVariants as word
 use Rattle.wb_model.specs.declared.script_lines.Operand.{Operand}
-use Rattle.wb_model.specs.declared.script_lines.Operand.TheVariants.{Name, Number, Size, Literal}
+use Rattle.wb_model.specs.declared.script_lines.Operand.TheVariants.{Name, Number, Size, Literal, Parameter, Keyword}
 use Rattle.wb_model.specs.declared.script_lines.Form.{Form}
-use Rattle.wb_model.specs.Forms.{operand_as, operand_among, operand_of, operands_of, onto, operands_if, line_or, form_in, form_of, skipped_or, begins_comment, forms_of, either, size_of}
-use Rattle.wb_model.specs.Keys.{keys, letters_of, text_of, word_kinds}
+use Rattle.wb_model.specs.Forms.{operand_as, operand_among, operand_of, operands_of, onto, operands_if, line_or, form_in, form_of, skipped_or, begins_comment, forms_of, either, size_of, parameter_of}
+use Rattle.wb_model.specs.Keys.{keys, letters_for, text_of, word_kinds}
 use Rattle.wb_model.specs.Lines.{words_of}
 use Rattle.wb_model.specs.Names.{Text}
-use Rattle.wb_model.specs.Sound.{is_quotable, is_literal_text}
-use Rattle.wb_model.specs.Words.{is_digit, with_digit, digits_of, number_spelled, declared_name, used_name, literal_spelled, is_literal, inside}
+use Rattle.wb_model.specs.Sound.{is_quotable, is_literal_text, is_parameter}
+use Rattle.wb_model.specs.Words.{is_digit, with_digit, digits_of, number_spelled, declared_name, used_name, literal_spelled, is_literal, inside, kind_spelled, parameter_name, parameter_kind, text_of_keyword}
 use Rattle.wb_script.specs.Typed.{is_short, is_word_of, is_operand, are_operands, is_typed, AreTyped}
 use Rattle.wb_script.proofs.Cuts.{AreWithin, words_within}
 use Rattle.wb_script.proofs.Digits.{digit_at_most_nine, one_more_digit, nine_digits}
@@ -100,12 +101,28 @@ size_typed : (number : Option ℤ) (operand : Operand Text) → size_of number �
 size_typed (Some (pos n)) operand is = let same : Size n ≡ operand = cc in subst (λ o. is_word_of o word.Size ≡ true) same refl
 size_typed _ operand is = let clash : ⊥ = cc in absurd clash
 
+-- a kind that is told has no class
+kind_sound : (bytes : Text) (kind : model.Parameter) → kind_spelled bytes ≡ Some kind → is_parameter kind ≡ true
+kind_sound bytes kind is = go (bytes_eq bytes (codes ":ptr")) (bytes_eq bytes (codes ":int")) is
+  where
+    go : (a b : Bool) → (if a then Some (model.TheVariants.OfPointer None) else (if b then Some model.TheVariants.OfNumber else None)) ≡ Some kind → is_parameter kind ≡ true
+    go true b e = let same : model.TheVariants.OfPointer None ≡ kind = cc in subst (λ k. is_parameter k ≡ true) same refl
+    go false true e = let same : model.TheVariants.OfNumber ≡ kind = cc in subst (λ k. is_parameter k ≡ true) same refl
+    go false false e = let clash : ⊥ = cc in absurd clash
+
+parameter_typed : (name : Option Text) (kind : Option model.Parameter) (operand : Operand Text) → ((k : model.Parameter) → kind ≡ Some k → is_parameter k ≡ true) → parameter_of name kind ≡ Some operand → is_word_of operand word.Parameter ≡ true
+parameter_typed (Some name) (Some kind) operand sound is = let same : Parameter name kind ≡ operand = cc in subst (λ o. is_word_of o word.Parameter ≡ true) same (sound kind refl)
+parameter_typed (Some name) None operand sound is = let clash : ⊥ = cc in absurd clash
+parameter_typed None kind operand sound is = let clash : ⊥ = cc in absurd clash
+
 kind_typed : (kind : WordKind) (text : Text) (operand : Operand Text) → length text ≤ 65536 → operand_as kind text ≡ Some operand → is_word_of operand kind ≡ true
 kind_typed word.NewName text operand short is = mapped (λ o. is_word_of o word.NewName ≡ true) Name (declared_name text) operand (λ n e. refl) is
 kind_typed word.Name text operand short is = mapped (λ o. is_word_of o word.Name ≡ true) Name (used_name text) operand (λ n e. refl) is
 kind_typed word.Number text operand short is = mapped (λ o. is_word_of o word.Number ≡ true) Number (number_spelled text) operand (λ z e. number_bounded text z e) is
 kind_typed word.Size text operand short is = size_typed (number_spelled text) operand is
 kind_typed word.Literal text operand short is = mapped (λ o. is_word_of o word.Literal ≡ true) Literal (literal_spelled text) operand (λ t e. literal_sound text t short e) is
+kind_typed word.Parameter text operand short is = parameter_typed (parameter_name text) (parameter_kind text) operand (λ k e. kind_sound (drop (length text - 4) text) k e) is
+kind_typed (word.Keyword k) text operand short is = subst (λ o. is_word_of o (word.Keyword k) ≡ true) (given (bytes_eq text (text_of_keyword k)) Keyword operand is).1 refl
 
 -- a word of one of some kinds
 among_typed : (kinds : List WordKind) (text : Text) (operand : Operand Text) → length text ≤ 65536 → operand_among kinds text ≡ Some operand → list_any (is_word_of operand) kinds ≡ true
@@ -136,13 +153,27 @@ operands_typed (letter ∷ letters) (word ∷ words) operands (here, rest) is = 
         let same : p ∷ ps ≡ operands = cc in
         subst (λ o. are_operands (letter ∷ letters) o ≡ true) same (rw (one p refl) (more ps refl))
 
-chosen_typed : (key : Key) (o : Option (List (Operand Text))) (other : Form Text) → ((ps : List (Operand Text)) → o ≡ Some ps → are_operands (letters_of key) ps ≡ true) → is_typed other ≡ true → is_typed (line_or key o other) ≡ true
+-- as many operands as words
+operands_many : (letters : List Letter) (words : List Text) (operands : List (Operand Text)) → operands_of letters words ≡ Some operands → length operands ≡ length words
+operands_many [] [] operands is = let same : [] ≡ operands = cc in ap length (sym same)
+operands_many [] (word ∷ words) operands is = let clash : ⊥ = cc in absurd clash
+operands_many (letter ∷ letters) [] operands is = let clash : ⊥ = cc in absurd clash
+operands_many (letter ∷ letters) (word ∷ words) operands is = go (operand_of letter word) (operands_of letters words) (operands_many letters words) is
+  where
+    go : (o : Option (Operand Text)) (rest : Option (List (Operand Text))) → ((ps : List (Operand Text)) → rest ≡ Some ps → length ps ≡ length words) → onto o rest ≡ Some operands → length operands ≡ suc (length words)
+    go None rest more e = let clash : ⊥ = cc in absurd clash
+    go (Some p) None more e = let clash : ⊥ = cc in absurd clash
+    go (Some p) (Some ps) more e = let same : p ∷ ps ≡ operands = cc in ap length (sym same) ∙ ap suc (more ps refl)
+
+chosen_typed : (key : Key) (o : Option (List (Operand Text))) (other : Form Text) → ((ps : List (Operand Text)) → o ≡ Some ps → are_operands (letters_for key (length ps)) ps ≡ true) → is_typed other ≡ true → is_typed (line_or key o other) ≡ true
 chosen_typed key (Some ps) other typed rest = typed ps refl
 chosen_typed key None other typed rest = rest
 
 -- none of a key whose text differs
-if_typed : (b : Bool) (key : Key) (words : List Text) (ps : List (Operand Text)) → AreWithin 65536 words → operands_if b key words ≡ Some ps → are_operands (letters_of key) ps ≡ true
-if_typed true key words ps short is = operands_typed (letters_of key) words ps short is
+if_typed : (b : Bool) (key : Key) (words : List Text) (ps : List (Operand Text)) → AreWithin 65536 words → operands_if b key words ≡ Some ps → are_operands (letters_for key (length ps)) ps ≡ true
+if_typed true key words ps short is =
+    ap (λ n. are_operands (letters_for key n) ps) (operands_many (letters_for key (length words)) words ps is)
+    ∙ operands_typed (letters_for key (length words)) words ps short is
 if_typed false key words ps short is = let clash : ⊥ = cc in absurd clash
 
 form_typed : (ks : List Key) (first : Text) (words : List Text) → AreWithin 65536 words → is_typed (form_in ks first words) ≡ true

@@ -1,35 +1,46 @@
 -- What a tree in the making stands for, and which lines can be added to it.
-use Rattle.std.specs.Prelude.{◌≡◌, ℕ, suc, List, [], ◌∷◌, ◌++◌, Bool, true, false, not, ◌&&◌, ◌<◌, nat_eq, nat_lt, nat_le, Option, Some, None, IsTrue, length}
-use Rattle.std.specs.List.{list_all}
-use Rattle.std.specs.Option.{option_map_or}
-use Rattle.wb_model.specs.declared.limits.TheConstants.{LARGEST_BUFFER, MOST_LOCALS, MOST_PROCEDURES}
+use Rattle.std.specs.Prelude.{◌≡◌, ℕ, zero, suc, List, [], ◌∷◌, ◌++◌, Bool, true, false, not, ◌&&◌, ◌||◌, ◌<◌, ◌≤◌, nat_eq, nat_lt, nat_le, Option, Some, None, IsTrue, MatchOption, fold, length, map}
+use Rattle.std.specs.List.{list_all, list_any, flat_map}
+use Rattle.wb_model.specs.declared.limits.TheConstants.{LARGEST_BUFFER, MOST_LOCALS, MOST_PARAMETERS, MOST_PROCEDURES, DEEPEST_BLOCK}
 use Rattle.wb_model.specs.declared.script_lines.Key.{Key}
 use Rattle.wb_model.specs.declared.script_lines.Key.TheVariants as key
 use Rattle.wb_model.specs.declared.script_lines.Meant.{Meant}
 use Rattle.wb_model.specs.declared.script_lines.Meant.TheVariants as meant
 use Rattle.wb_model.specs.declared.script_lines.Operand.{Operand}
-use Rattle.wb_model.specs.declared.script_lines.Operand.TheVariants.{Name, Size}
+use Rattle.wb_model.specs.declared.script_lines.Operand.TheVariants.{Name, Size, Parameter}
 use Rattle.wb_model.specs.declared.script_lines.Form.TheVariants.{Line}
 use Rattle.wb_model.specs.declared.script_lines.Role.{Role}
-use Rattle.wb_model.specs.declared.script_lines.Role.TheVariants.{Procedure, Declaration}
-use Rattle.wb_model.specs.declared.script.Body.{Body}
+use Rattle.wb_model.specs.declared.script_lines.Role.TheVariants.{Procedure, Declaration, Loop, If, Else}
+use Rattle.wb_model.specs.declared.script.Condition.{Condition}
+use Rattle.wb_model.specs.declared.script.Condition.TheVariants.{IsNull, NotNull, Equal, Less}
+use Rattle.wb_model.specs.declared.script.Parameter as kinds
 use Rattle.wb_model.specs.declared.script.Local.{Local}
 use Rattle.wb_model.specs.declared.script.Local.TheVariants.{OfPointer, OfNumber, OfBuffer, OfView}
 use Rattle.wb_model.specs.declared.script.Procedure as model
 use Rattle.wb_model.specs.declared.script.Numbered.{Numbered}
+use Rattle.wb_model.specs.declared.script.Statement.{Statement}
+use Rattle.wb_model.specs.declared.script.Statement.TheViews.{out-Statement}
 use Rattle.wb_model.specs.Forms.{role_of_form}
 use Rattle.wb_model.specs.Keys.{role_of}
-use Rattle.wb_model.specs.Names.{with_one}
+use Rattle.wb_model.specs.Kinds.{ends_body, is_trap}
+use Rattle.wb_model.specs.Names.{with_one, parameters_in, blocks_after}
 use Rattle.wb_model.specs.Passes.{first_bad, state_after}
-use Rattle.wb_model.specs.Sound.{is_local}
-use Rattle.wb_model.specs.Trees.{Indexed, Marked, local_line, end_line, open_lines, body_lines, procedures_lines}
+use Rattle.wb_model.specs.Sound.{Declared, is_local, is_parameter, is_condition, is_number, is_variable, is_nested, are_within, is_procedure, local_of_parameter, locals_of, signatures_of}
+use Rattle.wb_model.specs.Trees.{Indexed, Marked, mark, counted, lines_of_statement, line, number_operand, variable_operand, condition_line, head_line, local_line, local_lines, statement_lines, else_line, end_line, body_lines, procedure_head, procedures_lines}
 use Rattle.wb_script.specs.declared.checks.nesting.Open.{Open}
-use Rattle.wb_script.specs.declared.checks.nesting.Open.TheVariants.{Declarations, Statements}
-use Rattle.wb_script.specs.Plain.{is_plain_procedure}
+use Rattle.wb_script.specs.declared.checks.nesting.Open.TheVariants.{Declarations, Statements, Branch, Block}
 use Rattle.wb_script.specs.declared.tree.Building.{Building}
-use Rattle.wb_script.specs.declared.tree.Left.{Left}
-use Rattle.wb_script.specs.declared.tree.Left.TheVariants.{Inside, Done}
+use Rattle.wb_script.specs.declared.tree.blocks.Head.{Head}
+use Rattle.wb_script.specs.declared.tree.blocks.Head.TheVariants as head
+use Rattle.wb_script.specs.declared.tree.blocks.OpenBlock.{OpenBlock}
+use Rattle.wb_script.specs.declared.tree.blocks.Nest.{Nest}
+use Rattle.wb_script.specs.declared.tree.blocks.Around.{Around}
+use Rattle.wb_script.specs.declared.tree.blocks.Around.TheVariants as around
+use Rattle.wb_script.specs.declared.tree.procedures.OpenProcedure.{OpenProcedure}
+use Rattle.wb_script.specs.declared.tree.procedures.Left.{Left}
+use Rattle.wb_script.specs.declared.tree.procedures.Left.TheVariants.{Inside, Done}
 use Rattle.wb_script.specs.Fitting.{operands_fit}
+use Rattle.wb_script.specs.Machine.{step, after_line}
 
 -- the local that a line of a key declares
 abbrev pub local_of : Key → List (Operand Meant) → Option Local
@@ -43,21 +54,34 @@ abbrev pub local_in : Indexed → Option Local
 local_in (Line key operands) = local_of key operands
 local_in _ = None
 
--- how many procedures there are so far, and the locals of the body that stands open or was the last
+-- the procedures so far, each by its parameters; the locals of the body that stands open or was the last, its parameters first;
+-- and the keys of the blocks that stand open in it, the innermost last
 pub record Counts : Type 0 where
-  pub procedures : ℕ
+  pub procedures : List (List kinds.Parameter)
   pub locals : List Local
+  pub blocks : List Key
 
 abbrev pub nothing_counted : Counts
-nothing_counted = record { procedures = 0; locals = [] }
+nothing_counted = record { procedures = []; locals = []; blocks = [] }
 
-abbrev pub counts_with : Role → Option Local → Counts → Counts
-counts_with Procedure local counts = record { procedures = suc counts.procedures; locals = [] }
-counts_with Declaration local counts = record { procedures = counts.procedures; locals = with_one counts.locals local }
-counts_with _ local counts = counts
+abbrev pub procedures_after : Role → Indexed → List (List kinds.Parameter) → List (List kinds.Parameter)
+procedures_after Procedure line procedures = procedures ++ parameters_in line ∷ []
+procedures_after _ line procedures = procedures
+
+abbrev pub locals_after : Role → Indexed → List Local → List Local
+locals_after Procedure line locals = map local_of_parameter (parameters_in line)
+locals_after Declaration line locals = with_one locals (local_in line)
+locals_after _ line locals = locals
+
+abbrev pub counts_with : Role → Indexed → Counts → Counts
+counts_with role line counts = record {
+  procedures = procedures_after role line counts.procedures;
+  locals = locals_after role line counts.locals;
+  blocks = blocks_after role line counts.blocks;
+}
 
 abbrev pub counts_after : Counts → Indexed → Counts
-counts_after counts line = counts_with (role_of_form line) (local_in line) counts
+counts_after counts line = counts_with (role_of_form line) line counts
 
 -- the first operand declares what has this index
 abbrev pub declares : ℕ → List (Operand Meant) → Bool
@@ -69,88 +93,297 @@ abbrev pub is_small : List (Operand Meant) → Bool
 is_small (name ∷ Size max ∷ []) = nat_le max LARGEST_BUFFER
 is_small _ = true
 
--- a local is the next of its body, not one more than there may be, and not too large
-abbrev pub is_local_due : Role → List Local → List (Operand Meant) → Bool
-is_local_due Declaration locals operands = declares (length locals) operands && (nat_lt (length locals) MOST_LOCALS && is_small operands)
-is_local_due _ locals operands = true
+-- a declaration is the next of its space, and neither it nor a block is one more than there may be
+abbrev pub is_due : Role → Counts → Indexed → List (Operand Meant) → Bool
+is_due Procedure counts line operands =
+    declares (length counts.procedures) operands && (nat_lt (length counts.procedures) MOST_PROCEDURES && nat_le (length (parameters_in line)) MOST_PARAMETERS)
+is_due Declaration counts line operands = declares (length counts.locals) operands && (nat_lt (length counts.locals) MOST_LOCALS && is_small operands)
+is_due Loop counts line operands = nat_lt (length counts.blocks) DEEPEST_BLOCK
+is_due If counts line operands = nat_lt (length counts.blocks) DEEPEST_BLOCK
+is_due _ counts line operands = true
 
--- a declaration is the next of its space, and not one more than there may be
-abbrev pub is_due : Role → Counts → List (Operand Meant) → Bool
-is_due Procedure counts operands = declares counts.procedures operands && nat_lt counts.procedures MOST_PROCEDURES
-is_due role counts operands = is_local_due role counts.locals operands
-
--- a line of a body with these locals has the operands of its key and keeps the limits
-abbrev pub fits_inside : ℕ → List Local → Key → List (Operand Meant) → Bool
-fits_inside literals locals key operands = operands_fit literals locals key operands && is_local_due (role_of key) locals operands
+-- no `return` stands in a TRAP
+abbrev pub may_stand : List Key → Key → Bool
+may_stand blocks k = not (ends_body k && list_any is_trap blocks)
 
 -- a line has the operands of its key and keeps the limits, behind lines with these counts
-abbrev pub fits : ℕ → Counts → Indexed → Bool
-fits literals counts (Line key operands) = operands_fit literals counts.locals key operands && is_due (role_of key) counts operands
-fits literals counts _ = true
+abbrev pub fits : Declared → Counts → Indexed → Bool
+fits declared counts (Line key operands) =
+    operands_fit declared counts.locals key operands && (is_due (role_of key) counts (Line key operands) operands && may_stand counts.blocks key)
+fits declared counts _ = true
 
-abbrev pub unfit : ℕ → Counts → Indexed → Bool
-unfit literals counts line = not (fits literals counts line)
+abbrev pub unfit : Declared → Counts → Indexed → Bool
+unfit declared counts line = not (fits declared counts line)
 
 -- all lines fit
-abbrev pub AllFit : ℕ → List Indexed → Type 0
-AllFit literals lines = first_bad counts_after (unfit literals) nothing_counted lines ≡ None
+abbrev pub AllFit : Declared → List Indexed → Type 0
+AllFit declared lines = first_bad counts_after (unfit declared) nothing_counted lines ≡ None
 
 abbrev pub counts_of : List Indexed → Counts
 counts_of lines = state_after counts_after nothing_counted lines
 
--- the place in a body where these statements stand so far
-abbrev pub place_in : List Numbered → Open
-place_in [] = Declarations
-place_in _ = Statements
+-- the key of a block
+abbrev pub condition_key : Condition → Key
+condition_key (IsNull p) = key.IfNull
+condition_key (NotNull p) = key.IfSome
+condition_key (Equal v w) = key.IfEqual
+condition_key (Less v w) = key.IfLess
 
--- a body takes one more local by this line: before its first statement, by its index, and below the limit
-pub record TakesLocal (body : Body) (key : Key) (operands : List (Operand Meant)) (local : Local) : Type 0 where
-  pub first : body.statements ≡ []
-  pub line : local_line (length body.locals) local ≡ Line key operands
+abbrev pub head_key : Head → Key
+head_key (head.If c) = condition_key c
+head_key (head.Else c first) = condition_key c
+head_key (head.Repeat v) = key.Repeat
+head_key (head.Trap x) = key.Trap
+
+-- the line that a block begins with
+abbrev pub head_form : Head → Indexed
+head_form (head.If c) = condition_line c
+head_form (head.Else c first) = condition_line c
+head_form (head.Repeat v) = line key.Repeat (number_operand v ∷ [])
+head_form (head.Trap x) = line key.Trap (variable_operand x ∷ [])
+
+-- what stands before the `else` of a block, and that line
+abbrev pub first_part : Head → List Marked
+first_part (head.Else c first) = statement_lines first ++ else_line ∷ []
+first_part _ = []
+
+-- the lines of an open block, but for those of the statements that it has so far
+abbrev pub head_lines : ℕ → Head → List Marked
+head_lines number head = (Some number, head_form head) ∷ first_part head
+
+abbrev pub block_lines : OpenBlock → List Marked
+block_lines b = statement_lines b.before ++ head_lines b.line b.head
+
+abbrev pub nest_lines : Nest → List Marked
+nest_lines nest = flat_map block_lines nest.blocks ++ statement_lines nest.statements
+
+abbrev pub keys_of_blocks : List OpenBlock → List Key
+keys_of_blocks blocks = map (λ b. head_key b.head) blocks
+
+-- the place in a block
+abbrev pub place_in_block : OpenBlock → Open
+place_in_block b = place_behind b.head
+  where
+    place_behind : Head → Open
+    place_behind (head.If c) = Branch
+    place_behind _ = Block
+
+-- the place in a body that begins with these statements, or with a block
+abbrev pub place_in_body : List OpenBlock → List Numbered → Open
+place_in_body [] [] = Declarations
+place_in_body _ _ = Statements
+
+-- the places, the innermost first
+abbrev pub nest_places : Nest → List Open
+nest_places nest = fold (λ below b. place_in_block b ∷ below) (place_in_body nest.blocks nest.statements ∷ []) nest.blocks
+
+-- in a TRAP, where these blocks stand in one or not
+abbrev pub in_trap : Bool → List OpenBlock → Bool
+in_trap trapped [] = trapped
+in_trap trapped (b ∷ blocks) = in_trap (trapped || is_trap (head_key b.head)) blocks
+
+-- what a block begins with is sound, with fewer blocks inside one another than this
+abbrev pub is_head : Declared → List Local → ℕ → Bool → Head → Bool
+is_head declared locals depth trapped (head.If c) = is_condition locals c
+is_head declared locals depth trapped (head.Else c first) = is_condition locals c && are_within declared locals depth trapped first
+is_head declared locals depth trapped (head.Repeat v) = is_number locals v
+is_head declared locals depth trapped (head.Trap x) = is_variable locals x
+
+-- statements and the blocks around them are sound, with fewer blocks inside one another than this
+abbrev pub AreOpen : Declared → List Local → ℕ → Bool → List OpenBlock → List Numbered → Type 0
+AreOpen declared locals depth trapped [] statements = IsTrue (are_within declared locals depth trapped statements)
+AreOpen declared locals zero trapped (b ∷ blocks) statements = ⊥
+AreOpen declared locals (suc depth) trapped (b ∷ blocks) statements =
+    IsTrue (are_within declared locals (suc depth) trapped b.before) × IsTrue (is_head declared locals depth trapped b.head)
+    × AreOpen declared locals depth (trapped || is_trap (head_key b.head)) blocks statements
+
+abbrev pub begins : Role → Bool
+begins Loop = true
+begins If = true
+begins _ = false
+
+abbrev pub begins_block : Key → Bool
+begins_block k = begins (role_of k)
+
+-- the statement of a block: it has the block's lines, and is sound where the block is
+pub record IsWhole (head : Head) (statements : List Numbered) (statement : Statement) : Type 0 where
+  pub lines : (number : ℕ) → lines_of_statement statement number ≡ head_lines number head ++ (statement_lines statements ++ end_line ∷ [])
+  pub sound : (declared : Declared) (locals : List Local) (depth : ℕ) (trapped : Bool) → IsTrue (is_head declared locals depth trapped head) → IsTrue (are_within declared locals depth (trapped || is_trap (head_key head)) statements) →
+      IsTrue (is_nested declared locals trapped (are_within declared locals depth) (out-Statement statement))
+
+-- the innermost block is a statement of what is around it
+pub record ClosesBlock (nest next : Nest) : Type 0 where
+  pub block : OpenBlock
+  pub statement : Statement
+  pub blocks : nest.blocks ≡ next.blocks ++ block ∷ []
+  pub statements : next.statements ≡ block.before ++ (record { line = block.line; statement = statement }) ∷ []
+  pub whole : IsWhole block.head nest.statements statement
+
+-- what an `end` leaves
+abbrev pub IsClosed : Nest → Around → Type 0
+IsClosed nest (around.Block next) = ClosesBlock nest next
+IsClosed nest (around.Body statements) = (nest.blocks ≡ []) × (statements ≡ nest.statements)
+
+-- the innermost block is an `if` whose first part these statements are
+pub record BecomesElse (nest next : Nest) : Type 0 where
+  pub below : List OpenBlock
+  pub before : List Numbered
+  pub line : ℕ
+  pub condition : Condition
+  pub blocks : nest.blocks ≡ below ++ (record { before = before; line = line; head = head.If condition }) ∷ []
+  pub next_blocks : next.blocks ≡ below ++ (record { before = before; line = line; head = head.Else condition nest.statements }) ∷ []
+  pub statements : next.statements ≡ []
+
+-- what an `else` leaves; none where no `if` without one is the innermost block
+abbrev pub TurnsToElse : Nest → Option Nest → Type 0
+TurnsToElse nest next = MatchOption next (step (nest_places nest) Else ≡ None) (BecomesElse nest)
+
+-- a procedure that is open
+abbrev pub open_head : ℕ → OpenProcedure → Marked
+open_head index p = (Some p.line, head_line index p.parameters)
+
+abbrev pub inside_lines : OpenProcedure → List Marked
+inside_lines p = local_lines (length p.parameters) p.locals ++ nest_lines p.nest
+
+abbrev pub counts_in : List (List kinds.Parameter) → OpenProcedure → Counts
+counts_in procedures p = record { procedures = procedures; locals = p.scope; blocks = keys_of_blocks p.nest.blocks }
+
+pub record IsSoundOpen (declared : Declared) (p : OpenProcedure) : Type 0 where
+  pub parameters : IsTrue (list_all is_parameter p.parameters)
+  pub few : length p.parameters ≤ MOST_PARAMETERS
+  pub scope : p.scope ≡ locals_of p.parameters p.locals
+  pub locals : IsTrue (list_all is_local p.scope)
+  pub most : length p.scope ≤ MOST_LOCALS
+  pub nest : AreOpen declared p.scope (suc DEEPEST_BLOCK) false p.nest.blocks p.nest.statements
+
+-- a procedure takes one more local by this line: before its first statement, by its index, and below the limit
+pub record TakesLocal (p : OpenProcedure) (key : Key) (operands : List (Operand Meant)) (local : Local) : Type 0 where
+  pub outside : p.nest.blocks ≡ []
+  pub first : p.nest.statements ≡ []
+  pub line : local_line (length p.scope) local ≡ Line key operands
   pub declared : local_of key operands ≡ Some local
   pub sound : IsTrue (is_local local)
-  pub room : length body.locals < MOST_LOCALS
+  pub room : length p.scope < MOST_LOCALS
 
--- a script takes one more procedure: by its index, and below the limit
-pub record TakesProcedure (procedures : List model.Procedure) (operands : List (Operand Meant)) : Type 0 where
-  pub next : operands ≡ Name (meant.Declared (length procedures)) ∷ []
-  pub room : length procedures < MOST_PROCEDURES
+-- the next local, or none, where a line that fits has no place
+abbrev pub TakesWhereFit : OpenProcedure → Key → List (Operand Meant) → Option Local → Type 0
+TakesWhereFit p key operands result =
+    MatchOption result
+    ((declared : Declared) (procedures : List (List kinds.Parameter)) → IsTrue (fits declared (counts_in procedures p) (Line key operands)) → step (nest_places p.nest) Declaration ≡ None)
+    (TakesLocal p key operands)
 
--- the counts in the body of the procedure that is the n-th
-abbrev pub counts_in : ℕ → Body → Counts
-counts_in n body = record { procedures = n; locals = body.locals }
-
-abbrev pub left_body : Left → Body
-left_body (Inside body) = body
-left_body (Done body) = body
-
+-- what a line of an open procedure leaves: the procedure, open or done
 abbrev pub left_lines : Left → List Marked
-left_lines (Inside body) = body_lines body
-left_lines (Done body) = body_lines body ++ end_line ∷ []
+left_lines (Inside p) = inside_lines p
+left_lines (Done p) = body_lines (length p.parameters) p.body ++ end_line ∷ []
+
+abbrev pub left_head : ℕ → Left → Marked
+left_head index (Inside p) = open_head index p
+left_head index (Done p) = procedure_head index p
 
 abbrev pub left_places : Left → List Open
-left_places (Inside body) = place_in body.statements ∷ []
-left_places (Done body) = []
+left_places (Inside p) = nest_places p.nest
+left_places (Done p) = []
+
+abbrev pub left_parameters : Left → List kinds.Parameter
+left_parameters (Inside p) = p.parameters
+left_parameters (Done p) = p.parameters
+
+abbrev pub left_counts : List (List kinds.Parameter) → Left → Counts
+left_counts procedures (Inside p) = counts_in procedures p
+left_counts procedures (Done p) = record { procedures = procedures; locals = locals_of p.parameters p.body.locals; blocks = [] }
+
+abbrev pub IsSoundLeft : Declared → Left → Type 0
+IsSoundLeft declared (Inside p) = IsSoundOpen declared p
+IsSoundLeft declared (Done p) = IsTrue (is_procedure declared p)
+
+-- an open procedure with one more line
+pub record Adds (declared : Declared) (number : ℕ) (line : Indexed) (p : OpenProcedure) (left : Left) : Type 0 where
+  pub lines : left_lines left ≡ inside_lines p ++ mark number line ∷ []
+  pub head : (index : ℕ) → left_head index left ≡ open_head index p
+  pub parameters : left_parameters left ≡ p.parameters
+  pub sound : IsSoundLeft declared left
+  pub counts : (procedures : List (List kinds.Parameter)) → left_counts procedures left ≡ counts_after (counts_in procedures p) line
+  pub places : step (nest_places p.nest) (role_of_form line) ≡ Some (left_places left)
+
+-- the same, or nothing, where a line that fits has no place
+abbrev pub AddsWhereFit : Declared → ℕ → Indexed → OpenProcedure → Option Left → Type 0
+AddsWhereFit declared number line p next =
+    MatchOption next
+    ((procedures : List (List kinds.Parameter)) → IsTrue (fits declared (counts_in procedures p) line) → step (nest_places p.nest) (role_of_form line) ≡ None)
+    (Adds declared number line p)
+
+-- a parameter as trees have them
+abbrev pub is_parameter_operand : Operand Meant → Bool
+is_parameter_operand (Parameter meant.Parameter kind) = is_parameter kind
+is_parameter_operand _ = false
+
+-- what a line begins that declares the procedure with this index
+abbrev pub is_head_of : ℕ → List (Operand Meant) → Bool
+is_head_of index (Name (meant.Declared name) ∷ operands) =
+    nat_eq name index && (nat_lt index MOST_PROCEDURES && (nat_le (length operands) MOST_PARAMETERS && list_all is_parameter_operand operands))
+is_head_of index _ = false
+
+-- the procedure that a line begins
+abbrev pub IsBegun : ℕ → Indexed → OpenProcedure → Type 0
+IsBegun number line p =
+    p ≡ record {
+      line = number;
+      parameters = parameters_in line;
+      locals = [];
+      scope = map local_of_parameter (parameters_in line);
+      nest = record { blocks = []; statements = [] };
+    }
+
+abbrev pub is_line : Indexed → Bool
+is_line (Line key operands) = true
+is_line _ = false
+
+-- The tree so far.
+abbrev pub lines_where : List model.Procedure → Option OpenProcedure → List Marked
+lines_where procedures None = procedures_lines 0 procedures
+lines_where procedures (Some p) = procedures_lines 0 procedures ++ (open_head (length procedures) p ∷ inside_lines p)
 
 abbrev pub building_lines : Building → List Marked
-building_lines b = procedures_lines 0 b.procedures.items ++ option_map_or (open_lines (length b.procedures.items)) b.open []
+building_lines b = lines_where b.procedures.items b.open
+
+abbrev pub places_where : Option OpenProcedure → List Open
+places_where None = []
+places_where (Some p) = nest_places p.nest
 
 abbrev pub building_places : Building → List Open
-building_places b = option_map_or (λ p. place_in p.body.statements ∷ []) b.open []
+building_places b = places_where b.open
 
 abbrev pub locals_of_last : List model.Procedure → List Local
 locals_of_last [] = []
-locals_of_last (p ∷ []) = p.body.locals
+locals_of_last (p ∷ []) = locals_of p.parameters p.body.locals
 locals_of_last (p ∷ q ∷ ps) = locals_of_last (q ∷ ps)
 
-abbrev pub counts_where : List model.Procedure → Option model.Procedure → Counts
-counts_where procedures None = record { procedures = length procedures; locals = locals_of_last procedures }
-counts_where procedures (Some p) = counts_in (suc (length procedures)) p.body
+abbrev pub counts_where : List model.Procedure → Option OpenProcedure → Counts
+counts_where procedures None = record { procedures = signatures_of procedures; locals = locals_of_last procedures; blocks = [] }
+counts_where procedures (Some p) = counts_in (signatures_of procedures ++ p.parameters ∷ []) p
 
 abbrev pub building_counts : Building → Counts
 building_counts b = counts_where b.procedures.items b.open
 
 -- what stands so far keeps what a script's tree has to keep
-abbrev pub is_sound : ℕ → Building → Bool
-is_sound literals b =
-    list_all (is_plain_procedure literals) b.procedures.items && option_map_or (is_plain_procedure literals) b.open true && nat_le (building_counts b).procedures MOST_PROCEDURES
+abbrev pub IsSoundWhere : Declared → List model.Procedure → Option OpenProcedure → Type 0
+IsSoundWhere declared procedures None = IsTrue (list_all (is_procedure declared) procedures) × (length procedures ≤ MOST_PROCEDURES)
+IsSoundWhere declared procedures (Some p) = IsTrue (list_all (is_procedure declared) procedures) × (length procedures < MOST_PROCEDURES) × IsSoundOpen declared p
+
+pub record IsSound (declared : Declared) (b : Building) : Type 0 where
+  pub stands : IsSoundWhere declared b.procedures.items b.open
+
+-- the tree with one more line
+pub record Grows (declared : Declared) (number : ℕ) (line : Indexed) (b next : Building) : Type 0 where
+  pub lines : building_lines next ≡ building_lines b ++ counted number line
+  pub sound : IsSound declared next
+  pub counts : building_counts next ≡ counts_after (building_counts b) line
+  pub places : after_line (building_places b) (role_of_form line) ≡ Some (building_places next)
+
+-- the same, or nothing, where a line that fits has no place
+abbrev pub GrowsWhereFit : Declared → ℕ → Indexed → Building → Option Building → Type 0
+GrowsWhereFit declared number line b next =
+    MatchOption next
+    (IsTrue (fits declared (building_counts b) line) → after_line (building_places b) (role_of_form line) ≡ None)
+    (Grows declared number line b)

@@ -4,7 +4,6 @@ pub mod Fitting
 pub mod Lent
 pub mod Machine
 pub mod Pieces
-pub mod Plain
 pub mod Reads
 pub mod Stated
 pub mod Typed

@@ -1,17 +1,17 @@
 -- Forms whose operands are of the letters of their keys, as each line's is that is no longer than a script.
-use Rattle.std.specs.Prelude.{ℤ, pos, negsuc, nat_le, nat_lt, List, [], ◌∷◌, Bool, true, false, ◌&&◌, IsTrue}
+use Rattle.std.specs.Prelude.{ℤ, pos, negsuc, nat_le, nat_lt, List, [], ◌∷◌, Bool, true, false, ◌&&◌, IsTrue, length}
 use Rattle.std.specs.List.{list_all, list_any}
 use Rattle.wb_model.specs.declared.limits.TheConstants.{NINE_DIGITS}
 use Rattle.wb_model.specs.declared.script_lines.Letter.{Letter}
 use Rattle.wb_model.specs.declared.script_lines.Operand.{Operand}
-use Rattle.wb_model.specs.declared.script_lines.Operand.TheVariants.{Name, Number, Size, Literal}
+use Rattle.wb_model.specs.declared.script_lines.Operand.TheVariants.{Name, Number, Size, Literal, Parameter, Keyword}
 use Rattle.wb_model.specs.declared.script_lines.Form.{Form}
 use Rattle.wb_model.specs.declared.script_lines.Form.TheVariants.{Line}
 use Rattle.wb_model.specs.declared.script_lines.WordKind.{WordKind}
 use Rattle.wb_model.specs.declared.script_lines.WordKind.TheVariants as word
-use Rattle.wb_model.specs.Keys.{letters_of, word_kinds}
+use Rattle.wb_model.specs.Keys.{letters_for, word_kinds}
 use Rattle.wb_model.specs.Names.{Text}
-use Rattle.wb_model.specs.Sound.{is_literal_text}
+use Rattle.wb_model.specs.Sound.{is_literal_text, is_parameter}
 
 -- at most nine digits
 abbrev pub is_short : ℤ → Bool
@@ -25,6 +25,8 @@ is_word_of (Name name) word.Name = true
 is_word_of (Number z) word.Number = is_short z
 is_word_of (Size n) word.Size = true
 is_word_of (Literal text) word.Literal = is_literal_text text
+is_word_of (Parameter name kind) word.Parameter = is_parameter kind
+is_word_of Keyword (word.Keyword k) = true
 is_word_of _ _ = false
 
 abbrev pub is_operand : Letter → Operand Text → Bool
@@ -36,7 +38,7 @@ are_operands (letter ∷ letters) (operand ∷ operands) = is_operand letter ope
 are_operands _ _ = false
 
 abbrev pub is_typed : Form Text → Bool
-is_typed (Line key operands) = are_operands (letters_of key) operands
+is_typed (Line key operands) = are_operands (letters_for key (length operands)) operands
 is_typed _ = true
 
 abbrev pub AreTyped : List (Form Text) → Type 0

@@ -1,5 +1,6 @@
 //! The checks of names, kinds and limits: one pass over all lines, which also finds what their names stand for.
 
+pub(crate) mod items;
 pub(crate) mod kinds;
 pub(crate) mod known;
 pub(crate) mod limits;
@@ -10,13 +11,15 @@ pub(crate) mod resolved;
 ghost use Rattle.std.specs.Prelude.{◌≡◌, ◌+◌, ◌<◌, ◌≤◌, [], ◌∷◌, ◌++◌, List, length, IfOk, OnOk};
 ghost use Rattle.wb_model.specs.declared.script_lines.Form as model;
 ghost use Rattle.wb_model.specs.Kinds.{has_wrong_kind};
-ghost use Rattle.wb_model.specs.Names.{Text, declares_again, passes_limit, items_of};
+ghost use Rattle.wb_model.specs.Names as space;
+ghost use Rattle.wb_model.specs.Names.{Text, declares_again, names_of, passes_limit};
 ghost use Rattle.wb_model.specs.Resolved.{uses_unknown, resolved_line};
-ghost use Rattle.wb_script.specs.Lent.{lent_form, lent_forms, lent_texts};
+ghost use Rattle.wb_script.specs.Lent.{lent_form, lent_forms, lent_items};
 ghost use Rattle.wb_script.specs.Checks.{known_in, or_here, AreChecked};
 
-use crate::checks::kinds::is_right_line;
-use crate::checks::known::{Known, items_of};
+use crate::checks::items::Item;
+use crate::checks::kinds::has_wrong_kind;
+use crate::checks::known::Known;
 use crate::checks::limits::passes_limit;
 use crate::checks::names::{declares_again, has_unknown};
 use crate::checks::resolved::resolved_line;
@@ -47,23 +50,24 @@ impl FirstLines {
     /// With one more line, by its number: its form, and what its names stand for.
     fn with(
         self,
-        items: &[&[u8]],
+        items: &[Item],
         known: &Known,
         number: u32,
         form: &Form<&[u8]>,
         line: &Form<Meant>,
     ) -> FirstLines
-        requires { line.now ≡ resolved_line (known_in known.now) (lent_form form.now) }
-        ensures unknown_name { result.unknown_name ≡ or_here self.unknown_name number (uses_unknown (known_in known.now) (lent_form form.now)) }
-        ensures double_name { result.double_name ≡ or_here self.double_name number (declares_again (lent_texts items.now) (known_in known.now) (lent_form form.now)) }
-        ensures wrong_kind { result.wrong_kind ≡ or_here self.wrong_kind number (has_wrong_kind (known_in known.now) (lent_form form.now)) }
+        requires { line.now ≡ resolved_line (names_of (lent_items items.now)) (known_in known.now) (lent_form form.now) }
+        ensures unknown_name { result.unknown_name ≡ or_here self.unknown_name number (uses_unknown (names_of (lent_items items.now)) (known_in known.now) (lent_form form.now)) }
+        ensures double_name { result.double_name ≡ or_here self.double_name number (declares_again (names_of (lent_items items.now)) (known_in known.now) (lent_form form.now)) }
+        ensures wrong_kind { result.wrong_kind ≡ or_here self.wrong_kind number (has_wrong_kind (lent_items items.now) (known_in known.now) (lent_form form.now)) }
         ensures too_many { result.too_many ≡ or_here self.too_many number (passes_limit (known_in known.now) (lent_form form.now)) }
     {
         let double = declares_again(items, known, form);
+        let wrong = has_wrong_kind(items, known, form, line);
         FirstLines {
             unknown_name: or_here(self.unknown_name, number, has_unknown(line)),
             double_name: or_here(self.double_name, number, double),
-            wrong_kind: or_here(self.wrong_kind, number, !is_right_line(line)),
+            wrong_kind: or_here(self.wrong_kind, number, wrong),
             too_many: or_here(self.too_many, number, passes_limit(known, form)),
         }
     }
@@ -80,7 +84,7 @@ pub(crate) struct Checked<'a> {
 
 impl<'a> Checked<'a> {
     fn nothing(alloc: Global) -> Checked<'a>
-        ensures checked { (items : List Text) → AreChecked items [] result }
+        ensures checked { (items : List space.Item) → AreChecked items [] result }
         ensures items { result.known.items ≤ length result.lines.items }
         ensures lines { length result.lines.items ≡ 0 }
     {
@@ -96,20 +100,20 @@ impl<'a> Checked<'a> {
         }
     }
 
-    /// Checks one more line of a script with these names in its own space.
+    /// Checks one more line of a script with these items in its own space.
     fn add_line(
         &mut self,
         alloc: Global,
-        items: &[&[u8]],
+        items: &[Item],
         form: &Form<&'a [u8]>,
     ) -> Result<(), AllocError>
         requires few { length self.now.lines.items < LONGEST_SCRIPT }
         requires items { self.now.known.items ≤ length self.now.lines.items }
-        ensures checked { OnOk result ((before : List (model.Form Text)) → AreChecked (lent_texts items.now) before self.old → AreChecked (lent_texts items.now) (before ++ lent_form form.now ∷ []) self.new) }
+        ensures checked { OnOk result ((before : List (model.Form Text)) → AreChecked (lent_items items.now) before self.old → AreChecked (lent_items items.now) (before ++ lent_form form.now ∷ []) self.new) }
         ensures items { OnOk result (self.new.known.items ≤ length self.new.lines.items) }
         ensures lines { OnOk result (length self.new.lines.items ≡ length self.old.lines.items + 1) }
     {
-        let line = resolved_line(alloc, &self.known, form)?;
+        let line = resolved_line(alloc, items, &self.known, form)?;
         let number = self.lines.len() as u32 + 1;
         self.first = self.first.with(items, &self.known, number, form, &line);
         self.known.add_line(form)?;
@@ -121,11 +125,11 @@ impl<'a> Checked<'a> {
 /// What the lines of a script are found to be.
 pub(crate) fn checked_lines<'a>(
     alloc: Global,
-    items: &[&[u8]],
+    items: &[Item],
     forms: &[Form<&'a [u8]>],
 ) -> Result<Checked<'a>, AllocError>
     requires { length forms.now ≤ LONGEST_SCRIPT }
-    ensures { IfOk result (AreChecked (lent_texts items.now) (lent_forms forms.now)) }
+    ensures { IfOk result (AreChecked (lent_items items.now) (lent_forms forms.now)) }
 {
     let mut checked = Checked::nothing(alloc);
     for form in forms {

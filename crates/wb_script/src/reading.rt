@@ -1,20 +1,19 @@
 //! A script from its bytes.
 
-ghost use Rattle.std.specs.Prelude.{◌≡◌, ◌≢◌, ◌≤◌, ◌<◌, ◌^◌, [], length, map, IsTrue, IfOk, IfErr, MatchOption};
+ghost use Rattle.std.specs.Prelude.{◌≡◌, ◌≢◌, ◌≤◌, ◌<◌, ◌^◌, [], length, map, slice_get, true, IsTrue, IfOk, IfErr, MatchOption};
 ghost use Rattle.std.specs.List.{list_all};
 ghost use Rattle.wb_model.specs.Forms.{role_of_form};
 ghost use Rattle.wb_model.specs.Grammar.{IsGrammatical, IsFirstMisfit};
 ghost use Rattle.wb_model.specs.Scripts.{IsPlainText, IsScriptOf, IsFaultOf, IsTreeOf, IsLinesFault};
-ghost use Rattle.wb_model.specs.Sound.{is_script, is_literal_text};
+ghost use Rattle.wb_model.specs.Sound.{is_script, is_entry, is_literal_text};
 ghost use Rattle.wb_model.specs.Trees.{script_lines, counted_from};
 ghost use Rattle.wb_script.specs.Building.{AllFit, counts_of};
-ghost use Rattle.wb_script.specs.Lent.{lent_texts, lent_forms};
+ghost use Rattle.wb_script.specs.Lent.{declared_by, lent_texts, lent_forms};
 ghost use Rattle.wb_script.specs.Reads.{roles_of, IsFormsFault};
 ghost use Rattle.wb_script.specs.Typed.{AreTyped};
 
 use crate::checks::checked_lines;
-use crate::checks::known::items_of;
-use crate::checks::names::place_of;
+use crate::checks::items::{Item, items_of, place_of_item};
 use crate::checks::nesting::first_misfit;
 use crate::lines::bytes::{first_foreign_line, is_too_long};
 use crate::lines::forms::{forms, role};
@@ -68,22 +67,24 @@ fn literals_of(alloc: Global, texts: &[&[u8]]) -> Result<Items<Chars>, AllocErro
 /// The script of lines that have no fault, with these literals and the index of its `main`.
 fn script_of(
     alloc: Global,
+    items: &[Item],
     lines: &[Form<Meant>],
     literals: &[&[u8]],
     main: usize,
 ) -> Result<Script, AllocError>
     requires grammar { IsGrammatical (map role_of_form lines.now) }
-    requires fit { AllFit (length literals.now) lines.now }
+    requires fit { AllFit (declared_by (length literals.now) items.now) lines.now }
+    requires items { (counts_of lines.now).procedures ≡ (declared_by (length literals.now) items.now).signatures }
     requires few { (length literals.now < 2 ^ 32) × (length lines.now ≤ LONGEST_SCRIPT) }
     requires quotable { IsTrue (list_all is_literal_text (lent_texts literals.now)) }
-    requires main { main < (counts_of lines.now).procedures }
+    requires main { is_entry (slice_get (counts_of lines.now).procedures main) ≡ true }
     ensures tree { IfOk result (λ s. script_lines s ≡ counted_from 1 lines.now) }
     ensures literals { IfOk result (λ s. s.literals ≡ lent_texts literals.now) }
     ensures main { IfOk result (λ s. s.main ≡ main) }
     ensures others { IfOk result (λ s. (s.classes ≡ []) × (s.operations ≡ [])) }
     ensures sound { IfOk result (λ s. IsTrue (is_script s)) }
 {
-    let procedures = procedures_of(alloc, literals.len() as u32, lines)?;
+    let procedures = procedures_of(alloc, literals.len() as u32, items, lines)?;
     Ok(Script {
         classes: Items::new(alloc),
         procedures: Items::from_vec(procedures),
@@ -116,13 +117,13 @@ fn checked(alloc: Global, forms: &[Form<&[u8]>]) -> Result<Result<Script, Script
         Some(line) => return Ok(Err(ScriptFault::WrongKind { line })),
         None => {}
     }
-    let Some(main) = place_of(&items, b"main") else {
+    let Some(main) = place_of_item(&items, b"main") else {
         return Ok(Err(ScriptFault::NoMain));
     };
     match found.first.too_many {
         Some(line) => Ok(Err(ScriptFault::TooMany { line })),
         None => {
-            let script = script_of(alloc, &found.lines, &found.known.literals, main)?;
+            let script = script_of(alloc, &items, &found.lines, &found.known.literals, main)?;
             Ok(Ok(script))
         }
     }

@@ -3,6 +3,7 @@ pub mod CommandLineLemmas
 pub mod FaultLemmas
 pub mod Hexadecimal
 pub mod KnownBytesLemmas
+pub mod Folds
 pub mod LevelLemmas
 pub mod MatchesLemmas
 pub mod PassedRows

@@ -9,7 +9,7 @@ use Rattle.wb_model.specs.declared.run.Outcome.TheVariants.{Ended, Panicked, NoC
 use Rattle.wb_model.specs.declared.run.RunResult.{RunResult}
 use Rattle.wb_model.specs.declared.run.Why.TheVariants.{Budget, Ceiling}
 use Rattle.workbench.specs.Report.{fault_line}
-use Rattle.workbench.specs.RunText.{run_text, run_status, outcome_text, outcome_status}
+use Rattle.workbench.specs.RunText.{run_text, run_status, outcome_text, outcome_status, note_line, attempt_line, leak_line}
 
 -- a cell that is never freed
 abbrev forgotten_cell : RunResult
@@ -22,7 +22,7 @@ forgotten_cell = record {
 }
 
 forgotten_cell-text : run_text forgotten_cell ≡ codes "attempt 1 length 144 place 0 granted\nattempt 2 length 32 place 144 granted\nended\nleaks 1\nleak 2 length 32 place 144\nsteps 1\n"
-unfolding digits
+unfolding digits note_line attempt_line leak_line
 forgotten_cell-text = refl
 
 forgotten_cell-status : run_status forgotten_cell ≡ 1
@@ -39,7 +39,7 @@ failed_check = record {
 }
 
 failed_check-text : run_text failed_check ≡ codes "print hello\nprint \nprint -7\nnote heap 2 176 4096\nnote available 3920 3920\nnote compress 0\nattempt 1 length 144 place 0 granted\nattempt 2 length 32 place 144 granted\nattempt 3 length 1048592 place 176 refused\nattempt 4 length 48 place 176 simulated\npanic ALLOC 00000090\nsteps 10\n"
-unfolding digits
+unfolding digits note_line attempt_line leak_line
 failed_check-text = refl
 
 failed_check-status : run_status failed_check ≡ 1
@@ -48,27 +48,27 @@ failed_check-status = refl
 -- ---- the other ends of a run
 
 left-text : outcome_text (Ended (Some (negsuc 3)) []) ≡ codes "left -4\nleaks 0\n"
-unfolding digits
+unfolding digits note_line attempt_line leak_line
 left-text = refl
 
 left_by_zero-text : outcome_text (Ended (Some (pos 0)) []) ≡ codes "left 0\nleaks 0\n"
-unfolding digits
+unfolding digits note_line attempt_line leak_line
 left_by_zero-text = refl
 
 user-text : outcome_text (Panicked (User 42)) ≡ codes "panic USER 42\n"
-unfolding digits
+unfolding digits note_line attempt_line leak_line
 user-text = refl
 
 workbench-text : outcome_text (Panicked (Workbench 7)) ≡ codes "panic WORKBENCH 7\n"
-unfolding digits
+unfolding digits note_line attempt_line leak_line
 workbench-text = refl
 
 lowest_place-text : outcome_text (Panicked (Alloc 0)) ≡ codes "panic ALLOC 00000000\n"
-unfolding digits
+unfolding digits note_line attempt_line leak_line
 lowest_place-text = refl
 
 highest_place-text : outcome_text (Panicked (Alloc 4294967295)) ≡ codes "panic ALLOC ffffffff\n"
-unfolding digits
+unfolding digits note_line attempt_line leak_line
 highest_place-text = refl
 
 no_cleanup-text : outcome_text NoCleanup ≡ codes "nocleanup\n"
@@ -87,37 +87,37 @@ statuses = (refl, refl, refl, refl)
 -- ---- refused scripts
 
 too_long-line : fault_line F.TooLong ≡ codes "refused 1\n"
-unfolding digits
+unfolding digits note_line attempt_line leak_line
 too_long-line = refl
 
 not_ascii-line : fault_line (F.NotAscii 2) ≡ codes "refused 2 line 2\n"
-unfolding digits
+unfolding digits note_line attempt_line leak_line
 not_ascii-line = refl
 
 grammar-line : fault_line (F.Grammar 11) ≡ codes "refused 3 line 11\n"
-unfolding digits
+unfolding digits note_line attempt_line leak_line
 grammar-line = refl
 
 unknown_name-line : fault_line (F.UnknownName 65536) ≡ codes "refused 4 line 65536\n"
-unfolding digits
+unfolding digits note_line attempt_line leak_line
 unknown_name-line = refl
 
 double_name-line : fault_line (F.DoubleName 1) ≡ codes "refused 5 line 1\n"
-unfolding digits
+unfolding digits note_line attempt_line leak_line
 double_name-line = refl
 
 wrong_kind-line : fault_line (F.WrongKind 1) ≡ codes "refused 6 line 1\n"
-unfolding digits
+unfolding digits note_line attempt_line leak_line
 wrong_kind-line = refl
 
 may_leave-line : fault_line (F.MayLeave 1) ≡ codes "refused 7 line 1\n"
-unfolding digits
+unfolding digits note_line attempt_line leak_line
 may_leave-line = refl
 
 no_main-line : fault_line F.NoMain ≡ codes "refused 8\n"
-unfolding digits
+unfolding digits note_line attempt_line leak_line
 no_main-line = refl
 
 too_many-line : fault_line (F.TooMany 1) ≡ codes "refused 9 line 1\n"
-unfolding digits
+unfolding digits note_line attempt_line leak_line
 too_many-line = refl

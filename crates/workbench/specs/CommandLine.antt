@@ -5,6 +5,8 @@ use Rattle.clap.specs.Simple.{Shape, built_leaf}
 use Rattle.clap.specs.declared.builder.value_parser.ValueParser.TheVariants.{Signed}
 use Rattle.wb_model.specs.declared.limits.TheConstants.{CEILING, LARGEST_BUDGET, LARGEST_MINIMUM, LARGEST_STEP, SMALLEST_STEP}
 use Rattle.workbench.specs.Subcommands.{Subcommand, subcommands}
+use Rattle.workbench.specs.declared.command_line.Level.{Level}
+use Rattle.workbench.specs.declared.command_line.NumberOption.{NumberOption}
 
 -- `--NAME N`, where N is a number from the least to the most
 abbrev pub number_option : Text → ℕ → ℕ → Rule
@@ -60,3 +62,17 @@ bare_line = let line = new_app (codes "workbench") in record line { top = record
 
 abbrev pub command_line : App
 command_line = fold (λ line s. with_subcommand line (subcommand_line s.name s.takes_rule).top) bare_line subcommands
+
+-- the option that an entry of code stands for
+abbrev pub option_rule : NumberOption → Rule
+option_rule option = number_option option.name.now option.least option.most
+
+abbrev pub with_option : App → NumberOption → App
+with_option line option = with_rule line (option_rule option)
+
+-- the subcommand that an entry of code stands for
+abbrev pub line_of : Level → App
+line_of level = subcommand_line level.name.now level.takes_rule
+
+abbrev pub with_level : App → Level → App
+with_level above level = with_subcommand above (line_of level).top

@@ -28,7 +28,7 @@ eight_digits n = replicate (8 - length (digits 16 false n)) 48 ++ digits 16 fals
 abbrev pub print_line : List ℕ → List ℕ
 print_line text = line (codes "print " ++ text)
 
-abbrev pub note_line : Note → List ℕ
+unfoldable pub note_line : Note → List ℕ
 note_line (Heap count total committed) = line (codes "note heap " ++ decimal count ++ codes " " ++ decimal total ++ codes " " ++ decimal committed)
 note_line (Available total longest) = line (codes "note available " ++ decimal total ++ codes " " ++ decimal longest)
 note_line (Compress reclaimed) = line (codes "note compress " ++ decimal reclaimed)
@@ -38,10 +38,10 @@ answer_word Granted = codes "granted"
 answer_word Simulated = codes "simulated"
 answer_word Refused = codes "refused"
 
-abbrev pub attempt_line : Attempt → List ℕ
+unfoldable pub attempt_line : Attempt → List ℕ
 attempt_line a = line (codes "attempt " ++ decimal a.number ++ codes " length " ++ decimal a.length ++ codes " place " ++ decimal a.place ++ codes " " ++ answer_word a.answer)
 
-abbrev pub leak_line : Leak → List ℕ
+unfoldable pub leak_line : Leak → List ℕ
 leak_line l = line (codes "leak " ++ decimal l.number ++ codes " length " ++ decimal l.length ++ codes " place " ++ decimal l.place)
 
 abbrev pub leaks_text : List Leak → List ℕ

@@ -1,13 +1,13 @@
 //! How the words of a command line are read: `workbench run [--limit L | --fail N] [--budget B] [--min M]
 //! [--step G] [FILE]`, and the same without a limit or a number after `size`, `sweep` and `check`. Nothing is
 //! opened or run here.
-ghost use Rattle.std.specs.Prelude.{◌≡◌, ◌≤◌, All, IfErr, IfOk, IsSome, IsTrue, List, Some, OnErr, OnOk, codes, false, map, pos, true};
+ghost use Rattle.std.specs.Prelude.{◌≡◌, ◌≤◌, All, IfErr, IfOk, IsSome, IsTrue, List, Some, OnErr, OnOk, codes, false, fold, map, pos, true};
 ghost use Rattle.std.specs.Str.{IsUtf8};
 ghost use Rattle.clap.specs.Words.{Text, app_of, first_of, found_of, new_app, rows_of, rule_of, takes, with_rule, with_subcommand};
 ghost use Rattle.clap.specs.declared.builder.command.Command.TheViews.{out-Command as fields_of};
 ghost use Rattle.wb_model.specs.Space.{is_shape};
 ghost use Rattle.workbench.specs.Command.{is_answerable, is_in_range, is_sixteenfold};
-ghost use Rattle.workbench.specs.CommandLine.{command_line, file_argument, number_option, rule_options, run_level, shared_options, with_rules};
+ghost use Rattle.workbench.specs.CommandLine.{command_line, file_argument, line_of, option_rule, rule_options, run_level, shared_options, with_level, with_option, with_rules};
 ghost use Rattle.workbench.specs.Fault.{IsAfterUsage, IsFaultOf};
 ghost use Rattle.workbench.specs.Passed.{RowsPass};
 ghost use Rattle.workbench.specs.Spelled.{IsSpelledBy, budget_of as spelled_budget, doubles, gives_both, rule_of as spelled_rule, shape_of as spelled_shape, task_of};
@@ -169,61 +169,124 @@ impl NumberHelp {
     }
 }
 
+/// A subcommand, and what its help says of it.
+#[derive(Clone, Copy)]
+struct Level {
+    name: &'static str,
+    about: &'static str,
+    takes_rule: bool,
+}
+
+/// An option that takes a number, and what its help says of it.
+#[derive(Clone, Copy)]
+struct NumberOption<'a> {
+    name: &'a str,
+    value: &'a str,
+    least: u32,
+    most: u32,
+    help: &'a str,
+}
+
 /// The words that `clap` is to read.
 fn parser<'a>(alloc: Global, help: &'a NumberHelp) -> Result<clap::Command<'a>, AllocError>
     ensures { IfOk result (λ line. app_of line ≡ command_line) }
 {
-    let run = on_a_script(alloc, "run", "Runs a script once and reports")?;
-    let run = with_rule_options(alloc, run, help)?;
-    let size = on_a_script(
-        alloc,
-        "size",
-        "Finds how long the heap must be, and what shorter heaps refuse",
-    )?;
-    let sweep = on_a_script(
-        alloc,
-        "sweep",
-        "Finds the first attempt whose failure leaks or panics",
-    )?;
-    let check = on_a_script(
-        alloc,
-        "check",
-        "Does what size does, and then what sweep does",
-    )?;
     let line = clap::Command::new(alloc, "workbench")
         .about("Runs scripts against a simulated heap that may refuse")
         .subcommand_required(true);
-    let line = with_level(line, with_shared_options(alloc, run, help)?)?;
-    let line = with_level(line, with_shared_options(alloc, size, help)?)?;
-    let line = with_level(line, with_shared_options(alloc, sweep, help)?)?;
-    with_level(line, with_shared_options(alloc, check, help)?)
+    with_levels(
+        alloc,
+        line,
+        &[
+            Level {
+                name: "run",
+                about: "Runs a script once and reports",
+                takes_rule: true,
+            },
+            Level {
+                name: "size",
+                about: "Finds how long the heap must be, and what shorter heaps refuse",
+                takes_rule: false,
+            },
+            Level {
+                name: "sweep",
+                about: "Finds the first attempt whose failure leaks or panics",
+                takes_rule: false,
+            },
+            Level {
+                name: "check",
+                about: "Does what size does, and then what sweep does",
+                takes_rule: false,
+            },
+        ],
+        help,
+    )
 }
 
-/// A subcommand that takes a script's file, as yet without options.
-fn on_a_script<'a>(
+/// The command line with further subcommands.
+fn with_levels<'a>(
     alloc: Global,
-    name: &'a str,
-    about: &'a str,
+    line: clap::Command<'a>,
+    levels: &[Level],
+    help: &'a NumberHelp,
 ) -> Result<clap::Command<'a>, AllocError>
-    ensures words { IfOk result (λ line. app_of line ≡ with_rule (new_app name.entry.now) file_argument) }
+    ensures { IfOk result (λ more. app_of more ≡ fold with_level (app_of line.entry) levels.now) }
+{
+    let mut line = line;
+    for level in levels {
+        line = with_level(line, subcommand(alloc, level, help)?)?;
+    }
+    Ok(line)
+}
+
+/// A subcommand that takes a script's file and options.
+fn subcommand<'a>(
+    alloc: Global,
+    level: &Level,
+    help: &'a NumberHelp,
+) -> Result<clap::Command<'a>, AllocError>
+    ensures words { IfOk result (λ line. app_of line ≡ line_of level.now) }
     ensures own { IfOk result (λ line. (fields_of line).has_globals ≡ false) }
 {
-    let line = clap::Command::new(alloc, name).about(about);
-    with_argument(line, file(alloc))
+    let line = clap::Command::new(alloc, level.name).about(level.about);
+    let line = with_argument(line, file(alloc))?;
+    let line = with_rule_options(alloc, line, level.takes_rule, help)?;
+    with_shared_options(alloc, line, help)
 }
 
-/// The subcommand with the options that give a rule.
+/// The subcommand with the options that give a rule, if it takes one.
 fn with_rule_options<'a>(
     alloc: Global,
     line: clap::Command<'a>,
+    takes_rule: bool,
     help: &'a NumberHelp,
 ) -> Result<clap::Command<'a>, AllocError>
-    ensures added { IfOk result (λ more. app_of more ≡ with_rules (app_of line.entry) (rule_options true)) }
+    ensures added { IfOk result (λ more. app_of more ≡ with_rules (app_of line.entry) (rule_options takes_rule)) }
     ensures own { IfOk result (λ more. (fields_of more).has_globals ≡ (fields_of line.entry).has_globals) }
 {
-    let limit = number(alloc, "limit", "L", 0, CEILING).help(help.limit.as_str());
-    let fail = number(alloc, "fail", "N", 0, CEILING).help(help.fail.as_str());
-    with_argument(with_argument(line, limit)?, fail)
+    if !takes_rule {
+        return Ok(line);
+    }
+    with_numbers(
+        alloc,
+        line,
+        &[
+            NumberOption {
+                name: "limit",
+                value: "L",
+                least: 0,
+                most: CEILING,
+                help: help.limit.as_str(),
+            },
+            NumberOption {
+                name: "fail",
+                value: "N",
+                least: 0,
+                most: CEILING,
+                help: help.fail.as_str(),
+            },
+        ],
+    )
 }
 
 /// The subcommand with the options that all of them have.
@@ -235,12 +298,49 @@ fn with_shared_options<'a>(
     ensures added { IfOk result (λ more. app_of more ≡ with_rules (app_of line.entry) shared_options) }
     ensures own { IfOk result (λ more. (fields_of more).has_globals ≡ (fields_of line.entry).has_globals) }
 {
-    let budget = number(alloc, "budget", "B", 1, LARGEST_BUDGET).help(help.budget.as_str());
-    let min = number(alloc, "min", "M", 0, LARGEST_MINIMUM).help(help.min.as_str());
-    let step = number(alloc, "step", "G", SMALLEST_STEP, LARGEST_STEP).help(help.step.as_str());
-    let line = with_argument(line, budget)?;
-    let line = with_argument(line, min)?;
-    with_argument(line, step)
+    with_numbers(
+        alloc,
+        line,
+        &[
+            NumberOption {
+                name: "budget",
+                value: "B",
+                least: 1,
+                most: LARGEST_BUDGET,
+                help: help.budget.as_str(),
+            },
+            NumberOption {
+                name: "min",
+                value: "M",
+                least: 0,
+                most: LARGEST_MINIMUM,
+                help: help.min.as_str(),
+            },
+            NumberOption {
+                name: "step",
+                value: "G",
+                least: SMALLEST_STEP,
+                most: LARGEST_STEP,
+                help: help.step.as_str(),
+            },
+        ],
+    )
+}
+
+/// The subcommand with further options.
+fn with_numbers<'a>(
+    alloc: Global,
+    line: clap::Command<'a>,
+    options: &[NumberOption<'a>],
+) -> Result<clap::Command<'a>, AllocError>
+    ensures added { IfOk result (λ more. app_of more ≡ fold with_option (app_of line.entry) options.now) }
+    ensures own { IfOk result (λ more. (fields_of more).has_globals ≡ (fields_of line.entry).has_globals) }
+{
+    let mut line = line;
+    for option in options {
+        line = with_argument(line, number(alloc, option))?;
+    }
+    Ok(line)
 }
 
 /// The command line with one subcommand more.
@@ -277,14 +377,15 @@ fn with_argument<'a>(
 }
 
 /// An option that takes a decimal number in a range.
-fn number<'a>(alloc: Global, name: &'a str, value: &'a str, least: u32, most: u32) -> Arg<'a>
-    ensures rule { rule_of result ≡ number_option name.entry.now least most }
+fn number<'a>(alloc: Global, option: &NumberOption<'a>) -> Arg<'a>
+    ensures rule { rule_of result ≡ option_rule option.now }
     ensures own { result.global ≡ false }
 {
-    Arg::new(alloc, name)
-        .long(name)
-        .value_name(value)
-        .value_parser(between(least, most))
+    Arg::new(alloc, option.name)
+        .long(option.name)
+        .value_name(option.value)
+        .value_parser(between(option.least, option.most))
+        .help(option.help)
 }
 
 /// What takes the decimal numbers of a range.

@@ -50,6 +50,7 @@ fn put_notes(text: &mut Vec<u8>, notes: &Notes) -> Result<(), NoMemory>
     Ok(())
 }
 
+#[tactic(auto, unfolding(crate::specs::RunText::note_line))]
 fn put_note(text: &mut Vec<u8>, note: Note) -> Result<(), NoMemory>
     ensures { OnOk result (text.new.items ≡ text.old.items ++ note_line note) }
 {
@@ -72,6 +73,7 @@ fn put_trace(text: &mut Vec<u8>, trace: &Trace) -> Result<(), NoMemory>
     Ok(())
 }
 
+#[tactic(auto, unfolding(crate::specs::RunText::attempt_line))]
 fn put_attempt(text: &mut Vec<u8>, attempt: Attempt) -> Result<(), NoMemory>
     ensures { OnOk result (text.new.items ≡ text.old.items ++ attempt_line attempt) }
 {
@@ -139,6 +141,7 @@ fn put_leaks(text: &mut Vec<u8>, leaks: &Leaks) -> Result<(), NoMemory>
     Ok(())
 }
 
+#[tactic(auto, unfolding(crate::specs::RunText::leak_line))]
 fn put_leak(text: &mut Vec<u8>, leak: Leak) -> Result<(), NoMemory>
     ensures { OnOk result (text.new.items ≡ text.old.items ++ leak_line leak) }
 {

@@ -1,14 +1,15 @@
 //! What the lines of a script declare.
 
-ghost use Rattle.std.specs.Prelude.{◌≡◌, ◌+◌, ◌≤◌, ◌<◌, ◌^◌, [], ◌++◌, IfOk, OnOk};
+ghost use Rattle.std.specs.Prelude.{◌≡◌, ◌+◌, ◌≤◌, ◌<◌, ◌^◌, [], ◌++◌, length, map, IfOk, OnOk};
 ghost use Rattle.std.specs.Option.{option_map, option_to_list};
 ghost use Rattle.std.specs.List.{flat_map};
-ghost use Rattle.wb_model.specs.Names.{first_name, literal_text, literals_in, with_one, kind_declared, kind_in, items_of, known_after, nothing_known};
+ghost use Rattle.wb_model.specs.Names.{first_name, key_in, kind_of_parameter, kind_passed, name_passed, parameter_names, parameters_in, literal_text, literals_in, with_one, kind_declared, kind_in, known_after, nothing_known};
 ghost use Rattle.wb_script.specs.Lent.{lent_text, lent_texts, lent_operands, lent_form, lent_forms};
 ghost use Rattle.wb_script.specs.Checks.{known_in};
 
 use crate::lines::forms::role;
 use std::alloc::{AllocError, Global};
+use wb_model::script::Parameter;
 use wb_model::script_lines::{Form, Key, Kind, Operand, Role};
 
 /// The name that the first word of a line spells.
@@ -22,26 +23,6 @@ pub(crate) fn first_name<'a>(form: &Form<&'a [u8]>) -> Option<&'a [u8]>
         },
         _ => None,
     }
-}
-
-/// The names of the script's own space, from all its lines.
-pub(crate) fn items_of<'a>(
-    alloc: Global,
-    forms: &[Form<&'a [u8]>],
-) -> Result<Vec<&'a [u8]>, AllocError>
-    ensures { IfOk result (λ items. lent_texts items.items ≡ items_of (lent_forms forms.now)) }
-{
-    let mut items = Vec::new(alloc);
-    for form in forms {
-        match role(form) {
-            Role::Procedure => match first_name(form) {
-                Some(name) => items.push(name)?,
-                None => {}
-            },
-            _ => {}
-        }
-    }
-    Ok(items)
 }
 
 /// What the local holds that a line of a key declares.
@@ -82,14 +63,25 @@ fn add_literals<'a>(
     Ok(())
 }
 
-/// What stands before a line: how many items of the script's own space, the literals, and the locals of the body that
-/// is open or was the last, each with what it holds.
+/// What a parameter holds.
+fn kind_of_parameter(parameter: Parameter) -> Kind
+    ensures { result ≡ kind_of_parameter parameter }
+{
+    match parameter {
+        Parameter::OfPointer(_) => Kind::Pointer,
+        Parameter::OfNumber => Kind::Number,
+    }
+}
+
+/// What stands before a line: how many items of the script's own space, the literals, the locals of the body that is
+/// open or was the last, its parameters first, each with what it holds, and the keys of the blocks that are open.
 #[derive(Drop)]
 pub(crate) struct Known<'a> {
     pub items: usize,
     pub literals: Vec<&'a [u8]>,
     pub locals: Vec<&'a [u8]>,
     pub kinds: Vec<Kind>,
+    pub blocks: Vec<Key>,
 }
 
 impl<'a> Known<'a> {
@@ -102,6 +94,49 @@ impl<'a> Known<'a> {
             literals: Vec::new(alloc),
             locals: Vec::new(alloc),
             kinds: Vec::new(alloc),
+            blocks: Vec::new(alloc),
+        }
+    }
+
+    /// Takes in the parameters among operands.
+    fn add_parameters(&mut self, operands: &[Operand<&'a [u8]>]) -> Result<(), AllocError>
+        ensures names { OnOk result (lent_texts self.new.locals.items ≡ lent_texts self.old.locals.items ++ flat_map name_passed (lent_operands operands.now)) }
+        ensures kinds { OnOk result (self.new.kinds.items ≡ self.old.kinds.items ++ map kind_of_parameter (flat_map kind_passed (lent_operands operands.now))) }
+        ensures others { (self.new.items ≡ self.old.items) × (self.new.literals ≡ self.old.literals) × (self.new.blocks ≡ self.old.blocks) }
+    {
+        for operand in operands {
+            match operand {
+                Operand::Parameter(name, parameter) => {
+                    self.locals.push(*name)?;
+                    self.kinds.push(kind_of_parameter(*parameter))?;
+                }
+                _ => {}
+            }
+        }
+        Ok(())
+    }
+
+    /// Begins a body: its parameters are its first locals, and no block is open.
+    fn begin(&mut self, form: &Form<&'a [u8]>) -> Result<(), AllocError>
+        requires { self.now.items < 2 ^ 32 }
+        ensures known { OnOk result (known_in self.new ≡ record (known_in self.old) {
+          items = (known_in self.old).items + length (first_name (lent_form form.now));
+          locals = parameter_names (lent_form form.now);
+          kinds = map kind_of_parameter (parameters_in (lent_form form.now));
+          blocks = [];
+        }) }
+        ensures literals { self.new.literals ≡ self.old.literals }
+        ensures items { self.new.items ≤ self.old.items + 1 }
+    {
+        if first_name(form).is_some() {
+            self.items += 1;
+        }
+        self.locals.clear();
+        self.kinds.clear();
+        self.blocks.clear();
+        match form {
+            Form::Line(_, operands) => self.add_parameters(operands.as_slice()),
+            _ => Ok(()),
         }
     }
 
@@ -109,7 +144,7 @@ impl<'a> Known<'a> {
     fn add_local(&mut self, form: &Form<&'a [u8]>) -> Result<(), AllocError>
         ensures names { OnOk result (lent_texts self.new.locals.items ≡ lent_texts self.old.locals.items ++ first_name (lent_form form.now)) }
         ensures kinds { OnOk result (self.new.kinds.items ≡ with_one self.old.kinds.items (kind_in (lent_form form.now))) }
-        ensures others { (self.new.items ≡ self.old.items) × (self.new.literals ≡ self.old.literals) }
+        ensures others { (self.new.items ≡ self.old.items) × (self.new.literals ≡ self.old.literals) × (self.new.blocks ≡ self.old.blocks) }
     {
         match first_name(form) {
             Some(name) => self.locals.push(name)?,
@@ -122,10 +157,22 @@ impl<'a> Known<'a> {
         Ok(())
     }
 
+    /// Takes in the block that a line begins.
+    fn add_block(&mut self, form: &Form<&'a [u8]>) -> Result<(), AllocError>
+        ensures blocks { OnOk result (self.new.blocks.items ≡ self.old.blocks.items ++ key_in form.now) }
+        ensures others { (self.new.items ≡ self.old.items) × (self.new.literals ≡ self.old.literals) × (self.new.locals ≡ self.old.locals) × (self.new.kinds ≡ self.old.kinds) }
+    {
+        match form {
+            Form::Line(key, _) => self.blocks.push(*key)?,
+            _ => {}
+        }
+        Ok(())
+    }
+
     /// Takes in the literals of one more line.
     fn add_literals(&mut self, form: &Form<&'a [u8]>) -> Result<(), AllocError>
         ensures literals { OnOk result (lent_texts self.new.literals.items ≡ lent_texts self.old.literals.items ++ literals_in (lent_form form.now)) }
-        ensures others { (self.new.items ≡ self.old.items) × (self.new.locals ≡ self.old.locals) × (self.new.kinds ≡ self.old.kinds) }
+        ensures others { (self.new.items ≡ self.old.items) × (self.new.locals ≡ self.old.locals) × (self.new.kinds ≡ self.old.kinds) × (self.new.blocks ≡ self.old.blocks) }
     {
         match form {
             Form::Line(_, operands) => add_literals(&mut self.literals, operands.as_slice()),
@@ -142,15 +189,13 @@ impl<'a> Known<'a> {
     {
         self.add_literals(form)?;
         match role(form) {
-            Role::Procedure => {
-                if first_name(form).is_some() {
-                    self.items += 1;
-                }
-                self.locals.clear();
-                self.kinds.clear();
+            Role::Procedure => self.begin(form),
+            Role::Declaration => self.add_local(form),
+            Role::Loop | Role::If => self.add_block(form),
+            Role::End => {
+                self.blocks.pop();
                 Ok(())
             }
-            Role::Declaration => self.add_local(form),
             _ => Ok(()),
         }
     }

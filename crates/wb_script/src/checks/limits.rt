@@ -1,14 +1,16 @@
 //! The limits of names and declarations.
 
-ghost use Rattle.std.specs.Prelude.{◌≡◌};
-ghost use Rattle.std.specs.List.{list_any};
-ghost use Rattle.wb_model.specs.Names.{has_long_name, is_large, is_long, is_one_more, passes_limit};
+ghost use Rattle.std.specs.Prelude.{◌≡◌, length};
+ghost use Rattle.std.specs.List.{flat_map, list_any};
+ghost use Rattle.wb_model.specs.Names.{has_more_parameters, kind_passed, has_long_name, is_large, is_long, is_one_more, passes_limit};
 ghost use Rattle.wb_script.specs.Checks.{known_in};
 ghost use Rattle.wb_script.specs.Lent.{lent_operand, lent_operands, lent_form};
 
 use crate::checks::known::Known;
 use crate::lines::forms::role;
-use wb_model::limits::{LARGEST_BUFFER, LONGEST_NAME, MOST_LOCALS, MOST_PROCEDURES};
+use wb_model::limits::{
+    DEEPEST_BLOCK, LARGEST_BUFFER, LONGEST_NAME, MOST_LOCALS, MOST_PARAMETERS, MOST_PROCEDURES,
+};
 use wb_model::script_lines::{Form, Key, Operand, Role};
 
 fn is_long(operand: &Operand<&[u8]>) -> bool
@@ -16,6 +18,7 @@ fn is_long(operand: &Operand<&[u8]>) -> bool
 {
     match operand {
         Operand::Name(name) => name.len() > LONGEST_NAME as usize,
+        Operand::Parameter(name, _) => name.len() > LONGEST_NAME as usize,
         _ => false,
     }
 }
@@ -54,13 +57,39 @@ fn is_large(form: &Form<&[u8]>) -> bool
     }
 }
 
-/// Whether a line of this role declares one more than there may be.
+/// How many parameters stand among operands.
+fn parameter_count(operands: &[Operand<&[u8]>]) -> usize
+    ensures { result ≡ length (flat_map kind_passed (lent_operands operands.now)) }
+{
+    let mut count = 0;
+    for operand in operands {
+        if matches!(operand, Operand::Parameter(..)) {
+            count += 1;
+        }
+    }
+    count
+}
+
+/// Whether a line declares more parameters than a procedure may have.
+fn has_more_parameters(form: &Form<&[u8]>) -> bool
+    ensures { result ≡ has_more_parameters (lent_form form.now) }
+{
+    match form {
+        Form::Line(_, operands) => {
+            parameter_count(operands.as_slice()) > MOST_PARAMETERS as usize
+        }
+        _ => false,
+    }
+}
+
+/// Whether a line of this role declares or begins one more than there may be.
 fn is_one_more(role: Role, known: &Known) -> bool
     ensures { result ≡ is_one_more role (known_in known.now) }
 {
     match role {
         Role::Procedure => known.items >= MOST_PROCEDURES as usize,
         Role::Declaration => known.locals.len() >= MOST_LOCALS as usize,
+        Role::Loop | Role::If => known.blocks.len() >= DEEPEST_BLOCK as usize,
         _ => false,
     }
 }
@@ -69,5 +98,8 @@ fn is_one_more(role: Role, known: &Known) -> bool
 pub(crate) fn passes_limit(known: &Known, form: &Form<&[u8]>) -> bool
     ensures { result ≡ passes_limit (known_in known.now) (lent_form form.now) }
 {
-    has_long_name(form) || is_one_more(role(form), known) || is_large(form)
+    has_long_name(form)
+        || has_more_parameters(form)
+        || is_one_more(role(form), known)
+        || is_large(form)
 }

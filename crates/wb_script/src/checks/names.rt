@@ -1,12 +1,13 @@
 //! Names among those that are declared.
 
 ghost use Rattle.std.specs.Prelude.{◌≡◌};
-ghost use Rattle.std.specs.List.{list_any};
-ghost use Rattle.wb_model.specs.Names.{first_declaration_of, is_item_before, stands_declared, declares_again};
+ghost use Rattle.std.specs.List.{flat_map, list_any};
+ghost use Rattle.wb_model.specs.Names.{first_declaration_of, is_among, is_item_before, has_double, name_passed, names_of, parameter_names, stands_declared, declares_again};
 ghost use Rattle.wb_model.specs.Resolved.{means_nothing, has_unknown};
 ghost use Rattle.wb_script.specs.Checks.{known_in};
-ghost use Rattle.wb_script.specs.Lent.{lent_texts, lent_form};
+ghost use Rattle.wb_script.specs.Lent.{lent_texts, lent_operands, lent_form, lent_items};
 
+use crate::checks::items::{Item, place_of_item};
 use crate::checks::known::{Known, first_name};
 use crate::lines::forms::role;
 use wb_model::script_lines::{Form, Meant, Operand, Role};
@@ -24,18 +25,18 @@ pub(crate) fn place_of(names: &[&[u8]], name: &[u8]) -> Option<usize>
 }
 
 /// Whether a name is that of one of the first items of the script's own space.
-fn is_item_before(items: &[&[u8]], before: usize, name: &[u8]) -> bool
-    ensures { result ≡ is_item_before (lent_texts items.now) before name.now }
+fn is_item_before(items: &[Item], before: usize, name: &[u8]) -> bool
+    ensures { result ≡ is_item_before (names_of (lent_items items.now)) before name.now }
 {
-    match place_of(items, name) {
+    match place_of_item(items, name) {
         Some(index) => index < before,
         None => false,
     }
 }
 
 /// Whether a name stands declared in the space of a line of this role.
-fn stands_declared(items: &[&[u8]], known: &Known, role: Role, name: &[u8]) -> bool
-    ensures { result ≡ stands_declared (lent_texts items.now) (known_in known.now) role name.now }
+fn stands_declared(items: &[Item], known: &Known, role: Role, name: &[u8]) -> bool
+    ensures { result ≡ stands_declared (names_of (lent_items items.now)) (known_in known.now) role name.now }
 {
     match role {
         Role::Procedure => is_item_before(items, known.items, name),
@@ -44,14 +45,59 @@ fn stands_declared(items: &[&[u8]], known: &Known, role: Role, name: &[u8]) -> b
     }
 }
 
-/// Whether a line declares a name which stands declared in its space.
-pub(crate) fn declares_again(items: &[&[u8]], known: &Known, form: &Form<&[u8]>) -> bool
-    ensures { result ≡ declares_again (lent_texts items.now) (known_in known.now) (lent_form form.now) }
+/// Whether a parameter among operands has this name.
+fn is_parameter(operands: &[Operand<&[u8]>], name: &[u8]) -> bool
+    ensures { result ≡ is_among (flat_map name_passed (lent_operands operands.now)) name.now }
 {
-    match first_name(form) {
+    for operand in operands {
+        match operand {
+            Operand::Parameter(other, _) => {
+                if *other == name {
+                    return true;
+                }
+            }
+            _ => {}
+        }
+    }
+    false
+}
+
+/// Whether two parameters among operands have one name.
+fn has_double(operands: &[Operand<&[u8]>]) -> bool
+    ensures { result ≡ has_double (flat_map name_passed (lent_operands operands.now)) }
+{
+    for (index, operand) in operands.iter().enumerate() {
+        match operand {
+            Operand::Parameter(name, _) => {
+                if is_parameter(&operands[index + 1..], name) {
+                    return true;
+                }
+            }
+            _ => {}
+        }
+    }
+    false
+}
+
+/// Whether a line declares two parameters with one name.
+fn has_double_parameter(form: &Form<&[u8]>) -> bool
+    ensures { result ≡ has_double (parameter_names (lent_form form.now)) }
+{
+    match form {
+        Form::Line(_, operands) => has_double(operands.as_slice()),
+        _ => false,
+    }
+}
+
+/// Whether a line declares a name which stands declared in its space, or two parameters with one name.
+pub(crate) fn declares_again(items: &[Item], known: &Known, form: &Form<&[u8]>) -> bool
+    ensures { result ≡ declares_again (names_of (lent_items items.now)) (known_in known.now) (lent_form form.now) }
+{
+    let again = match first_name(form) {
         Some(name) => stands_declared(items, known, role(form), name),
         None => false,
-    }
+    };
+    again || has_double_parameter(form)
 }
 
 fn means_nothing(operand: &Operand<Meant>) -> bool

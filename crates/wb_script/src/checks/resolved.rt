@@ -1,17 +1,19 @@
 //! A line of a script with what its names and literals stand for.
 
-ghost use Rattle.std.specs.Prelude.{◌≡◌, IfOk};
-ghost use Rattle.wb_model.specs.Names.{first_declaration_of};
-ghost use Rattle.wb_model.specs.Resolved.{local_meant, meant_at, name_meant, resolved_operand, resolved_operands, resolved_line};
-ghost use Rattle.wb_script.specs.Lent.{lent_operand, lent_operands, lent_form};
+ghost use Rattle.std.specs.Prelude.{◌≡◌, length, IfOk};
+ghost use Rattle.wb_model.specs.Keys.{letters_for, role_of};
+ghost use Rattle.wb_model.specs.Names.{first_declaration_of, names_of};
+ghost use Rattle.wb_model.specs.Resolved.{local_meant, meant_at, item_meant, name_meant, resolved_operand, resolved_operands, resolved_line};
+ghost use Rattle.wb_script.specs.Lent.{lent_operand, lent_operands, lent_form, lent_items};
 ghost use Rattle.wb_script.specs.Checks.{known_in};
 
+use crate::checks::items::{Item, place_of_item};
 use crate::checks::known::Known;
 use crate::checks::names::place_of;
-use crate::lines::keys::{letters_of, role_of};
+use crate::lines::keys::{Letters, role_of};
 use std::alloc::{AllocError, Global};
 use wb_model::items::Items;
-use wb_model::script_lines::{Form, Kind, Letter, Meant, Operand, Role};
+use wb_model::script_lines::{Form, Key, Kind, Letter, Meant, Operand, Role};
 
 fn local_meant(index: usize, kind: Option<Kind>) -> Meant
     ensures { result ≡ local_meant index kind }
@@ -35,72 +37,82 @@ fn used_meant(known: &Known, name: &[u8]) -> Meant
     }
 }
 
-fn name_meant(known: &Known, role: Role, letter: Letter, name: &[u8]) -> Meant
-    ensures { result ≡ name_meant (known_in known.now) role letter name.now }
+/// What a name stands for that is used in the script's own space.
+fn item_meant(items: &[Item], name: &[u8]) -> Meant
+    ensures { result ≡ item_meant (first_declaration_of (names_of (lent_items items.now)) name.now) }
+{
+    match place_of_item(items, name) {
+        Some(index) => Meant::Procedure(index),
+        None => Meant::Nothing,
+    }
+}
+
+fn name_meant(items: &[Item], known: &Known, role: Role, letter: Letter, name: &[u8]) -> Meant
+    ensures { result ≡ name_meant (names_of (lent_items items.now)) (known_in known.now) role letter name.now }
 {
     match letter {
         Letter::Declared => match role {
             Role::Procedure => Meant::Declared(known.items),
             _ => Meant::Declared(known.locals.len()),
         },
+        Letter::Procedure => item_meant(items, name),
         _ => used_meant(known, name),
     }
 }
 
 fn resolved_operand(
+    items: &[Item],
     known: &Known,
     role: Role,
     letter: Letter,
     operand: &Operand<&[u8]>,
 ) -> Operand<Meant>
-    ensures { result ≡ resolved_operand (known_in known.now) role letter (lent_operand operand.now) }
+    ensures { result ≡ resolved_operand (names_of (lent_items items.now)) (known_in known.now) role letter (lent_operand operand.now) }
 {
     match operand {
-        Operand::Name(name) => Operand::Name(name_meant(known, role, letter, name)),
+        Operand::Name(name) => Operand::Name(name_meant(items, known, role, letter, name)),
         Operand::Number(number) => Operand::Number(*number),
         Operand::Size(size) => Operand::Size(*size),
         Operand::Literal(_) => Operand::Literal(Meant::Literal(known.literals.len())),
+        Operand::Parameter(_, parameter) => Operand::Parameter(Meant::Parameter, *parameter),
+        Operand::Keyword => Operand::Keyword,
     }
 }
 
 fn resolved_operands(
     alloc: Global,
+    items: &[Item],
     known: &Known,
-    role: Role,
-    letters: &[Letter],
+    key: Key,
     operands: &[Operand<&[u8]>],
 ) -> Result<Vec<Operand<Meant>>, AllocError>
-    ensures { IfOk result (λ found. found.items ≡ resolved_operands (known_in known.now) role letters.now (lent_operands operands.now)) }
+    ensures { IfOk result (λ found. found.items ≡ resolved_operands (names_of (lent_items items.now)) (known_in known.now) (role_of key) (letters_for key (length operands.now)) (lent_operands operands.now)) }
 {
+    let letters = Letters::of(key);
     let mut found = Vec::new(alloc);
-    for (index, letter) in letters.iter().enumerate() {
-        if index >= operands.len() {
+    for (index, operand) in operands.iter().enumerate() {
+        let Some(letter) = letters.at(index) else {
             return Ok(found);
-        }
-        found.push(resolved_operand(known, role, *letter, &operands[index]))?;
+        };
+        found.push(resolved_operand(items, known, role_of(key), letter, operand))?;
     }
     Ok(found)
 }
 
-/// A line, by what stands before it.
+/// A line, by the script's own space and what stands before it.
 pub(crate) fn resolved_line(
     alloc: Global,
+    items: &[Item],
     known: &Known,
     form: &Form<&[u8]>,
 ) -> Result<Form<Meant>, AllocError>
-    ensures { IfOk result (λ line. line ≡ resolved_line (known_in known.now) (lent_form form.now)) }
+    ensures { IfOk result (λ line. line ≡ resolved_line (names_of (lent_items items.now)) (known_in known.now) (lent_form form.now)) }
 {
     match form {
         Form::Skip => Ok(Form::Skip),
         Form::Unknown => Ok(Form::Unknown),
         Form::Line(key, operands) => {
-            let found = resolved_operands(
-                alloc,
-                known,
-                role_of(*key),
-                letters_of(*key),
-                operands.as_slice(),
-            )?;
+            let found = resolved_operands(alloc, items, known, *key, operands.as_slice())?;
             Ok(Form::Line(*key, Items::from_vec(found)))
         }
     }

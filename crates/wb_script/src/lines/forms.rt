@@ -4,15 +4,18 @@ ghost use Rattle.std.specs.Prelude.{◌≡◌, length, IfOk, IfErr, Some};
 ghost use Rattle.std.specs.Option.{option_map};
 ghost use Rattle.wb_model.specs.declared.script_lines.Operand.TheVariants.{Size};
 ghost use Rattle.wb_model.specs.Forms.{size_of, operand_as, operand_among, operand_of, operands_of, form_in, form_of, forms_of, line_form, begins_comment, role_of_form};
-ghost use Rattle.wb_model.specs.Keys.{keys};
+ghost use Rattle.wb_model.specs.declared.script_lines.WordKind.TheVariants as kind;
+ghost use Rattle.wb_model.specs.Keys.{keys, letters_with, letters_for};
 ghost use Rattle.wb_script.specs.Lent.{lent_texts, lent_operand, lent_operands, lent_form, lent_forms};
 
-use crate::lines::keys::{ALL, letters_of, role_of, text_of, word_kinds};
+use crate::lines::keys::{ALL, Letters, role_of, text_of, word_kinds};
 use crate::lines::pieces::words;
-use crate::lines::words::{declared_name, literal_of, number_of, used_name};
+use crate::lines::words::{
+    declared_name, is_keyword, literal_of, number_of, parameter_kind, parameter_name, used_name,
+};
 use std::alloc::{AllocError, Global};
 use wb_model::items::Items;
-use wb_model::script_lines::{Form, Key, Letter, Operand, Role, WordKind};
+use wb_model::script_lines::{Form, Key, Keyword, Letter, Operand, Role, WordKind};
 
 /// A number that isn't negative.
 fn size_of(number: i32) -> Option<u32>
@@ -22,6 +25,17 @@ fn size_of(number: i32) -> Option<u32>
         None
     } else {
         Some(number as u32)
+    }
+}
+
+/// A word of the line's own.
+fn keyword_as<'a>(keyword: Keyword, word: &[u8]) -> Option<Operand<&'a [u8]>>
+    ensures { option_map lent_operand result ≡ operand_as (kind.Keyword keyword) word.now }
+{
+    if is_keyword(keyword, word) {
+        Some(Operand::Keyword)
+    } else {
+        None
     }
 }
 
@@ -35,6 +49,11 @@ fn operand_as<'a>(kind: WordKind, word: &'a [u8]) -> Option<Operand<&'a [u8]>>
         WordKind::Number => Some(Operand::Number(number_of(word)?)),
         WordKind::Size => Some(Operand::Size(size_of(number_of(word)?)?)),
         WordKind::Literal => Some(Operand::Literal(literal_of(word)?)),
+        WordKind::Parameter => Some(Operand::Parameter(
+            parameter_name(word)?,
+            parameter_kind(word)?,
+        )),
+        WordKind::Keyword(keyword) => keyword_as(keyword, word),
     }
 }
 
@@ -58,23 +77,25 @@ fn operand_of<'a>(letter: Letter, word: &'a [u8]) -> Option<Operand<&'a [u8]>>
     operand_among(word_kinds(letter), word)
 }
 
-/// What the words are, one for each letter; none where they do not fit. Memory is asked for only where there are
-/// as many words as letters.
+/// What the words behind a key are; none where they do not fit. Memory is asked for only where there may be so many words.
 fn operands_of<'a>(
     alloc: Global,
-    letters: &[Letter],
+    letters: Letters,
     words: &[&'a [u8]],
 ) -> Result<Option<Vec<Operand<&'a [u8]>>>, AllocError>
     ensures operands { IfOk result (λ found.
-        option_map (λ o. lent_operands o.items) found ≡ operands_of letters.now (lent_texts words.now)) }
-    ensures memory { IfErr result (λ _. length letters.now ≡ length words.now) }
+        option_map (λ o. lent_operands o.items) found ≡ operands_of (letters_with letters.fixed.now letters.rest (length words.now)) (lent_texts words.now)) }
+    ensures memory { IfErr result (λ _. length (letters_with letters.fixed.now letters.rest (length words.now)) ≡ length words.now) }
 {
-    if letters.len() != words.len() {
+    if !letters.admit(words.len()) {
         return Ok(None);
     }
     let mut found = Vec::new(alloc);
-    for (index, letter) in letters.iter().enumerate() {
-        match operand_of(*letter, words[index]) {
+    for (index, word) in words.iter().enumerate() {
+        let Some(letter) = letters.at(index) else {
+            return Ok(None);
+        };
+        match operand_of(letter, word) {
             None => return Ok(None),
             Some(operand) => found.push(operand)?,
         }
@@ -93,7 +114,7 @@ fn form_in<'a>(
 {
     for key in keys {
         if text_of(*key) == first {
-            match operands_of(alloc, letters_of(*key), words)? {
+            match operands_of(alloc, Letters::of(*key), words)? {
                 Some(operands) => return Ok(Form::Line(*key, Items::from_vec(operands))),
                 None => {}
             }

@@ -1,19 +1,21 @@
 //! The tables of the language: a row for each key, and one for each letter. No line's meaning stands here.
 
-ghost use Rattle.std.specs.Prelude.{◌≡◌};
-ghost use Rattle.wb_model.specs.Keys.{text_of, letters_of, role_of, word_kinds, takes};
+ghost use Rattle.std.specs.Prelude.{◌≡◌, ◌<◌, ℕ, length, nat_eq, slice_get};
+ghost use Rattle.wb_model.specs.Keys.{text_of, letters_of, rest_of, letters_with, letters_for, role_of, word_kinds, takes};
 
-use wb_model::script_lines::{Key, Letter, Role, Sort, WordKind};
+use wb_model::script_lines::{Key, Keyword, Letter, Role, Sort, WordKind};
 
 /// Every key; a line is of the first that fits.
-pub(crate) const ALL: [Key; 38] = [
+pub(crate) const ALL: [Key; 55] = [
     Key::Proc,
     Key::Ptr,
     Key::Int,
     Key::Buf,
     Key::View,
     Key::Alloc,
+    Key::AllocL,
     Key::Realloc,
+    Key::ReallocL,
     Key::Free,
     Key::AllocLen,
     Key::Store,
@@ -21,6 +23,13 @@ pub(crate) const ALL: [Key; 38] = [
     Key::Set,
     Key::Null,
     Key::Add,
+    Key::Leave,
+    Key::LeaveIfError,
+    Key::LeaveIfNull,
+    Key::Call,
+    Key::CallTo,
+    Key::Return,
+    Key::ReturnPointer,
     Key::Mark,
     Key::MarkEnd,
     Key::Check,
@@ -29,6 +38,7 @@ pub(crate) const ALL: [Key; 38] = [
     Key::FailEvery,
     Key::FailNone,
     Key::HNew,
+    Key::HNewL,
     Key::HRealloc,
     Key::Copy,
     Key::Append,
@@ -44,6 +54,13 @@ pub(crate) const ALL: [Key; 38] = [
     Key::Heap,
     Key::Available,
     Key::Compress,
+    Key::IfNull,
+    Key::IfSome,
+    Key::IfEqual,
+    Key::IfLess,
+    Key::Else,
+    Key::Repeat,
+    Key::Trap,
     Key::End,
 ];
 
@@ -58,7 +75,9 @@ pub(crate) fn text_of(key: Key) -> &'static [u8]
         Key::Buf => b"buf",
         Key::View => b"view",
         Key::Alloc => b"alloc",
+        Key::AllocL => b"allocl",
         Key::Realloc => b"realloc",
+        Key::ReallocL => b"reallocl",
         Key::Free => b"free",
         Key::AllocLen => b"alloclen",
         Key::Store => b"store",
@@ -66,6 +85,12 @@ pub(crate) fn text_of(key: Key) -> &'static [u8]
         Key::Set => b"set",
         Key::Null => b"null",
         Key::Add => b"add",
+        Key::Leave => b"leave",
+        Key::LeaveIfError => b"leaveiferror",
+        Key::LeaveIfNull => b"leaveifnull",
+        Key::Call => b"call",
+        Key::CallTo => b"callto",
+        Key::Return | Key::ReturnPointer => b"return",
         Key::Mark => b"mark",
         Key::MarkEnd => b"markend",
         Key::Check => b"check",
@@ -74,6 +99,7 @@ pub(crate) fn text_of(key: Key) -> &'static [u8]
         Key::FailEvery => b"failevery",
         Key::FailNone => b"failnone",
         Key::HNew => b"hnew",
+        Key::HNewL => b"hnewl",
         Key::HRealloc => b"hrealloc",
         Key::Copy => b"copy",
         Key::Append => b"append",
@@ -89,6 +115,10 @@ pub(crate) fn text_of(key: Key) -> &'static [u8]
         Key::Heap => b"heap",
         Key::Available => b"available",
         Key::Compress => b"compress",
+        Key::IfNull | Key::IfSome | Key::IfEqual | Key::IfLess => b"if",
+        Key::Else => b"else",
+        Key::Repeat => b"repeat",
+        Key::Trap => b"trap",
         Key::End => b"end",
     }
 }
@@ -100,9 +130,15 @@ pub(crate) fn letters_of(key: Key) -> &'static [Letter]
     match key {
         Key::Proc | Key::Ptr | Key::Int | Key::View => &[Letter::Declared],
         Key::Buf => &[Letter::Declared, Letter::Size],
-        Key::Alloc | Key::HNew => &[Letter::Pointer, Letter::Value],
-        Key::Realloc | Key::HRealloc => &[Letter::Pointer, Letter::Pointer, Letter::Value],
+        Key::Alloc | Key::AllocL => &[Letter::Pointer, Letter::Value],
+        Key::HNew | Key::HNewL => &[Letter::Pointer, Letter::Value],
+        Key::Realloc | Key::ReallocL => &[Letter::Pointer, Letter::Pointer, Letter::Value],
+        Key::HRealloc => &[Letter::Pointer, Letter::Pointer, Letter::Value],
         Key::Free | Key::Null => &[Letter::Pointer],
+        Key::LeaveIfNull | Key::ReturnPointer => &[Letter::Pointer],
+        Key::Leave | Key::LeaveIfError | Key::Repeat => &[Letter::Value],
+        Key::Call => &[Letter::Procedure],
+        Key::CallTo => &[Letter::Pointer, Letter::Procedure],
         Key::AllocLen => &[Letter::Variable, Letter::Pointer],
         Key::Store => &[Letter::Pointer, Letter::Value, Letter::Value],
         Key::Load => &[Letter::Variable, Letter::Pointer, Letter::Value],
@@ -124,8 +160,68 @@ pub(crate) fn letters_of(key: Key) -> &'static [Letter]
         Key::GetLen => &[Letter::Variable, Letter::Readable],
         Key::GetMax => &[Letter::Variable, Letter::Writable],
         Key::Print => &[Letter::Printed],
-        Key::Mark | Key::FailNone => &[],
-        Key::Heap | Key::Available | Key::Compress | Key::End => &[],
+        Key::IfNull => &[Letter::Keyword(Keyword::Null), Letter::Pointer],
+        Key::IfSome => &[Letter::Keyword(Keyword::Some), Letter::Pointer],
+        Key::IfEqual => &[
+            Letter::Keyword(Keyword::Equal),
+            Letter::Value,
+            Letter::Value,
+        ],
+        Key::IfLess => &[Letter::Keyword(Keyword::Less), Letter::Value, Letter::Value],
+        Key::Trap => &[Letter::Variable],
+        Key::Mark | Key::FailNone | Key::Return => &[],
+        Key::Heap | Key::Available | Key::Compress => &[],
+        Key::Else | Key::End => &[],
+    }
+}
+
+/// What any number of further words is.
+pub(crate) fn rest_of(key: Key) -> Option<Letter>
+    ensures { result ≡ rest_of key }
+{
+    match key {
+        Key::Proc => Some(Letter::Parameter),
+        Key::Call | Key::CallTo => Some(Letter::Argument),
+        _ => None,
+    }
+}
+
+/// What the words behind a key are, of which there are so many.
+#[derive(Clone, Copy)]
+pub(crate) struct Letters {
+    fixed: &'static [Letter],
+    rest: Option<Letter>,
+}
+
+impl Letters {
+    pub(crate) fn of(key: Key) -> Letters
+        ensures { (count : ℕ) → letters_with result.fixed.now result.rest count ≡ letters_for key count }
+    {
+        Letters {
+            fixed: letters_of(key),
+            rest: rest_of(key),
+        }
+    }
+
+    /// The letter of a word by its index; none where no such word stands behind the key.
+    pub(crate) fn at(self, index: usize) -> Option<Letter>
+        ensures { (count : ℕ) → index < count → slice_get (letters_with self.fixed.now self.rest count) index ≡ result }
+    {
+        if index < self.fixed.len() {
+            Some(self.fixed[index])
+        } else {
+            self.rest
+        }
+    }
+
+    /// Whether there may be so many words.
+    pub(crate) fn admit(self, count: usize) -> bool
+        ensures { result ≡ nat_eq (length (letters_with self.fixed.now self.rest count)) count }
+    {
+        match self.rest {
+            None => count == self.fixed.len(),
+            Some(_) => count >= self.fixed.len(),
+        }
     }
 }
 
@@ -145,6 +241,12 @@ pub(crate) fn role_of(key: Key) -> Role
         Key::Left | Key::Right | Key::Mid | Key::GetLen | Key::GetMax => Role::Plain,
         Key::Print => Role::Plain,
         Key::Heap | Key::Available | Key::Compress => Role::Plain,
+        Key::AllocL | Key::ReallocL | Key::HNewL => Role::Plain,
+        Key::Leave | Key::LeaveIfError | Key::LeaveIfNull => Role::Plain,
+        Key::Call | Key::CallTo | Key::Return | Key::ReturnPointer => Role::Plain,
+        Key::IfNull | Key::IfSome | Key::IfEqual | Key::IfLess => Role::If,
+        Key::Else => Role::Else,
+        Key::Repeat | Key::Trap => Role::Loop,
         Key::End => Role::End,
     }
 }
@@ -161,6 +263,13 @@ pub(crate) fn word_kinds(letter: Letter) -> &'static [WordKind]
         Letter::Size => &[WordKind::Size],
         Letter::Readable => &[WordKind::Name, WordKind::Literal],
         Letter::Printed => &[WordKind::Number, WordKind::Name, WordKind::Literal],
+        Letter::Procedure => &[WordKind::Name],
+        Letter::Parameter => &[WordKind::Parameter],
+        Letter::Argument => &[WordKind::Number, WordKind::Name],
+        Letter::Keyword(Keyword::Null) => &[WordKind::Keyword(Keyword::Null)],
+        Letter::Keyword(Keyword::Some) => &[WordKind::Keyword(Keyword::Some)],
+        Letter::Keyword(Keyword::Equal) => &[WordKind::Keyword(Keyword::Equal)],
+        Letter::Keyword(Keyword::Less) => &[WordKind::Keyword(Keyword::Less)],
     }
 }
 
@@ -182,6 +291,18 @@ pub(crate) fn takes(letter: Letter, sort: Sort) -> bool
             Sort::Pointer | Sort::Buffer | Sort::View | Sort::Literal
         ),
         Letter::ViewName => matches!(sort, Sort::View),
-        Letter::Printed => !matches!(sort, Sort::Declared | Sort::Size | Sort::Nothing),
+        Letter::Printed => matches!(
+            sort,
+            Sort::Number
+                | Sort::Variable
+                | Sort::Pointer
+                | Sort::Buffer
+                | Sort::View
+                | Sort::Literal
+        ),
+        Letter::Procedure => matches!(sort, Sort::Procedure),
+        Letter::Parameter => matches!(sort, Sort::Parameter),
+        Letter::Argument => matches!(sort, Sort::Number | Sort::Variable | Sort::Pointer),
+        Letter::Keyword(_) => matches!(sort, Sort::Keyword),
     }
 }

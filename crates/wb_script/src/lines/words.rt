@@ -1,11 +1,14 @@
-//! What a word behind a key is: a name, a number, a literal.
+//! What a word behind a key is: a name, a number, a literal, a parameter, a word of the line's own.
 
 ghost use Rattle.std.specs.Prelude.{◌≡◌, ◌<◌, ◌^◌, IfSome};
 ghost use Rattle.std.specs.List.{list_all, list_any};
 ghost use Rattle.std.specs.Option.{option_copied};
 ghost use Rattle.std.specs.Str.{bytes_eq};
 ghost use Rattle.wb_model.specs.Sound.{is_quotable};
-ghost use Rattle.wb_model.specs.Words.{is_letter, is_digit, is_name_byte, is_name, is_reserved, declared_name, used_name, digits_of, number_spelled, literal_spelled};
+ghost use Rattle.wb_model.specs.Words.{is_letter, is_digit, is_name_byte, is_name, is_reserved, declared_name, used_name, digits_of, number_spelled, literal_spelled, kind_spelled, parameter_name, parameter_kind, text_of_keyword};
+
+use wb_model::script::Parameter;
+use wb_model::script_lines::Keyword;
 
 /// The names that nothing may be declared with.
 const RESERVED: [&[u8]; 7] = [b"self", b"ptr", b"int", b"null", b"some", b"eq", b"less"];
@@ -124,5 +127,44 @@ pub(crate) fn literal_of<'a>(word: &'a [u8]) -> Option<&'a [u8]>
     match word {
         [b'"', inside @ .., b'"'] if are_quotable(inside) => Some(inside),
         _ => None,
+    }
+}
+
+/// The kind that a colon and three letters tell.
+fn kind_spelled(bytes: &[u8]) -> Option<Parameter>
+    ensures { result ≡ kind_spelled bytes.now }
+{
+    if bytes == b":ptr".as_slice() {
+        Some(Parameter::OfPointer(None))
+    } else if bytes == b":int".as_slice() {
+        Some(Parameter::OfNumber)
+    } else {
+        None
+    }
+}
+
+/// The name of the parameter that the word declares: what stands before its kind.
+pub(crate) fn parameter_name<'a>(word: &'a [u8]) -> Option<&'a [u8]>
+    ensures { option_copied result ≡ parameter_name word.now }
+{
+    declared_name(&word[..word.len().saturating_sub(4)])
+}
+
+/// The kind of the parameter that the word declares.
+pub(crate) fn parameter_kind(word: &[u8]) -> Option<Parameter>
+    ensures { result ≡ parameter_kind word.now }
+{
+    kind_spelled(&word[word.len().saturating_sub(4)..])
+}
+
+/// Whether the word is this one of a line's own.
+pub(crate) fn is_keyword(keyword: Keyword, word: &[u8]) -> bool
+    ensures { result ≡ bytes_eq word.now (text_of_keyword keyword) }
+{
+    match keyword {
+        Keyword::Null => word == b"null".as_slice(),
+        Keyword::Some => word == b"some".as_slice(),
+        Keyword::Equal => word == b"eq".as_slice(),
+        Keyword::Less => word == b"less".as_slice(),
     }
 }

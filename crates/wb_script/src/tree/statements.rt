@@ -1,19 +1,17 @@
 //! The statements of lines, each from its operands.
 
-ghost use Rattle.std.specs.Prelude.{◌≡◌, [], false, MatchOption};
+ghost use Rattle.std.specs.Prelude.{◌≡◌, [], false, IsTrue, MatchOption};
 ghost use Rattle.wb_model.specs.declared.script_lines.Key.TheVariants as key;
 ghost use Rattle.wb_model.specs.declared.script_lines.Letter.TheVariants as letter;
-ghost use Rattle.wb_model.specs.declared.script_lines.Role.TheVariants.{Plain};
-ghost use Rattle.wb_model.specs.Keys.{role_of};
 ghost use Rattle.wb_model.specs.Sound.{is_pointer, is_number};
 ghost use Rattle.wb_model.specs.Trees.{pointer_operand, number_operand};
 ghost use Rattle.wb_script.specs.Fitting.{letters_fit};
-ghost use Rattle.wb_script.specs.Stated.{IsStatementOf, IsOnlySpelled};
+ghost use Rattle.wb_script.specs.Stated.{IsStatementOf, IsOnlySpelled, IsPairSpelled, IsTripleSpelled, IsReturnOf, is_lasting, alloc_key, realloc_key, new_text_key};
 
+use crate::tree::blocks::{OpenBlock, has_trap};
 use crate::tree::scope::Scope;
 use crate::tree::text_statements::{
-    append, copy, delete_text, get_length, get_maximum, insert, left, mid, new_text, print,
-    realloc_text, right, set_length,
+    append, copy, delete_text, get_length, get_maximum, insert, left, mid, print, right, set_length,
 };
 use wb_model::script::{Number, Pointer, Refusal, Statement};
 use wb_model::script_lines::{Key, Meant, Operand};
@@ -63,31 +61,59 @@ fn set(here: Scope, operands: &[Operand<Meant>]) -> Option<Statement>
     }
 }
 
-fn alloc(here: Scope, operands: &[Operand<Meant>]) -> Option<Statement>
-    ensures { IsStatementOf here.entry key.Alloc operands.now result }
+/// The operands of a line that takes a pointer and a number.
+fn pointer_and_number(here: Scope, operands: &[Operand<Meant>]) -> Option<(Pointer, Number)>
+    ensures { IsPairSpelled here.entry operands.now result }
 {
     match operands {
-        [pointer, size] => Some(Statement::Alloc(
-            here.pointer(pointer)?,
-            here.number(size)?,
-            Refusal::GivesNull,
+        [pointer, number] => Some((here.pointer(pointer)?, here.number(number)?)),
+        _ => None,
+    }
+}
+
+/// The operands of a line that takes two pointers and a number.
+fn pointers_and_number(
+    here: Scope,
+    operands: &[Operand<Meant>],
+) -> Option<(Pointer, Pointer, Number)>
+    ensures { IsTripleSpelled here.entry operands.now result }
+{
+    match operands {
+        [target, source, number] => Some((
+            here.pointer(target)?,
+            here.pointer(source)?,
+            here.number(number)?,
         )),
         _ => None,
     }
 }
 
-fn realloc(here: Scope, operands: &[Operand<Meant>]) -> Option<Statement>
-    ensures { IsStatementOf here.entry key.Realloc operands.now result }
+fn alloc(here: Scope, operands: &[Operand<Meant>], refusal: Refusal) -> Option<Statement>
+    ensures { IsStatementOf here.entry (alloc_key refusal) operands.now result }
 {
-    match operands {
-        [target, source, size] => Some(Statement::Realloc(
-            here.pointer(target)?,
-            here.pointer(source)?,
-            here.number(size)?,
-            Refusal::GivesNull,
-        )),
-        _ => None,
-    }
+    let (pointer, size) = pointer_and_number(here, operands)?;
+    Some(Statement::Alloc(pointer, size, refusal))
+}
+
+fn realloc(here: Scope, operands: &[Operand<Meant>], refusal: Refusal) -> Option<Statement>
+    ensures { IsStatementOf here.entry (realloc_key refusal) operands.now result }
+{
+    let (target, source, size) = pointers_and_number(here, operands)?;
+    Some(Statement::Realloc(target, source, size, refusal))
+}
+
+fn new_text(here: Scope, operands: &[Operand<Meant>], refusal: Refusal) -> Option<Statement>
+    ensures { IsStatementOf here.entry (new_text_key refusal) operands.now result }
+{
+    let (pointer, maximum) = pointer_and_number(here, operands)?;
+    Some(Statement::NewText(pointer, maximum, refusal))
+}
+
+fn realloc_text(here: Scope, operands: &[Operand<Meant>]) -> Option<Statement>
+    ensures { IsStatementOf here.entry key.HRealloc operands.now result }
+{
+    let (target, source, maximum) = pointers_and_number(here, operands)?;
+    Some(Statement::ReallocText(target, source, maximum))
 }
 
 fn alloc_len(here: Scope, operands: &[Operand<Meant>]) -> Option<Statement>
@@ -139,12 +165,14 @@ fn add(here: Scope, operands: &[Operand<Meant>]) -> Option<Statement>
 
 /// The statement of a line; none where its operands don't fit.
 pub(crate) fn statement_of(here: Scope, key: Key, operands: &[Operand<Meant>]) -> Option<Statement>
-    requires { role_of key ≡ Plain }
+    requires { IsTrue (is_lasting key) }
     ensures { IsStatementOf here.entry key operands.now result }
 {
     match key {
-        Key::Alloc => alloc(here, operands),
-        Key::Realloc => realloc(here, operands),
+        Key::Alloc => alloc(here, operands, Refusal::GivesNull),
+        Key::AllocL => alloc(here, operands, Refusal::Leaves),
+        Key::Realloc => realloc(here, operands, Refusal::GivesNull),
+        Key::ReallocL => realloc(here, operands, Refusal::Leaves),
         Key::Free => Some(Statement::Free(one_pointer(here, operands)?)),
         Key::AllocLen => alloc_len(here, operands),
         Key::Store => store(here, operands),
@@ -152,6 +180,9 @@ pub(crate) fn statement_of(here: Scope, key: Key, operands: &[Operand<Meant>]) -
         Key::Set => set(here, operands),
         Key::Null => Some(Statement::SetNull(one_pointer(here, operands)?)),
         Key::Add => add(here, operands),
+        Key::Leave => Some(Statement::Leave(one_number(here, operands)?)),
+        Key::LeaveIfError => Some(Statement::LeaveIfError(one_number(here, operands)?)),
+        Key::LeaveIfNull => Some(Statement::LeaveIfNull(one_pointer(here, operands)?)),
         Key::Mark => alone(here, Statement::Mark, operands),
         Key::MarkEnd => Some(Statement::MarkEnd(one_number(here, operands)?)),
         Key::Check => Some(Statement::Check(one_number(here, operands)?)),
@@ -159,7 +190,8 @@ pub(crate) fn statement_of(here: Scope, key: Key, operands: &[Operand<Meant>]) -
         Key::FailNext => Some(Statement::FailNext(one_number(here, operands)?)),
         Key::FailEvery => Some(Statement::FailEvery(one_number(here, operands)?)),
         Key::FailNone => alone(here, Statement::FailNone, operands),
-        Key::HNew => new_text(here, operands),
+        Key::HNew => new_text(here, operands, Refusal::GivesNull),
+        Key::HNewL => new_text(here, operands, Refusal::Leaves),
         Key::HRealloc => realloc_text(here, operands),
         Key::Copy => copy(here, operands),
         Key::Append => append(here, operands),
@@ -175,6 +207,34 @@ pub(crate) fn statement_of(here: Scope, key: Key, operands: &[Operand<Meant>]) -
         Key::Heap => alone(here, Statement::NoteHeap, operands),
         Key::Available => alone(here, Statement::NoteAvailable, operands),
         Key::Compress => alone(here, Statement::NoteCompress, operands),
-        Key::Proc | Key::Ptr | Key::Int | Key::Buf | Key::View | Key::End => None,
+        _ => None,
     }
+}
+
+/// A `return` without a value; none inside a TRAP.
+pub(crate) fn return_nothing(
+    here: Scope,
+    blocks: &[OpenBlock],
+    operands: &[Operand<Meant>],
+) -> Option<Statement>
+    ensures { IsReturnOf here.entry blocks.now key.Return operands.now result }
+{
+    if has_trap(blocks) {
+        return None;
+    }
+    alone(here, Statement::Return, operands)
+}
+
+/// A `return` of a pointer; none inside a TRAP.
+pub(crate) fn return_pointer(
+    here: Scope,
+    blocks: &[OpenBlock],
+    operands: &[Operand<Meant>],
+) -> Option<Statement>
+    ensures { IsReturnOf here.entry blocks.now key.ReturnPointer operands.now result }
+{
+    if has_trap(blocks) {
+        return None;
+    }
+    Some(Statement::ReturnPointer(one_pointer(here, operands)?))
 }

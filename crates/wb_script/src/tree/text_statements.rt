@@ -5,34 +5,8 @@ ghost use Rattle.wb_model.specs.declared.script_lines.Key.TheVariants as key;
 ghost use Rattle.wb_script.specs.Stated.{IsStatementOf};
 
 use crate::tree::scope::Scope;
-use wb_model::script::{Refusal, Statement};
+use wb_model::script::Statement;
 use wb_model::script_lines::{Meant, Operand};
-
-pub(crate) fn new_text(here: Scope, operands: &[Operand<Meant>]) -> Option<Statement>
-    ensures { IsStatementOf here.entry key.HNew operands.now result }
-{
-    match operands {
-        [pointer, maximum] => Some(Statement::NewText(
-            here.pointer(pointer)?,
-            here.number(maximum)?,
-            Refusal::GivesNull,
-        )),
-        _ => None,
-    }
-}
-
-pub(crate) fn realloc_text(here: Scope, operands: &[Operand<Meant>]) -> Option<Statement>
-    ensures { IsStatementOf here.entry key.HRealloc operands.now result }
-{
-    match operands {
-        [target, source, maximum] => Some(Statement::ReallocText(
-            here.pointer(target)?,
-            here.pointer(source)?,
-            here.number(maximum)?,
-        )),
-        _ => None,
-    }
-}
 
 pub(crate) fn copy(here: Scope, operands: &[Operand<Meant>]) -> Option<Statement>
     ensures { IsStatementOf here.entry key.Copy operands.now result }

@@ -1,21 +1,13 @@
-use Rattle.std.proofs.Common.{◌≡◌, ℕ, ◌-◌, ◌/◌, ◌≤◌, List, Option, Some, option_map, ap, sym, ◌∙◌, arith}
-use Rattle.wb_model.specs.declared.limits.TheConstants.{CEILING}
+use Rattle.std.proofs.Common.{◌≡◌, ℕ, ◌-◌, ◌/◌, List, Option, Some, option_map, ap, sym, ◌∙◌, arith}
 use Rattle.wb_model.specs.declared.heap.Header.{Header}
 use Rattle.wb_model.specs.declared.heap.Ptr.{Ptr}
-use Rattle.wb_model.specs.declared.heap.Rule.{Rule}
-use Rattle.wb_model.specs.declared.heap.Rule.TheVariants.{Unlimited, Limit, Number}
 use Rattle.wb_model.specs.Debug.{Debug}
 use Rattle.wb_model.specs.Reading.{max_units}
 use Rattle.wb_model.specs.Row.{Cell, cell_at, usable_of}
-use Rattle.wb_model.specs.Space.{limit_under}
 use Rattle.wb_model.specs.TextCells.{IsTextAt, max_at, usable_or_none}
+use Rattle.wb_model.proofs.LimitedHeaps.{limit_under-ceiling}
 use Rattle.wb_hbuf.proofs.Drafts.{text-words, text-has}
 use Rattle.wb_hbuf.proofs.hbuf.measure.Goals as goal
-
-limit_under-ceiling : (r : Rule) → limit_under r ≤ CEILING
-limit_under-ceiling Unlimited = omega arith
-limit_under-ceiling (Limit l) = omega arith
-limit_under-ceiling (Number n) = omega arith
 
 head-found : (o : Option (Cell (List ℕ))) (cell : Cell (List ℕ)) (h : Header) → o ≡ Some cell → Some h ≡ option_map (λ c. c.head) o → cell.head ≡ h
 head-found o cell h found is =

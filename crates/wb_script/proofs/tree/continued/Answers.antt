@@ -1,21 +1,14 @@
-use Rattle.std.proofs.Common.{◌∙◌, None, refl, ap, suc, length, append-nil}
-use Rattle.wb_model.specs.Trees.{procedures_lines}
-use Rattle.wb_script.specs.Building.{counts_where}
-use Rattle.wb_script.proofs.TreeLemmas.{procedure_added, procedure_counted}
+use Rattle.std.proofs.Common.{refl, sym, ap, subst, ◌∙◌, Some, None}
+use Rattle.wb_model.specs.declared.script_lines.Form.TheVariants.{Line}
+use Rattle.wb_script.specs.Building.{AddsWhereFit, Grows}
+use Rattle.wb_script.specs.Lent.{declared_by}
+use Rattle.wb_script.proofs.Growth.{done_grows}
 use Rattle.wb_script.proofs.tree.continued.Goals as goal
 
-pub returns-in_ok-push-in-Some-Done-clause-lines : goal.returns-in_ok-push-in-Some-Done-clause-lines
-returns-in_ok-push-in-Some-Done-clause-lines c =
-    let told = rw c.in-Some-Done.is at c.in_ok-inside.ensures.lines in
-    let ended = rw c.in-Some-Done.field-0-is at told in
-    append-nil (procedures_lines 0 c.push.new.self.items)
-    ∙ ap (procedures_lines 0) c.in_ok-push-in-Some-Done.ensures.items
-    ∙ procedure_added c.args.procedures.items c.args.current _ _ refl refl ended
-
-pub returns-in_ok-push-in-Some-Done-clause-counts : goal.returns-in_ok-push-in-Some-Done-clause-counts
-returns-in_ok-push-in-Some-Done-clause-counts c =
-    let told = rw c.in-Some-Done.is at c.in_ok-inside.ensures.counts in
-    let counted = rw c.in-Some-Done.field-0-is at told in
-    ap (λ ps. counts_where ps None) c.in_ok-push-in-Some-Done.ensures.items
-    ∙ procedure_counted c.args.procedures.items _
-    ∙ counted (suc (length c.args.procedures.items))
+pub returns-in_ok-push-in-Some-Done : goal.returns-in_ok-push-in-Some-Done
+returns-in_ok-push-in-Some-Done c =
+    let told = subst (AddsWhereFit (declared_by c.args.literals c.args.items.now) c.args.number (Line c.in-Line.key c.as_slice.result.now) c.args.current) (c.in-Some-Done.is ∙ ap Some c.in-Some-Done.field-0-is) c.in_ok-inside.ensures in
+    subst (λ l. Grows (declared_by c.args.literals c.args.items.now) c.args.number l (record { procedures = c.args.procedures; «open» = Some c.args.current }) (record { procedures = c.push.new.self; «open» = None }))
+    (ap (Line c.in-Line.key) c.as_slice.ensures ∙ sym c.in-Line.is)
+    (done_grows (declared_by c.args.literals c.args.items.now) c.args.number c.in-Line.key c.as_slice.result.now (record { procedures = c.args.procedures; «open» = Some c.args.current }) (record { procedures = c.push.new.self; «open» = None })
+    c.args.current c.in-Some-Done.procedure c.requires.sound.stands refl c.in_ok-push-in-Some-Done.ensures.items refl told)

@@ -8,12 +8,13 @@ use Rattle.wb_machine.specs.Flow.{AreOwn}
 use Rattle.wb_machine.specs.RunState.{RunState, main_of, with_debug}
 use Rattle.wb_machine.specs.Carried.{entered, first_made, begun_by}
 use Rattle.wb_machine.proofs.Begins.{one_attempt, run_begun, begun_pieces}
-use Rattle.wb_machine.proofs.Scripts.{main_locals, main_statements, sound_begun}
+use Rattle.wb_machine.proofs.Scripts.{main_there, procedure_locals, procedure_statements, sound_begun}
 use Rattle.wb_machine.proofs.control.Control.begin.Goals as goal
 
 pub enter-requires-clause-locals : goal.enter-requires-clause-locals
 enter-requires-clause-locals c =
-    ap (list_all is_local) (c.as_slice.ensures ∙ ap (λ b. b.locals) c.main_of-main.ensures) ∙ main_locals c.args.script.now c.requires.script
+    let script = c.args.script.now in
+    ap (list_all is_local) (c.as_slice.ensures ∙ ap (λ b. b.locals) c.procedure_at-main.ensures) ∙ procedure_locals script c.requires.script script.main (main_there script c.requires.script)
 
 pub returns-in_ok-push-in-Granted-2-clause-kept : goal.returns-in_ok-push-in-Granted-2-clause-kept
 returns-in_ok-push-in-Granted-2-clause-kept c r budget f =
@@ -27,9 +28,9 @@ returns-in_ok-push-in-Granted-2-clause-kept c r budget f =
     c.requires.start
     (c.in_ok-push-in-Granted-2.ensures.ending ∙ c.in_ok-push-in-Granted.ensures.ending ∙ c.requires.ending ∙ sym (ap (λ x. x.ending) is))
     (c.in_ok-enter-in-Granted.ensures.entered ∙ ap (λ x. entered x cell c.as_slice.result.now) c.in_ok-cell.ensures.made
-    ∙ ap (entered after cell) (c.as_slice.ensures ∙ ap (λ b. b.locals) c.main_of-main.ensures) ∙ sym (ap (λ x. x.state) is))
-    f (c.as_slice-in-Granted.ensures ∙ ap (λ b. b.statements) c.main_of-main.ensures)
-    (λ e. begun_pieces script c.args.self.now.pieces.items c.push.new.self.pieces.items c.push-in-Granted.new.self.pieces.items (Code IN_MAIN c.as_slice-in-Granted.result) c.requires.pieces
+    ∙ ap (entered after cell) (c.as_slice.ensures ∙ ap (λ b. b.locals) c.procedure_at-main.ensures) ∙ sym (ap (λ x. x.state) is))
+    f (c.as_slice-in-Granted.ensures ∙ ap (λ b. b.statements) c.procedure_at-main.ensures)
+    (λ e callers. begun_pieces callers c.args.self.now.pieces.items c.push.new.self.pieces.items c.push-in-Granted.new.self.pieces.items (Code IN_MAIN c.as_slice-in-Granted.result) c.requires.pieces
     c.in_ok-push-in-Granted.ensures.pieces c.in_ok-push-in-Granted-2.ensures.pieces)
 
 pub returns-in_ok-push-in-Granted-2-clause-sound : goal.returns-in_ok-push-in-Granted-2-clause-sound
@@ -37,7 +38,7 @@ returns-in_ok-push-in-Granted-2-clause-sound c =
     let script = c.args.script.now in
     sound_begun script c.args.self.now.pieces.items c.push.new.self.pieces.items c.push-in-Granted.new.self.pieces.items (Code IN_MAIN c.as_slice-in-Granted.result) c.requires.pieces
     c.in_ok-push-in-Granted.ensures.pieces c.in_ok-push-in-Granted-2.ensures.pieces
-    (subst (AreOwn script) (sym (c.as_slice-in-Granted.ensures ∙ ap (λ b. b.statements) c.main_of-main.ensures)) (main_statements script c.requires.script))
+    (subst (AreOwn script) (sym (c.as_slice-in-Granted.ensures ∙ ap (λ b. b.statements) c.procedure_at-main.ensures)) (procedure_statements script c.requires.script script.main (main_there script c.requires.script)))
 
 pub returns-in-Denied-clause-kept : goal.returns-in-Denied-clause-kept
 returns-in-Denied-clause-kept c r budget f =
@@ -46,7 +47,7 @@ returns-in-Denied-clause-kept c r budget f =
     let after = with_debug h (first_made h).debug in
     let is = ap (begun_by after (main_of script).locals) (sym c.in_ok-cell.ensures.gave ∙ c.in-Denied.is) in
     run_begun r script budget h c.attempt.new.self NoCleanup (main_of script).statements c.args.self.now.pieces.items c.requires.start (sym (ap (λ x. x.ending) is))
-    (c.in_ok-cell.ensures.made ∙ sym (ap (λ x. x.state) is)) f refl (λ e. cc)
+    (c.in_ok-cell.ensures.made ∙ sym (ap (λ x. x.state) is)) f refl (λ e callers. cc)
 
 pub returns-in_ok-push-in-Granted-2-clause-one : goal.returns-in_ok-push-in-Granted-2-clause-one
 returns-in_ok-push-in-Granted-2-clause-one c =

@@ -1,9 +1,10 @@
-use Rattle.std.proofs.Common.{◌≡◌, refl, ap, ◌∙◌, sym, subst}
+use Rattle.std.proofs.Common.{◌≡◌, ap, ◌∙◌, sym, subst}
 use Rattle.wb_model.specs.Statements.{choice}
 use Rattle.wb_machine.specs.declared.pieces.Piece.TheVariants.{Code}
 use Rattle.wb_machine.specs.Carried.{condition_read}
 use Rattle.wb_machine.specs.Flow.{where_of, AreOwn, rest_from}
 use Rattle.wb_machine.proofs.Heads.{chosen_rest}
+use Rattle.wb_machine.proofs.Steps.{pending_pushed}
 use Rattle.wb_machine.proofs.Scripts.{sound_pushed}
 use Rattle.wb_machine.proofs.control.Control.begin_if.Goals.{then-holds, else-holds}
 use Rattle.wb_machine.proofs.control.Control.begin_if.Goals as goal
@@ -19,8 +20,8 @@ returns-clause-kept c script r budget locals ok =
       | else-holds w ↦ ap (λ x. x.now) w.part-is ∙ sym (ap (λ b. choice b first other) (sym c.holds.ensures ∙ w.if-holds.false))
     ] in
     ap (λ e. rest_from script budget r e new h) (c.in_ok-push.ensures.ending ∙ c.requires)
-    ∙ chosen_rest script budget r (where_of c.args.at) locals c.args.condition first other c.if-holds.part.now c.args.self.now.pieces.items new (Code c.args.at c.if-holds.part) h
-    c.in_ok-push.ensures.pieces refl chosen ok
+    ∙ chosen_rest script budget r (where_of c.args.at) locals c.args.condition first other c.if-holds.part.now c.args.self.now.pieces.items new h
+    (pending_pushed h.callers c.args.self.now.pieces.items new (Code c.args.at c.if-holds.part) c.in_ok-push.ensures.pieces) chosen ok
 
 pub returns-clause-sound : goal.returns-clause-sound
 returns-clause-sound c script first other below =

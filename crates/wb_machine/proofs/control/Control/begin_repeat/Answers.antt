@@ -1,10 +1,11 @@
-use Rattle.std.proofs.Common.{refl, sym, ap, ◌∙◌, rules, w32, FitsSigned}
+use Rattle.std.proofs.Common.{sym, ap, ◌∙◌, rules, w32, FitsSigned}
 use Rattle.std.proofs.lemmas.Int.{to_z-of_z}
 use Rattle.wb_model.specs.declared.limits.TheConstants.{MOST_TURNS}
 use Rattle.wb_model.specs.Operands.{within}
 use Rattle.wb_machine.specs.declared.pieces.Piece.TheVariants.{Turns}
 use Rattle.wb_machine.specs.Flow.{where_of, rest_from}
 use Rattle.wb_machine.proofs.Heads.{turns_rest, turns_refused}
+use Rattle.wb_machine.proofs.Steps.{pending_pushed}
 use Rattle.wb_machine.proofs.Scripts.{sound_pushed}
 use Rattle.wb_machine.proofs.control.Control.begin_repeat.Goals as goal
 
@@ -15,7 +16,8 @@ returns-in_ok-push-in-Some-clause-kept c script r budget =
     let fits : FitsSigned w32 c.number.result = search rules in
     let value = to_z-of_z w32 c.number.result fits ∙ c.number.ensures in
     ap (λ e. rest_from script budget r e new h) (c.in_ok-push-in-Some.ensures.ending ∙ c.requires)
-    ∙ turns_rest script budget r (where_of c.args.at) c.args.count c.in-Some.turns c.args.body.now c.args.self.now.pieces.items new (Turns c.args.at c.in-Some.turns c.args.body) h c.in_ok-push-in-Some.ensures.pieces refl
+    ∙ turns_rest script budget r (where_of c.args.at) c.args.count c.in-Some.turns c.args.body.now c.args.self.now.pieces.items new h
+    (pending_pushed h.callers c.args.self.now.pieces.items new (Turns c.args.at c.in-Some.turns c.args.body) c.in_ok-push-in-Some.ensures.pieces)
     (sym (ap (within MOST_TURNS) value) ∙ sym c.number_within.ensures.value ∙ c.in-Some.is)
 
 pub returns-in_ok-push-in-Some-clause-sound : goal.returns-in_ok-push-in-Some-clause-sound

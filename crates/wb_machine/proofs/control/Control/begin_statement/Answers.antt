@@ -1,16 +1,20 @@
 use Rattle.std.proofs.Common.{◌≡◌, List, [], refl, ap, ◌∙◌, sym, subst}
+use Rattle.std.specs.List.{list_all}
+use Rattle.wb_model.specs.declared.script.Body.{Body}
 use Rattle.wb_model.specs.declared.script.Numbered.{Numbered}
+use Rattle.wb_model.specs.Sound.{is_local}
 use Rattle.wb_model.specs.declared.script.Statement.TheOpen.{Statement-F}
 use Rattle.wb_model.specs.Statements.{Layer}
 use Rattle.wb_model.specs.Meaning.{meaning_of}
 use Rattle.wb_model.specs.Run.{result_of}
 use Rattle.wb_model.specs.Rest.{resume}
-use Rattle.wb_machine.proofs.Steps.{rest_flow}
-use Rattle.wb_model.specs.declared.script.Statement.TheViews.{out-Statement, outs-If, outs-IfElse, outs-Repeat, outs-Trap}
+use Rattle.wb_machine.proofs.Steps.{rest_known}
+use Rattle.wb_machine.specs.RunState.{Values}
+use Rattle.wb_model.specs.declared.script.Statement.TheViews.{out-Statement, outs-If, outs-IfElse, outs-Repeat, outs-Trap, outs-Call, outs-CallTo}
 use Rattle.wb_machine.specs.Flow.{where_of, pending_in, AreOwn, rest_of_statement}
 use Rattle.wb_machine.proofs.Outcomes.{on_ok_then}
 use Rattle.wb_machine.proofs.Heads.{if_as_choice}
-use Rattle.wb_machine.proofs.Scripts.{own_if, own_if_condition, own_choice, own_turns, own_trapped, own_none}
+use Rattle.wb_machine.proofs.Scripts.{own_if, own_if_condition, own_choice, own_turns, own_trapped, own_none, own_call, own_call_to, procedure_locals, procedure_statements}
 use Rattle.wb_machine.proofs.control.Control.begin_statement.Goals as goal
 
 pub returns-in-If-clause-kept : goal.returns-in-If-clause-kept
@@ -61,9 +65,48 @@ returns-in_ok-self-in_default c =
     let pieces = c.args.self.now.pieces.items in
     record {
       kept = λ r budget f.
-          rest_flow script budget r c.in_ok-self-in_default.field-0 pieces c.carry_out.new.self
-          ∙ ap result_of (c.in_ok-self-in_default.ensures.kept r f (meaning_of script budget) (where_of c.args.at) (resume script budget (pending_in pieces)));
+          rest_known script budget r c.in_ok-self-in_default.field-0 pieces (pending_in c.args.state.now.callers pieces) c.carry_out.new.self
+          (ap (λ (callers : Values). pending_in callers pieces) c.in_ok-self-in_default.ensures.keeps.callers)
+          ∙ ap result_of (c.in_ok-self-in_default.ensures.kept r f (meaning_of script budget) (where_of c.args.at) (resume script budget (pending_in c.args.state.now.callers pieces)));
       sound = c.requires.sound;
-      keeps = c.in_ok-self-in_default.ensures.keeps;
+      keeps = record { steps = c.in_ok-self-in_default.ensures.keeps.steps; stays = c.in_ok-self-in_default.ensures.keeps.stays };
       line = refl;
     }
+
+pub procedure_at-body-requires : goal.procedure_at-body-requires
+procedure_at-body-requires c =
+    (own_call c.args.script.now (out-Statement c.args.statement.now) c.requires.own c.in-Call.index c.in-Call.arguments
+    (ap out-Statement c.in-Call.is ∙ outs-Call c.in-Call.index c.in-Call.arguments)).1
+
+pub begin_call-requires-clause-locals : goal.begin_call-requires-clause-locals
+begin_call-requires-clause-locals c =
+    let script = c.args.script.now in
+    let called = own_call script (out-Statement c.args.statement.now) c.requires.own c.in-Call.index c.in-Call.arguments (ap out-Statement c.in-Call.is ∙ outs-Call c.in-Call.index c.in-Call.arguments) in
+    ap (λ (b : Body). list_all is_local b.locals) c.procedure_at-body.ensures ∙ procedure_locals script c.requires.script c.in-Call.index called.1
+
+pub returns-in-Call-clause-sound : goal.returns-in-Call-clause-sound
+returns-in-Call-clause-sound c =
+    let script = c.args.script.now in
+    let called = own_call script (out-Statement c.args.statement.now) c.requires.own c.in-Call.index c.in-Call.arguments (ap out-Statement c.in-Call.is ∙ outs-Call c.in-Call.index c.in-Call.arguments) in
+    on_ok_then c.begin_call.result c.begin_call.ensures.sound (λ sound.
+    sound script (subst (λ (b : Body). AreOwn script b.statements) (sym c.procedure_at-body.ensures) (procedure_statements script c.requires.script c.in-Call.index called.1)) c.requires.sound)
+
+pub procedure_at-body-requires-in-CallTo : goal.procedure_at-body-requires-in-CallTo
+procedure_at-body-requires-in-CallTo c =
+    (own_call_to c.args.script.now (out-Statement c.args.statement.now) c.requires.own c.in-CallTo.target c.in-CallTo.index c.in-CallTo.arguments
+    (ap out-Statement c.in-CallTo.is ∙ outs-CallTo c.in-CallTo.target c.in-CallTo.index c.in-CallTo.arguments)).1
+
+pub begin_call-requires-in-CallTo-clause-locals : goal.begin_call-requires-in-CallTo-clause-locals
+begin_call-requires-in-CallTo-clause-locals c =
+    let script = c.args.script.now in
+    let called = own_call_to script (out-Statement c.args.statement.now) c.requires.own c.in-CallTo.target c.in-CallTo.index c.in-CallTo.arguments
+    (ap out-Statement c.in-CallTo.is ∙ outs-CallTo c.in-CallTo.target c.in-CallTo.index c.in-CallTo.arguments) in
+    ap (λ (b : Body). list_all is_local b.locals) c.procedure_at-body-in-CallTo.ensures ∙ procedure_locals script c.requires.script c.in-CallTo.index called.1
+
+pub returns-in-CallTo-clause-sound : goal.returns-in-CallTo-clause-sound
+returns-in-CallTo-clause-sound c =
+    let script = c.args.script.now in
+    let called = own_call_to script (out-Statement c.args.statement.now) c.requires.own c.in-CallTo.target c.in-CallTo.index c.in-CallTo.arguments
+    (ap out-Statement c.in-CallTo.is ∙ outs-CallTo c.in-CallTo.target c.in-CallTo.index c.in-CallTo.arguments) in
+    on_ok_then c.begin_call-in-CallTo.result c.begin_call-in-CallTo.ensures.sound (λ sound.
+    sound script (subst (λ (b : Body). AreOwn script b.statements) (sym c.procedure_at-body-in-CallTo.ensures) (procedure_statements script c.requires.script c.in-CallTo.index called.1)) c.requires.sound)

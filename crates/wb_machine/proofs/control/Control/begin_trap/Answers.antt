@@ -1,7 +1,8 @@
-use Rattle.std.proofs.Common.{refl, ap, ◌∙◌}
+use Rattle.std.proofs.Common.{ap, ◌∙◌}
 use Rattle.wb_machine.specs.declared.pieces.Piece.TheVariants.{Code, Trap}
 use Rattle.wb_machine.specs.Flow.{where_of, rest_from}
 use Rattle.wb_machine.proofs.Heads.{trap_rest}
+use Rattle.wb_machine.proofs.Steps.{pending_pushed}
 use Rattle.wb_machine.proofs.Scripts.{sound_pushed}
 use Rattle.wb_machine.proofs.control.Control.begin_trap.Goals as goal
 
@@ -9,8 +10,9 @@ pub returns-clause-kept : goal.returns-clause-kept
 returns-clause-kept c script r budget h =
     let new = c.push-2.new.self.pieces.items in
     ap (λ e. rest_from script budget r e new h) (c.in_ok-push-2.ensures.ending ∙ c.in_ok-push.ensures.ending ∙ c.requires)
-    ∙ trap_rest script budget r (where_of c.args.at) c.args.local c.args.body.now c.args.self.now.pieces.items c.push.new.self.pieces.items new
-    (Trap c.args.at c.args.local) (Code (record c.args.at { floor = 0 }) c.args.body) h c.in_ok-push.ensures.pieces c.in_ok-push-2.ensures.pieces refl refl
+    ∙ trap_rest script budget r (where_of c.args.at) c.args.local c.args.body.now c.args.self.now.pieces.items c.push.new.self.pieces.items new h
+    (pending_pushed h.callers c.args.self.now.pieces.items c.push.new.self.pieces.items (Trap c.args.at c.args.local) c.in_ok-push.ensures.pieces)
+    (pending_pushed h.callers c.push.new.self.pieces.items new (Code (record c.args.at { floor = 0 }) c.args.body) c.in_ok-push-2.ensures.pieces)
 
 pub returns-clause-sound : goal.returns-clause-sound
 returns-clause-sound c script own below =

@@ -1,5 +1,5 @@
-use Rattle.std.proofs.Common.{ap, ◌∙◌, sym}
-use Rattle.wb_machine.specs.Flow.{where_of, pending_of, needs_step, rest_under}
+use Rattle.std.proofs.Common.{◌∷◌, ap, ◌∙◌, sym}
+use Rattle.wb_machine.specs.Flow.{where_of, pending_of, callers_under, pending_in, needs_step, rest_under}
 use Rattle.wb_machine.proofs.Falls.{fallen_code, fallen_turns}
 use Rattle.wb_machine.proofs.control.Control.fall.Goals as goal
 
@@ -9,7 +9,7 @@ returns-in-Code-clause-kept c script r budget within =
     let ending = c.args.self.now.ending in
     let h = c.args.state.now in
     fallen_code script budget r pieces (where_of c.in-Code.field-0) c.in-Code.field-1.now ending h c.requires.stop within (λ e. sym (ap needs_step c.in-Code.is) ∙ c.requires.done e)
-    ∙ sym (ap (λ p. rest_under script budget r ending (pending_of p) pieces h) c.in-Code.is)
+    ∙ sym (ap (λ p. rest_under script budget r ending (pending_of h.callers p ∷ pending_in (callers_under h.callers p) pieces) h) c.in-Code.is)
 
 pub returns-in-Turns-clause-kept : goal.returns-in-Turns-clause-kept
 returns-in-Turns-clause-kept c script r budget within =
@@ -17,4 +17,4 @@ returns-in-Turns-clause-kept c script r budget within =
     let ending = c.args.self.now.ending in
     let h = c.args.state.now in
     fallen_turns script budget r pieces (where_of c.in-Turns.field-0) c.in-Turns.field-1 c.in-Turns.field-2.now ending h c.requires.stop within (λ e. sym (ap needs_step c.in-Turns.is) ∙ c.requires.done e)
-    ∙ sym (ap (λ p. rest_under script budget r ending (pending_of p) pieces h) c.in-Turns.is)
+    ∙ sym (ap (λ p. rest_under script budget r ending (pending_of h.callers p ∷ pending_in (callers_under h.callers p) pieces) h) c.in-Turns.is)

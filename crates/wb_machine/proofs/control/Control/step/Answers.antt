@@ -1,12 +1,12 @@
 use Rattle.std.proofs.Common.{◌≡◌, ◌∷◌, ◌++◌, [], List, ap, ◌∙◌, sym, subst}
 use Rattle.std.specs.Prelude.{option_to_list}
 use Rattle.wb_model.specs.declared.script.Numbered.{Numbered}
-use Rattle.wb_model.specs.Statements.{all}
+use Rattle.wb_model.specs.Statements.{all, turns}
 use Rattle.wb_model.specs.Rest.{doing}
 use Rattle.wb_machine.specs.declared.pieces.Piece.TheVariants.{Code, Turns}
 use Rattle.wb_machine.specs.Flow.{where_of, AreOwn, rest_from, rest_of_piece}
 use Rattle.wb_machine.proofs.Outcomes.{on_ok_then, split_first}
-use Rattle.wb_machine.proofs.Steps.{rest_on_top}
+use Rattle.wb_machine.proofs.Steps.{pending_pushed, rest_on_top}
 use Rattle.wb_machine.proofs.Scripts.{sound_below, sound_top}
 use Rattle.wb_machine.proofs.control.Control.step.Goals as goal
 
@@ -38,7 +38,7 @@ returns-in-Some-Code-default-len1-up-clause-kept c =
     let top : old ≡ below ++ Code arm.at arm.field-0-1 ∷ [] = c.pop.ensures.items ∙ ap (λ o. below ++ option_to_list o) arm.is ∙ ap (λ p. below ++ p ∷ []) arm.field-0-is in
     kept r budget within f
     ∙ ap (λ (ss : List Numbered). rest_of_piece script budget r (doing (where_of arm.at) (all ss)) below h) (sym (split_first arm.field-0-1.now c.first-item.result c.first-item.is arm.len_at_least))
-    ∙ sym (ap (λ e. rest_from script budget r e old h) c.requires.ready.0 ∙ rest_on_top script budget r old below (Code arm.at arm.field-0-1) h top))
+    ∙ sym (ap (λ e. rest_from script budget r e old h) c.requires.ready.0 ∙ rest_on_top script budget r old below (doing (where_of arm.at) (all arm.field-0-1.now)) h (pending_pushed h.callers below old (Code arm.at arm.field-0-1) top)))
 
 pub returns-in-Some-Turns-clause-kept : goal.returns-in-Some-Turns-clause-kept
 returns-in-Some-Turns-clause-kept c =
@@ -50,7 +50,7 @@ returns-in-Some-Turns-clause-kept c =
     let h = c.args.state.now in
     let top : old ≡ below ++ Turns arm.at arm.left arm.body ∷ [] = c.pop.ensures.items ∙ ap (λ o. below ++ option_to_list o) arm.is ∙ ap (λ p. below ++ p ∷ []) arm.field-0-is in
     kept script r budget within
-    ∙ sym (ap (λ e. rest_from script budget r e old h) c.requires.ready.0 ∙ rest_on_top script budget r old below (Turns arm.at arm.left arm.body) h top))
+    ∙ sym (ap (λ e. rest_from script budget r e old h) c.requires.ready.0 ∙ rest_on_top script budget r old below (doing (where_of arm.at) (turns arm.left arm.body.now)) h (pending_pushed h.callers below old (Turns arm.at arm.left arm.body) top)))
 
 pub returns-in-Some-Turns-clause-sound : goal.returns-in-Some-Turns-clause-sound
 returns-in-Some-Turns-clause-sound c =

@@ -1,10 +1,10 @@
-use Rattle.std.proofs.Common.{refl, ap, ◌∙◌, sym, subst}
+use Rattle.std.proofs.Common.{ap, ◌∙◌, sym, subst}
 use Rattle.wb_model.specs.declared.script.Statement.TheViews.{out-Statement}
 use Rattle.wb_machine.specs.RunState.{RunState}
 use Rattle.wb_machine.specs.declared.pieces.Piece.TheVariants.{Code}
 use Rattle.wb_machine.specs.Flow.{where_of, FitsStep, rest_of_statement}
 use Rattle.wb_machine.proofs.Outcomes.{on_ok_then}
-use Rattle.wb_machine.proofs.Steps.{rest_stepped}
+use Rattle.wb_machine.proofs.Steps.{pending_pushed, rest_stepped}
 use Rattle.wb_machine.proofs.Scripts.{sound_pushed, own_first, own_rest}
 use Rattle.wb_machine.proofs.control.Control.step_code.Goals as goal
 
@@ -23,7 +23,7 @@ returns-clause-kept c =
     let script = c.args.script.now in
     let mid = c.push.new.self.pieces.items in
     let h = c.args.state.now in
-    rest_stepped script budget r (where_of c.args.at) c.args.first.now c.args.rest.now c.args.self.now.pieces.items mid c.begin_statement.new.self.pieces.items (Code c.args.at c.args.rest)
-    c.begin_statement.new.self.ending h c.begin_statement.new.state c.in_ok-push.ensures.pieces refl within
+    rest_stepped script budget r (where_of c.args.at) c.args.first.now c.args.rest.now c.args.self.now.pieces.items mid c.begin_statement.new.self.pieces.items
+    c.begin_statement.new.self.ending h c.begin_statement.new.state (pending_pushed h.callers c.args.self.now.pieces.items mid (Code c.args.at c.args.rest) c.in_ok-push.ensures.pieces) within
     (kept r budget (subst (λ (x : RunState). FitsStep r x c.begin_statement.new.self.ending c.begin_statement.new.state) (sym c.tick.ensures) (c.requires.lines, f))
     ∙ ap (λ (x : RunState). rest_of_statement script budget r (where_of c.args.at) (out-Statement c.args.first.now.statement) mid x) c.tick.ensures))

@@ -1,0 +1,5 @@
+mod SlotWords
+mod Rewriting
+pub mod Standing
+mod Growing
+pub mod Beside

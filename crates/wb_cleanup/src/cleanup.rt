@@ -1,0 +1,249 @@
+//! The calls on the stack.
+
+ghost use Rattle.std.specs.Prelude.{◌≡◌, ◌≢◌, ◌+◌, ◌^◌, ◌<◌, true, [], ◌∷◌, ◌++◌, None, Some, false, option_map, IfErr, IfNone, IfOk, IfSome, IsOk, OnErr, OnOk, OnSome};
+ghost use Rattle.wb_cleanup.specs.Pushes.{IsButForWords, cell_by, fills, growth, items_by, push_made, pushed_by, slots_by};
+ghost use Rattle.wb_cleanup.specs.Stacks.{IsPopped, IsStack, cell_of, count_of, expected_refusal, items_of, newest_above, pop_refusal, slots_of};
+ghost use Rattle.wb_model.specs.Debug.{IsSoundDebug, alloc_made, gave_of};
+
+use crate::slots;
+use wb_debug::DebugHeap;
+use wb_model::heap::{Gave, Item, Kind, Panic, Ptr};
+use wb_model::memory::NoMemory;
+
+/// The length of a slot, in bytes.
+const SLOT_BYTES: u32 = 16;
+/// How many slots a stack begins with.
+const FIRST_SLOTS: u32 = 8;
+/// How many slots a growth adds.
+const MORE_SLOTS: u32 = 4;
+
+/// The cleanup stack: items in slots in the words of a cell of a debug heap, the oldest first.
+///
+/// Every call that is handed a heap asks for the one in which the stack stands. Source: Symbian OS v9 SDK reference,
+/// CleanupStack, and this project's profile for the slots.
+#[derive(Clone, Debug, Drop, PartialEq, Eq)]
+pub struct Cleanup {
+    cell: Ptr,
+    /// How many items stand on it.
+    used: u32,
+    /// How many items the cell has room for.
+    slots: u32,
+}
+
+/// What came of a push.
+#[derive(Clone, Copy, Debug, PartialEq, Eq)]
+pub enum Pushed {
+    /// The item is on the stack.
+    Fine,
+    /// It is on the stack too, but it filled the last slot, and the growth was refused: the push leaves.
+    Leave,
+    /// It isn't: the growth would have ended past the ceiling, which cuts the run.
+    Ceiling,
+}
+
+impl Cleanup {
+    /// The empty stack of a run, with 8 slots: the run's first attempt, for 128 bytes.
+    ///
+    /// `None` exactly where the setting or the rule refuses it. `NoMemory` leaves the heap as it was. Source: Symbian OS v9
+    /// SDK reference, CTrapCleanup::New, and this project's profile for the length.
+    pub fn start(heap: &mut DebugHeap) -> Result<Option<Cleanup>, NoMemory>
+        requires first { heap.old.attempts ≡ 0 }
+        ensures made { OnOk result (heap.new ≡ (alloc_made heap.old 128 Kind.Cleanup).debug) }
+        ensures gave { IfOk result (λ started. gave_of (option_map cell_of started) ≡ (alloc_made heap.old 128 Kind.Cleanup).gave) }
+        ensures stands { IfOk result (λ started. IfSome started (λ stack. IsStack stack heap.new)) }
+        ensures empty { IfOk result (λ started. IfSome started (λ stack. items_of stack heap.new ≡ [])) }
+        ensures slots { IfOk result (λ started. IfSome started (λ stack. slots_of stack ≡ 8)) }
+        ensures err { OnErr result (heap.new ≡ heap.old) }
+        ensures sound { IsSoundDebug heap.new }
+    {
+        match heap.attempt_alloc(FIRST_SLOTS * SLOT_BYTES, Kind::Cleanup)? {
+            Gave::Granted(cell) => Ok(Some(Cleanup {
+                cell,
+                used: 0,
+                slots: FIRST_SLOTS,
+            })),
+            Gave::Denied => Ok(None),
+            Gave::Ceiling => unreachable!(),
+        }
+    }
+
+    /// How many items stand on the stack.
+    pub fn used(&self) -> u32
+        ensures { result ≡ count_of self.now }
+    {
+        self.used
+    }
+
+    /// Puts an item on top. Where it fills the last slot, the cell is reallocated for 4 slots more: an attempt, which may
+    /// move the cell.
+    ///
+    /// A push that doesn't fill the last slot is fine and takes no memory. `Leave` keeps the item and the slots.
+    /// `Ceiling` and `NoMemory` leave the stack and the heap as they were, and `NoMemory` never comes in place of
+    /// `Ceiling`. Source: Symbian OS v9 SDK reference, CleanupStack::PushL, and this project's profile for the slots.
+    pub fn push(&mut self, heap: &mut DebugHeap, item: Item) -> Result<Pushed, NoMemory>
+        requires stands { IsStack self.old heap.old }
+        requires room { count_of self.old < slots_of self.old }
+        requires number { heap.old.attempts + 1 < 2 ^ 32 }
+        ensures answer { IfOk result (λ pushed. pushed ≡ pushed_by (push_made self.old heap.old).gave) }
+        ensures items { OnOk result (items_of self.new heap.new ≡ items_by (items_of self.old heap.old) item (push_made self.old heap.old).gave) }
+        ensures slots { OnOk result (slots_of self.new ≡ slots_by (fills self.old heap.old) (slots_of self.old) (push_made self.old heap.old).gave) }
+        ensures cell { OnOk result (cell_of self.new ≡ cell_by (cell_of self.old) (push_made self.old heap.old).gave) }
+        ensures heap { OnOk result (IsButForWords (cell_of self.new) (push_made self.old heap.old).debug heap.new) }
+        ensures ceiling_stack { IfOk result (λ pushed. pushed ≡ Pushed.Ceiling → self.new ≡ self.old) }
+        ensures ceiling_heap { IfOk result (λ pushed. pushed ≡ Pushed.Ceiling → heap.new ≡ heap.old) }
+        ensures room { IfOk result (λ pushed. pushed ≢ Pushed.Leave → count_of self.new < slots_of self.new) }
+        ensures cut { (push_made self.old heap.old).gave ≡ Gave.Ceiling → IsOk result }
+        ensures no_growth { fills self.old heap.old ≡ false → IsOk result }
+        ensures err_stack { OnErr result (self.new ≡ self.old) }
+        ensures err_heap { OnErr result (heap.new ≡ heap.old) }
+        ensures stands { IsStack self.new heap.new }
+        ensures sound { IsSoundDebug heap.new }
+    {
+        let pushed = self.make_room(heap)?;
+        match pushed {
+            Pushed::Fine | Pushed::Leave => self.put(heap, item),
+            Pushed::Ceiling => {}
+        }
+        Ok(pushed)
+    }
+
+    /// The growth where one item more fills the last slot.
+    fn make_room(&mut self, heap: &mut DebugHeap) -> Result<Pushed, NoMemory>
+        requires stands { IsStack self.old heap.old }
+        requires room { count_of self.old < slots_of self.old }
+        requires number { heap.old.attempts + 1 < 2 ^ 32 }
+        ensures answer { IfOk result (λ pushed. pushed ≡ pushed_by (push_made self.old heap.old).gave) }
+        ensures made { OnOk result (heap.new ≡ (push_made self.old heap.old).debug) }
+        ensures items { items_of self.new heap.new ≡ items_of self.old heap.old }
+        ensures count { count_of self.new ≡ count_of self.old }
+        ensures slots { OnOk result (slots_of self.new ≡ slots_by (fills self.old heap.old) (slots_of self.old) (push_made self.old heap.old).gave) }
+        ensures cell { OnOk result (cell_of self.new ≡ cell_by (cell_of self.old) (push_made self.old heap.old).gave) }
+        ensures ceiling { IfOk result (λ pushed. pushed ≡ Pushed.Ceiling → self.new ≡ self.old) }
+        ensures ceiling_sound { IfOk result (λ pushed. pushed ≡ Pushed.Ceiling → IsSoundDebug heap.new) }
+        ensures room { count_of self.new < slots_of self.new }
+        ensures more { IfOk result (λ pushed. pushed ≡ Pushed.Fine → count_of self.new + 1 < slots_of self.new) }
+        ensures cut { (push_made self.old heap.old).gave ≡ Gave.Ceiling → IsOk result }
+        ensures no_growth { fills self.old heap.old ≡ false → IsOk result }
+        ensures err_stack { OnErr result (self.new ≡ self.old) }
+        ensures err_heap { OnErr result (heap.new ≡ heap.old) }
+        ensures err_sound { OnErr result (IsSoundDebug heap.new) }
+        ensures stands { IsStack self.new heap.new }
+    {
+        if self.used + 1 == self.slots {
+            self.grow(heap)
+        } else {
+            Ok(Pushed::Fine)
+        }
+    }
+
+    /// Reallocates the cell for more slots, with the items that it has.
+    fn grow(&mut self, heap: &mut DebugHeap) -> Result<Pushed, NoMemory>
+        requires stands { IsStack self.old heap.old }
+        requires number { heap.old.attempts + 1 < 2 ^ 32 }
+        ensures answer { IfOk result (λ pushed. pushed ≡ pushed_by (growth self.old heap.old).gave) }
+        ensures made { OnOk result (heap.new ≡ (growth self.old heap.old).debug) }
+        ensures items { items_of self.new heap.new ≡ items_of self.old heap.old }
+        ensures count { count_of self.new ≡ count_of self.old }
+        ensures slots { OnOk result (slots_of self.new ≡ slots_by true (slots_of self.old) (growth self.old heap.old).gave) }
+        ensures cell { OnOk result (cell_of self.new ≡ cell_by (cell_of self.old) (growth self.old heap.old).gave) }
+        ensures fine { IfOk result (λ pushed. pushed ≡ Pushed.Fine → slots_of self.new ≡ slots_of self.old + 4) }
+        ensures ceiling { IfOk result (λ pushed. pushed ≡ Pushed.Ceiling → self.new ≡ self.old) }
+        ensures cut { (growth self.old heap.old).gave ≡ Gave.Ceiling → IsOk result }
+        ensures err_stack { OnErr result (self.new ≡ self.old) }
+        ensures err_heap { OnErr result (heap.new ≡ heap.old) }
+        ensures stands { IsStack self.new heap.new }
+        ensures sound { IsSoundDebug heap.new }
+    {
+        let slots = self.slots + MORE_SLOTS;
+        match heap.attempt_realloc(self.cell, SLOT_BYTES * slots)? {
+            Gave::Granted(cell) => {
+                self.cell = cell;
+                self.slots = slots;
+                Ok(Pushed::Fine)
+            }
+            Gave::Denied => Ok(Pushed::Leave),
+            Gave::Ceiling => Ok(Pushed::Ceiling),
+        }
+    }
+
+    /// Puts an item into the next slot.
+    fn put(&mut self, heap: &mut DebugHeap, item: Item)
+        requires stands { IsStack self.old heap.old }
+        requires room { count_of self.old < slots_of self.old }
+        ensures items { items_of self.new heap.new ≡ items_of self.old heap.old ++ item ∷ [] }
+        ensures count { count_of self.new ≡ count_of self.old + 1 }
+        ensures slots { slots_of self.new ≡ slots_of self.old }
+        ensures cell { cell_of self.new ≡ cell_of self.old }
+        ensures heap { IsButForWords (cell_of self.old) heap.old heap.new }
+        ensures stands { IsStack self.new heap.new }
+        ensures sound { IsSoundDebug heap.new }
+    {
+        slots::write(heap, self.cell, self.used, item);
+        self.used += 1;
+    }
+
+    /// Takes the `n` newest items off. `Panic::POP_BELOW_TRAP` where fewer than `n` stand above the `floor` first ones, and
+    /// then the stack is as it was.
+    ///
+    /// What is done with the items is the caller's. Source: Symbian OS v9 SDK reference, CleanupStack::Pop, and this
+    /// project's profile for the floor.
+    pub fn pop(&mut self, floor: u32, n: u32) -> Result<(), Panic>
+        ensures refused { IfErr result (λ panic. pop_refusal floor n (count_of self.old) ≡ Some panic) }
+        ensures fine { OnOk result (pop_refusal floor n (count_of self.old) ≡ None) }
+        ensures popped { OnOk result (IsPopped n self.old self.new) }
+        ensures err { OnErr result (self.new ≡ self.old) }
+    {
+        if self.used < floor || self.used - floor < n {
+            return Err(Panic::POP_BELOW_TRAP);
+        }
+        self.used -= n;
+        Ok(())
+    }
+
+    /// Takes the newest item off, which must be of this pointer: of its place and of its number.
+    ///
+    /// `Panic::POP_BELOW_TRAP` where none stands above the `floor` first ones, then `Panic::ANOTHER_ITEM_ON_TOP` where the
+    /// newest is of another pointer; the stack is then as it was. Source: Symbian OS v9 SDK reference,
+    /// CleanupStack::Pop, and this project's profile for the floor and the panics.
+    pub fn pop_expected(&mut self, heap: &DebugHeap, floor: u32, ptr: Ptr) -> Result<(), Panic>
+        requires { IsStack self.old heap.now }
+        ensures refused { IfErr result (λ panic. expected_refusal floor ptr (items_of self.old heap.now) ≡ Some panic) }
+        ensures fine { OnOk result (expected_refusal floor ptr (items_of self.old heap.now) ≡ None) }
+        ensures popped { OnOk result (IsPopped 1 self.old self.new) }
+        ensures err { OnErr result (self.new ≡ self.old) }
+    {
+        let Some(item) = self.newest_above(heap, floor) else {
+            return Err(Panic::POP_BELOW_TRAP);
+        };
+        if slots::pointer(item) != ptr {
+            return Err(Panic::ANOTHER_ITEM_ON_TOP);
+        }
+        self.used -= 1;
+        Ok(())
+    }
+
+    /// Takes the newest item off that stands above the `floor` first ones, and gives it; `None` where none does, and then
+    /// the stack is as it was.
+    ///
+    /// Source: Symbian OS v9 SDK reference, CleanupStack::PopAndDestroy, and this project's profile for the floor.
+    pub fn take_top(&mut self, heap: &DebugHeap, floor: u32) -> Option<Item>
+        requires { IsStack self.old heap.now }
+        ensures item { result ≡ newest_above floor (items_of self.old heap.now) }
+        ensures taken { OnSome result (IsPopped 1 self.old self.new) }
+        ensures none { IfNone result (self.new ≡ self.old) }
+    {
+        let item = self.newest_above(heap, floor)?;
+        self.used -= 1;
+        Some(item)
+    }
+
+    fn newest_above(&self, heap: &DebugHeap, floor: u32) -> Option<Item>
+        requires { IsStack self.now heap.now }
+        ensures { result ≡ newest_above floor (items_of self.now heap.now) }
+    {
+        if self.used <= floor {
+            return None;
+        }
+        Some(slots::read(heap, self.cell, self.used - 1))
+    }
+}

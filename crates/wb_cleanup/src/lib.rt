@@ -1,0 +1,12 @@
+//! The cleanup stack: items in slots in the words of one cell of the debug heap, which grows with them.
+//!
+//! The calls stand in `cleanup`; `slots` writes and reads one slot.
+#![tactic(auto)]
+
+pub mod cleanup;
+mod slots;
+
+pub use cleanup::{Cleanup, Pushed};
+pub use wb_debug::DebugHeap;
+pub use wb_model::heap::{Item, Panic, Ptr};
+pub use wb_model::memory::NoMemory;

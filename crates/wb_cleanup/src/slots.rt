@@ -1,0 +1,65 @@
+//! One slot of the stack: four words of the cell, which are what is done with an item, the place and the number of its
+//! pointer, and its operation, or 0 where it has none.
+
+ghost use Rattle.std.specs.Prelude.{◌≡◌, ◌+◌, ◌*◌, ◌^◌, ◌<◌, ◌≤◌, length};
+ghost use Rattle.wb_cleanup.specs.Slots.{IsSlot, with_words, words_of_slot};
+ghost use Rattle.wb_model.specs.CellRow.{payload_of};
+ghost use Rattle.wb_model.specs.CleanupCells.{IsItem, slot_words};
+ghost use Rattle.wb_model.specs.Debug.{IsSoundDebug, debug_changed};
+ghost use Rattle.wb_model.specs.Statements.{item_pointer};
+
+use wb_debug::DebugHeap;
+use wb_model::heap::{Item, Ptr};
+
+/// The first word of an item that is freed.
+const FREE: u32 = 1;
+/// The first word of an object that is deleted.
+const DELETE: u32 = 2;
+/// The first word of an item that an operation is called on.
+const CALL: u32 = 3;
+
+/// Writes an item into the slot with this index, and nothing else.
+pub fn write(heap: &mut DebugHeap, cell: Ptr, slot: u32, item: Item)
+    requires within { 4 * (slot + 1) ≤ length (payload_of cell heap.old.heap.row) }
+    requires bounded { length (payload_of cell heap.old.heap.row) < 2 ^ 32 }
+    ensures written { heap.new ≡ debug_changed heap.old cell (with_words (4 * slot) (slot_words item) (payload_of cell heap.old.heap.row)) }
+    ensures item { IsItem item }
+    ensures sound { IsSoundDebug heap.new }
+{
+    let (what, ptr, operation) = match item {
+        Item::Free(ptr) => (FREE, ptr, 0),
+        Item::Delete(ptr) => (DELETE, ptr, 0),
+        Item::Call(ptr, operation) => (CALL, ptr, u32::from(operation)),
+    };
+    heap.set_payload(cell, 4 * slot, what);
+    heap.set_payload(cell, 4 * slot + 1, ptr.place);
+    heap.set_payload(cell, 4 * slot + 2, ptr.number);
+    heap.set_payload(cell, 4 * slot + 3, operation);
+}
+
+/// The item that the slot with this index spells.
+pub fn read(heap: &DebugHeap, cell: Ptr, slot: u32) -> Item
+    requires { IsSlot slot (payload_of cell heap.now.heap.row) }
+    ensures { slot_words result ≡ words_of_slot slot (payload_of cell heap.now.heap.row) }
+{
+    let ptr = Ptr {
+        place: heap.payload(cell, 4 * slot + 1),
+        number: heap.payload(cell, 4 * slot + 2),
+    };
+    match heap.payload(cell, 4 * slot) {
+        FREE => Item::Free(ptr),
+        DELETE => Item::Delete(ptr),
+        _ => Item::Call(ptr, heap.payload(cell, 4 * slot + 3) as u16),
+    }
+}
+
+/// What an item is about.
+pub fn pointer(item: Item) -> Ptr
+    ensures { result ≡ item_pointer item }
+{
+    match item {
+        Item::Free(ptr) => ptr,
+        Item::Delete(ptr) => ptr,
+        Item::Call(ptr, _) => ptr,
+    }
+}

@@ -1,0 +1,208 @@
+//! Calls on objects with the answers that they must give, so that worked objects are a table of calls.
+
+ghost use Rattle.std.specs.Prelude.{◌≡◌, ℕ, ◌+◌, ◌^◌, ◌<◌, ◌≤◌, length, true};
+ghost use Rattle.wb_model.specs.Statements.{class_at, payload_of_object};
+ghost use Rattle.wb_objects.specs.Objects.{HasField};
+
+use crate::heap_calls::{Cell, pointer};
+use std::alloc::Global;
+use wb_debug::{DebugFault, DebugHeap};
+use wb_hbuf::make as make_text;
+use wb_model::heap::{Gave, Kind, Panic, Ptr, Rule, Shape};
+use wb_model::items::Items;
+use wb_model::limits::CEILING;
+use wb_model::memory::NoMemory;
+use wb_model::script::{Class, Script};
+use wb_objects::{class_of, field, make, set_field};
+
+/// A class: its extra bytes, and each field's class where it has one.
+pub(crate) type ClassRow = (u32, &'static [Option<u16>]);
+
+/// A call on objects, and the answer that it must give, last. Null is the cell at place 0 with number 0.
+#[derive(Clone, Copy)]
+pub(crate) enum Call {
+    /// The cell that is granted to an object of a class.
+    Make(u16, Cell),
+    /// The attempt is denied.
+    NoMake(u16),
+    MakePastCeiling(u16),
+    ClassOf(Cell, Result<u16, Panic>),
+    /// The pointer in a field of an object that is to be of a class.
+    Field(Cell, u16, u8, Result<Cell, Panic>),
+    /// The pointer that the field gets stands before the answer.
+    SetField(Cell, u16, u8, Cell, Result<(), Panic>),
+    /// A cell that is no object, for so many bytes.
+    Alloc(u32, Cell),
+    /// An HBufC for so many units.
+    Text(u32, Cell),
+    Free(Cell),
+    FailNext(u32),
+    /// The first words of a payload.
+    Words(Cell, &'static [u32]),
+    /// The words of a payload from an index on are so many, all zero.
+    Zeros(Cell, u32, u32),
+    /// The length of a cell, header included, and the class of the object in it.
+    Header(Cell, u32, u16),
+    Attempts(u32),
+}
+
+/// Objects, by calls that are made in an empty heap.
+#[derive(Clone, Copy)]
+pub(crate) struct WorkedObjects {
+    /// What it shows.
+    pub(crate) about: &'static str,
+    pub(crate) calls: &'static [Call],
+}
+
+/// The index of the first call that gives another answer, where a script has these classes.
+pub(crate) fn first_other(
+    alloc: Global,
+    classes: &[ClassRow],
+    worked: &WorkedObjects,
+) -> Result<Option<usize>, DebugFault> {
+    let script = script_of(alloc, classes)?;
+    let shape = Shape { min: 0, step: 4096 };
+    let mut heap = DebugHeap::new(alloc, Rule::Unlimited, shape)?;
+    for (index, call) in worked.calls.iter().enumerate() {
+        if !answers(&mut heap, &script, *call) {
+            return Ok(Some(index));
+        }
+    }
+    Ok(None)
+}
+
+/// A script of these classes and nothing else.
+fn script_of(alloc: Global, rows: &[ClassRow]) -> Result<Script, NoMemory> {
+    let mut classes = Items::new(alloc);
+    for (extra, fields) in rows {
+        classes.push(class(alloc, *extra, fields)?)?;
+    }
+    Ok(Script {
+        classes,
+        procedures: Items::new(alloc),
+        operations: Items::new(alloc),
+        literals: Items::new(alloc),
+        main: 0,
+    })
+}
+
+fn class(alloc: Global, extra: u32, fields: &[Option<u16>]) -> Result<Class, NoMemory> {
+    let mut list = Vec::new(alloc);
+    list.extend_from_slice(fields)?;
+    Ok(Class {
+        line: 1,
+        extra,
+        fields: Items::from_vec(list),
+        construct: None,
+        destroy: None,
+    })
+}
+
+/// Whether a call gives its answer.
+fn answers(heap: &mut DebugHeap, script: &Script, call: Call) -> bool {
+    match call {
+        Call::Make(class, cell) => {
+            made(heap, script, class) == Some(Gave::Granted(pointer(cell)))
+        }
+        Call::NoMake(class) => made(heap, script, class) == Some(Gave::Denied),
+        Call::MakePastCeiling(class) => made(heap, script, class) == Some(Gave::Ceiling),
+        Call::SetField(cell, class, i, to, answer) => {
+            let ptr = pointer(cell);
+            has_room(heap, ptr, i) && set_field(heap, ptr, class, i, pointer(to)) == answer
+        }
+        Call::Alloc(bytes, cell) => raw(heap, bytes) == Some(Gave::Granted(pointer(cell))),
+        Call::Text(units, cell) => text(heap, units) == Some(Gave::Granted(pointer(cell))),
+        Call::Free(cell) => heap.release(pointer(cell)) == Ok(()),
+        Call::FailNext(n) if n > 0 => {
+            heap.fail_next(n);
+            true
+        }
+        _ => tells(heap, call),
+    }
+}
+
+/// The same of a call that changes nothing.
+fn tells(heap: &DebugHeap, call: Call) -> bool {
+    match call {
+        Call::ClassOf(cell, answer) => class_of(heap, pointer(cell)) == answer,
+        Call::Field(cell, class, i, answer) => {
+            let ptr = pointer(cell);
+            has_room(heap, ptr, i) && field(heap, ptr, class, i) == answer.map(|to| pointer(to))
+        }
+        Call::Words(cell, words) => begins_with(heap, pointer(cell), words),
+        Call::Zeros(cell, from, count) => ends_in_zeros(heap, pointer(cell), from, count),
+        Call::Header(cell, length, class) => match heap.header(pointer(cell)) {
+            Some(header) => header.length == length && header.kind == Kind::Object(class),
+            None => false,
+        },
+        Call::Attempts(n) => heap.attempts() == n,
+        _ => false,
+    }
+}
+
+/// An attempt to get an object, or `None` where it can't be made.
+fn made(heap: &mut DebugHeap, script: &Script, class: u16) -> Option<Gave> {
+    if heap.attempts() == u32::MAX || !has_class(script, class) {
+        return None;
+    }
+    make(heap, script, class).ok()
+}
+
+/// Whether the script has the class, and one object of it can stand below the ceiling.
+fn has_class(script: &Script, class: u16) -> bool
+    ensures there { result ≡ true → class < length script.now.classes }
+    ensures fits { result ≡ true → payload_of_object (class_at script.now class) ≤ CEILING }
+{
+    match script.classes.get(usize::from(class)) {
+        Some(class) => class.fields.len() <= 16 && class.extra <= CEILING - 136,
+        None => false,
+    }
+}
+
+/// Whether the cell that the pointer names, if there is one, has words for the field with this index.
+fn has_room(heap: &DebugHeap, ptr: Ptr, i: u8) -> bool
+    ensures { result ≡ true → (class : ℕ) → HasField heap.now ptr class i }
+{
+    match heap.header(ptr) {
+        Some(header) => 4 + 2 * u32::from(i) <= header.words(),
+        None => true,
+    }
+}
+
+/// An attempt to get a raw cell, or `None` where it can't be made.
+fn raw(heap: &mut DebugHeap, bytes: u32) -> Option<Gave> {
+    if heap.attempts() == u32::MAX || bytes > CEILING {
+        return None;
+    }
+    heap.attempt_alloc(bytes, Kind::Raw).ok()
+}
+
+/// An attempt to get an HBufC, or `None` where it can't be made.
+fn text(heap: &mut DebugHeap, units: u32) -> Option<Gave> {
+    if heap.attempts() == u32::MAX || units > 16 {
+        return None;
+    }
+    make_text(heap, units).ok()
+}
+
+/// Whether these are the first words of a payload.
+fn begins_with(heap: &DebugHeap, ptr: Ptr, words: &[u32]) -> bool {
+    words
+        .iter()
+        .zip(0..)
+        .all(|(word, i)| word_at(heap, ptr, i) == Some(*word))
+}
+
+/// Whether so many words are left of a payload from an index on, and all are zero.
+fn ends_in_zeros(heap: &DebugHeap, ptr: Ptr, from: u32, count: u32) -> bool {
+    let end = from.saturating_add(count);
+    (from..end).all(|i| word_at(heap, ptr, i) == Some(0)) && word_at(heap, ptr, end).is_none()
+}
+
+/// A word of a payload, where there is one.
+fn word_at(heap: &DebugHeap, ptr: Ptr, i: u32) -> Option<u32> {
+    match heap.header(ptr) {
+        Some(header) if i < header.words() => Some(heap.payload(ptr, i)),
+        _ => None,
+    }
+}

@@ -1,0 +1,91 @@
+//! Whether a statement that is to begin asks for an attempt. Nothing here changes a state.
+
+ghost use Rattle.std.specs.Prelude.{◌≡◌, ◌≤◌};
+ghost use Rattle.wb_model.specs.Operands.{within};
+ghost use Rattle.wb_model.specs.Row.{cell_at, cell_length};
+ghost use Rattle.wb_model.specs.declared.limits.TheConstants.{LARGEST_REQUEST, MOST_UNITS, CEILING};
+ghost use Rattle.wb_model.specs.declared.script.Statement.TheViews.{out-Statement};
+ghost use Rattle.wb_machine.specs.Carried.{pointer_read, number_read};
+ghost use Rattle.wb_machine.specs.Asks.{cell_asks, text_asks, realloc_asks, realloc_text_asks, statement_asks};
+
+use crate::operands::number_within;
+use crate::state::State;
+use crate::text_operands::is_text;
+use crate::words::is_raw;
+use wb_model::heap::Ptr;
+use wb_model::limits::{LARGEST_REQUEST, MOST_UNITS};
+use wb_model::script::{Number, Pointer, Statement};
+
+/// The length of the cell for a request of `bytes` bytes.
+fn cell_length(bytes: u32) -> u32
+    requires { bytes ≤ CEILING }
+    ensures { result ≡ cell_length bytes }
+{
+    16 + 16 * bytes.div_ceil(16)
+}
+
+impl State {
+    /// Whether a Raw cell is to be longer, to hold `bytes` bytes.
+    fn cell_asks(&self, ptr: Ptr, bytes: u32) -> bool
+        requires { bytes ≤ LARGEST_REQUEST }
+        ensures { result ≡ cell_asks bytes (cell_at ptr self.now.debug.heap.row) }
+    {
+        match self.heap.header(ptr) {
+            Some(header) => is_raw(header.kind) && header.length < cell_length(bytes),
+            None => false,
+        }
+    }
+
+    /// Whether a text's cell is to be longer, to hold `units` units, of which the text has no more.
+    fn text_asks(&self, ptr: Ptr, units: u32) -> bool
+        requires { units ≤ MOST_UNITS }
+        ensures { result ≡ text_asks units (cell_at ptr self.now.debug.heap.row) }
+    {
+        match self.heap.header(ptr) {
+            Some(header) if is_text(header.kind) => {
+                wb_hbuf::length(&self.heap, ptr) <= units
+                    && header.length < cell_length(4 + 2 * units)
+            }
+            _ => false,
+        }
+    }
+
+    /// Whether a reallocation of a source to `bytes` bytes asks for an attempt; of null it is an allocation.
+    fn realloc_asks(&self, source: Pointer, bytes: Number) -> bool
+        ensures { result ≡ realloc_asks self.now (pointer_read self.now source) (within LARGEST_REQUEST (number_read self.now bytes)) }
+    {
+        let ptr = self.pointer(source);
+        match number_within(LARGEST_REQUEST, self.number(bytes)) {
+            Some(bytes) => ptr.number == 0 || self.cell_asks(ptr, bytes),
+            None => false,
+        }
+    }
+
+    /// Whether a reallocation of a source's text for `units` units asks for an attempt.
+    fn realloc_text_asks(&self, source: Pointer, units: Number) -> bool
+        ensures { result ≡ realloc_text_asks self.now (pointer_read self.now source) (within MOST_UNITS (number_read self.now units)) }
+    {
+        let ptr = self.pointer(source);
+        match number_within(MOST_UNITS, self.number(units)) {
+            Some(units) => self.text_asks(ptr, units),
+            None => false,
+        }
+    }
+
+    /// Whether a statement asks for an attempt where it begins now.
+    pub fn asks(&self, statement: &Statement) -> bool
+        ensures { result ≡ statement_asks self.now (out-Statement statement.now) }
+    {
+        match statement {
+            Statement::Alloc(_, bytes, _) => {
+                number_within(LARGEST_REQUEST, self.number(*bytes)).is_some()
+            }
+            Statement::Realloc(_, source, bytes, _) => self.realloc_asks(*source, *bytes),
+            Statement::NewText(_, units, _) => {
+                number_within(MOST_UNITS, self.number(*units)).is_some()
+            }
+            Statement::ReallocText(_, source, units) => self.realloc_text_asks(*source, *units),
+            _ => false,
+        }
+    }
+}

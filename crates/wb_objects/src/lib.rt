@@ -1,0 +1,13 @@
+//! Objects: cells of the debug heap with a class and a pointer for each field of the class.
+//!
+//! The first word of a cell's payload is the index of the class, the second is 0; each field has two words behind them, its
+//! pointer's place and number. The calls stand in `objects`.
+#![tactic(auto)]
+
+pub mod objects;
+
+pub use objects::{class_of, field, make, set_field};
+pub use wb_debug::DebugHeap;
+pub use wb_model::heap::{Gave, Panic, Ptr};
+pub use wb_model::memory::NoMemory;
+pub use wb_model::script::Script;

@@ -1,0 +1,130 @@
+//! The calls on objects. An object is of the class that its cell's header says; the word of the class says the same to who
+//! reads the words alone.
+
+ghost use Rattle.std.specs.Prelude.{◌≡◌, ℕ, ◌+◌, ◌*◌, ◌^◌, ◌<◌, ◌≤◌, length, None, Some, IfOk, IsOk, OnErr, OnOk, slice_get, slice_set};
+ghost use Rattle.wb_model.specs.CellRow.{payload_of};
+ghost use Rattle.wb_model.specs.Debug.{IsSoundDebug, answer_in};
+ghost use Rattle.wb_model.specs.Heap.{alloc_request};
+ghost use Rattle.wb_model.specs.ObjectCells.{IsObjectAt};
+ghost use Rattle.wb_model.specs.Spelling.{fields_in};
+ghost use Rattle.wb_model.specs.Statements.{class_at, payload_of_object};
+ghost use Rattle.wb_model.specs.Texts.{answer_of};
+ghost use Rattle.wb_objects.specs.Objects.{HasField, IsNewObject, class_found, field_changed, field_of, object_made, words_found};
+
+use wb_debug::DebugHeap;
+use wb_model::heap::{Gave, Kind, Panic, Ptr};
+use wb_model::limits::CEILING;
+use wb_model::memory::NoMemory;
+use wb_model::script::{Class, Script};
+
+/// Which word of an object is the index of its class.
+const CLASS_WORD: u32 = 0;
+/// Where the fields begin, in words: behind the class and a zero.
+const FIRST_FIELD: u32 = 2;
+/// How many words a field has: the place and the number of its pointer.
+const FIELD_WORDS: u32 = 2;
+/// The length of a word, in bytes.
+const WORD_BYTES: u32 = 4;
+
+/// An attempt to get a cell for an object of the class with this index, all its fields null.
+///
+/// An object asks for 8 bytes, 8 more for each field of its class, and the class's extra bytes, which are zero. `Denied`
+/// and `Ceiling` are the heap's answers. `NoMemory` leaves the heap as it was, and never comes in place of `Ceiling`.
+/// Source: Symbian OS v9 SDK reference, CBase, for members that are zero when allocated, and this project's profile for
+/// the length of the cell.
+pub fn make(heap: &mut DebugHeap, script: &Script, class: u16) -> Result<Gave, NoMemory>
+    requires class { class < length script.now.classes }
+    requires bytes { payload_of_object (class_at script.now class) ≤ CEILING }
+    requires number { heap.old.attempts + 1 < 2 ^ 32 }
+    ensures gave { IfOk result (λ gave. gave ≡ (object_made heap.old class (class_at script.now class)).gave) }
+    ensures made { OnOk result (heap.new ≡ (object_made heap.old class (class_at script.now class)).debug) }
+    ensures cut { answer_in heap.old (alloc_request heap.old.heap (payload_of_object (class_at script.now class))) ≡ None → IsOk result }
+    ensures object { IfOk result (IsNewObject heap.new class (length (class_at script.now class).fields)) }
+    ensures err { OnErr result (heap.new ≡ heap.old) }
+    ensures sound { IsSoundDebug heap.new }
+{
+    let bytes = bytes_of(script.classes.get(usize::from(class)).unwrap());
+    let gave = heap.attempt_alloc(bytes, Kind::Object(class))?;
+    if let Gave::Granted(ptr) = gave {
+        heap.set_payload(ptr, CLASS_WORD, u32::from(class));
+    }
+    Ok(gave)
+}
+
+/// The bytes that an object of a class asks for.
+fn bytes_of(class: &Class) -> u32
+    requires { payload_of_object class.now ≤ CEILING }
+    ensures { result ≡ payload_of_object class.now }
+{
+    let fields = FIELD_WORDS * class.fields.len() as u32;
+    WORD_BYTES * (FIRST_FIELD + fields) + class.extra
+}
+
+/// The index of the class of the object that a pointer names: the object's own, however the pointer is declared.
+///
+/// `Panic::NULL_OR_STALE` where the pointer names no live cell, then `Panic::WRONG_KIND` where the cell is no object.
+pub fn class_of(heap: &DebugHeap, ptr: Ptr) -> Result<u16, Panic>
+    ensures { result ≡ class_found heap.now ptr }
+{
+    let Some(header) = heap.header(ptr) else {
+        return Err(Panic::NULL_OR_STALE);
+    };
+    match header.kind {
+        Kind::Object(class) => Ok(class),
+        Kind::Raw | Kind::Text | Kind::Cleanup => Err(Panic::WRONG_KIND),
+    }
+}
+
+/// The pointer in a field of an object of this class; the class's first field has index 0.
+///
+/// `Panic::NULL_OR_STALE` where the pointer names no live cell, then `Panic::WRONG_KIND` where the cell is no object, or
+/// one of another class.
+pub fn field(heap: &DebugHeap, ptr: Ptr, class: u16, i: u8) -> Result<Ptr, Panic>
+    requires { HasField heap.now ptr class i }
+    ensures answer { result ≡ field_of i (words_found heap.now ptr class) }
+    ensures among { IfOk result (λ to. (count : ℕ) → i < count → slice_get (fields_in count (payload_of ptr heap.now.heap.row)) i ≡ Some to) }
+{
+    expect_class(heap, ptr, class)?;
+    let at = word_of_field(i);
+    Ok(Ptr {
+        place: heap.payload(ptr, at),
+        number: heap.payload(ptr, at + 1),
+    })
+}
+
+/// Puts a pointer into a field of an object of this class; the class's first field has index 0. Nothing else changes.
+///
+/// It refuses as `field` does, and then the heap is as it was.
+pub fn set_field(heap: &mut DebugHeap, ptr: Ptr, class: u16, i: u8, to: Ptr) -> Result<(), Panic>
+    requires { HasField heap.old ptr class i }
+    ensures answer { result ≡ answer_of (words_found heap.old ptr class) }
+    ensures changed { heap.new ≡ field_changed heap.old ptr i to (words_found heap.old ptr class) }
+    ensures fields { OnOk result ((count : ℕ) → fields_in count (payload_of ptr heap.new.heap.row) ≡ slice_set (fields_in count (payload_of ptr heap.old.heap.row)) i to) }
+    ensures object { (count : ℕ) → IsObjectAt ptr class count heap.old → i < count → IsObjectAt ptr class count heap.new }
+    ensures sound { IsSoundDebug heap.new }
+{
+    expect_class(heap, ptr, class)?;
+    let at = word_of_field(i);
+    heap.set_payload(ptr, at, to.place);
+    heap.set_payload(ptr, at + 1, to.number);
+    Ok(())
+}
+
+/// Refuses a pointer that names no object of this class.
+fn expect_class(heap: &DebugHeap, ptr: Ptr, class: u16) -> Result<(), Panic>
+    ensures answer { result ≡ answer_of (words_found heap.now ptr class) }
+    ensures sound { IsSoundDebug heap.now }
+{
+    match heap.header(ptr) {
+        None => Err(Panic::NULL_OR_STALE),
+        Some(header) if header.kind == Kind::Object(class) => Ok(()),
+        Some(_) => Err(Panic::WRONG_KIND),
+    }
+}
+
+/// Where a field begins among the words of an object.
+fn word_of_field(i: u8) -> u32
+    ensures { result ≡ 2 + 2 * i }
+{
+    FIRST_FIELD + FIELD_WORDS * u32::from(i)
+}

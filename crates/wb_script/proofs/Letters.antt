@@ -1,0 +1,112 @@
+-- The steps of loops over the letters of a line and what stands for them.
+use Rattle.std.proofs.Common.{◌≡◌, ℕ, zero, suc, ◌+◌, ◌<◌, ◌≤◌, List, [], ◌∷◌, ◌++◌, length, drop, map, Option, Some, None, Bool, true, false, ◌&&◌, refl, sym, ap, ◌∙◌, append_assoc, get_or, add-one, drop-cons, arith}
+use Rattle.std.specs.Prelude.{slice_get}
+use Rattle.std.specs.Borrow.{Bor}
+use Rattle.std.specs.Option.{option_map}
+use Rattle.std.proofs.lemmas.List.{drop_all}
+use Rattle.std.proofs.lemmas.Option.{slice_get_within, get_or_from_slice_get}
+use Rattle.wb_model.specs.declared.script.Parameter.{Parameter}
+use Rattle.wb_model.specs.declared.script_lines.Letter.{Letter}
+use Rattle.wb_model.specs.declared.script_lines.Meant.{Meant}
+use Rattle.wb_model.specs.declared.script_lines.Operand.{Operand}
+use Rattle.wb_model.specs.declared.script_lines.Role.{Role}
+use Rattle.wb_model.specs.Forms.{operand_of, operands_of, onto}
+use Rattle.wb_model.specs.Kinds.{is_right, are_right, is_given, are_given}
+use Rattle.wb_model.specs.Names.{Text, Known}
+use Rattle.wb_model.specs.Resolved.{resolved_operand, resolved_operands}
+use Rattle.wb_script.specs.Lent.{lent_texts}
+
+module _ {X : Type 0} where
+  -- from an element on
+  pub drop_some : (xs : List X) (i : ℕ) (x : X) → slice_get xs i ≡ Some x → drop i xs ≡ x ∷ drop (i + 1) xs
+  drop_some xs i x is =
+      let within = slice_get_within xs i x is in
+      rw (add-one i) (drop-cons xs i x within ∙ ap (λ y. y ∷ drop (suc i) xs) (get_or_from_slice_get xs i x x is))
+
+  -- behind the last one
+  pub drop_none : (xs : List X) (i : ℕ) → slice_get xs i ≡ None → drop i xs ≡ []
+  drop_none [] i is = drop_all i [] (omega arith)
+  drop_none (x ∷ xs) zero is = let clash : ⊥ = cc in absurd clash
+  drop_none (x ∷ xs) (suc i) is = drop_none xs i is
+
+  pub none_past : (xs : List X) (i : ℕ) → slice_get xs i ≡ None → length xs ≤ i
+  none_past [] i is = omega arith
+  none_past (x ∷ xs) zero is = let clash : ⊥ = cc in absurd clash
+  none_past (x ∷ xs) (suc i) is = let past = none_past xs i is in omega arith
+
+-- words are operands only where there are as many as letters
+pub as_many : (letters : List Letter) (words : List (List ℕ)) → (length letters ≡ length words → ⊥) → operands_of letters words ≡ None
+as_many [] [] differ = absurd (differ refl)
+as_many [] (word ∷ words) differ = refl
+as_many (letter ∷ letters) [] differ = refl
+as_many (letter ∷ letters) (word ∷ words) differ = ap (onto (operand_of letter word)) (as_many letters words (λ e. differ (ap suc e))) ∙ none (operand_of letter word)
+  where
+    none : (operand : Option (Operand (List ℕ))) → onto operand None ≡ None
+    none None = refl
+    none (Some operand) = refl
+
+module _ (letters : List Letter) (words : List (Bor Text)) (i : ℕ) (d : Bor Text) (lt : i < length words) (letter : Letter) (at : slice_get letters i ≡ Some letter) where
+  words_here : operands_of (drop i letters) (lent_texts (drop i words)) ≡ onto (operand_of letter (get_or words i d).now) (operands_of (drop (i + 1) letters) (lent_texts (drop (i + 1) words)))
+  words_here = rw (drop_some letters i letter at, drop-cons words i d lt, add-one i) refl
+
+  -- a word that is an operand
+  pub operand_here : (found : List (Operand Text)) (operand : Operand Text) → operand_of letter (get_or words i d).now ≡ Some operand →
+      option_map (λ (rest : List (Operand Text)). (found ++ operand ∷ []) ++ rest) (operands_of (drop (i + 1) letters) (lent_texts (drop (i + 1) words))) ≡ option_map (λ (rest : List (Operand Text)). found ++ rest) (operands_of (drop i letters) (lent_texts (drop i words)))
+  operand_here found operand is = rw (words_here, is) (go (operands_of (drop (i + 1) letters) (lent_texts (drop (i + 1) words))))
+    where
+      go : (o : Option (List (Operand Text))) → option_map (λ (rest : List (Operand Text)). (found ++ operand ∷ []) ++ rest) o ≡ option_map (λ (rest : List (Operand Text)). found ++ rest) (onto (Some operand) o)
+      go None = refl
+      go (Some rest) = ap Some (append_assoc found (operand ∷ []) rest)
+
+  -- and one that is none
+  pub no_operand_here : (found : List (Operand Text)) → operand_of letter (get_or words i d).now ≡ None → option_map (λ (rest : List (Operand Text)). found ++ rest) (operands_of (drop i letters) (lent_texts (drop i words))) ≡ None
+  no_operand_here found is = rw (words_here, is) refl
+
+module _ (letters : List Letter) (operands : List (Operand Meant)) (i : ℕ) where
+  -- whether an operand is right, and the ones behind it
+  pub right_here : (d : Operand Meant) (letter : Letter) (here : Bool) → i < length operands → slice_get letters i ≡ Some letter → is_right letter (get_or operands i d) ≡ here →
+      are_right (drop i letters) (drop i operands) ≡ (here && are_right (drop (i + 1) letters) (drop (i + 1) operands))
+  right_here d letter here lt at is = rw (drop_some letters i letter at, drop-cons operands i d lt, add-one i, is) refl
+
+  -- where no letters are left
+  pub right_past : slice_get letters i ≡ None → are_right (drop i letters) (drop i operands) ≡ true
+  right_past none = rw (drop_none letters i none) refl
+
+  -- and where no operands are
+  pub right_short : length operands ≤ i → are_right (drop i letters) (drop i operands) ≡ true
+  right_short le = rw (drop_all i operands le) (nothing_right (drop i letters))
+    where
+      nothing_right : (ls : List Letter) → are_right ls [] ≡ true
+      nothing_right [] = refl
+      nothing_right (l ∷ ls) = refl
+
+module _ {V : Type 0} (view : V → Operand Text) (items : List Text) (known : Known) (role : Role) (letters : List Letter) (operands : List V) (i : ℕ) where
+  -- the operands from one on
+  pub resolved_here : (d : V) (letter : Letter) (own : Role) (here : Operand Meant) → i < length operands → slice_get letters i ≡ Some letter → own ≡ role → here ≡ resolved_operand items known own letter (view (get_or operands i d)) →
+      resolved_operands items known role (drop i letters) (map view (drop i operands)) ≡ here ∷ resolved_operands items known role (drop (i + 1) letters) (map view (drop (i + 1) operands))
+  resolved_here d letter own here lt at same is =
+      let one : resolved_operand items known role letter (view (get_or operands i d)) ≡ here = ap (λ r. resolved_operand items known r letter (view (get_or operands i d))) (sym same) ∙ sym is in
+      rw (drop_some letters i letter at, drop-cons operands i d lt, add-one i) (ap (λ o. o ∷ resolved_operands items known role (drop (suc i) letters) (map view (drop (suc i) operands))) one)
+
+  -- where no letters are left
+  pub resolved_past : slice_get letters i ≡ None → resolved_operands items known role (drop i letters) (map view (drop i operands)) ≡ []
+  resolved_past none = rw (drop_none letters i none) refl
+
+  -- and where no operands are
+  pub resolved_short : length operands ≤ i → resolved_operands items known role (drop i letters) (map view (drop i operands)) ≡ []
+  resolved_short le = rw (drop_all i operands le) (nothing_resolved (drop i letters))
+    where
+      nothing_resolved : (ls : List Letter) → resolved_operands items known role ls [] ≡ []
+      nothing_resolved [] = refl
+      nothing_resolved (l ∷ ls) = refl
+
+-- arguments are given only where there are as many as parameters
+pub given_differ : (parameters : List Parameter) (operands : List (Operand Meant)) → (length parameters ≡ length operands → ⊥) → are_given parameters operands ≡ false
+given_differ [] [] differ = absurd (differ refl)
+given_differ [] (o ∷ os) differ = refl
+given_differ (p ∷ ps) [] differ = refl
+given_differ (p ∷ ps) (o ∷ os) differ = rw (given_differ ps os (λ e. differ (ap suc e))) (neither (is_given p o))
+  where
+    neither : (a : Bool) → (a && false) ≡ false
+    neither true = refl
+    neither false = refl

@@ -1,0 +1,126 @@
+-- An operand that is spelled tells what it spells.
+use Rattle.std.proofs.Common.{◌≡◌, refl, ap, subst, ◌∙◌, ℕ, List, [], ◌∷◌, ◌++◌, Option, Some, None, map}
+use Rattle.std.specs.List.{flat_map}
+use Rattle.wb_model.specs.declared.script_lines.Meant.{Meant}
+use Rattle.wb_model.specs.declared.script_lines.Meant.TheVariants as meant
+use Rattle.wb_model.specs.declared.script_lines.Operand.{Operand}
+use Rattle.wb_model.specs.declared.script_lines.Operand.TheVariants.{Name, Number, Literal}
+use Rattle.wb_model.specs.declared.script_lines.Operand.TheVariants as spelled
+use Rattle.wb_model.specs.declared.script.Parameter.{Parameter}
+use Rattle.wb_model.specs.declared.script.Parameter.TheVariants as parameter
+use Rattle.wb_model.specs.declared.script.Argument.{Argument}
+use Rattle.wb_model.specs.declared.script.Argument.TheVariants.{Passed, Given}
+use Rattle.wb_model.specs.declared.script.Holder.TheVariants as H
+use Rattle.wb_model.specs.declared.script.Pointer.{Pointer}
+use Rattle.wb_model.specs.declared.script.Pointer.TheVariants.{Held}
+use Rattle.wb_model.specs.declared.script.Number as N
+use Rattle.wb_model.specs.declared.script.Number.TheVariants.{Constant, Variable}
+use Rattle.wb_model.specs.declared.script.Writable.{Writable}
+use Rattle.wb_model.specs.declared.script.Writable.TheVariants.{OwnBuffer, InCell}
+use Rattle.wb_model.specs.declared.script.Readable.{Readable}
+use Rattle.wb_model.specs.declared.script.Readable.TheVariants.{Of, ViewOf, Quoted}
+use Rattle.wb_model.specs.Names.{kind_passed}
+use Rattle.wb_model.specs.Trees.{Spelled, pointer_operand, variable_operand, number_operand, writable_operand, view_operand, text_operand, procedure_operand, parameter_operand, argument_operand, and_operand, all_spelled}
+
+-- the pointer, the number or the local that an operand spells
+abbrev pub pointer_in : Operand Meant → Pointer
+pointer_in (Name (meant.Pointer i)) = Held (H.Local i)
+pointer_in _ = Held H.This
+
+abbrev pub variable_in : Operand Meant → ℕ
+variable_in (Name (meant.Number i)) = i
+variable_in _ = 0
+
+abbrev pub number_in : Operand Meant → N.Number
+number_in (Number z) = Constant z
+number_in operand = Variable (variable_in operand)
+
+-- the text that an operand spells
+abbrev pub writable_in : Operand Meant → Writable
+writable_in (Name (meant.Buffer i)) = OwnBuffer i
+writable_in operand = InCell (pointer_in operand)
+
+abbrev pub view_in : Operand Meant → ℕ
+view_in (Name (meant.View i)) = i
+view_in _ = 0
+
+abbrev pub text_in : Operand Meant → Readable
+text_in (Literal (meant.Literal i)) = Quoted i
+text_in (Name (meant.View i)) = ViewOf i
+text_in operand = Of (writable_in operand)
+
+abbrev pub argument_in : Operand Meant → Argument
+argument_in (Number z) = Given (Constant z)
+argument_in (Name (meant.Number i)) = Given (Variable i)
+argument_in operand = Passed (pointer_in operand)
+
+abbrev pub local_in : Operand Meant → ℕ
+local_in (Name (meant.Pointer i)) = i
+local_in _ = 0
+
+abbrev pub procedure_in : Operand Meant → ℕ
+procedure_in (Name (meant.Procedure i)) = i
+procedure_in _ = 0
+
+-- an operand that is spelled tells what it spells
+pub pointer_back : (p : Pointer) (a : Operand Meant) → pointer_operand p ≡ Some a → pointer_in a ≡ p
+pointer_back (Held (H.Local i)) a is = let same : Name (meant.Pointer i) ≡ a = cc in subst (λ o. pointer_in o ≡ Held (H.Local i)) same refl
+pointer_back _ a is = let clash : ⊥ = cc in absurd clash
+
+pub variable_back : (x : ℕ) (a : Operand Meant) → variable_operand x ≡ Some a → variable_in a ≡ x
+variable_back x a is = let same : Name (meant.Number x) ≡ a = cc in subst (λ o. variable_in o ≡ x) same refl
+
+pub number_back : (v : N.Number) (a : Operand Meant) → number_operand v ≡ Some a → number_in a ≡ v
+number_back (Constant z) a is = let same : Number z ≡ a = cc in subst (λ o. number_in o ≡ Constant z) same refl
+number_back (Variable i) a is = let same : Name (meant.Number i) ≡ a = cc in subst (λ o. number_in o ≡ Variable i) same refl
+
+pub writable_back : (d : Writable) (a : Operand Meant) → writable_operand d ≡ Some a → writable_in a ≡ d
+writable_back (OwnBuffer i) a is = let same : Name (meant.Buffer i) ≡ a = cc in subst (λ o. writable_in o ≡ OwnBuffer i) same refl
+writable_back (InCell (Held (H.Local i))) a is = let same : Name (meant.Pointer i) ≡ a = cc in subst (λ o. writable_in o ≡ InCell (Held (H.Local i))) same refl
+writable_back (InCell _) a is = let clash : ⊥ = cc in absurd clash
+
+pub view_back : (y : ℕ) (a : Operand Meant) → view_operand y ≡ Some a → view_in a ≡ y
+view_back y a is = let same : Name (meant.View y) ≡ a = cc in subst (λ o. view_in o ≡ y) same refl
+
+pub text_back : (t : Readable) (a : Operand Meant) → text_operand t ≡ Some a → text_in a ≡ t
+text_back (Of (OwnBuffer i)) a is = let same : Name (meant.Buffer i) ≡ a = cc in subst (λ o. text_in o ≡ Of (OwnBuffer i)) same refl
+text_back (Of (InCell (Held (H.Local i)))) a is = let same : Name (meant.Pointer i) ≡ a = cc in subst (λ o. text_in o ≡ Of (InCell (Held (H.Local i)))) same refl
+text_back (Of (InCell _)) a is = let clash : ⊥ = cc in absurd clash
+text_back (ViewOf i) a is = let same : Name (meant.View i) ≡ a = cc in subst (λ o. text_in o ≡ ViewOf i) same refl
+text_back (Quoted i) a is = let same : Literal (meant.Literal i) ≡ a = cc in subst (λ o. text_in o ≡ Quoted i) same refl
+
+pub local_back : (x : ℕ) (a : Operand Meant) → pointer_operand (Held (H.Local x)) ≡ Some a → local_in a ≡ x
+local_back x a is = let same : Name (meant.Pointer x) ≡ a = cc in subst (λ o. local_in o ≡ x) same refl
+
+pub procedure_back : (n : ℕ) (a : Operand Meant) → procedure_operand n ≡ Some a → procedure_in a ≡ n
+procedure_back n a is = let same : Name (meant.Procedure n) ≡ a = cc in subst (λ o. procedure_in o ≡ n) same refl
+
+-- how operands that are spelled begin
+begun : (s : Spelled) (rest : Option (List (Operand Meant))) (operands : List (Operand Meant)) → and_operand s rest ≡ Some operands → (a : Operand Meant) × (more : List (Operand Meant)) × (s ≡ Some a) × (rest ≡ Some more) × (a ∷ more ≡ operands)
+begun (Some a) (Some more) operands is = (a, more, refl, refl, cc)
+begun (Some a) None operands is = let clash : ⊥ = cc in absurd clash
+begun None rest operands is = let clash : ⊥ = cc in absurd clash
+
+pub argument_back : (argument : Argument) (a : Operand Meant) → argument_operand argument ≡ Some a → argument_in a ≡ argument
+argument_back (Given (Constant z)) a is = let e : Number z ≡ a = cc in subst (λ o. argument_in o ≡ Given (Constant z)) e refl
+argument_back (Given (Variable i)) a is = let e : Name (meant.Number i) ≡ a = cc in subst (λ o. argument_in o ≡ Given (Variable i)) e refl
+argument_back (Passed (Held (H.Local i))) a is = let e : Name (meant.Pointer i) ≡ a = cc in subst (λ o. argument_in o ≡ Passed (Held (H.Local i))) e refl
+argument_back (Passed _) a is = let clash : ⊥ = cc in absurd clash
+
+pub arguments_back : (arguments : List Argument) (operands : List (Operand Meant)) → all_spelled (map argument_operand arguments) ≡ Some operands → map argument_in operands ≡ arguments
+arguments_back [] operands is = let same : [] ≡ operands = cc in subst (λ l. map argument_in l ≡ []) same refl
+arguments_back (argument ∷ arguments) operands is =
+    let (a, more, first, rest, parts) = begun (argument_operand argument) (all_spelled (map argument_operand arguments)) operands is in
+    subst (λ l. map argument_in l ≡ argument ∷ arguments) parts (ap (λ z. z ∷ map argument_in more) (argument_back argument a first) ∙ ap (λ l. argument ∷ l) (arguments_back arguments more rest))
+
+parameter_back : (p : Parameter) (a : Operand Meant) → parameter_operand p ≡ Some a → kind_passed a ≡ p ∷ []
+parameter_back (parameter.OfPointer None) a is = let e : spelled.Parameter meant.Parameter (parameter.OfPointer None) ≡ a = cc in subst (λ o. kind_passed o ≡ parameter.OfPointer None ∷ []) e refl
+parameter_back (parameter.OfPointer (Some class)) a is = let clash : ⊥ = cc in absurd clash
+parameter_back parameter.OfNumber a is = let e : spelled.Parameter meant.Parameter parameter.OfNumber ≡ a = cc in subst (λ o. kind_passed o ≡ parameter.OfNumber ∷ []) e refl
+
+-- a head tells its parameters
+pub parameters_back : (parameters : List Parameter) (operands : List (Operand Meant)) → all_spelled (map parameter_operand parameters) ≡ Some operands → flat_map kind_passed operands ≡ parameters
+parameters_back [] operands is = let same : [] ≡ operands = cc in subst (λ l. flat_map kind_passed l ≡ []) same refl
+parameters_back (p ∷ ps) operands is =
+    let (a, more, first, rest, parts) = begun (parameter_operand p) (all_spelled (map parameter_operand ps)) operands is in
+    subst (λ l. flat_map kind_passed l ≡ p ∷ ps) parts (ap (λ l. l ++ flat_map kind_passed more) (parameter_back p a first) ∙ ap (λ l. p ∷ l) (parameters_back ps more rest))

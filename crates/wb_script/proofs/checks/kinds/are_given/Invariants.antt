@@ -1,0 +1,9 @@
+use Rattle.std.proofs.Common.{◌≡◌, drop, length}
+use Rattle.wb_model.specs.Kinds.{are_given}
+use Rattle.wb_script.proofs.checks.kinds.are_given.Given as goal
+
+abbrev pub invariant-loop-index : goal.invariant-loop-index
+invariant-loop-index l = record {
+  as_many : length l.parameters ≡ length l.operands;
+  so_far : are_given (drop l.index l.parameters) (drop l.index l.operands) ≡ are_given l.parameters l.operands;
+}

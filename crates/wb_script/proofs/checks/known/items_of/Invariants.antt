@@ -1,7 +1,0 @@
-use Rattle.std.proofs.Common.{◌≡◌, ◌++◌, drop}
-use Rattle.wb_model.specs.Names.{items_of}
-use Rattle.wb_script.specs.Lent.{lent_texts, lent_forms}
-use Rattle.wb_script.proofs.checks.known.items_of.Given as goal
-
-abbrev pub invariant-loop-form : goal.invariant-loop-form
-invariant-loop-form l = lent_texts l.items.items ++ items_of (lent_forms (drop l.form-index l.forms)) ≡ items_of (lent_forms l.forms)

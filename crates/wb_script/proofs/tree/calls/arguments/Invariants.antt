@@ -1,0 +1,12 @@
+use Rattle.std.proofs.Common.{◌≡◌, ◌≤◌, length, map, take, Some, IsTrue}
+use Rattle.wb_model.specs.Sound.{are_passed}
+use Rattle.wb_model.specs.Trees.{all_spelled, argument_operand}
+use Rattle.wb_script.proofs.tree.calls.arguments.Given as goal
+
+abbrev pub invariant-loop-operand : goal.invariant-loop-operand
+invariant-loop-operand l = record {
+  count : length l.given ≡ l.operand-index;
+  within : l.operand-index ≤ length l.parameters;
+  spelled : all_spelled (map argument_operand l.given) ≡ Some (take l.operand-index l.operands);
+  passed : IsTrue (are_passed l.here.locals.now (take l.operand-index l.parameters) l.given);
+}

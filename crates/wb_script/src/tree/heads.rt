@@ -1,0 +1,87 @@
+//! What the first line of a block begins, from its operands.
+
+ghost use Rattle.wb_model.specs.declared.script_lines.Key.TheVariants as key;
+ghost use Rattle.std.specs.Prelude.{IsTrue};
+ghost use Rattle.wb_script.specs.Building.{begins_block};
+ghost use Rattle.wb_script.specs.Stated.{IsHeadOf};
+
+use crate::tree::blocks::Head;
+use crate::tree::scope::Scope;
+use wb_model::script::Condition;
+use wb_model::script_lines::{Key, Meant, Operand};
+
+fn if_null(here: Scope, operands: &[Operand<Meant>]) -> Option<Head>
+    ensures { IsHeadOf here.entry key.IfNull operands.now result }
+{
+    match operands {
+        [Operand::Keyword, pointer] => Some(Head::If(Condition::IsNull(here.pointer(pointer)?))),
+        _ => None,
+    }
+}
+
+fn if_some(here: Scope, operands: &[Operand<Meant>]) -> Option<Head>
+    ensures { IsHeadOf here.entry key.IfSome operands.now result }
+{
+    match operands {
+        [Operand::Keyword, pointer] => Some(Head::If(Condition::NotNull(here.pointer(pointer)?))),
+        _ => None,
+    }
+}
+
+fn if_equal(here: Scope, operands: &[Operand<Meant>]) -> Option<Head>
+    ensures { IsHeadOf here.entry key.IfEqual operands.now result }
+{
+    match operands {
+        [Operand::Keyword, left, right] => Some(Head::If(Condition::Equal(
+            here.number(left)?,
+            here.number(right)?,
+        ))),
+        _ => None,
+    }
+}
+
+fn if_less(here: Scope, operands: &[Operand<Meant>]) -> Option<Head>
+    ensures { IsHeadOf here.entry key.IfLess operands.now result }
+{
+    match operands {
+        [Operand::Keyword, left, right] => Some(Head::If(Condition::Less(
+            here.number(left)?,
+            here.number(right)?,
+        ))),
+        _ => None,
+    }
+}
+
+fn repeat(here: Scope, operands: &[Operand<Meant>]) -> Option<Head>
+    ensures { IsHeadOf here.entry key.Repeat operands.now result }
+{
+    match operands {
+        [turns] => Some(Head::Repeat(here.number(turns)?)),
+        _ => None,
+    }
+}
+
+fn trap(here: Scope, operands: &[Operand<Meant>]) -> Option<Head>
+    ensures { IsHeadOf here.entry key.Trap operands.now result }
+{
+    match operands {
+        [variable] => Some(Head::Trap(here.variable(variable)?)),
+        _ => None,
+    }
+}
+
+/// What a line begins; none where its operands don't fit.
+pub(crate) fn head_of(here: Scope, key: Key, operands: &[Operand<Meant>]) -> Option<Head>
+    requires { IsTrue (begins_block key) }
+    ensures { IsHeadOf here.entry key operands.now result }
+{
+    match key {
+        Key::IfNull => if_null(here, operands),
+        Key::IfSome => if_some(here, operands),
+        Key::IfEqual => if_equal(here, operands),
+        Key::IfLess => if_less(here, operands),
+        Key::Repeat => repeat(here, operands),
+        Key::Trap => trap(here, operands),
+        _ => None,
+    }
+}
