@@ -330,6 +330,20 @@ grow_then_append_sweep : (length (run_at script_grow_then_append_sweep 10000 (sh
 unfolding everything
 grow_then_append_sweep = (refl, refl, refl)
 
+abbrev script_grown_unchecked_mended_check : Script
+script_grown_unchecked_mended_check = record { classes = []; procedures = (record { line = 2; parameters = []; body = record { locals = (OfPointer None) ∷ (OfPointer None) ∷ []; statements = (on 5 (Statement-F.NewText (Held (H.Local 0)) (Constant (pos 4)) GivesNull)) ∷ (on 6 (Statement-F.If (NotNull (Held (H.Local 0))) ((on 7 (Statement-F.Append (InCell (Held (H.Local 0))) (Quoted 0))) ∷ (on 8 (Statement-F.ReallocText (Held (H.Local 1)) (Held (H.Local 0)) (Constant (pos 40)))) ∷ (on 9 (Statement-F.If (NotNull (Held (H.Local 1))) ((on 10 (Statement-F.Set (Held (H.Local 0)) (Held (H.Local 1)))) ∷ (on 11 (Statement-F.Append (InCell (Held (H.Local 0))) (Quoted 1))) ∷ []))) ∷ (on 14 (Statement-F.PrintText (Of (InCell (Held (H.Local 0)))))) ∷ (on 15 (Statement-F.Free (Held (H.Local 0)))) ∷ []))) ∷ [] } }) ∷ []; operations = []; literals = (83 ∷ 121 ∷ 109 ∷ []) ∷ (98 ∷ 105 ∷ 97 ∷ 110 ∷ 32 ∷ 79 ∷ 83 ∷ 32 ∷ 118 ∷ 57 ∷ []) ∷ []; main = 0 }
+
+grown_unchecked_mended_check : (required script_grown_unchecked_mended_check 10000 (shaped 4096 4096) ≡ 256) × (rises script_grown_unchecked_mended_check 10000 (shaped 4096 4096) ≡ (rise 1 144) ∷ (rise 2 176) ∷ (rise 3 256) ∷ []) × (length (run_at script_grown_unchecked_mended_check 10000 (shaped 4096 4096) 0).trace ≡ 3) × (least_bad_or_cut script_grown_unchecked_mended_check 10000 (shaped 4096 4096) ≡ None)
+unfolding everything
+grown_unchecked_mended_check = (refl, refl, refl, refl)
+
+abbrev script_grown_unchecked_check : Script
+script_grown_unchecked_check = record { classes = []; procedures = (record { line = 2; parameters = []; body = record { locals = (OfPointer None) ∷ []; statements = (on 4 (Statement-F.NewText (Held (H.Local 0)) (Constant (pos 4)) GivesNull)) ∷ (on 5 (Statement-F.If (NotNull (Held (H.Local 0))) ((on 6 (Statement-F.Append (InCell (Held (H.Local 0))) (Quoted 0))) ∷ (on 7 (Statement-F.ReallocText (Held (H.Local 0)) (Held (H.Local 0)) (Constant (pos 40)))) ∷ (on 8 (Statement-F.Append (InCell (Held (H.Local 0))) (Quoted 1))) ∷ (on 9 (Statement-F.PrintText (Of (InCell (Held (H.Local 0)))))) ∷ (on 10 (Statement-F.Free (Held (H.Local 0)))) ∷ []))) ∷ [] } }) ∷ []; operations = []; literals = (83 ∷ 121 ∷ 109 ∷ []) ∷ (98 ∷ 105 ∷ 97 ∷ 110 ∷ 32 ∷ 79 ∷ 83 ∷ 32 ∷ 118 ∷ 57 ∷ []) ∷ []; main = 0 }
+
+grown_unchecked_check : (required script_grown_unchecked_check 10000 (shaped 4096 4096) ≡ 256) × (rises script_grown_unchecked_check 10000 (shaped 4096 4096) ≡ (rise 1 144) ∷ (rise 2 176) ∷ (rise 3 256) ∷ []) × (length (run_at script_grown_unchecked_check 10000 (shaped 4096 4096) 0).trace ≡ 3) × (least_bad_or_cut script_grown_unchecked_check 10000 (shaped 4096 4096) ≡ Some 3) × (run_at script_grown_unchecked_check 10000 (shaped 4096 4096) 3 ≡ record { outcome = Panicked (P.Workbench 1); trace = (line 1 144 0 Granted) ∷ (line 2 32 144 Granted) ∷ (line 3 112 144 Simulated) ∷ []; lines = []; notes = []; steps = 5 })
+unfolding everything
+grown_unchecked_check = (refl, refl, refl, refl, refl)
+
 abbrev script_hole_reused_run : Script
 script_hole_reused_run = record { classes = []; procedures = (record { line = 2; parameters = []; body = record { locals = (OfPointer None) ∷ (OfPointer None) ∷ (OfPointer None) ∷ OfNumber ∷ []; statements = (on 7 (Statement-F.Alloc (Held (H.Local 0)) (Constant (pos 48)) GivesNull)) ∷ (on 8 (Statement-F.Alloc (Held (H.Local 1)) (Constant (pos 16)) GivesNull)) ∷ (on 9 (Statement-F.Store (Held (H.Local 1)) (Constant (pos 0)) (Constant (pos 7)))) ∷ (on 10 (Statement-F.Alloc (Held (H.Local 2)) (Constant (pos 16)) GivesNull)) ∷ (on 12 (Statement-F.Free (Held (H.Local 0)))) ∷ (on 14 (Statement-F.Realloc (Held (H.Local 1)) (Held (H.Local 1)) (Constant (pos 40)) GivesNull)) ∷ (on 16 (Statement-F.Load 3 (Held (H.Local 1)) (Constant (pos 0)))) ∷ (on 17 (Statement-F.PrintNumber (Variable 3))) ∷ (on 19 (Statement-F.SetNull (Held (H.Local 0)))) ∷ (on 21 (Statement-F.Realloc (Held (H.Local 0)) (Held (H.Local 0)) (Constant (pos 16)) GivesNull)) ∷ (on 22 (Statement-F.Free (Held (H.Local 0)))) ∷ (on 23 (Statement-F.Free (Held (H.Local 2)))) ∷ (on 24 (Statement-F.Free (Held (H.Local 1)))) ∷ [] } }) ∷ []; operations = []; literals = []; main = 0 }
 
@@ -386,12 +400,40 @@ retry_in_a_short_heap_run : run script_retry_in_a_short_heap_run (R.Limit 464) 1
 unfolding everything
 retry_in_a_short_heap_run = refl
 
+abbrev script_retry_leaks_mended_check : Script
+script_retry_leaks_mended_check = record { classes = []; procedures = (record { line = 2; parameters = []; body = record { locals = (OfPointer None) ∷ (OfPointer None) ∷ []; statements = (on 5 (Statement-F.Repeat (Constant (pos 3)) ((on 6 (Statement-F.If (IsNull (Held (H.Local 1))) ((on 7 (Statement-F.Alloc (Held (H.Local 0)) (Constant (pos 16)) GivesNull)) ∷ (on 8 (Statement-F.If (NotNull (Held (H.Local 0))) ((on 9 (Statement-F.Alloc (Held (H.Local 1)) (Constant (pos 200)) GivesNull)) ∷ (on 10 (Statement-F.If (IsNull (Held (H.Local 1))) ((on 11 (Statement-F.Free (Held (H.Local 0)))) ∷ (on 12 (Statement-F.SetNull (Held (H.Local 0)))) ∷ []))) ∷ []))) ∷ []))) ∷ []))) ∷ (on 17 (Statement-F.Free (Held (H.Local 1)))) ∷ (on 18 (Statement-F.Free (Held (H.Local 0)))) ∷ [] } }) ∷ []; operations = []; literals = []; main = 0 }
+
+retry_leaks_mended_check : (required script_retry_leaks_mended_check 10000 (shaped 4096 4096) ≡ 400) × (rises script_retry_leaks_mended_check 10000 (shaped 4096 4096) ≡ (rise 1 144) ∷ (rise 2 176) ∷ (rise 3 400) ∷ []) × (length (run_at script_retry_leaks_mended_check 10000 (shaped 4096 4096) 0).trace ≡ 3) × (least_bad_or_cut script_retry_leaks_mended_check 10000 (shaped 4096 4096) ≡ None)
+unfolding everything
+retry_leaks_mended_check = (refl, refl, refl, refl)
+
+abbrev script_retry_leaks_check : Script
+script_retry_leaks_check = record { classes = []; procedures = (record { line = 2; parameters = []; body = record { locals = (OfPointer None) ∷ (OfPointer None) ∷ []; statements = (on 5 (Statement-F.Repeat (Constant (pos 3)) ((on 6 (Statement-F.If (IsNull (Held (H.Local 1))) ((on 7 (Statement-F.Alloc (Held (H.Local 0)) (Constant (pos 16)) GivesNull)) ∷ (on 8 (Statement-F.If (NotNull (Held (H.Local 0))) ((on 9 (Statement-F.Alloc (Held (H.Local 1)) (Constant (pos 200)) GivesNull)) ∷ []))) ∷ []))) ∷ []))) ∷ (on 13 (Statement-F.Free (Held (H.Local 1)))) ∷ (on 14 (Statement-F.Free (Held (H.Local 0)))) ∷ [] } }) ∷ []; operations = []; literals = []; main = 0 }
+
+retry_leaks_check : (required script_retry_leaks_check 10000 (shaped 4096 4096) ≡ 400) × (rises script_retry_leaks_check 10000 (shaped 4096 4096) ≡ (rise 1 144) ∷ (rise 2 176) ∷ (rise 3 400) ∷ []) × (length (run_at script_retry_leaks_check 10000 (shaped 4096 4096) 0).trace ≡ 3) × (least_bad_or_cut script_retry_leaks_check 10000 (shaped 4096 4096) ≡ Some 3) × (run_at script_retry_leaks_check 10000 (shaped 4096 4096) 3 ≡ record { outcome = Ended None ((record { number = 2; length = 32; place = 144 }) ∷ []); trace = (line 1 144 0 Granted) ∷ (line 2 32 144 Granted) ∷ (line 3 224 176 Simulated) ∷ (line 4 32 176 Granted) ∷ (line 5 224 208 Granted) ∷ []; lines = []; notes = []; steps = 15 })
+unfolding everything
+retry_leaks_check = (refl, refl, refl, refl, refl)
+
 abbrev script_retry_check : Script
 script_retry_check = record { classes = []; procedures = (record { line = 3; parameters = []; body = record { locals = (OfPointer None) ∷ (OfPointer None) ∷ OfNumber ∷ []; statements = (on 7 (Statement-F.Alloc (Held (H.Local 0)) (Constant (pos 100)) GivesNull)) ∷ (on 8 (Statement-F.Repeat (Constant (pos 3)) ((on 9 (Statement-F.If (IsNull (Held (H.Local 1))) ((on 10 (Statement-F.Add 2 (Constant (pos 1)))) ∷ (on 11 (Statement-F.Alloc (Held (H.Local 1)) (Constant (pos 300)) GivesNull)) ∷ (on 12 (Statement-F.If (IsNull (Held (H.Local 1))) ((on 14 (Statement-F.Free (Held (H.Local 0)))) ∷ (on 15 (Statement-F.SetNull (Held (H.Local 0)))) ∷ []))) ∷ []))) ∷ []))) ∷ (on 19 (Statement-F.PrintNumber (Variable 2))) ∷ (on 20 (Statement-F.Free (Held (H.Local 1)))) ∷ (on 21 (Statement-F.Free (Held (H.Local 0)))) ∷ [] } }) ∷ []; operations = []; literals = []; main = 0 }
 
 retry_check : (required script_retry_check 10000 (shaped 4096 4096) ≡ 592) × (rises script_retry_check 10000 (shaped 4096 4096) ≡ (rise 1 144) ∷ (rise 2 272) ∷ (rise 3 592) ∷ []) × (length (run_at script_retry_check 10000 (shaped 4096 4096) 0).trace ≡ 3) × (least_bad_or_cut script_retry_check 10000 (shaped 4096 4096) ≡ None)
 unfolding everything
 retry_check = (refl, refl, refl, refl)
+
+abbrev script_swallowed_leave_mended_check : Script
+script_swallowed_leave_mended_check = record { classes = []; procedures = (record { line = 2; parameters = []; body = record { locals = (OfPointer None) ∷ OfNumber ∷ []; statements = (on 5 (Statement-F.Trap 1 ((on 6 (Statement-F.NewText (Held (H.Local 0)) (Constant (pos 8)) Leaves)) ∷ []))) ∷ (on 8 (Statement-F.IfElse (Equal (Variable 1) (Constant (pos 0))) ((on 9 (Statement-F.Append (InCell (Held (H.Local 0))) (Quoted 0))) ∷ (on 10 (Statement-F.PrintText (Of (InCell (Held (H.Local 0)))))) ∷ (on 11 (Statement-F.Free (Held (H.Local 0)))) ∷ []) ((on 13 (Statement-F.PrintText (Quoted 1))) ∷ []))) ∷ [] } }) ∷ []; operations = []; literals = (103 ∷ 117 ∷ 101 ∷ 115 ∷ 116 ∷ []) ∷ (110 ∷ 111 ∷ 32 ∷ 114 ∷ 111 ∷ 111 ∷ 109 ∷ 32 ∷ 102 ∷ 111 ∷ 114 ∷ 32 ∷ 97 ∷ 32 ∷ 110 ∷ 97 ∷ 109 ∷ 101 ∷ []) ∷ []; main = 0 }
+
+swallowed_leave_mended_check : (required script_swallowed_leave_mended_check 10000 (shaped 4096 4096) ≡ 192) × (rises script_swallowed_leave_mended_check 10000 (shaped 4096 4096) ≡ (rise 1 144) ∷ (rise 2 192) ∷ []) × (length (run_at script_swallowed_leave_mended_check 10000 (shaped 4096 4096) 0).trace ≡ 2) × (least_bad_or_cut script_swallowed_leave_mended_check 10000 (shaped 4096 4096) ≡ None)
+unfolding everything
+swallowed_leave_mended_check = (refl, refl, refl, refl)
+
+abbrev script_swallowed_leave_check : Script
+script_swallowed_leave_check = record { classes = []; procedures = (record { line = 2; parameters = []; body = record { locals = (OfPointer None) ∷ OfNumber ∷ []; statements = (on 5 (Statement-F.Trap 1 ((on 6 (Statement-F.NewText (Held (H.Local 0)) (Constant (pos 8)) Leaves)) ∷ []))) ∷ (on 9 (Statement-F.Append (InCell (Held (H.Local 0))) (Quoted 0))) ∷ (on 10 (Statement-F.PrintText (Of (InCell (Held (H.Local 0)))))) ∷ (on 11 (Statement-F.Free (Held (H.Local 0)))) ∷ [] } }) ∷ []; operations = []; literals = (103 ∷ 117 ∷ 101 ∷ 115 ∷ 116 ∷ []) ∷ []; main = 0 }
+
+swallowed_leave_check : (required script_swallowed_leave_check 10000 (shaped 4096 4096) ≡ 192) × (rises script_swallowed_leave_check 10000 (shaped 4096 4096) ≡ (rise 1 144) ∷ (rise 2 192) ∷ []) × (length (run_at script_swallowed_leave_check 10000 (shaped 4096 4096) 0).trace ≡ 2) × (least_bad_or_cut script_swallowed_leave_check 10000 (shaped 4096 4096) ≡ Some 2) × (run_at script_swallowed_leave_check 10000 (shaped 4096 4096) 2 ≡ record { outcome = Panicked (P.Workbench 1); trace = (line 1 144 0 Granted) ∷ (line 2 48 144 Simulated) ∷ []; lines = []; notes = []; steps = 3 })
+unfolding everything
+swallowed_leave_check = (refl, refl, refl, refl, refl)
 
 abbrev script_trap_by_hand_refused_run : Script
 script_trap_by_hand_refused_run = record { classes = []; procedures = (record { line = 2; parameters = []; body = record { locals = (OfPointer None) ∷ (OfPointer None) ∷ OfNumber ∷ []; statements = (on 6 (Statement-F.Trap 2 ((on 7 (Statement-F.Alloc (Held (H.Local 0)) (Constant (pos 20)) Leaves)) ∷ (on 8 (Statement-F.Alloc (Held (H.Local 1)) (Constant (pos 60)) Leaves)) ∷ (on 9 (Statement-F.Store (Held (H.Local 1)) (Constant (pos 14)) (Constant (pos 1)))) ∷ []))) ∷ (on 12 (Statement-F.Free (Held (H.Local 0)))) ∷ (on 13 (Statement-F.Free (Held (H.Local 1)))) ∷ (on 15 (Statement-F.LeaveIfError (Variable 2))) ∷ [] } }) ∷ []; operations = []; literals = []; main = 0 }
@@ -560,6 +602,13 @@ script_weather_in_a_buffer_run = record { classes = []; procedures = (record { l
 weather_in_a_buffer_run : run script_weather_in_a_buffer_run R.Unlimited 10000 (shaped 4096 4096) ≡ record { outcome = Ended None []; trace = (line 1 144 0 Granted) ∷ []; lines = (99 ∷ 111 ∷ 108 ∷ 100 ∷ 101 ∷ 114 ∷ 32 ∷ 100 ∷ 97 ∷ 121 ∷ []) ∷ (52 ∷ []) ∷ (49 ∷ 50 ∷ []) ∷ []; notes = []; steps = 11 }
 unfolding everything
 weather_in_a_buffer_run = refl
+
+abbrev script_what_leaves_and_what_does_not_run : Script
+script_what_leaves_and_what_does_not_run = record { classes = []; procedures = (record { line = 2; parameters = []; body = record { locals = (OfPointer None) ∷ (OfPointer None) ∷ OfNumber ∷ []; statements = (on 6 (Statement-F.Trap 2 ((on 7 (Statement-F.LeaveIfError (Constant (pos 0)))) ∷ (on 8 (Statement-F.LeaveIfNull (Held (H.Local 0)))) ∷ (on 9 (Statement-F.PrintText (Quoted 0))) ∷ []))) ∷ (on 11 (Statement-F.PrintNumber (Variable 2))) ∷ (on 12 (Statement-F.Trap 2 ((on 13 (Statement-F.NewText (Held (H.Local 1)) (Constant (pos 4)) Leaves)) ∷ (on 14 (Statement-F.Append (InCell (Held (H.Local 1))) (Quoted 1))) ∷ (on 15 (Statement-F.LeaveIfError (Constant (negsuc 19)))) ∷ []))) ∷ (on 17 (Statement-F.PrintNumber (Variable 2))) ∷ (on 18 (Statement-F.PrintText (Of (InCell (Held (H.Local 1)))))) ∷ (on 19 (Statement-F.Free (Held (H.Local 1)))) ∷ (on 20 (Statement-F.Leave (Constant (pos 3)))) ∷ [] } }) ∷ []; operations = []; literals = (110 ∷ 101 ∷ 118 ∷ 101 ∷ 114 ∷ []) ∷ (111 ∷ 107 ∷ []) ∷ []; main = 0 }
+
+what_leaves_and_what_does_not_run : run script_what_leaves_and_what_does_not_run R.Unlimited 10000 (shaped 4096 4096) ≡ record { outcome = Ended (Some (pos 3)) []; trace = (line 1 144 0 Granted) ∷ (line 2 32 144 Granted) ∷ []; lines = (45 ∷ 52 ∷ []) ∷ (45 ∷ 50 ∷ 48 ∷ []) ∷ (111 ∷ 107 ∷ []) ∷ []; notes = []; steps = 12 }
+unfolding everything
+what_leaves_and_what_does_not_run = refl
 
 abbrev script_words_of_a_table_run : Script
 script_words_of_a_table_run = record { classes = []; procedures = (record { line = 2; parameters = []; body = record { locals = (OfPointer None) ∷ OfNumber ∷ OfNumber ∷ []; statements = (on 6 (Statement-F.Alloc (Held (H.Local 0)) (Constant (pos 10)) GivesNull)) ∷ (on 7 (Statement-F.AllocLen 1 (Held (H.Local 0)))) ∷ (on 8 (Statement-F.PrintNumber (Variable 1))) ∷ (on 9 (Statement-F.Store (Held (H.Local 0)) (Constant (pos 3)) (Constant (negsuc 6)))) ∷ (on 10 (Statement-F.Realloc (Held (H.Local 0)) (Held (H.Local 0)) (Constant (pos 40)) GivesNull)) ∷ (on 11 (Statement-F.AllocLen 1 (Held (H.Local 0)))) ∷ (on 12 (Statement-F.PrintNumber (Variable 1))) ∷ (on 13 (Statement-F.Load 2 (Held (H.Local 0)) (Constant (pos 3)))) ∷ (on 14 (Statement-F.PrintNumber (Variable 2))) ∷ (on 15 (Statement-F.Load 2 (Held (H.Local 0)) (Constant (pos 11)))) ∷ (on 16 (Statement-F.PrintNumber (Variable 2))) ∷ (on 17 (Statement-F.Free (Held (H.Local 0)))) ∷ [] } }) ∷ []; operations = []; literals = []; main = 0 }
