@@ -16,7 +16,7 @@ use Rattle.wb_cleanup.specs.Stacks.{cell_of, slots_of, items_of}
 abbrev pub fills : Cleanup → Debug → Bool
 fills stack d = nat_eq (length (items_of stack d) + 1) (slots_of stack)
 
--- a cell is reallocated; none gives nothing
+-- a cell is reallocated; without a result it is as if the ceiling had cut it
 abbrev pub remade : Debug → ℕ → Option (Cell (List ℕ)) → Made
 remade d bytes None = record { debug = d; gave = G.Ceiling }
 remade d bytes (Some c) = realloc_made d c bytes

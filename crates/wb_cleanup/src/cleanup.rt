@@ -19,7 +19,7 @@ const MORE_SLOTS: u32 = 4;
 
 /// The cleanup stack: items in slots in the words of a cell of a debug heap, the oldest first.
 ///
-/// Every call that is handed a heap asks for the one in which the stack stands. Source: Symbian OS v9 SDK reference,
+/// Every call but `start` that is handed a heap asks for the one in which the stack stands. Source: Symbian OS v9 SDK reference,
 /// CleanupStack, and this project's profile for the slots.
 #[derive(Clone, Debug, Drop, PartialEq, Eq)]
 pub struct Cleanup {
