@@ -4,6 +4,10 @@
 #![tactic(auto)]
 
 #[cfg(test)]
+mod control_faults;
+#[cfg(test)]
+mod control_lines;
+#[cfg(test)]
 mod control_runs;
 #[cfg(test)]
 mod faults;
