@@ -30,3 +30,5 @@ mod objects;
 mod stacks;
 #[cfg(test)]
 mod texts;
+#[cfg(test)]
+mod worked_stacks;

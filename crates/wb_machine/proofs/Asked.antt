@@ -44,7 +44,8 @@ use Rattle.wb_machine.specs.Carried.{pointer_read, number_read, stepped}
 use Rattle.wb_machine.specs.TextOperands.{is_text, text_refusal}
 use Rattle.wb_machine.specs.Asks.{asks_at, asks_next, is_some, is_longer, cell_asks, realloc_asks, text_asks, realloc_text_asks, statement_asks}
 use Rattle.wb_machine.proofs.Kept.{and_left, and_right, number_is, pointer_is}
-use Rattle.wb_machine.proofs.Later.{later_asks, later_higher, onward_all, asked_then, resume_later, nothing_asked}
+use Rattle.wb_machine.proofs.Later.{later_asks, later_higher, onward_all, asked_then, resume_later}
+use Rattle.wb_machine.proofs.NothingAsked.{nothing_asked}
 use Rattle.wb_machine.proofs.Scripts.{own_first, sound_top}
 use Rattle.wb_machine.proofs.Steps.{pending_pushed}
 use Rattle.wb_machine.proofs.Rows.{read_cell_at}

@@ -18,6 +18,7 @@ pub mod KeptTexts
 pub mod KeptViews
 pub mod KeptWords
 pub mod Later
+pub mod NothingAsked
 pub mod Outcomes
 pub mod ReadTexts
 pub mod Rows

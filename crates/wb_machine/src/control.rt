@@ -123,7 +123,7 @@ impl<'a> Control<'a> {
         Ok(())
     }
 
-    /// The first statement of a block.
+    /// The next statement of a block.
     fn step_code(
         &mut self,
         script: &'a Script,

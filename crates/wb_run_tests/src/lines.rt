@@ -13,7 +13,7 @@ const BEFORE: &[u8] = b"proc main\nptr p\nint x\nptr q\nint y\nbuf b 256\nview v
 const BEHIND: &[u8] = b"\nend\nproc none\nend\nproc both a:ptr n:int\nend\n";
 
 /// The index of the first of these lines with another fault.
-pub fn first_other(
+pub(crate) fn first_other(
     alloc: Global,
     lines: &[&[u8]],
     fault: Option<ScriptFault>,

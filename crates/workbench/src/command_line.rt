@@ -14,7 +14,10 @@ ghost use Rattle.workbench.specs.Spelled.{IsSpelledBy, budget_of as spelled_budg
 ghost use Rattle.workbench.specs.Subcommands.{subcommand_named};
 ghost use Rattle.workbench.specs.WordByWord.{AreRead};
 
+mod number_help;
+
 use crate::command::{Command, CommandFault, Task};
+use crate::command_line::number_help::NumberHelp;
 use crate::file_name::FileName;
 use clap::builder::ValueParser;
 use clap::{Arg, ArgMatches, value_parser};
@@ -131,41 +134,6 @@ fn file_in(alloc: Global, options: &ArgMatches) -> Result<Option<FileName>, Allo
     match options.get_str("file") {
         Some(name) => Ok(Some(FileName::copy_of(alloc, name)?)),
         None => Ok(None),
-    }
-}
-
-/// The help on options that take a number: its bounds, and its default where it has one.
-#[derive(Drop)]
-struct NumberHelp {
-    limit: String,
-    fail: String,
-    budget: String,
-    min: String,
-    step: String,
-}
-
-impl NumberHelp {
-    fn new(alloc: Global) -> Result<NumberHelp, AllocError> {
-        Ok(NumberHelp {
-            limit: format!(in alloc;
-                "Refuses what would make the heap longer than L bytes, from 0 to {CEILING}"
-            )?,
-            fail: format!(in alloc;
-                "Refuses the attempt with number N, from 0 to {CEILING}; there is no attempt 0"
-            )?,
-            budget: format!(in alloc;
-                "The greatest number of steps of a run, from 1 to {LARGEST_BUDGET} \
-                 [default: {DEFAULT_BUDGET}]"
-            )?,
-            min: format!(in alloc;
-                "The heap's minimum length in bytes, a multiple of {GRANULE} \
-                 from 0 to {LARGEST_MINIMUM} [default: {DEFAULT_MINIMUM}]"
-            )?,
-            step: format!(in alloc;
-                "The step by which the heap grows in bytes, a multiple of {GRANULE} \
-                 from {SMALLEST_STEP} to {LARGEST_STEP} [default: {DEFAULT_STEP}]"
-            )?,
-        })
     }
 }
 

@@ -293,3 +293,33 @@ fn reads_and_writes_no_oftener_than_there_are_bytes(rt: HostRuntime) -> Result<(
     assert_eq!(rt; status, 2);
     Ok(())
 }
+
+/// Two thousand numbers are printed, and then as many cells of 32 bytes lie end to end behind the cleanup
+/// stack's, the first of them at 144, and all of them leak.
+#[test]
+fn writes_thousands_of_lines(rt: HostRuntime) -> Result<(), Fail> {
+    let mut script = Vec::new(rt.alloc());
+    let mut report = Vec::new(rt.alloc());
+    let mut leaks = Vec::new(rt.alloc());
+    writeln!(script, "proc main\nptr a")?;
+    for number in 1..=2000u32 {
+        writeln!(script, "print {number}")?;
+        writeln!(report, "print {number}")?;
+    }
+    writeln!(report, "attempt 1 length 144 place 0 granted")?;
+    for (number, place) in (2..=2001u32).zip((144..64_144u32).step_by(32)) {
+        writeln!(script, "alloc a 1")?;
+        writeln!(report, "attempt {number} length 32 place {place} granted")?;
+        writeln!(leaks, "leak {number} length 32 place {place}")?;
+    }
+    writeln!(script, "end")?;
+    writeln!(report, "ended\nleaks 2000")?;
+    report.extend_from_slice(leaks.as_slice())?;
+    writeln!(report, "steps 4000")?;
+    let mut reader = script.as_slice();
+    let mut writer = Vec::new(rt.alloc());
+    let status = answer(rt.alloc(), &run_command(), &mut reader, &mut writer);
+    assert_eq!(rt; writer.as_slice(), report.as_slice());
+    assert_eq!(rt; status, 1);
+    Ok(())
+}

@@ -1,0 +1,43 @@
+//! What the help says of options that take a number. The options themselves stand in `command_line`.
+
+use super::GRANULE;
+use std::alloc::{AllocError, Global};
+use wb_model::limits::{
+    CEILING, DEFAULT_BUDGET, DEFAULT_MINIMUM, DEFAULT_STEP, LARGEST_BUDGET, LARGEST_MINIMUM,
+    LARGEST_STEP, SMALLEST_STEP,
+};
+
+/// The help on options that take a number: its bounds, and its default where it has one.
+#[derive(Drop)]
+pub(crate) struct NumberHelp {
+    pub limit: String,
+    pub fail: String,
+    pub budget: String,
+    pub min: String,
+    pub step: String,
+}
+
+impl NumberHelp {
+    pub(crate) fn new(alloc: Global) -> Result<NumberHelp, AllocError> {
+        Ok(NumberHelp {
+            limit: format!(in alloc;
+                "Refuses what would make the heap longer than L bytes, from 0 to {CEILING}"
+            )?,
+            fail: format!(in alloc;
+                "Refuses the attempt with number N, from 0 to {CEILING}; there is no attempt 0"
+            )?,
+            budget: format!(in alloc;
+                "The greatest number of steps of a run, from 1 to {LARGEST_BUDGET} \
+                 [default: {DEFAULT_BUDGET}]"
+            )?,
+            min: format!(in alloc;
+                "The heap's minimum length in bytes, a multiple of {GRANULE} \
+                 from 0 to {LARGEST_MINIMUM} [default: {DEFAULT_MINIMUM}]"
+            )?,
+            step: format!(in alloc;
+                "The step by which the heap grows in bytes, a multiple of {GRANULE} \
+                 from {SMALLEST_STEP} to {LARGEST_STEP} [default: {DEFAULT_STEP}]"
+            )?,
+        })
+    }
+}
