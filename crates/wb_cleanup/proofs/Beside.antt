@@ -15,7 +15,7 @@ use Rattle.wb_cleanup.specs.Stacks.{IsStack, cell_of, items_of}
 use Rattle.wb_cleanup.proofs.Standing.{Stands, stack-kept}
 
 -- a live cell has the number of an attempt that was made
-old-number : (p : Ptr) (d : Debug) (c : Cell (List ℕ)) → IsSoundDebug d → cell_at p d.heap.row ≡ Some c → number_of_next d ≢ p.number
+pub old-number : (p : Ptr) (d : Debug) (c : Cell (List ℕ)) → IsSoundDebug d → cell_at p d.heap.row ≡ Some c → number_of_next d ≢ p.number
 old-number p d c sound found same =
     let head = found-head p d.heap.row c found in
     let live = found-all (IsLiveIn d) p (headers d.heap.row) c.head sound.live head in

@@ -1,6 +1,6 @@
 //! The calls on the stack.
 
-ghost use Rattle.std.specs.Prelude.{◌≡◌, ◌≢◌, ◌+◌, ◌^◌, ◌<◌, true, [], ◌∷◌, ◌++◌, None, Some, false, option_map, IfErr, IfNone, IfOk, IfSome, IsOk, OnErr, OnOk, OnSome};
+ghost use Rattle.std.specs.Prelude.{◌≡◌, ◌≢◌, ◌+◌, ◌^◌, ◌<◌, nat_eq, nat_le, true, [], ◌∷◌, ◌++◌, None, Some, false, option_map, IfErr, IfNone, IfOk, IfSome, IsOk, OnErr, OnOk, OnSome};
 ghost use Rattle.wb_cleanup.specs.Pushes.{IsButForWords, cell_by, fills, growth, items_by, push_made, pushed_by, slots_by};
 ghost use Rattle.wb_cleanup.specs.Stacks.{IsPopped, IsStack, cell_of, count_of, expected_refusal, items_of, newest_above, pop_refusal, slots_of};
 ghost use Rattle.wb_model.specs.Debug.{IsSoundDebug, alloc_made, gave_of};
@@ -72,6 +72,20 @@ impl Cleanup {
         ensures { result ≡ count_of self.now }
     {
         self.used
+    }
+
+    /// Whether no slot is free. A push always leaves one free but for a growth that was refused.
+    pub fn is_full(&self) -> bool
+        ensures { result ≡ nat_le (slots_of self.now) (count_of self.now) }
+    {
+        self.slots <= self.used
+    }
+
+    /// Whether one slot is free and no more: the next push grows the stack.
+    pub fn has_one_free(&self) -> bool
+        ensures { result ≡ nat_eq (count_of self.now + 1) (slots_of self.now) }
+    {
+        self.used < self.slots && self.used + 1 == self.slots
     }
 
     /// Puts an item on top. Where it fills the last slot, the cell is reallocated for 4 slots more: an attempt, which may

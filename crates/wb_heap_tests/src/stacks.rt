@@ -79,6 +79,9 @@ impl Stacked {
     fn tells(&self, step: Step) -> bool {
         match step {
             Step::Used(n) => self.stack.used() == n,
+            Step::Free { one, none } => {
+                self.stack.has_one_free() == one && self.stack.is_full() == none
+            }
             Step::Attempts(n) => self.heap.attempts() == n,
             Step::Stands(cell, length) => {
                 self.heap.header(pointer(cell)) == Some(cleanup_header(cell, length))

@@ -27,6 +27,8 @@ pub(crate) enum Step {
     /// So many items that `PushMany` pushed, down to the first one.
     TakeMany(u32),
     Used(u32),
+    /// Whether one slot is free and no more, and whether none is.
+    Free { one: bool, none: bool },
     /// A raw cell that is granted in the heap, of so many bytes.
     Alloc(u32),
     FailNext(u32),
@@ -109,8 +111,21 @@ pub(crate) static STACKS: [WorkedStack; 13] = [
         rule: Rule::Unlimited,
         steps: &[
             Step::FailNext(1),
-            Step::PushMany(7),
+            Step::PushMany(6),
+            Step::Free {
+                one: false,
+                none: false,
+            },
+            Step::Push(Entry::Free((6, 6)), Pushed::Fine),
+            Step::Free {
+                one: true,
+                none: false,
+            },
             Step::Push(Entry::Delete((176, 3)), Pushed::Leave),
+            Step::Free {
+                one: false,
+                none: true,
+            },
             Step::Used(8),
             Step::Attempts(2),
             Step::Stands((0, 1), 144),

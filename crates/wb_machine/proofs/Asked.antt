@@ -1,9 +1,12 @@
 -- Which statements ask for an attempt.
-use Rattle.std.proofs.Common.{◌≡◌, ℕ, zero, suc, ℤ, ◌+◌, ◌-◌, ◌*◌, ◌≤◌, ◌<◌, ◌⊎◌, inl, inr, length-append, Bool, true, false, cond, List, [], ◌∷◌, ◌++◌, refl, ap, ◌∙◌, sym, subst, arith, Option, Some, None, option_map, length}
-use Rattle.std.specs.Prelude.{nat_lt, nat_le, slice_get, ◌&&◌}
-use Rattle.std.proofs.lemmas.Bool.{eq-eqb, lt-ltb, le-ltb}
+use Rattle.std.proofs.Common.{◌≡◌, ℕ, ℤ, ◌+◌, ◌*◌, ◌≤◌, length-append, Bool, true, false, cond, List, [], ◌∷◌, ◌++◌, refl, ap, ◌∙◌, sym, arith, Option, Some, None, option_map, length}
+use Rattle.std.specs.Prelude.{nat_eq, nat_lt, nat_le, ◌&&◌}
+use Rattle.std.proofs.lemmas.Bool.{eq-eqb, eqb-true, lt-ltb}
 use Rattle.wb_model.specs.declared.limits.TheConstants.{LARGEST_REQUEST, MOST_UNITS}
 use Rattle.wb_model.specs.declared.heap.TheConstants.Panic.{BAD_CELL, WRONG_KIND, NULL_OR_STALE, NUMBER_OUT_OF_RANGE, SHORTER_THAN_TEXT}
+use Rattle.wb_model.specs.declared.heap.TheConstants.{KERR_NO_MEMORY}
+use Rattle.wb_model.specs.declared.heap.Item.{Item}
+use Rattle.wb_model.specs.declared.heap.Item.TheVariants as I
 use Rattle.wb_model.specs.declared.heap.Kind.{Kind}
 use Rattle.wb_model.specs.declared.heap.Kind.TheVariants.{Raw, Object, Text, Cleanup}
 use Rattle.wb_model.specs.declared.heap.Ptr.{Ptr}
@@ -16,38 +19,25 @@ use Rattle.wb_model.specs.declared.script.Script.{Script}
 use Rattle.wb_model.specs.declared.script.Statement.TheOpen.{Statement-F}
 use Rattle.wb_model.specs.Row.{Cell, cell_at}
 use Rattle.wb_model.specs.Spelling.{read_as}
-use Rattle.wb_model.specs.declared.script.Statement.TheViews.{out-Statement}
-use Rattle.wb_model.specs.Sound.{Declared, declared_in, are_within, is_nested, is_pointer, is_number}
-use Rattle.wb_model.specs.State.{Content, units, State, goes_on, Process, and_then, with_some, require}
+use Rattle.wb_model.specs.Sound.{Declared, is_nested, is_pointer, is_number}
+use Rattle.wb_model.specs.State.{Content, units, State, leaves, Process, ends, with_some, require}
 use Rattle.wb_model.specs.Operands.{within, number_of, units_of, with_cell, with_pointer}
-use Rattle.wb_model.specs.Attempts.{attempt, allocate, reallocate, reallocate_longer}
-use Rattle.wb_model.specs.Statements.{all, turns, Meaning, Layer, Where, is_null, is_raw, alloc_raw, realloc_of, realloc_raw, realloc_text, given_to, statement}
+use Rattle.wb_model.specs.Attempts.{after_growth, attempt, allocate, grow_if, push, reallocate, reallocate_longer}
+use Rattle.wb_model.specs.Statements.{Layer, Where, is_null, is_raw, alloc_raw, realloc_of, realloc_raw, realloc_text, given_to, statement}
 use Rattle.wb_model.specs.declared.heap.Header.{Header}
 use Rattle.wb_model.specs.Debug.{Debug}
 use Rattle.wb_model.specs.TextCells.{IsTextAt, text_in}
 use Rattle.wb_machine.specs.TextInvariant.{AreTexts}
 use Rattle.wb_machine.proofs.TextInvariant.{is_text_at}
-use Rattle.wb_model.specs.Meaning.{begun, begun_if, meaning_of}
-use Rattle.wb_model.specs.Rest.{Pending, doing, resume}
-use Rattle.wb_model.proofs.AlikeStatements.{statement-alike}
-use Rattle.wb_model.proofs.AlikePieces.{between}
-use Rattle.wb_model.proofs.MeaningLemmas.{anything}
-use Rattle.wb_model.proofs.ResumeLemmas.{resume-all, resume-turns}
-use Rattle.wb_machine.specs.declared.pieces.Ending.{Ending}
-use Rattle.wb_machine.specs.declared.pieces.Ending.TheVariants.{GoesOn, Returns, Leaves, Panics, Cut, NoCleanup}
-use Rattle.wb_machine.specs.declared.pieces.Piece.{Piece}
-use Rattle.wb_machine.specs.declared.pieces.Piece.TheVariants.{Code, Turns, Trap, MainTrap, Call}
-use Rattle.wb_machine.specs.declared.pieces.Standing.{Standing}
-use Rattle.wb_machine.specs.Flow.{where_of, is_nothing, needs_step, pending_in, is_over, progress_by, first_statement, AreOwn, IsOwn, IsSoundPiece, AreSound, IsReady}
+use Rattle.wb_model.specs.Meaning.{meaning_of}
+use Rattle.wb_machine.specs.declared.pieces.Piece.TheVariants.{Object}
 use Rattle.wb_machine.specs.RunState.{RunState, field_count, read_cell, state_of}
-use Rattle.wb_machine.specs.Carried.{pointer_read, number_read, stepped}
+use Rattle.wb_machine.specs.Carried.{pointer_read, number_read}
 use Rattle.wb_machine.specs.TextOperands.{is_text, text_refusal}
-use Rattle.wb_machine.specs.Asks.{asks_at, asks_next, is_some, is_longer, cell_asks, realloc_asks, text_asks, realloc_text_asks, statement_asks}
+use Rattle.wb_machine.specs.Asks.{asks_at, is_some, is_longer, cell_asks, realloc_asks, text_asks, realloc_text_asks, growth_asks, push_asks, statement_asks}
 use Rattle.wb_machine.proofs.Kept.{and_left, and_right, number_is, pointer_is}
-use Rattle.wb_machine.proofs.Later.{later_asks, later_higher, onward_all, asked_then, resume_later}
+use Rattle.wb_machine.proofs.Later.{later_asks}
 use Rattle.wb_machine.proofs.NothingAsked.{nothing_asked}
-use Rattle.wb_machine.proofs.Scripts.{own_first, sound_top}
-use Rattle.wb_machine.proofs.Steps.{pending_pushed}
 use Rattle.wb_machine.proofs.Rows.{read_cell_at}
 
 -- a cell whose header says so holds a text
@@ -162,6 +152,44 @@ module _ (script : Script) (h : RunState) where
       ap (λ found. asked (with_some found NULL_OR_STALE st (λ c. with_some (units_of c.head.kind c.content) WRONG_KIND st (λ us. with_some (Some n) NUMBER_OUT_OF_RANGE st (λ n. realloc_text p c us n st))))) (read_cell_at script q h.debug.heap.row)
       ∙ text_asked p (Some n) (cell_at q h.debug.heap.row)
 
+  -- of the cleanup stack, whose cell may not be there
+  growth_asked : (more : State) (found : Option (Cell (List ℕ))) → asked (with_some (option_map (read_cell script) found) NULL_OR_STALE more (λ c. reallocate c (16 * (h.slots + 4)) st more after_growth)) ≡ growth_asks h.slots found
+  unfolding with_some reallocate reallocate_longer attempt after_growth
+  growth_asked more None = refl
+  growth_asked more (Some c) = by (is_longer c (16 * (h.slots + 4)))
+    where
+      by : (b : Bool) → asked (reallocate_longer b (read_cell script c) (16 * (h.slots + 4)) st more after_growth) ≡ b
+      by true = eq-eqb h.steps h.steps refl
+      by false = refl
+
+  -- an item fills the last slot of a stack that has no more than that free
+  last_slot : (n slots : ℕ) → nat_eq (n + 1) slots ≡ true → nat_lt n slots ≡ true
+  last_slot n slots e = lt-ltb n slots (omega (arith, eqb-true (n + 1) slots e))
+
+  push_asked : (item : Item) → asked (push item st) ≡ push_asks h
+  unfolding push grow_if with_cell
+  push_asked item =
+      ap (λ n. asked (elim (nat_lt (length h.items) h.slots) [
+        | true ↦ grow_if (nat_eq n h.slots) st more
+        | false ↦ ends (leaves KERR_NO_MEMORY) st
+      ])) (length-append h.items (item ∷ []))
+      ∙ by (nat_lt (length h.items) h.slots) (nat_eq (length h.items + 1) h.slots) refl refl
+    where
+      more : State
+      more = record st { items = h.items ++ item ∷ [] }
+
+      by : (a b : Bool) → nat_lt (length h.items) h.slots ≡ a → nat_eq (length h.items + 1) h.slots ≡ b →
+          asked (elim a [
+            | true ↦ grow_if b st more
+            | false ↦ ends (leaves KERR_NO_MEMORY) st
+          ]) ≡ (b && growth_asks h.slots (cell_at h.cleanup h.debug.heap.row))
+      by true true room fills =
+          ap (λ found. asked (with_some found NULL_OR_STALE more (λ c. reallocate c (16 * (h.slots + 4)) st more after_growth))) (read_cell_at script h.cleanup h.debug.heap.row)
+          ∙ growth_asked more (cell_at h.cleanup h.debug.heap.row)
+      by true false room fills = refl
+      by false true room fills = let no : false ≡ true = sym room ∙ last_slot (length h.items) h.slots fills in cc
+      by false false room fills = refl
+
   pub statement_asked : (budget : ℕ) (declared : Declared) (locals : List Local) (held : Bool) (inside : Bool → List Numbered → Bool) (at : Where) (layer : Layer) →
       h.steps ≤ budget → is_nested declared locals held inside layer ≡ true → asked (statement script (meaning_of script budget) at layer st) ≡ statement_asks h layer
   unfolding statement
@@ -186,137 +214,9 @@ module _ (script : Script) (h : RunState) where
       ∙ pointer_is script locals h q (λ old. from old (number_of st v)) (and_left (is_pointer locals q) (is_number locals v) rest))
       ∙ ap (λ z. asked (from (pointer_read h q) z)) (number_is script h v)
       ∙ realloc_text_asked p (pointer_read h q) (within MOST_UNITS (number_read h v))
+  statement_asked budget declared locals held inside at (Statement-F.Push p) within_budget ok =
+      ap asked (pointer_is script locals h p (λ q. push (I.Free q) st) ok) ∙ push_asked (I.Free (pointer_read h p))
+  statement_asked budget declared locals held inside at (Statement-F.PushOperation p operation) within_budget ok =
+      ap asked (pointer_is script locals h p (λ q. push (I.Call q operation) st) (and_left (is_pointer locals p) (nat_lt operation declared.operations) ok)) ∙ push_asked (I.Call (pointer_read h p) operation)
   statement_asked budget declared locals held inside at layer within_budget ok =
       later_asks h.steps (statement script (meaning_of script budget) at layer st) (nothing_asked script budget declared locals held inside at layer st within_budget ok refl)
-
-last_of : {X : Type 0} (xs : List X) (x : X) → slice_get (xs ++ x ∷ []) (length (xs ++ x ∷ []) - 1) ≡ Some x
-last_of [] x = refl
-last_of (y ∷ ys) x =
-    let long : length (y ∷ (ys ++ x ∷ [])) - 1 ≡ suc (length (ys ++ x ∷ []) - 1) = omega (arith, length-append ys (x ∷ [])) in
-    ap (λ i. slice_get (y ∷ (ys ++ x ∷ [])) i) long ∙ last_of ys x
-
--- whether pieces ask at once, by the one on top
-module _ (script : Script) (budget : ℕ) where
-  abbrev meant : Meaning
-  meant = meaning_of script budget
-
-  -- what a machine holds asks at once
-  abbrev pub held_asks : Ending → List Piece → RunState → Bool
-  held_asks ending pieces h = asks_next script budget (progress_by ending (pending_in h.callers pieces) (state_of script h))
-
-  begun_asks : (h : RunState) (go : State → Process) → h.steps < budget → asks_at (h.steps + 1) (begun budget (state_of script h) go) ≡ asks_at (h.steps + 1) (go (state_of script (stepped h)))
-  unfolding begun begun_if
-  begun_asks h go less = ap (λ b. asks_at (h.steps + 1) (begun_if b (state_of script h) go)) (lt-ltb h.steps budget less)
-
-  cut_asks : (h : RunState) (go : State → Process) → h.steps ≡ budget → asks_at (h.steps + 1) (begun budget (state_of script h) go) ≡ false
-  unfolding begun begun_if
-  cut_asks h go at = ap (λ b. asks_at (h.steps + 1) (begun_if b (state_of script h) go)) (le-ltb h.steps budget (omega (arith, at)))
-
-  pub code_asks : (pieces below : List Piece) (standing : Standing) (s : Numbered) (ss : List Numbered) (h : RunState) →
-      pending_in h.callers pieces ≡ doing (where_of standing) (all (s ∷ ss)) ∷ pending_in h.callers below → h.steps < budget → IsOwn script (out-Statement s.statement) →
-      held_asks GoesOn pieces h ≡ statement_asks h (out-Statement s.statement)
-  code_asks pieces below standing s ss h is less own =
-      let at = where_of standing in
-      let layer = out-Statement s.statement in
-      let next : State = state_of script (stepped h) in
-      let rest = resume script budget (doing at (all ss) ∷ pending_in h.callers below) in
-      let L = between anything (h.steps + 1) budget in
-      ap (λ (ps : List Pending). asks_at (h.steps + 1) (resume script budget ps goes_on (state_of script h))) is
-      ∙ ap (asks_at (h.steps + 1)) (resume-all script budget at s ss (pending_in h.callers below) (state_of script h) (omega (arith, less)))
-      ∙ begun_asks h (λ st. and_then (statement script meant at (out-Statement s.statement) st) rest) less
-      ∙ asked_then script budget (h.steps + 1) (statement script meant at layer next) rest
-      (statement-alike L {ns = []} script meant meant at layer next (onward_all script budget (h.steps + 1)) ((omega arith, omega (arith, less)), tt)).1
-      (λ w st least most. later_higher script budget (h.steps + 1) st.steps (rest w st) least (resume_later script budget (doing at (all ss) ∷ pending_in h.callers below) w st most))
-      ∙ statement_asked script (stepped h) budget (declared_in script) own.locals own.trapped (are_within (declared_in script) own.locals own.depth) at layer (omega (arith, less)) own.sound
-
-  pub turns_ask : (pieces below : List Piece) (standing : Standing) (n : ℕ) (body : List Numbered) (h : RunState) →
-      pending_in h.callers pieces ≡ doing (where_of standing) (turns (suc n) body) ∷ pending_in h.callers below → h.steps < budget → held_asks GoesOn pieces h ≡ false
-  turns_ask pieces below standing n body h is less =
-      let at = where_of standing in
-      let ps : List Pending = doing at (all body) ∷ doing at (turns n body) ∷ pending_in h.callers below in
-      let next : State = state_of script (stepped h) in
-      ap (λ (ps : List Pending). asks_at (h.steps + 1) (resume script budget ps goes_on (state_of script h))) is
-      ∙ ap (asks_at (h.steps + 1)) (resume-turns script budget at n body (pending_in h.callers below) (state_of script h) (omega (arith, less)))
-      ∙ begun_asks h (λ st. resume script budget ps goes_on st) less
-      ∙ later_asks (h.steps + 1) (resume script budget ps goes_on next) (resume_later script budget ps goes_on next (omega (arith, less)))
-
-  -- a run that is over
-  pub over_asks : (ending : Ending) (pieces : List Piece) (h : RunState) → is_over ending pieces ≡ true → held_asks ending pieces h ≡ false
-  unfolding resume
-  over_asks GoesOn [] h over = refl
-  over_asks (Returns p) [] h over = refl
-  over_asks (Leaves code) [] h over = refl
-  over_asks GoesOn (p ∷ ps) h over = cc
-  over_asks (Returns q) (p ∷ ps) h over = cc
-  over_asks (Leaves code) (p ∷ ps) h over = cc
-  over_asks (Panics p) pieces h over = refl
-  over_asks (Cut why) pieces h over = refl
-  over_asks NoCleanup pieces h over = refl
-
-  -- at the budget
-  pub ready_cut : (pieces below : List Piece) (p : Piece) (h : RunState) → pieces ≡ below ++ p ∷ [] → needs_step p ≡ true → h.steps ≡ budget → held_asks GoesOn pieces h ≡ false
-  ready_cut pieces below (Code standing statements) h is needs at = by statements.now refl
-    where
-      by : (ss : List Numbered) → statements.now ≡ ss → held_asks GoesOn pieces h ≡ false
-      by [] e = let x = ap is_nothing e in cc
-      by (s ∷ ss) e =
-          ap (λ (ps : List Pending). asks_at (h.steps + 1) (resume script budget ps goes_on (state_of script h)))
-          (pending_pushed h.callers below pieces (Code standing statements) is ∙ ap (λ (ss : List Numbered). doing (where_of standing) (all ss) ∷ pending_in h.callers below) e)
-          ∙ ap (asks_at (h.steps + 1)) (resume-all script budget (where_of standing) s ss (pending_in h.callers below) (state_of script h) (omega (arith, at)))
-          ∙ cut_asks h _ at
-  ready_cut pieces below (Turns standing left body) h is needs at = by left refl
-    where
-      by : (n : ℕ) → left ≡ n → held_asks GoesOn pieces h ≡ false
-      by zero e = let x = ap (λ k. nat_lt 0 k) e in cc
-      by (suc n) e =
-          ap (λ (ps : List Pending). asks_at (h.steps + 1) (resume script budget ps goes_on (state_of script h)))
-          (pending_pushed h.callers below pieces (Turns standing left body) is ∙ ap (λ k. doing (where_of standing) (turns k body.now) ∷ pending_in h.callers below) e)
-          ∙ ap (asks_at (h.steps + 1)) (resume-turns script budget (where_of standing) n body.now (pending_in h.callers below) (state_of script h) (omega (arith, at)))
-          ∙ cut_asks h _ at
-  ready_cut pieces below (Trap standing x) h is needs at = cc
-  ready_cut pieces below MainTrap h is needs at = cc
-  ready_cut pieces below (Call base target) h is needs at = cc
-
-  -- what a statement asks that may not be there
-  abbrev pub asked_of : RunState → Option Numbered → Bool
-  asked_of h (Some s) = statement_asks h (out-Statement s.statement)
-  asked_of h None = false
-
-  -- a step is to come: the piece on top asks as its first statement does
-  pub ready_asks : (pieces below : List Piece) (p : Piece) (h : RunState) → pieces ≡ below ++ p ∷ [] → needs_step p ≡ true → IsSoundPiece script p → h.steps < budget →
-      held_asks GoesOn pieces h ≡ asked_of h (first_statement p)
-  ready_asks pieces below (Code standing statements) h is needs sound less = by statements.now refl
-    where
-      by : (ss : List Numbered) → statements.now ≡ ss → held_asks GoesOn pieces h ≡ asked_of h (first_statement (Code standing statements))
-      by [] e = let x = ap is_nothing e in cc
-      by (s ∷ ss) e =
-          code_asks pieces below standing s ss h (pending_pushed h.callers below pieces (Code standing statements) is ∙ ap (λ (ss : List Numbered). doing (where_of standing) (all ss) ∷ pending_in h.callers below) e) less
-          (own_first script s ss (subst (AreOwn script) e sound))
-          ∙ sym (ap (λ (ss : List Numbered). asked_of h (slice_get ss 0)) e)
-  ready_asks pieces below (Turns standing left body) h is needs sound less = by left refl
-    where
-      by : (n : ℕ) → left ≡ n → held_asks GoesOn pieces h ≡ false
-      by zero e = let x = ap (λ k. nat_lt 0 k) e in cc
-      by (suc n) e =
-          turns_ask pieces below standing n body.now h
-          (pending_pushed h.callers below pieces (Turns standing left body) is ∙ ap (λ k. doing (where_of standing) (turns k body.now) ∷ pending_in h.callers below) e) less
-  ready_asks pieces below (Trap standing x) h is needs sound less = cc
-  ready_asks pieces below MainTrap h is needs sound less = cc
-  ready_asks pieces below (Call base target) h is needs sound less = cc
-
-  -- the same of whatever stands on top
-  pub settled_asks : (ending : Ending) (pieces : List Piece) (p : Piece) (h : RunState) → slice_get pieces (length pieces - 1) ≡ Some p →
-      (is_over ending pieces ≡ true) ⊎ IsReady ending pieces → is_over ending pieces ≡ false → AreSound script pieces → h.steps < budget →
-      held_asks ending pieces h ≡ asked_of h (first_statement p)
-  settled_asks ending pieces p h top (inl over) going sound less = let x = sym over ∙ going in cc
-  settled_asks ending pieces p h top (inr ready) going sound less =
-      let q = ready.2 in
-      let same : Some q ≡ Some p = sym (last_of ready.1 q) ∙ sym (ap (λ (ps : List Piece). slice_get ps (length ps - 1)) ready.3) ∙ top in
-      ap (λ e. held_asks e pieces h) ready.0
-      ∙ ready_asks pieces ready.1 q h ready.3 ready.4 (sound_top script ready.1 pieces q ready.3 sound) less
-      ∙ ap (λ (o : Option Piece). elim o [ None ↦ false | Some x ↦ asked_of h (first_statement x) ]) same
-
-  -- a machine that a turn cuts asks for nothing
-  pub settled_cut : (ending : Ending) (pieces : List Piece) (h : RunState) → (is_over ending pieces ≡ true) ⊎ IsReady ending pieces → h.steps ≡ budget → held_asks ending pieces h ≡ false
-  settled_cut ending pieces h (inl over) at = over_asks ending pieces h over
-  settled_cut ending pieces h (inr ready) at = ap (λ e. held_asks e pieces h) ready.0 ∙ ready_cut pieces ready.1 ready.2 h ready.3 ready.4 at

@@ -1,5 +1,5 @@
 -- The turn that makes attempt 1 and begins `main`.
-use Rattle.std.proofs.Common.{◌≡◌, ℕ, false, List, [], ◌∷◌, ◌++◌, map, refl, ap, ◌∙◌, sym, subst, inl, Option, Some, None}
+use Rattle.std.proofs.Common.{◌≡◌, ◌≢◌, ℕ, true, false, List, [], ◌∷◌, ◌++◌, map, refl, ap, ◌∙◌, sym, subst, inl, Option, Some, None}
 use Rattle.std.proofs.Math.Path.{fun_ext}
 use Rattle.std.specs.Prelude.{min}
 use Rattle.wb_model.specs.declared.heap.Ptr.{Ptr}
@@ -32,7 +32,7 @@ use Rattle.wb_machine.specs.declared.pieces.Piece.{Piece}
 use Rattle.wb_machine.specs.declared.pieces.Piece.TheVariants.{MainTrap}
 use Rattle.wb_machine.specs.RunState.{Values, RunState, first_state, main_of, state_of, account_of, with_debug}
 use Rattle.wb_machine.specs.Flow.{in_main_frame, pending_of, pending_in, is_stop, flow, rest_from, rest_at}
-use Rattle.wb_machine.specs.Carried.{entered, first_bytes, first_made, begun_by, begun_carried}
+use Rattle.wb_machine.specs.Carried.{entered, first_bytes, first_made, started_by, is_granted, begun_by, begun_carried}
 use Rattle.wb_machine.proofs.Flows.{followed, allocated}
 use Rattle.wb_machine.proofs.Fitting.{fits-limit, fits-ended}
 use Rattle.wb_machine.proofs.KeptCells.{is_ceiling, answered_alike}
@@ -73,7 +73,7 @@ begun_rest : (r : Rule) (script : Script) (budget : ℕ) (h : RunState) (stateme
 unfolding flow started and_then
 begun_rest r script budget h statements pieces G.Ceiling body is = rest_flow script budget r (Cut Ceiling) pieces h
 begun_rest r script budget h statements pieces (G.Granted cell) body is =
-    let g : RunState = entered h cell (main_of script).locals in
+    let g : RunState = entered (record h { cleanup = cell }) (main_of script).locals in
     let st : State = record (state_of script h) { cleanup = cell } in
     rest_flow script budget r GoesOn pieces g
     ∙ ap (λ (ps : List Pending). result_of (flow r (resume script budget ps goes_on (state_of script g)) g)) (is refl g.callers)
@@ -162,3 +162,25 @@ unfolding rest left_to_do
 rest_first r script budget ending pieces h start same =
     ap (λ a. result_of (settled r (space_of r h.debug.shape) (process script budget) a))
     (ap account_of start ∙ ap (λ b. record { trace = []; notes = []; committed = min h.debug.shape.min (bound_below b) }) (sym same))
+
+-- `main` begins where attempt 1 was granted
+pub granted_goes : (h : RunState) (locals : List Local) (gave : Gave) → is_granted gave ≡ true → (begun_by h locals gave).ending ≡ GoesOn
+granted_goes h locals (G.Granted cell) e = refl
+granted_goes h locals G.Denied e = cc
+granted_goes h locals G.Ceiling e = cc
+
+pub granted_enters : (h : RunState) (locals : List Local) (gave : Gave) → is_granted gave ≡ true → entered (started_by h gave) locals ≡ (begun_by h locals gave).state
+granted_enters h locals (G.Granted cell) e = refl
+granted_enters h locals G.Denied e = cc
+granted_enters h locals G.Ceiling e = cc
+
+-- and nothing does where it was refused
+pub refused_ends : (h : RunState) (locals : List Local) (gave : Gave) → is_granted gave ≡ false → gave ≢ G.Ceiling → (begun_by h locals gave).ending ≡ NoCleanup
+refused_ends h locals (G.Granted cell) e uncut = cc
+refused_ends h locals G.Denied e uncut = refl
+refused_ends h locals G.Ceiling e uncut = absurd (uncut refl)
+
+pub refused_stays : (h : RunState) (locals : List Local) (gave : Gave) → is_granted gave ≡ false → started_by h gave ≡ (begun_by h locals gave).state
+refused_stays h locals (G.Granted cell) e = cc
+refused_stays h locals G.Denied e = refl
+refused_stays h locals G.Ceiling e = refl

@@ -33,19 +33,25 @@ followed (G.Granted p) go st = go (Some p) st
 followed G.Denied go st = go None st
 followed G.Ceiling go st = stops (is_cut Ceiling) st
 
+-- the same where the ceiling shows another state
+abbrev pub followed_or : State → Gave → (Option Ptr → State → Process) → State → Process
+followed_or cut (G.Granted p) go st = go (Some p) st
+followed_or cut G.Denied go st = go None st
+followed_or cut G.Ceiling go st = stops (is_cut Ceiling) cut
+
 -- what an answer makes of words reads as what it makes of contents
 pub record ReadsAs (script : Script) (after : ℕ → Answer → AfterAnswer (List ℕ)) (read : ℕ → Answer → AfterAnswer Content) : Type 0 where
   pub heap : (n : ℕ) (a : Answer) → read_heap script (after n a).heap ≡ (read n a).heap
   pub given : (n : ℕ) (a : Answer) → (after n a).given ≡ (read n a).given
 
--- an attempt comes to what follows its answer
-pub attempted : (r : Rule) (script : Script) (h : RunState) (t : Request) (after : ℕ → Answer → AfterAnswer (List ℕ)) (read : ℕ → Answer → AfterAnswer Content)
+-- an attempt comes to what follows its answer, whatever state the ceiling shows
+pub attempted_or : (r : Rule) (script : Script) (h : RunState) (cut : State) (t : Request) (after : ℕ → Answer → AfterAnswer (List ℕ)) (read : ℕ → Answer → AfterAnswer Content)
     (go : Option Ptr → State → Process) (k : Way → State → Process) (o : Option Answer) →
     HasLines h → ReadsAs script after read → answer_to r (number_of_next h.debug) t ≡ o → limit_under r ≡ limit_under h.debug.rule →
-    flow r (and_then (attempt t read (state_of script h) (state_of script h) go) k) h
-    ≡ flow r (and_then (followed (made_by h.debug t after o).gave go (state_of script (with_debug h (made_by h.debug t after o).debug))) k) (with_debug h (made_by h.debug t after o).debug)
+    flow r (and_then (attempt t read cut (state_of script h) go) k) h
+    ≡ flow r (and_then (followed_or cut (made_by h.debug t after o).gave go (state_of script (with_debug h (made_by h.debug t after o).debug))) k) (with_debug h (made_by h.debug t after o).debug)
 unfolding flow attempt and_then
-attempted r script h t after read go k o lines reads answer limit =
+attempted_or r script h cut t after read go k o lines reads answer limit =
     ap (λ m. G (m + 1) (answer_to r (m + 1) t)) (sym lines) ∙ ap F answer ∙ by o
   where
     st : State
@@ -55,7 +61,7 @@ attempted r script h t after read go k o lines reads answer limit =
     n = number_of_next h.debug
 
     G : ℕ → Option Answer → Settled
-    G m o = on_answer o (record { end = stopped (is_cut Ceiling); state = st; account = account_of h })
+    G m o = on_answer o (record { end = stopped (is_cut Ceiling); state = cut; account = account_of h })
         (λ w. settled r (space_of r h.debug.shape) (and_then (go (read m w).given (set_heap st (read m w).heap)) k) (recorded (space_of r h.debug.shape) m t w (account_of h)))
 
     F : Option Answer → Settled
@@ -66,18 +72,39 @@ attempted r script h t after read go k o lines reads answer limit =
 
     follows : (w : Answer) (g : Option Ptr) →
         settled r (space_of r h.debug.shape) (and_then (go g (state_of script (counted w))) k) (account_of (counted w))
-        ≡ settled r (space_of r h.debug.shape) (and_then (followed (gave_of g) go (state_of script (counted w))) k) (account_of (counted w))
+        ≡ settled r (space_of r h.debug.shape) (and_then (followed_or cut (gave_of g) go (state_of script (counted w))) k) (account_of (counted w))
     follows w None = refl
     follows w (Some p) = refl
 
     by : (o : Option Answer) → F o
-        ≡ settled r (space_of r (made_by h.debug t after o).debug.shape) (and_then (followed (made_by h.debug t after o).gave go (state_of script (with_debug h (made_by h.debug t after o).debug))) k) (account_of (with_debug h (made_by h.debug t after o).debug))
+        ≡ settled r (space_of r (made_by h.debug t after o).debug.shape) (and_then (followed_or cut (made_by h.debug t after o).gave go (state_of script (with_debug h (made_by h.debug t after o).debug))) k) (account_of (with_debug h (made_by h.debug t after o).debug))
     by None = refl
     by (Some w) =
         ap (λ g. settled r (space_of r h.debug.shape) (and_then (go g (set_heap st (read n w).heap)) k) (recorded (space_of r h.debug.shape) n t w (account_of h))) (sym (reads.given n w))
         ∙ ap (λ x. settled r (space_of r h.debug.shape) (and_then (go (after n w).given (set_heap st x)) k) (recorded (space_of r h.debug.shape) n t w (account_of h))) (sym (reads.heap n w))
         ∙ ap (λ b. settled r (space_of r h.debug.shape) (and_then (go (after n w).given (state_of script (counted w))) k) (recorded (space_below (bound_below b) h.debug.shape) n t w (account_of h))) limit
         ∙ follows w (after n w).given
+
+-- the state that it shows is mostly the one before the attempt
+pub as_followed : (script : Script) (h : RunState) (t : Request) (after : ℕ → Answer → AfterAnswer (List ℕ)) (go : Option Ptr → State → Process) (o : Option Answer) →
+    let made = made_by h.debug t after o in
+    followed_or (state_of script h) made.gave go (state_of script (with_debug h made.debug)) ≡ followed made.gave go (state_of script (with_debug h made.debug))
+as_followed script h t after go None = refl
+as_followed script h t after go (Some w) = by (after (number_of_next h.debug) w).given
+  where
+    by : (g : Option Ptr) → followed_or (state_of script h) (gave_of g) go (state_of script (with_debug h (made_by h.debug t after (Some w)).debug))
+        ≡ followed (gave_of g) go (state_of script (with_debug h (made_by h.debug t after (Some w)).debug))
+    by None = refl
+    by (Some p) = refl
+
+pub attempted : (r : Rule) (script : Script) (h : RunState) (t : Request) (after : ℕ → Answer → AfterAnswer (List ℕ)) (read : ℕ → Answer → AfterAnswer Content)
+    (go : Option Ptr → State → Process) (k : Way → State → Process) (o : Option Answer) →
+    HasLines h → ReadsAs script after read → answer_to r (number_of_next h.debug) t ≡ o → limit_under r ≡ limit_under h.debug.rule →
+    flow r (and_then (attempt t read (state_of script h) (state_of script h) go) k) h
+    ≡ flow r (and_then (followed (made_by h.debug t after o).gave go (state_of script (with_debug h (made_by h.debug t after o).debug))) k) (with_debug h (made_by h.debug t after o).debug)
+attempted r script h t after read go k o lines reads answer limit =
+    attempted_or r script h (state_of script h) t after read go k o lines reads answer limit
+    ∙ ap (λ p. flow r (and_then p k) (with_debug h (made_by h.debug t after o).debug)) (as_followed script h t after go o)
 
 -- the cell that a grant inserts
 reads_alloc : (script : Script) (heap : Heap (List ℕ)) (t : Request) (kind : Kind) (fresh : Content) → read_as (field_count script) kind (zero_words t.length) ≡ fresh →
@@ -154,22 +181,35 @@ reads_longer script heap c bytes t reads = record { heap = λ n a. row n a; give
     same n Simulated = refl
     same n Refused = refl
 
--- a reallocation to a longer cell comes to what follows its answer
+-- a reallocation to a longer cell comes to what follows its answer, whatever state the ceiling shows
+pub made_longer_or : (r : Rule) (script : Script) (h : RunState) (cut : State) (c : Cell (List ℕ)) (bytes : ℕ) (go : Option Ptr → State → Process) (k : Way → State → Process) (o : Option Answer) →
+    HasLines h → ReadsResized script c.head.kind bytes c.content → answer_to r (number_of_next h.debug) (realloc_request h.debug.heap c.head bytes) ≡ o → limit_under r ≡ limit_under h.debug.rule →
+    let t = realloc_request h.debug.heap c.head bytes in
+    let made = made_by h.debug t (after_realloc h.debug.heap t c.head (resized_words t.length c.content)) o in
+    flow r (and_then (reallocate_longer true (read_cell script c) bytes cut (state_of script h) go) k) h
+    ≡ flow r (and_then (followed_or cut made.gave go (state_of script (with_debug h made.debug))) k) (with_debug h made.debug)
+unfolding reallocate_longer
+made_longer_or r script h cut c bytes go k o lines reads answer limit =
+    let t = realloc_request h.debug.heap c.head bytes in
+    let st = state_of script h in
+    let content = resized (cell_length bytes - 16) (read_cell script c).content in
+    let same : realloc_request st.heap c.head bytes ≡ t = ap (λ hs. record t { place = realloc_place hs c.head (cell_length bytes) }) (headers_read script h.debug.heap.row) in
+    ap (λ (t : Request). flow r (and_then (attempt t (after_realloc st.heap t c.head content) cut st go) k) h) same
+    ∙ attempted_or r script h cut t (after_realloc h.debug.heap t c.head (resized_words t.length c.content)) (after_realloc st.heap t c.head content) go k o lines
+    (reads_longer script h.debug.heap c bytes t reads) answer limit
+
+-- the state that it shows is mostly the one before
 pub made_longer : (r : Rule) (script : Script) (h : RunState) (c : Cell (List ℕ)) (bytes : ℕ) (go : Option Ptr → State → Process) (k : Way → State → Process) (o : Option Answer) →
     HasLines h → ReadsResized script c.head.kind bytes c.content → answer_to r (number_of_next h.debug) (realloc_request h.debug.heap c.head bytes) ≡ o → limit_under r ≡ limit_under h.debug.rule →
     let t = realloc_request h.debug.heap c.head bytes in
     let made = made_by h.debug t (after_realloc h.debug.heap t c.head (resized_words t.length c.content)) o in
     flow r (and_then (reallocate_longer true (read_cell script c) bytes (state_of script h) (state_of script h) go) k) h
     ≡ flow r (and_then (followed made.gave go (state_of script (with_debug h made.debug))) k) (with_debug h made.debug)
-unfolding reallocate_longer
 made_longer r script h c bytes go k o lines reads answer limit =
     let t = realloc_request h.debug.heap c.head bytes in
-    let st = state_of script h in
-    let content = resized (cell_length bytes - 16) (read_cell script c).content in
-    let same : realloc_request st.heap c.head bytes ≡ t = ap (λ hs. record t { place = realloc_place hs c.head (cell_length bytes) }) (headers_read script h.debug.heap.row) in
-    ap (λ (t : Request). flow r (and_then (attempt t (after_realloc st.heap t c.head content) st st go) k) h) same
-    ∙ attempted r script h t (after_realloc h.debug.heap t c.head (resized_words t.length c.content)) (after_realloc st.heap t c.head content) go k o lines
-    (reads_longer script h.debug.heap c bytes t reads) answer limit
+    let after = after_realloc h.debug.heap t c.head (resized_words t.length c.content) in
+    made_longer_or r script h (state_of script h) c bytes go k o lines reads answer limit
+    ∙ ap (λ p. flow r (and_then p k) (with_debug h (made_by h.debug t after o).debug)) (as_followed script h t after go o)
 
 -- and one to a cell that isn't longer
 pub made_shorter : (r : Rule) (script : Script) (h : RunState) (c : Cell (List ℕ)) (bytes : ℕ) (go : Option Ptr → State → Process) (k : Way → State → Process) →

@@ -2,7 +2,7 @@
 use Rattle.std.proofs.Common.{◌≡◌, ℕ, Bool, true, false, List, refl, ap, ◌∙◌, sym, arith, cond, Option, Some, None}
 use Rattle.std.specs.Prelude.{option_map}
 use Rattle.wb_model.specs.declared.limits.TheConstants.{LARGEST_REQUEST}
-use Rattle.wb_model.specs.declared.heap.TheConstants.Panic.{NUMBER_OUT_OF_RANGE}
+use Rattle.wb_model.specs.declared.heap.TheConstants.Panic.{BAD_CELL, NUMBER_OUT_OF_RANGE}
 use Rattle.wb_model.specs.declared.heap.Ptr.{Ptr}
 use Rattle.wb_model.specs.declared.heap.Rule.{Rule}
 use Rattle.wb_model.specs.declared.heap.Kind.TheVariants.{Raw}
@@ -21,16 +21,16 @@ use Rattle.wb_model.specs.declared.script.Statement.TheOpen.{Statement-F}
 use Rattle.wb_model.specs.Sound.{is_statement, is_pointer, is_number}
 use Rattle.wb_model.specs.Row.{Cell, cell_at, without}
 use Rattle.wb_model.specs.Rules.{Request, answer_to}
-use Rattle.wb_model.specs.Heap.{AfterAnswer, alloc_request, after_alloc}
+use Rattle.wb_model.specs.Heap.{is_cleanup, AfterAnswer, alloc_request, after_alloc}
 use Rattle.wb_model.specs.LimitedHeap.{zero_words}
 use Rattle.wb_model.specs.State.{Content, State, goes_on, ends, and_then, with_some}
 use Rattle.wb_model.specs.Operands.{number_of, set_row, within}
-use Rattle.wb_model.specs.Statements.{statement, given_to, alloc_raw, released, release, is_null, done, fresh_words}
-use Rattle.wb_model.specs.Debug.{Debug, Made, number_of_next, made_by, answer_in, alloc_made, refusal_unless_found, with_row}
+use Rattle.wb_model.specs.Statements.{statement, given_to, alloc_raw, of_script, released, release, is_null, done, fresh_words}
+use Rattle.wb_model.specs.Debug.{Debug, Made, number_of_next, made_by, answer_in, alloc_made, with_row}
 use Rattle.wb_model.specs.Rest.{Fits}
 use Rattle.wb_machine.specs.RunState.{RunState, field_count, read_cell, state_of, with_debug}
 use Rattle.wb_machine.specs.Flow.{flow, ended_by, is_stop, FitsStep}
-use Rattle.wb_machine.specs.Carried.{unless_refused, pointer_read, number_read, given_carried, made_carried, alloc_within, alloc_carried, free_carried}
+use Rattle.wb_machine.specs.Carried.{Carried, gone_on, panicked, released_found, pointer_read, number_read, given_carried, made_carried, alloc_within, alloc_carried, free_carried}
 use Rattle.wb_machine.proofs.Rows.{read_without, read_cell_at, read_fresh}
 use Rattle.wb_machine.proofs.Flows.{followed, allocated}
 use Rattle.wb_machine.proofs.Fitting.{fits-limit, fits-answer, fits-ended}
@@ -117,18 +117,23 @@ release_kept r script h p k = by (is_null p)
     after : RunState
     after = with_debug h (with_row h.debug (without p h.debug.heap.row))
 
-    found : (o : Option (Cell (List ℕ))) →
-        ComesTo r script h (released (option_map (read_cell script) o) p st) (unless_refused h (refusal_unless_found o) after)
-    found None k = refl
-    found (Some c) k = ap (λ (row : List (Cell Content)). flow r (and_then (ends goes_on (set_row st row)) k) h) (read_without script p h.debug.heap.row)
+    of_kind : (c : Cell (List ℕ)) (b : Bool) →
+        ComesTo r script h (released (cond b None (Some (read_cell script c))) p st) (cond b (panicked h BAD_CELL) (gone_on after))
+    of_kind c true k = refl
+    of_kind c false k = ap (λ (row : List (Cell Content)). flow r (and_then (ends goes_on (set_row st row)) k) h) (read_without script p h.debug.heap.row)
 
-    by : (b : Bool) →
-        flow r (and_then (ended_by (unless_refused h (cond b None (refusal_unless_found (cell_at p h.debug.heap.row))) (with_debug h (cond b h.debug (with_row h.debug (without p h.debug.heap.row))))).ending
-        (state_of script (unless_refused h (cond b None (refusal_unless_found (cell_at p h.debug.heap.row))) (with_debug h (cond b h.debug (with_row h.debug (without p h.debug.heap.row))))).state)) k)
-        (unless_refused h (cond b None (refusal_unless_found (cell_at p h.debug.heap.row))) (with_debug h (cond b h.debug (with_row h.debug (without p h.debug.heap.row))))).state
-        ≡ flow r (and_then (elim b [ true ↦ done st | false ↦ released (cell_at p st.heap.row) p st ]) k) h
+    found : (o : Option (Cell (List ℕ))) → ComesTo r script h (released (of_script (option_map (read_cell script) o)) p st) (released_found h p o)
+    found None k = refl
+    found (Some c) k = of_kind c (is_cleanup c.head.kind) k
+
+    carried : Bool → Carried
+    carried b = cond b (gone_on h) (released_found h p (cell_at p h.debug.heap.row))
+
+    by : (b : Bool) → flow r (and_then (ended_by (carried b).ending (state_of script (carried b).state)) k) (carried b).state
+        ≡ flow r (and_then (elim b [ true ↦ done st | false ↦ released (of_script (cell_at p st.heap.row)) p st ]) k) h
     by true = refl
-    by false = found (cell_at p h.debug.heap.row) k ∙ ap (λ o. flow r (and_then (released o p st) k) h) (sym (read_cell_at script p h.debug.heap.row))
+    by false =
+        found (cell_at p h.debug.heap.row) k ∙ ap (λ o. flow r (and_then (released (of_script o) p st) k) h) (sym (read_cell_at script p h.debug.heap.row))
 
 pub free_kept : (script : Script) (literals : ℕ) (locals : List Local) (h : RunState) (p : Pointer) →
     is_statement literals locals (Statement-F.Free p) ≡ true → Means script h (Statement-F.Free p) (free_carried h (pointer_read h p))

@@ -15,7 +15,7 @@ use Rattle.wb_model.specs.declared.script.Readable.{Readable}
 use Rattle.wb_model.specs.declared.script.Statement.TheOpen.{Statement-F}
 use Rattle.wb_model.specs.declared.text.Base.{Base}
 use Rattle.wb_model.specs.declared.text.Base.TheVariants as B
-use Rattle.wb_model.specs.Sound.{is_simple, is_statement, is_writable, is_readable, is_number}
+use Rattle.wb_model.specs.Sound.{is_statement, is_writable, is_readable, is_number}
 use Rattle.wb_model.specs.Row.{Cell, is_at, cell_at, changed}
 use Rattle.wb_model.specs.CellRow.{content_or_nil, payload_of, with_payload}
 use Rattle.wb_model.specs.Spelling.{read_as}
@@ -30,7 +30,7 @@ use Rattle.wb_hbuf.specs.declared.sources.Edit.TheVariants.{Copy, Append}
 use Rattle.wb_hbuf.specs.Sources.{edit_text}
 use Rattle.wb_machine.specs.declared.pieces.Ending.{Ending}
 use Rattle.wb_machine.specs.RunState.{RunState, field_count, read_cell, read_row, state_of}
-use Rattle.wb_machine.specs.Flow.{flow, ended_by, IsSameFlow, IsSimple, IsCarriedOut}
+use Rattle.wb_machine.specs.Flow.{is_carried, flow, ended_by, IsSameFlow, IsSimple, IsCarriedAnywhere, IsCarriedOut}
 use Rattle.wb_machine.specs.Carried.{number_read}
 use Rattle.wb_machine.specs.TextOperands.{base_named, base_refusal, base_text, base_max, is_writable_base, window_read, window_units}
 use Rattle.wb_machine.specs.CarriedTexts.{HasPanicked, IsWritten, UnlessRefused, WithNumber, IsEditedBy, IsInsertedBy, IsDeletedBy, IsLengthSet}
@@ -128,14 +128,14 @@ edited_comes r script literals locals h d t change ending g writable readable is
 
 pub copy_kept : (script : Script) (literals : ℕ) (locals : List Local) (h : RunState) (d : Writable) (t : Readable) (ending : Ending) (g : RunState) →
     IsEditedBy script.literals h (base_named h d) (window_read script.literals h t) Copy ending g → is_statement literals locals (Statement-F.Copy d t) ≡ true →
-    IsCarriedOut script (Statement-F.Copy d t) h ending g
+    IsCarriedAnywhere script (Statement-F.Copy d t) h ending g
 unfolding statement
 copy_kept script literals locals h d t ending g is ok r f rec at =
     edited_comes r script literals locals h d t Copy ending g (and_left (is_writable locals d) (is_readable literals locals t) ok) (and_right (is_writable locals d) (is_readable literals locals t) ok) is
 
 pub append_kept : (script : Script) (literals : ℕ) (locals : List Local) (h : RunState) (d : Writable) (t : Readable) (ending : Ending) (g : RunState) →
     IsEditedBy script.literals h (base_named h d) (window_read script.literals h t) Append ending g → is_statement literals locals (Statement-F.Append d t) ≡ true →
-    IsCarriedOut script (Statement-F.Append d t) h ending g
+    IsCarriedAnywhere script (Statement-F.Append d t) h ending g
 unfolding statement
 append_kept script literals locals h d t ending g is ok r f rec at =
     edited_comes r script literals locals h d t Append ending g (and_left (is_writable locals d) (is_readable literals locals t) ok) (and_right (is_writable locals d) (is_readable literals locals t) ok) is
@@ -150,7 +150,7 @@ apart_comes r script h ending g false p X is next = next is
 
 pub insert_kept : (script : Script) (literals : ℕ) (locals : List Local) (h : RunState) (d : Writable) (z : Number) (t : Readable) (ending : Ending) (g : RunState) →
     IsInsertedBy script.literals h (base_named h d) (window_read script.literals h t) (number_read h z) ending g → is_statement literals locals (Statement-F.Insert d z t) ≡ true →
-    IsCarriedOut script (Statement-F.Insert d z t) h ending g
+    IsCarriedAnywhere script (Statement-F.Insert d z t) h ending g
 unfolding statement
 insert_kept script literals locals h d z t ending g is ok r f rec at =
     let st = state_of script h in
@@ -187,7 +187,7 @@ text_alone literals h (B.Cell p) ok = refl
 
 pub delete_kept : (script : Script) (literals : ℕ) (locals : List Local) (h : RunState) (d : Writable) (z y : Number) (ending : Ending) (g : RunState) →
     IsDeletedBy h (base_named h d) (number_read h z) (number_read h y) ending g → is_statement literals locals (Statement-F.DeleteText d z y) ≡ true →
-    IsCarriedOut script (Statement-F.DeleteText d z y) h ending g
+    IsCarriedAnywhere script (Statement-F.DeleteText d z y) h ending g
 unfolding statement
 delete_kept script literals locals h d z y ending g is ok r f rec at =
     let st = state_of script h in
@@ -210,7 +210,7 @@ delete_kept script literals locals h d z y ending g is ok r f rec at =
 
 pub length_set_kept : (script : Script) (literals : ℕ) (locals : List Local) (h : RunState) (d : Writable) (z : Number) (ending : Ending) (g : RunState) →
     IsLengthSet h (base_named h d) (number_read h z) ending g → is_statement literals locals (Statement-F.SetLength d z) ≡ true →
-    IsCarriedOut script (Statement-F.SetLength d z) h ending g
+    IsCarriedAnywhere script (Statement-F.SetLength d z) h ending g
 unfolding statement
 length_set_kept script literals locals h d z ending g is ok r f rec at =
     let st = state_of script h in
@@ -229,7 +229,7 @@ length_set_kept script literals locals h d z ending g is ok r f rec at =
     written_comes r script h to _ ending g fine is writable)))
 
 -- what was carried out is what the statement makes
-pub carried_as : (script : Script) (h g : RunState) (ending : Ending) (layer : Layer) (own : IsSimple script layer) (was : Layer) → layer ≡ was →
-    (is_simple (length script.literals) own.locals own.trapped was ≡ true → IsCarriedOut script was h ending g) → IsCarriedOut script layer h ending g
-carried_as script h g ending layer own was is means =
-    subst (λ (l : Layer). IsCarriedOut script l h ending g) (sym is) (means (sym (ap (is_simple (length script.literals) own.locals own.trapped) is) ∙ own.sound))
+pub carried_as : {floor : ℕ} (script : Script) (h g : RunState) (ending : Ending) (layer : Layer) (own : IsSimple script layer) (was : Layer) → layer ≡ was →
+    (is_carried (length script.literals) own.locals own.trapped was ≡ true → IsCarriedAnywhere script was h ending g) → IsCarriedOut script floor layer h ending g
+carried_as script h g ending layer own was is means r f rec at over =
+    subst (λ (l : Layer). IsCarriedAnywhere script l h ending g) (sym is) (means (sym (ap (is_carried (length script.literals) own.locals own.trapped) is) ∙ own.sound)) r f rec at

@@ -8,7 +8,7 @@ use Rattle.wb_model.specs.declared.script.Script.{Script}
 use Rattle.wb_model.specs.declared.script.Statement.TheViews.{out-Statement}
 use Rattle.wb_model.specs.Row.{Cell, cell_at}
 use Rattle.wb_model.specs.State.{Content, State, Way, goes_on, returns, leaves, Process, ends, stops, asks, notes, and_then, on_plain_end, then_do, require}
-use Rattle.wb_model.specs.Statements.{Piece, all, turns, destroy_items, destroy_object, Where, Meaning, done, released, release, is_null, plain, trapped}
+use Rattle.wb_model.specs.Statements.{Piece, all, turns, destroy_items, destroy_object, Where, Meaning, done, of_script, released, release, is_null, plain, trapped}
 use Rattle.wb_model.specs.Meaning.{begun, begun_if, piece, meaning_of}
 use Rattle.wb_model.specs.Run.{main_trapped}
 use Rattle.wb_model.specs.Rest.{Pending, doing, catching, caught, calling, main_catching, main_caught, Afterwards, nothing_more, gives_to, releases, after_frame, resumed, resume}
@@ -122,9 +122,9 @@ module _ (script : Script) (budget : ℕ) where
       found None = tt
       found (Some c) = tt
 
-      by : (b : Bool) → IsLater low (elim b [ true ↦ done st | false ↦ released (cell_at p st.heap.row) p st ])
+      by : (b : Bool) → IsLater low (elim b [ true ↦ done st | false ↦ released (of_script (cell_at p st.heap.row)) p st ])
       by true = tt
-      by false = found (cell_at p st.heap.row)
+      by false = found (of_script (cell_at p st.heap.row))
 
   require_onward : (b : Bool) (panic : Panic) (low : ℕ) (st : State) (go : State → Process) → low ≤ st.steps → st.steps ≤ budget → IsLater low (go st) → Onward low (go st) →
       IsLater low (require b panic st go) × Onward low (require b panic st go)

@@ -1,13 +1,17 @@
 pub mod Asked
+pub mod AskedPieces
 pub mod Begins
+pub mod Destructions
 pub mod Ends
 pub mod Falls
 pub mod Fitting
 pub mod Flows
 pub mod Frames
 pub mod Heads
+pub mod Quiet
 pub mod Kept
 pub mod KeptCells
+pub mod KeptCleanup
 pub mod KeptLeaves
 pub mod KeptLines
 pub mod KeptMarks
@@ -23,6 +27,8 @@ pub mod Outcomes
 pub mod ReadTexts
 pub mod Rows
 pub mod Scripts
+pub mod StackBeside
+pub mod StackPushes
 pub mod Stayed
 pub mod Steps
 pub mod TextInvariant

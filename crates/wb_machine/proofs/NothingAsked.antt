@@ -1,7 +1,10 @@
--- Which statements ask for no attempt before a further step is counted: all but four.
-use Rattle.std.proofs.Common.{◌≡◌, ℕ, ℤ, ◌+◌, ◌≤◌, Bool, true, false, List, [], ◌∷◌, ◌++◌, map, length, refl, Option, Some, None, Result, Ok, Err}
+-- Which statements ask for no attempt before a further step is counted: all but five.
+use Rattle.std.proofs.Common.{◌≡◌, ℕ, ℤ, ◌+◌, ◌≤◌, Bool, true, false, List, [], ◌∷◌, ◌++◌, map, length, refl, Option, Some, None, Result, Ok, Err, arith}
 use Rattle.wb_model.specs.declared.heap.Ptr.{Ptr}
 use Rattle.wb_model.specs.declared.heap.Panic.{Panic}
+use Rattle.wb_model.specs.declared.heap.TheConstants.Panic.{POP_BELOW_TRAP}
+use Rattle.wb_model.specs.declared.heap.Item.{Item}
+use Rattle.wb_model.specs.declared.heap.Item.TheVariants as I
 use Rattle.wb_model.specs.declared.text.Base.{Base}
 use Rattle.wb_model.specs.declared.text.Base.TheVariants as B
 use Rattle.wb_model.specs.declared.script.Pointer.{Pointer}
@@ -22,11 +25,16 @@ use Rattle.wb_model.specs.declared.script.Script.{Script}
 use Rattle.wb_model.specs.declared.script.Statement.TheOpen.{Statement-F}
 use Rattle.wb_model.specs.Row.{Cell, cell_at}
 use Rattle.wb_model.specs.Texts.{Edited, Part}
-use Rattle.wb_model.specs.State.{Content, Value, null, initial, State, Way, goes_on, returns, leaves, Process, require, with_some, unless}
+use Rattle.wb_model.specs.State.{Content, Value, null, initial, pointer, State, Way, goes_on, returns, leaves, Process, on_plain_end, then_do, require, with_some, unless}
 use Rattle.wb_model.specs.Operands.{with_cell, with_fields, with_pointer}
 use Rattle.wb_model.specs.Reading.{Source, whole, part, with_writable, with_readable, with_base, with_units, with_room, with_text_cell, write, write_view}
-use Rattle.wb_model.specs.Statements.{with_words, all, Where, Layer, done, released, release, is_null, in_frame, plain, with_arguments, with_condition, leave_if, trapped, procedure_at, statement}
-use Rattle.wb_machine.proofs.Later.{IsLater, later_higher, later_then, meaning_later, meant, destroyed_onward}
+use Rattle.wb_model.specs.Statements.{with_words, all, Where, Layer, done, of_script, released, release, is_null, in_frame, plain, with_arguments, with_condition, leave_if, trapped, procedure_at, operation_at, destroy_items, destroy_object, newest, drop_newest, with_class, destroyed_item, destroyed_object, statement}
+use Rattle.wb_model.proofs.AlikeLemmas.{Fine, then_do-alike, with_some-alike, with_class-alike, release-alike}
+use Rattle.wb_model.proofs.AlikeStatements.{plain-alike, in_frame-alike, destroyed_item-alike}
+use Rattle.wb_model.proofs.AlikePieces.{between}
+use Rattle.wb_model.proofs.MeaningLemmas.{anything}
+use Rattle.wb_machine.proofs.Destructions.{object_destroyed}
+use Rattle.wb_machine.proofs.Later.{IsLater, Onward, onward_all, later_higher, later_then, meaning_later, meant, destroyed_onward}
 
 module _ (n : ℕ) where
   with_some_later : {A : Type 0} (o : Option A) (panic : Panic) (st : State) (go : A → Process) → ((a : A) → IsLater n (go a)) → IsLater n (with_some o panic st go)
@@ -105,9 +113,9 @@ module _ (n : ℕ) where
       found None = tt
       found (Some c) = tt
 
-      by : (b : Bool) → IsLater n (elim b [ true ↦ done st | false ↦ released (cell_at p st.heap.row) p st ])
+      by : (b : Bool) → IsLater n (elim b [ true ↦ done st | false ↦ released (of_script (cell_at p st.heap.row)) p st ])
       by true = tt
-      by false = found (cell_at p st.heap.row)
+      by false = found (of_script (cell_at p st.heap.row))
 
   with_words_later : (st : State) (p : Ptr) (go : Cell Content → List ℤ → Process) → ((c : Cell Content) (ws : List ℤ) → IsLater n (go c ws)) → IsLater n (with_words st p go)
   unfolding with_words
@@ -137,6 +145,8 @@ may_ask (Statement-F.Alloc p v x) = true
 may_ask (Statement-F.Realloc p q v x) = true
 may_ask (Statement-F.NewText p v x) = true
 may_ask (Statement-F.ReallocText p q v) = true
+may_ask (Statement-F.Push p) = true
+may_ask (Statement-F.PushOperation p operation) = true
 may_ask _ = false
 
 module _ (script : Script) (budget : ℕ) where
@@ -146,15 +156,62 @@ module _ (script : Script) (budget : ℕ) where
   plain_later n go (returns p) st k = k p st
   plain_later n go (leaves code) st k = tt
 
-  frame_later : (at : Where) (given : List Value) (body : Body) (st : State) (go : Ptr → State → Process) → st.steps ≤ budget → ((p : Ptr) (st' : State) → IsLater st.steps (go p st')) →
-      IsLater st.steps (in_frame (meant script budget) at null given body st (plain go))
+  frame_later : (at : Where) (this : Ptr) (given : List Value) (body : Body) (st : State) (go : Ptr → State → Process) → st.steps ≤ budget → ((p : Ptr) (st' : State) → IsLater st.steps (go p st')) →
+      IsLater st.steps (in_frame (meant script budget) at this given body st (plain go))
   unfolding in_frame
-  frame_later at given body st go within k =
+  frame_later at this given body st go within k =
       let below : Where = record at { depth = at.depth + 1 } in
-      let inner : State = record st { frame = record { this = null; locals = given ++ map initial body.locals } } in
+      let inner : State = record st { frame = record { this = this; locals = given ++ map initial body.locals } } in
       let m = meaning_later script budget below (all body.statements) inner within in
       require_later st.steps _ _ st _ (later_then script budget st.steps ((meant script budget) below (all body.statements) inner) (λ way after. plain go way (record after { frame = st.frame })) m.0 m.1
       (λ w st' least most. plain_later st.steps go w (record st' { frame = st.frame }) k))
+
+  with_class_later : (st : State) (p : Ptr) (go : ℕ → Process) → ((class : ℕ) → IsLater st.steps (go class)) → IsLater st.steps (with_class st p go)
+  unfolding with_class
+  with_class_later st p go k = with_cell_later st.steps st p _ (λ c. with_some_later st.steps _ _ _ _ k)
+
+  deleted_later : (b : Bool) (at : Where) (p : Ptr) (st : State) → st.steps ≤ budget → IsLater st.steps (destroyed_object b (meant script budget) at p st)
+  unfolding destroyed_object
+  deleted_later true at p st within = tt
+  deleted_later false at p st within = (meaning_later script budget at (destroy_object p) st within).0
+
+  item_later : (at : Where) (item : Item) (st : State) → st.steps ≤ budget → IsLater st.steps (destroyed_item script (meant script budget) at item st)
+  unfolding destroyed_item
+  item_later at (I.Free p) st within = release_later st.steps p st
+  item_later at (I.Delete p) st within = deleted_later (is_null p) at p st within
+  item_later at (I.Call p operation) st within = frame_later at null (pointer p ∷ []) (operation_at script operation) st _ within (λ p st'. tt)
+
+  -- the destruction of an item asks for nothing before a further step, nor do those that follow
+  pub items_later : (at : Where) (n : ℕ) (st : State) → st.steps ≤ budget →
+      let p = with_some (newest st.items) POP_BELOW_TRAP st (λ item. then_do (destroyed_item script (meant script budget) at item (drop_newest 1 st)) (meant script budget at (destroy_items n))) in
+      IsLater st.steps p × Onward script budget st.steps p
+  unfolding then_do on_plain_end
+  items_later at n st within =
+      let L = between anything st.steps budget in
+      let k = onward_all script budget st.steps in
+      let fine : Fine L [] st = ((omega arith, within), tt) in (
+        with_some_later st.steps _ _ _ _ (λ item.
+            let one = (destroyed_item-alike L script (meant script budget) (meant script budget) at item (drop_newest 1 st) k fine).1 in
+            later_then script budget st.steps (destroyed_item script (meant script budget) at item (drop_newest 1 st)) (λ way st. on_plain_end way st (meant script budget at (destroy_items n)))
+            (item_later at item (drop_newest 1 st) within) one (λ w st' least most. rest_later w st' least most)),
+        (with_some-alike L _ _ _ _ _ fine (λ item _. then_do-alike L _ _ _ _ _ (destroyed_item-alike L script (meant script budget) (meant script budget) at item _ k fine) (λ ns st g. k ns _ _ st g))).1,
+      )
+    where
+      rest_later : (w : Way) (st' : State) → st.steps ≤ st'.steps → st'.steps ≤ budget → IsLater st.steps (on_plain_end w st' (meant script budget at (destroy_items n)))
+      rest_later goes_on st' least most = later_higher script budget st.steps st'.steps _ least (meaning_later script budget at (destroy_items n) st' most).0
+      rest_later (returns p) st' least most = tt
+      rest_later (leaves code) st' least most = tt
+
+  -- nor does the destruction of an object
+  pub object_later : (at : Where) (p : Ptr) (st : State) → st.steps ≤ budget →
+      IsLater st.steps (with_class st p (object_destroyed script budget at p st)) × Onward script budget st.steps (with_class st p (object_destroyed script budget at p st))
+  object_later at p st within =
+      let L = between anything st.steps budget in
+      let k = onward_all script budget st.steps in
+      let fine : Fine L [] st = ((omega arith, within), tt) in (
+        with_class_later st p _ (λ class. frame_later at p [] _ st _ within (λ q st'. release_later st.steps p st')),
+        (with_class-alike L _ _ _ _ fine (λ n. in_frame-alike L _ _ _ _ _ _ _ _ _ k fine (λ ns w st g. plain-alike L _ _ w st g (λ _ st g. release-alike L _ _ g)))).1,
+      )
 
   trap_later : (at : Where) (x entry : ℕ) (w : Way) (low : ℕ) (st : State) → low ≤ st.steps → st.steps ≤ budget → IsLater low (trapped (meant script budget) at x entry w st)
   unfolding trapped
@@ -172,14 +229,17 @@ module _ (script : Script) (budget : ℕ) where
   nothing_asked declared locals held inside at (Statement-F.NewText p v x) st within ok plain = cc
   nothing_asked declared locals held inside at (Statement-F.ReallocText p q v) st within ok plain = cc
   nothing_asked declared locals held inside at (Statement-F.New p class x) st within ok plain = cc
-  nothing_asked declared locals held inside at (Statement-F.Construct p) st within ok plain = cc
-  nothing_asked declared locals held inside at (Statement-F.Delete p) st within ok plain = cc
+  nothing_asked declared locals held inside at (Statement-F.Construct p) st within ok plain =
+      with_pointer_later st.steps st p _ (λ q. with_class_later st q _ (λ class. frame_later at q [] _ st _ within (λ p st'. tt)))
+  nothing_asked declared locals held inside at (Statement-F.Delete p) st within ok plain = with_pointer_later st.steps st p _ (λ q. deleted_later (is_null q) at q st within)
   nothing_asked declared locals held inside at (Statement-F.Push p) st within ok plain = cc
   nothing_asked declared locals held inside at (Statement-F.PushObject p) st within ok plain = cc
   nothing_asked declared locals held inside at (Statement-F.PushOperation p operation) st within ok plain = cc
-  nothing_asked declared locals held inside at (Statement-F.Pop v) st within ok plain = cc
-  nothing_asked declared locals held inside at (Statement-F.PopDestroy v) st within ok plain = cc
-  nothing_asked declared locals held inside at (Statement-F.PopCheck p) st within ok plain = cc
+  nothing_asked declared locals held inside at (Statement-F.Pop v) st within ok plain = with_some_later st.steps _ _ _ _ (λ n. require_later st.steps _ _ st _ tt)
+  nothing_asked declared locals held inside at (Statement-F.PopDestroy v) st within ok plain =
+      with_some_later st.steps _ _ _ _ (λ n. require_later st.steps _ _ st _ (meaning_later script budget at (destroy_items n) st within).0)
+  nothing_asked declared locals held inside at (Statement-F.PopCheck p) st within ok plain =
+      with_pointer_later st.steps st p _ (λ q. require_later st.steps _ _ st _ (with_some_later st.steps _ _ _ _ (λ item. require_later st.steps _ _ st _ tt)))
   nothing_asked declared locals held inside at (Statement-F.Free p) st within ok plain = with_pointer_later st.steps st p _ (λ q. release_later st.steps q st)
   nothing_asked declared locals held inside at (Statement-F.AllocLen x p) st within ok plain = with_pointer_later st.steps st p _ (λ q. with_some_later st.steps _ _ _ _ (λ c. tt))
   nothing_asked declared locals held inside at (Statement-F.Store p v w) st within ok plain =
@@ -194,9 +254,9 @@ module _ (script : Script) (budget : ℕ) where
   nothing_asked declared locals held inside at (Statement-F.LeaveIfError v) st within ok plain = leave_if_later st.steps _ _ st
   nothing_asked declared locals held inside at (Statement-F.LeaveIfNull p) st within ok plain = with_pointer_later st.steps st p _ (λ q. leave_if_later st.steps _ _ st)
   nothing_asked declared locals held inside at (Statement-F.Call index arguments) st within ok plain =
-      with_arguments_later st.steps st arguments _ (λ given. frame_later at given (procedure_at script index) st _ within (λ p st'. tt))
+      with_arguments_later st.steps st arguments _ (λ given. frame_later at null given (procedure_at script index) st _ within (λ p st'. tt))
   nothing_asked declared locals held inside at (Statement-F.CallTo x index arguments) st within ok plain =
-      with_arguments_later st.steps st arguments _ (λ given. frame_later at given (procedure_at script index) st _ within (λ p st'. tt))
+      with_arguments_later st.steps st arguments _ (λ given. frame_later at null given (procedure_at script index) st _ within (λ p st'. tt))
   nothing_asked declared locals held inside at Statement-F.Return st within ok plain = tt
   nothing_asked declared locals held inside at (Statement-F.ReturnPointer p) st within ok plain = with_pointer_later st.steps st p _ (λ _. tt)
   nothing_asked declared locals held inside at Statement-F.Mark st within ok plain = tt

@@ -5,7 +5,7 @@ use Rattle.std.specs.Int.{cast_unsigned, cast_signed}
 use Rattle.std.proofs.lemmas.Int.{to_z-of_z}
 use Rattle.wb_model.specs.declared.heap.Ptr.{Ptr}
 use Rattle.wb_model.specs.declared.heap.Kind.{Kind}
-use Rattle.wb_model.specs.declared.heap.Kind.TheVariants.{Raw}
+use Rattle.wb_model.specs.declared.heap.Kind.TheVariants.{Raw, Cleanup}
 use Rattle.wb_model.specs.declared.script.Script.{Script}
 use Rattle.wb_model.specs.Row.{Cell, headers, is_at, cell_at, without, inserted, changed, cell_length}
 use Rattle.wb_model.specs.CellRow.{with_payload, resized_words}
@@ -82,6 +82,20 @@ read_changed script p ws (d ∷ ds) c e raw = go (is_at p d.head) e (λ e. read_
         let same : d ≡ c = cc in
         ap (λ k. record { head = d.head; content = read_as (field_count script) k ws } ∷ read_row script ds) (ap (λ (x : Cell (List ℕ)). x.head.kind) same ∙ raw)
     go false e rest = ap (λ r. read_cell script d ∷ r) (rest e)
+
+-- the words of the cleanup stack's cell aren't read
+pub read_unread : (script : Script) (p : Ptr) (ws : List ℕ) (row : List (Cell (List ℕ))) → ((c : Cell (List ℕ)) → cell_at p row ≡ Some c → c.head.kind ≡ Cleanup) →
+    read_row script (with_payload p ws row) ≡ read_row script row
+read_unread script p ws [] own = refl
+read_unread script p ws (d ∷ ds) own = go (is_at p d.head) own (read_unread script p ws ds)
+  where
+    go : (b : Bool) → ((c : Cell (List ℕ)) → cond b (Some d) (cell_at p ds) ≡ Some c → c.head.kind ≡ Cleanup) →
+        (((c : Cell (List ℕ)) → cell_at p ds ≡ Some c → c.head.kind ≡ Cleanup) → read_row script (with_payload p ws ds) ≡ read_row script ds) →
+        read_row script (cond b (record d { content = ws } ∷ ds) (d ∷ with_payload p ws ds)) ≡ read_cell script d ∷ read_row script ds
+    go true own rest =
+        ap (λ content. record { head = d.head; content = content } ∷ read_row script ds)
+        (ap (λ k. read_as (field_count script) k ws) (own d refl) ∙ sym (ap (λ k. read_as (field_count script) k d.content) (own d refl)))
+    go false own rest = ap (λ r. read_cell script d ∷ r) (rest own)
 
 -- the signed number of a word
 pub signed_is : (w : ℕ) → signed w ≡ cast_signed w32 w

@@ -1,5 +1,5 @@
 -- What an attempt leaves as it was.
-use Rattle.std.proofs.Common.{◌≡◌, ℕ, List, length-append, refl, sym, subst, arith, Result, Ok, Err, OnOk, OnErr, IsSome, IfSome, Option, Some, None, Bool, true, false, cond}
+use Rattle.std.proofs.Common.{◌≡◌, ℕ, List, length-append, refl, ap, ◌∙◌, sym, subst, arith, Result, Ok, Err, OnOk, OnErr, IsSome, IfSome, Option, Some, None, Bool, true, false, cond}
 use Rattle.wb_model.specs.declared.heap.Attempt.{Attempt}
 use Rattle.wb_model.specs.declared.heap.Kind.{Kind}
 use Rattle.wb_model.specs.declared.heap.Answer.{Answer}
@@ -17,7 +17,7 @@ use Rattle.wb_machine.specs.Owed.{Stays, KeepsCount}
 -- an attempt
 made_stays : (h : RunState) (t : Request) (after : ℕ → Answer → AfterAnswer (List ℕ)) → ((n : ℕ) (a : Answer) → (after n a).heap.level ≡ h.debug.heap.level) → (o : Option Answer) →
     Stays h (with_debug h (made_by h.debug t after o).debug)
-made_stays h t after same None = record { rule = refl; shape = refl; fewer = omega arith; more = omega arith; lines = refl; deeper = omega arith }
+made_stays h t after same None = record { rule = refl; shape = refl; fewer = omega arith; more = omega arith; lines = refl; deeper = omega arith; stack = λ has. has }
 made_stays h t after same (Some a) = record {
   rule = refl;
   shape = refl;
@@ -25,12 +25,25 @@ made_stays h t after same (Some a) = record {
   more = omega arith;
   lines = omega (arith, length-append {A = Attempt});
   deeper = omega (arith, same (number_of_next h.debug) a);
+  stack = λ has. has;
 }
 
 alloc_after : (d : Debug) (t : Request) (kind : Kind) (n : ℕ) (a : Answer) → (after_alloc d.heap t kind (zero_words t.length) n a).heap.level ≡ d.heap.level
 alloc_after d t kind n Granted = refl
 alloc_after d t kind n Simulated = refl
 alloc_after d t kind n Refused = refl
+
+-- it changes no level
+pub alloc_level : {X Y : Type 0} (o : Result X Y) (d new : Debug) (bytes : ℕ) (kind : Kind) → OnOk o (new ≡ (alloc_made d bytes kind).debug) → OnErr o (new ≡ d) → new.heap.level ≡ d.heap.level
+alloc_level (Err e) d new bytes kind ok err = ap (λ (x : Debug). x.heap.level) err
+alloc_level (Ok x) d new bytes kind ok err = ap (λ (x : Debug). x.heap.level) ok ∙ by (answer_in d t)
+  where
+    t : Request
+    t = alloc_request d.heap bytes
+
+    by : (o : Option Answer) → (made_by d t (after_alloc d.heap t kind (zero_words t.length)) o).debug.heap.level ≡ d.heap.level
+    by None = refl
+    by (Some a) = alloc_after d t kind (number_of_next d) a
 
 -- an allocation
 pub alloc_stays : (h : RunState) (bytes : ℕ) (kind : Kind) → Stays h (with_debug h (alloc_made h.debug bytes kind).debug)
@@ -43,7 +56,7 @@ pub called_keeps : {X Y : Type 0} (o : Result X Y) (h : RunState) (made d : Debu
 called_keeps (Ok x) h made d stays ok err = subst (λ (x : Debug). KeepsCount h (with_debug h x)) (sym ok) (record { steps = refl; stays = stays; callers = refl })
 called_keeps (Err e) h made d stays ok err =
     subst (λ (x : Debug). KeepsCount h (with_debug h x)) (sym err)
-    (record { steps = refl; stays = record { rule = refl; shape = refl; fewer = omega arith; more = omega arith; lines = refl; deeper = omega arith }; callers = refl })
+    (record { steps = refl; stays = record { rule = refl; shape = refl; fewer = omega arith; more = omega arith; lines = refl; deeper = omega arith; stack = λ has. has }; callers = refl })
 
 realloc_after : (d : Debug) (t : Request) (c : Cell (List ℕ)) (n : ℕ) (a : Answer) → (after_realloc d.heap t c.head (resized_words t.length c.content) n a).heap.level ≡ d.heap.level
 realloc_after d t c n Granted = refl
@@ -51,7 +64,7 @@ realloc_after d t c n Simulated = refl
 realloc_after d t c n Refused = refl
 
 -- a reallocation
-realloc_stays : (h : RunState) (c : Cell (List ℕ)) (bytes : ℕ) → Stays h (with_debug h (realloc_made h.debug c bytes).debug)
+pub realloc_stays : (h : RunState) (c : Cell (List ℕ)) (bytes : ℕ) → Stays h (with_debug h (realloc_made h.debug c bytes).debug)
 realloc_stays h c bytes = by (nat_lt c.head.length (cell_length bytes))
   where
     t : Request
@@ -59,7 +72,7 @@ realloc_stays h c bytes = by (nat_lt c.head.length (cell_length bytes))
 
     by : (b : Bool) → Stays h (with_debug h (cond b (longer_made h.debug c bytes) (shorter_made h.debug c bytes)).debug)
     by true = made_stays h t (after_realloc h.debug.heap t c.head (resized_words t.length c.content)) (realloc_after h.debug t c) (answer_in h.debug t)
-    by false = record { rule = refl; shape = refl; fewer = omega arith; more = omega arith; lines = refl; deeper = omega arith }
+    by false = record { rule = refl; shape = refl; fewer = omega arith; more = omega arith; lines = refl; deeper = omega arith; stack = λ has. has }
 
 pub realloc_keeps : {X Y : Type 0} (o : Result X Y) (h : RunState) (d : Debug) (found : Option (Cell (List ℕ))) (bytes : ℕ) → IsSome found →
     OnOk o (IfSome found (λ c. d ≡ (realloc_made h.debug c bytes).debug)) → OnErr o (d ≡ h.debug) → KeepsCount h (with_debug h d)

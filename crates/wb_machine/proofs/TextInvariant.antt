@@ -31,6 +31,8 @@ use Rattle.wb_model.specs.declared.text.Base.TheVariants as B
 use Rattle.wb_model.specs.declared.text.View.{View}
 use Rattle.wb_machine.specs.declared.pieces.Ending.{Ending}
 use Rattle.wb_machine.specs.RunState.{RunState, with_debug}
+use Rattle.wb_machine.specs.declared.state.State.TheInside.{Inside}
+use Rattle.wb_machine.specs.StateView.{run_state}
 use Rattle.wb_machine.specs.CarriedTexts.{IsWritten, ending_by}
 use Rattle.wb_machine.specs.TextOperands.{is_text, text_refusal, base_refusal, base_text, window_units}
 
@@ -224,10 +226,9 @@ head_of : (o : Option (Cell (List ℕ))) (c : Cell (List ℕ)) (h : Header) → 
 head_of o c h found is =
     let e : Some h ≡ Some c.head = is ∙ ap (option_map (λ c. c.head)) found in cc
 
-pub texts_stored : (p : Ptr) (ws : List ℕ) (row : List (Cell (List ℕ))) (h : Header) → Some h ≡ option_map (λ c. c.head) (cell_at p row) → is_raw h.kind ≡ true → AreTexts row →
-    AreTexts (with_payload p ws row)
-texts_stored p ws row h is raw texts =
-    texts_changed p ws row (λ c found kind. absurd (raw_isnt_text h.kind raw (ap (λ (x : Header). x.kind) (sym (head_of (cell_at p row) c h found is)) ∙ kind))) texts
+pub texts_stored : (p : Ptr) (ws : List ℕ) (row : List (Cell (List ℕ))) → IfSome (cell_at p row) (λ c. is_raw c.head.kind ≡ true) → AreTexts row → AreTexts (with_payload p ws row)
+texts_stored p ws row raw texts =
+    texts_changed p ws row (λ c found kind. absurd (raw_isnt_text c.head.kind (subst (λ o. IfSome o (λ c. is_raw c.head.kind ≡ true)) found raw) kind)) texts
 
 limit_under-ceiling : (r : Rule) → limit_under r ≤ CEILING
 limit_under-ceiling Unlimited = omega arith
@@ -293,3 +294,7 @@ pub cell_written : (h g : RunState) (p : Ptr) (e f : Edited) (answer : Result (U
     g ≡ with_debug h (debug_edited h.debug p e) → OnOk answer (e ≡ Ok (text_at p g.debug)) → IsWritten h (B.Cell p) f ending g
 cell_written h g p e f answer ending same says ends_so leaves now =
     subst (λ (x : Edited). IsWritten h (B.Cell p) x ending g) same (written_as h g p e answer ending says ends_so leaves now)
+
+-- the text at a pointer that isn't refused
+pub text_seen_at : (p : Ptr) (s : Inside) (h : RunState) → run_state s ≡ h → AreTexts s.heap.heap.row → text_refusal (cell_at p h.debug.heap.row) ≡ None → IsTextAt p s.heap
+text_seen_at p s h seen texts e = is_text_at p s.heap texts (subst (λ (x : RunState). text_refusal (cell_at p x.debug.heap.row) ≡ None) (sym seen) e)

@@ -52,10 +52,21 @@ abbrev pub realloc_text_asks : RunState → Ptr → Option ℕ → Bool
 realloc_text_asks h q None = false
 realloc_text_asks h q (Some n) = text_asks n (cell_at q h.debug.heap.row)
 
+-- the cleanup stack's cell is there and is to be longer
+abbrev pub growth_asks : ℕ → Option (Cell (List ℕ)) → Bool
+growth_asks slots None = false
+growth_asks slots (Some c) = is_longer c (16 * (slots + 4))
+
+-- a push asks for an attempt where it fills the last slot
+abbrev pub push_asks : RunState → Bool
+push_asks h = nat_eq (length h.items + 1) h.slots && growth_asks h.slots (cell_at h.cleanup h.debug.heap.row)
+
 -- a statement that is carried out from a state asks for an attempt
 abbrev pub statement_asks : RunState → Layer → Bool
 statement_asks h (Statement-F.Alloc p v x) = is_some (within LARGEST_REQUEST (number_read h v))
 statement_asks h (Statement-F.Realloc p q v x) = realloc_asks h (pointer_read h q) (within LARGEST_REQUEST (number_read h v))
 statement_asks h (Statement-F.NewText p v x) = is_some (within MOST_UNITS (number_read h v))
 statement_asks h (Statement-F.ReallocText p q v) = realloc_text_asks h (pointer_read h q) (within MOST_UNITS (number_read h v))
+statement_asks h (Statement-F.Push p) = push_asks h
+statement_asks h (Statement-F.PushOperation p operation) = push_asks h
 statement_asks h _ = false

@@ -1,5 +1,5 @@
 -- What carrying out a statement makes of the state of a run, and how it ends.
-use Rattle.std.specs.Prelude.{ℕ, ℤ, pos, ◌+◌, ◌+ℤ◌, Bool, not, ◌&&◌, int_le, int_lt, List, [], ◌∷◌, ◌++◌, if◌then◌else◌, Option, Some, None, slice_index, slice_set, map, take, drop}
+use Rattle.std.specs.Prelude.{ℕ, ℤ, pos, ◌+◌, ◌+ℤ◌, Bool, not, ◌&&◌, int_le, int_lt, List, [], ◌∷◌, ◌++◌, if◌then◌else◌, Option, Some, None, slice_index, slice_set, map, take, drop, true, false}
 use Rattle.std.specs.Int.{w32, cast_unsigned}
 use Rattle.wb_model.specs.declared.limits.TheConstants.{LARGEST_REQUEST}
 use Rattle.wb_model.specs.declared.heap.TheConstants.{KERR_NO_MEMORY}
@@ -11,7 +11,6 @@ use Rattle.wb_model.specs.declared.heap.Gave.TheVariants.{Granted, Denied, Ceili
 use Rattle.wb_model.specs.declared.heap.Panic.{Panic}
 use Rattle.wb_model.specs.declared.run.Note.{Note}
 use Rattle.wb_model.specs.declared.run.Why.TheVariants as why
-use Rattle.wb_model.specs.declared.script.Argument.{Argument}
 use Rattle.wb_model.specs.declared.script.Holder.TheVariants as H
 use Rattle.wb_model.specs.declared.script.Local.{Local}
 use Rattle.wb_model.specs.declared.script.Pointer.{Pointer}
@@ -21,19 +20,19 @@ use Rattle.wb_model.specs.declared.script.Condition.{Condition}
 use Rattle.wb_model.specs.declared.script.Condition.TheVariants.{IsNull, NotNull, Equal, Less}
 use Rattle.wb_model.specs.declared.script.Refusal.{Refusal}
 use Rattle.wb_model.specs.declared.script.Refusal.TheVariants as refusals
-use Rattle.wb_model.specs.Row.{Cell, cell_at, usable_of}
+use Rattle.wb_model.specs.Row.{Cell, cell_at, usable_of, without}
 use Rattle.wb_model.specs.CellRow.{payload_of}
 use Rattle.wb_model.specs.State.{Value, pointer, number, initial, number_in, null}
 use Rattle.wb_model.specs.Operands.{within}
 use Rattle.wb_model.specs.Statements.{is_null, is_raw, index_in, in_range}
 use Rattle.wb_model.specs.Rules.{Setting}
-use Rattle.wb_model.specs.Heap.{after_mark, after_mark_end, mark_end_refusal}
+use Rattle.wb_model.specs.Heap.{is_cleanup, after_mark, after_mark_end, mark_end_refusal}
 use Rattle.wb_model.specs.Spelling.{signed}
-use Rattle.wb_model.specs.Debug.{Made, alloc_made, realloc_made, release_refusal, debug_without, debug_changed, with_setting, debug_compressed, note_of_heap, note_of_available, note_of_compress}
+use Rattle.wb_model.specs.Debug.{Made, alloc_made, realloc_made, with_row, debug_changed, with_setting, debug_compressed, note_of_heap, note_of_available, note_of_compress}
 use Rattle.wb_machine.specs.declared.pieces.Ending.{Ending}
 use Rattle.wb_machine.specs.declared.pieces.Ending.TheVariants.{GoesOn, Returns, Leaves, Panics, Cut, NoCleanup}
-use Rattle.wb_machine.specs.RunState.{RunState, with_debug, value_in}
-use Rattle.wb_machine.specs.LocalValues.{pointer_over, number_over, called_with}
+use Rattle.wb_machine.specs.RunState.{Values, RunState, with_debug, value_in}
+use Rattle.wb_machine.specs.LocalValues.{pointer_over, number_over}
 
 pub record Carried : Type 0 where
   pub ending : Ending
@@ -124,9 +123,15 @@ realloc_found h p x z (Some c) = if is_raw c.head.kind then realloc_within h p x
 abbrev pub realloc_carried : RunState → Pointer → Refusal → Ptr → ℤ → Carried
 realloc_carried h p x q z = if is_null q then alloc_carried h p x z else realloc_found h p x z (cell_at q h.debug.heap.row)
 
--- a release
+-- a release of what a pointer names, unless that is nothing or the cleanup stack's own cell
+abbrev pub released_found : RunState → Ptr → Option (Cell (List ℕ)) → Carried
+released_found h p None = panicked h BAD_CELL
+released_found h p (Some c) =
+    if is_cleanup c.head.kind then panicked h BAD_CELL else gone_on (with_debug h (with_row h.debug (without p h.debug.heap.row)))
+
+-- a release; null is nothing
 abbrev pub free_carried : RunState → Ptr → Carried
-free_carried h p = unless_refused h (release_refusal h.debug p) (with_debug h (debug_without h.debug p))
+free_carried h p = if is_null p then gone_on h else released_found h p (cell_at p h.debug.heap.row)
 
 -- a word of a payload gets another
 abbrev pub word_stored : RunState → Ptr → Option ℕ → ℕ → Carried
@@ -213,16 +218,16 @@ abbrev pub stepped : RunState → RunState
 stepped h = record h { steps = h.steps + 1 }
 
 -- `main` begins with these locals
-abbrev pub entered : RunState → Ptr → List Local → RunState
-entered h cell locals = record h { cleanup = cell; locals = map initial locals }
+abbrev pub entered : RunState → List Local → RunState
+entered h locals = record h { this = null; locals = map initial locals }
 
--- a body is called with arguments
-abbrev pub called : RunState → List Argument → List Local → RunState
-called h arguments locals = record h { callers = h.callers ++ h.locals; locals = called_with h.locals arguments locals }
+-- a body of an object, or of none, begins with what it is given, in a frame of its own
+abbrev pub framed_with : RunState → Ptr → Values → List Local → RunState
+framed_with h this given locals = record h { this = this; callers = h.callers ++ h.locals; locals = given ++ map initial locals }
 
--- a body has ended; its caller's frame begins at a place
-abbrev pub called_back : RunState → ℕ → RunState
-called_back h base = record h { callers = take base h.callers; locals = drop base h.callers }
+-- a body has ended; its caller's frame begins at a place, and has this object
+abbrev pub called_back : RunState → Ptr → ℕ → RunState
+called_back h this base = record h { this = this; callers = take base h.callers; locals = drop base h.callers }
 
 -- the bytes of the cleanup stack's cell at first
 abbrev pub first_bytes : ℕ
@@ -232,9 +237,18 @@ first_bytes = 128
 abbrev pub first_made : RunState → Made
 first_made h = alloc_made h.debug first_bytes Cleanup
 
--- `main` begins where the first attempt was granted
+-- its cell is the cleanup stack's, where it was granted
+abbrev pub started_by : RunState → Gave → RunState
+started_by h (Granted cell) = record h { cleanup = cell }
+started_by h _ = h
+
+abbrev pub is_granted : Gave → Bool
+is_granted (Granted cell) = true
+is_granted _ = false
+
+-- `main` begins where it was granted
 abbrev pub begun_by : RunState → List Local → Gave → Carried
-begun_by h locals (Granted cell) = gone_on (entered h cell locals)
+begun_by h locals (Granted cell) = gone_on (entered (record h { cleanup = cell }) locals)
 begun_by h locals Denied = record { ending = NoCleanup; state = h }
 begun_by h locals Ceiling = record { ending = Cut why.Ceiling; state = h }
 

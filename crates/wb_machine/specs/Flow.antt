@@ -1,24 +1,27 @@
 -- What is still to do as a machine holds it, and which process of the definitions that is.
-use Rattle.std.specs.Prelude.{◌≡◌, ℕ, List, [], ◌∷◌, ◌++◌, Bool, true, false, not, nat_lt, ◌||◌, slice_get, reverse, length, take, drop, Option, Some, None}
+use Rattle.std.specs.Prelude.{◌≡◌, ℕ, ◌+◌, List, [], ◌∷◌, ◌++◌, Bool, true, false, not, nat_lt, ◌||◌, slice_get, reverse, length, take, drop, Option, None}
+use Rattle.wb_model.specs.declared.heap.Ptr.{Ptr}
 use Rattle.wb_model.specs.declared.heap.Rule.{Rule}
 use Rattle.wb_model.specs.declared.run.RunResult.{RunResult}
 use Rattle.wb_model.specs.declared.script.Script.{Script}
-use Rattle.wb_model.specs.declared.script.Argument.{Argument}
+use Rattle.wb_model.specs.declared.script.Body.{Body}
 use Rattle.wb_model.specs.declared.script.Local.{Local}
 use Rattle.wb_model.specs.declared.script.Numbered.{Numbered}
 use Rattle.wb_model.specs.declared.script.Statement.TheOpen.{Statement-F}
-use Rattle.wb_model.specs.Sound.{is_simple, is_nested, are_within, declared_in}
+use Rattle.wb_model.specs.Sound.{is_simple, is_pointer, is_nested, are_within, declared_in}
 use Rattle.wb_model.specs.Space.{space_of}
-use Rattle.wb_model.specs.State.{State, Frame, null, Way, goes_on, returns, leaves, panics, is_cut, no_cleanup, Process, ends, stops, and_then}
-use Rattle.wb_model.specs.Statements.{all, turns, Where, Layer, Meaning, statement}
+use Rattle.wb_model.specs.State.{State, Frame, Way, goes_on, returns, leaves, panics, is_cut, no_cleanup, Process, ends, stops, and_then}
+use Rattle.wb_model.specs.Statements.{all, turns, destroy_items, destroy_object, Where, Layer, Meaning, statement, in_frame, plain}
 use Rattle.wb_model.specs.Meaning.{meaning_of}
 use Rattle.wb_model.specs.Run.{result_of}
 use Rattle.wb_model.specs.Account.{Settled, settled}
-use Rattle.wb_model.specs.Rest.{Fits, Afterwards, nothing_more, gives_to, Pending, doing, catching, calling, main_catching, Progress, not_begun, going, has_stopped, resume, rest}
+use Rattle.wb_model.specs.Rest.{Fits, Afterwards, nothing_more, gives_to, releases, after_frame, Pending, doing, catching, caught, calling, main_catching, main_caught, Progress, not_begun, going, has_stopped, resume, rest}
 use Rattle.wb_machine.specs.declared.pieces.Ending.{Ending}
 use Rattle.wb_machine.specs.declared.pieces.Ending.TheVariants.{GoesOn, Returns, Leaves, Panics, Cut, NoCleanup}
 use Rattle.wb_machine.specs.declared.pieces.Piece.{Piece}
-use Rattle.wb_machine.specs.declared.pieces.Piece.TheVariants.{Code, Turns, Trap, MainTrap, Call}
+use Rattle.wb_machine.specs.declared.pieces.Piece.TheVariants.{Code, Turns, Items, Object, Trap, Caught, MainTrap, MainCaught, Call}
+use Rattle.wb_machine.specs.declared.pieces.After.{After}
+use Rattle.wb_machine.specs.declared.pieces.After.TheVariants.{Nothing, Gives, Releases}
 use Rattle.wb_machine.specs.declared.pieces.Standing.{Standing}
 use Rattle.wb_machine.specs.RunState.{Values, RunState, HasLines, first_state, state_of, account_of}
 
@@ -33,37 +36,39 @@ is_nothing (x ∷ xs) = false
 abbrev pub where_of : Standing → Where
 where_of at = record { depth = at.depth; floor = at.floor }
 
--- what becomes of a call's result
-abbrev pub afterwards : Option ℕ → Afterwards
-afterwards (Some x) = gives_to x
-afterwards None = nothing_more
+-- what follows the end of a body
+abbrev pub afterwards : After → Afterwards
+afterwards Nothing = nothing_more
+afterwards (Gives x) = gives_to x
+afterwards (Releases p) = releases p
 
--- a call, with its target
-abbrev pub call_of : Option ℕ → ℕ → List Argument → Layer
-call_of (Some x) index arguments = Statement-F.CallTo x index arguments
-call_of None index arguments = Statement-F.Call index arguments
+-- a frame, by the object whose body it runs and by its locals
+abbrev pub frame_with : Ptr → Values → Frame
+frame_with this locals = record { this = this; locals = locals }
 
--- a frame, by its locals; no body here has an object of its own
-abbrev pub frame_with : Values → Frame
-frame_with locals = record { this = null; locals = locals }
-
--- A piece, over the locals of the frames below the innermost one. No item stands at a TRAP's entry, since no statement pushes one.
+-- a piece, over the locals of the frames below the innermost one
 abbrev pub pending_of : Values → Piece → Pending
 pending_of callers (Code at statements) = doing (where_of at) (all statements.now)
 pending_of callers (Turns at left body) = doing (where_of at) (turns left body.now)
-pending_of callers (Trap at x) = catching (where_of at) x 0
+pending_of callers (Items at left) = doing (where_of at) (destroy_items left)
+pending_of callers (Object at p) = doing (where_of at) (destroy_object p)
+pending_of callers (Trap at x entry) = catching (where_of at) x entry
+pending_of callers (Caught x code) = caught x code
 pending_of callers MainTrap = main_catching in_main_frame
-pending_of callers (Call base target) = calling (frame_with (drop base callers)) (afterwards target)
+pending_of callers (MainCaught code) = main_caught code
+pending_of callers (Call base this after) = calling (frame_with this (drop base callers)) (afterwards after)
 
 -- the locals of the frames below, once a piece is done
 abbrev pub callers_under : Values → Piece → Values
-callers_under callers (Call base target) = take base callers
+callers_under callers (Call base this after) = take base callers
 callers_under callers _ = callers
 
 -- a piece that begins with a step
 abbrev pub needs_step : Piece → Bool
 needs_step (Code at statements) = not (is_nothing statements.now)
 needs_step (Turns at left body) = nat_lt 0 left
+needs_step (Items at left) = nat_lt 0 left
+needs_step (Object at p) = true
 needs_step _ = false
 
 -- the statement that a piece begins with
@@ -83,23 +88,48 @@ pub record IsOwn (script : Script) (layer : Layer) : Type 0 where
   pub depth : ℕ
   pub sound : is_nested (declared_in script) locals trapped (are_within (declared_in script) locals depth) layer ≡ true
 
--- the same of one that no other stands inside
+-- a statement leaves steps to be taken, though no other stands inside it
+abbrev pub leaves_steps : Layer → Bool
+leaves_steps (Statement-F.PopDestroy v) = true
+leaves_steps _ = false
+
+-- a statement that no other stands inside, over a number of literals and the locals of a body
+abbrev pub is_carried : ℕ → List Local → Bool → Layer → Bool
+is_carried literals locals trapped (Statement-F.PushOperation p n) = is_pointer locals p
+is_carried literals locals trapped layer = is_simple literals locals trapped layer
+
+-- the same of one that no other stands inside, and that leaves none
 pub record IsSimple (script : Script) (layer : Layer) : Type 0 where
   pub locals : List Local
   pub trapped : Bool
-  pub sound : is_simple (length script.literals) locals trapped layer ≡ true
+  pub sound : is_carried (length script.literals) locals trapped layer ≡ true
+  pub whole : leaves_steps layer ≡ false
 
 -- a piece of the script's own statements
 abbrev pub IsSoundPiece : Script → Piece → Type 0
 IsSoundPiece script (Code at statements) = AreOwn script statements.now
 IsSoundPiece script (Turns at left body) = AreOwn script body.now
-IsSoundPiece script (Trap at x) = Unit {0}
+IsSoundPiece script (Items at left) = Unit {0}
+IsSoundPiece script (Object at p) = Unit {0}
+IsSoundPiece script (Trap at x entry) = Unit {0}
+IsSoundPiece script (Caught x code) = Unit {0}
 IsSoundPiece script MainTrap = Unit {0}
-IsSoundPiece script (Call base target) = Unit {0}
+IsSoundPiece script (MainCaught code) = Unit {0}
+IsSoundPiece script (Call base this after) = Unit {0}
 
 abbrev pub AreSound : Script → List Piece → Type 0
 AreSound script [] = Unit {0}
 AreSound script (p ∷ ps) = IsSoundPiece script p × AreSound script ps
+
+-- An open TRAP weighs as much as the two pieces that a leave makes of it, and one more: so a piece that is done leaves less behind.
+abbrev pub weight : Piece → ℕ
+weight (Trap at x entry) = 3
+weight MainTrap = 3
+weight _ = 1
+
+abbrev pub weight_of : List Piece → ℕ
+weight_of [] = 0
+weight_of (p ∷ ps) = weight p + weight_of ps
 
 -- the pending pieces, the innermost first, over the locals of the frames below
 abbrev pub pending_from : Values → List Piece → List Pending
@@ -159,10 +189,16 @@ IsSameFlow r p h q g = (k : Way → State → Process) → flow r (and_then p k)
 abbrev pub FitsStep : Rule → RunState → Ending → RunState → Type 0
 FitsStep r h ending g = HasLines h × Fits r h.debug.rule (is_stop ending) g.debug.attempts
 
--- a statement was carried out that ended so and left this state: under each rule that fits, it comes to what it means
-abbrev pub IsCarriedOut : Script → Layer → RunState → Ending → RunState → Type 0
-IsCarriedOut script layer h ending g =
+-- a statement was carried out that ended so and left this state, wherever it stands: under each rule that fits, it comes to what it means
+abbrev pub IsCarriedAnywhere : Script → Layer → RunState → Ending → RunState → Type 0
+IsCarriedAnywhere script layer h ending g =
     (r : Rule) → FitsStep r h ending g → (rec : Meaning) (at : Where) →
+    IsSameFlow r (ended_by ending (state_of script g)) g (statement script rec at layer (state_of script h)) h
+
+-- the same where this number of items stood at the entry of the innermost TRAP
+abbrev pub IsCarriedOut : Script → ℕ → Layer → RunState → Ending → RunState → Type 0
+IsCarriedOut script floor layer h ending g =
+    (r : Rule) → FitsStep r h ending g → (rec : Meaning) (at : Where) → at.floor ≡ floor →
     IsSameFlow r (ended_by ending (state_of script g)) g (statement script rec at layer (state_of script h)) h
 
 -- what is left of a run that was begun gives this under a rule
@@ -175,10 +211,18 @@ abbrev pub rest_at : Script → ℕ → Rule → Bool → Ending → List Piece 
 rest_at script budget r begun ending pieces h =
     rest script budget h.debug.shape r (progress_of begun ending (pending_in h.callers pieces) (state_of script h)) (account_of h)
 
--- what a statement that begins gives under a rule, and then the pieces
+-- what a process gives under a rule, and then the pieces
+abbrev pub rest_after : Script → ℕ → Rule → Process → List Piece → RunState → RunResult
+rest_after script budget r p pieces h = result_of (flow r (and_then p (resume script budget (pending_in h.callers pieces))) h)
+
+-- the same of a statement that begins
 abbrev pub rest_of_statement : Script → ℕ → Rule → Where → Layer → List Piece → RunState → RunResult
-rest_of_statement script budget r at layer pieces h =
-    result_of (flow r (and_then (statement script (meaning_of script budget) at layer (state_of script h)) (resume script budget (pending_in h.callers pieces))) h)
+rest_of_statement script budget r at layer pieces h = rest_after script budget r (statement script (meaning_of script budget) at layer (state_of script h)) pieces h
+
+-- the same of a body that begins in a frame of its own
+abbrev pub rest_of_body : Script → ℕ → Rule → Where → Ptr → Values → Body → Afterwards → List Piece → RunState → RunResult
+rest_of_body script budget r at this given body after pieces h =
+    rest_after script budget r (in_frame (meaning_of script budget) at this given body (state_of script h) (plain (after_frame after))) pieces h
 
 -- the same of a piece
 abbrev pub rest_of_piece : Script → ℕ → Rule → Pending → List Piece → RunState → RunResult

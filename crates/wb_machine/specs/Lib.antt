@@ -1,10 +1,13 @@
 pub mod Asks
+pub mod Bodies
 pub mod Carried
+pub mod CarriedCleanup
 pub mod CarriedTexts
 pub mod Flow
 pub mod RunState
 pub mod StateView
 pub mod Seen
+pub mod StackInvariant
 pub mod LocalValues
 pub mod Owed
 pub mod TextOperands

@@ -1,5 +1,5 @@
 -- Locals as values.
-use Rattle.std.specs.Prelude.{ℕ, ℤ, ◌≤◌, ◌++◌, List, map, take, drop, vec_len}
+use Rattle.std.specs.Prelude.{ℕ, ℤ, ◌≤◌, ◌++◌, ◌∷◌, [], List, map, take, drop, vec_len}
 use Rattle.wb_model.specs.declared.heap.Ptr.{Ptr}
 use Rattle.wb_model.specs.declared.script.Argument.{Argument}
 use Rattle.wb_model.specs.declared.script.Argument.TheVariants.{Passed, Given}
@@ -15,6 +15,8 @@ use Rattle.wb_model.specs.declared.text.View.{View}
 use Rattle.wb_model.specs.Texts.{Buffer}
 use Rattle.wb_model.specs.State.{Value, pointer, number, buffer, view, initial, null, pointer_in, number_in}
 use Rattle.wb_model.specs.Reading.{buffer_text, max_in}
+use Rattle.wb_machine.specs.declared.arguments.Handed.{Handed}
+use Rattle.wb_machine.specs.declared.arguments.Handed.TheVariants.{Arguments, Item}
 use Rattle.wb_machine.specs.declared.locals.Slot.{Slot}
 use Rattle.wb_machine.specs.declared.locals.Slot.TheVariants as S
 use Rattle.wb_machine.specs.declared.locals.Locals.TheInside.{Inside}
@@ -53,13 +55,14 @@ abbrev pub passed : Values → Argument → Value
 passed locals (Passed p) = pointer (pointer_over locals p)
 passed locals (Given v) = number (number_over locals v)
 
--- the locals of a body that is called with arguments: its parameters, and those that it declares
-abbrev pub called_with : Values → List Argument → List Local → Values
-called_with locals arguments declared = map (passed locals) arguments ++ map initial declared
+-- what a body is handed, over its caller's locals
+abbrev pub values_handed : Values → Handed → Values
+values_handed locals (Arguments arguments) = map (passed locals) arguments.now
+values_handed locals (Item p) = pointer p ∷ []
 
--- a frame on top of the innermost one
-abbrev pub framed : Frames → List Argument → List Local → Frames
-framed f arguments declared = record { callers = f.callers ++ f.locals; locals = called_with f.locals arguments declared }
+-- a frame on top of the innermost one: what its body is handed, and what it declares
+abbrev pub framed : Frames → Handed → List Local → Frames
+framed f handed declared = record { callers = f.callers ++ f.locals; locals = values_handed f.locals handed ++ map initial declared }
 
 -- the innermost frame is dropped; the one below it begins at a place
 abbrev pub unframed : Frames → ℕ → Frames

@@ -8,6 +8,10 @@ use Rattle.wb_machine.specs.Carried.{Carried}
 abbrev pub MayAttempt : RunState → Type 0
 MayAttempt h = h.debug.attempts + 1 < 2 ^ 32
 
+-- the cleanup stack's cell was granted
+abbrev pub HasStack : RunState → Type 0
+HasStack h = 1 ≤ h.cleanup.number
+
 -- what no turn changes, and that it makes at most one attempt and sets at most one mark
 pub record Stays (before after : RunState) : Type 0 where
   pub rule : after.debug.rule ≡ before.debug.rule
@@ -17,6 +21,8 @@ pub record Stays (before after : RunState) : Type 0 where
   -- each attempt has a line of the trace
   pub lines : before.debug.attempts + length after.debug.trace ≡ after.debug.attempts + length before.debug.trace
   pub deeper : after.debug.heap.level ≤ before.debug.heap.level + 1
+  -- a stack stays once it is there
+  pub stack : HasStack before → HasStack after
 
 -- the same of the head of a statement, which counts no step itself
 pub record KeepsSteps (before after : RunState) : Type 0 where
@@ -35,6 +41,16 @@ pub record CarriesOut (before : RunState) (carried : Carried) (ending : Ending) 
   pub becomes : after ≡ carried.state
   pub keeps : KeepsCount before after
 
--- nothing but locals changed, of whatever frames
-abbrev pub IsSameButLocals : RunState → RunState → Type 0
-IsSameButLocals before after = after ≡ record before { locals = after.locals; callers = after.callers }
+-- nothing but frames changed: their locals, and the object of the innermost one
+abbrev pub IsSameButFrames : RunState → RunState → Type 0
+IsSameButFrames before after = after ≡ record before { this = after.this; locals = after.locals; callers = after.callers }
+
+-- nothing was asked of the rule and no step counted; cells and items may be gone
+pub record IsQuiet (before after : RunState) : Type 0 where
+  pub rule : after.debug.rule ≡ before.debug.rule
+  pub shape : after.debug.shape ≡ before.debug.shape
+  pub attempts : after.debug.attempts ≡ before.debug.attempts
+  pub trace : after.debug.trace ≡ before.debug.trace
+  pub level : after.debug.heap.level ≡ before.debug.heap.level
+  pub cleanup : after.cleanup ≡ before.cleanup
+  pub steps : after.steps ≡ before.steps

@@ -1,6 +1,7 @@
 -- The state of a run as a machine keeps it, and which state and account of the definitions that is.
 use Rattle.std.specs.Prelude.{◌≡◌, ℕ, pos, List, [], map, length, slice_get, unwrap_or}
 use Rattle.wb_model.specs.declared.heap.Ptr.{Ptr}
+use Rattle.wb_model.specs.declared.heap.Item.{Item}
 use Rattle.wb_model.specs.declared.heap.Rule.{Rule}
 use Rattle.wb_model.specs.declared.heap.Shape.{Shape}
 use Rattle.wb_model.specs.declared.run.Note.{Note}
@@ -18,11 +19,14 @@ use Rattle.wb_model.specs.Spelling.{read_as}
 abbrev pub Values : Type 0
 Values = List Value
 
--- the debug heap, the cleanup stack's cell, the locals of the innermost frame, those of the frames below it, from the outermost
--- on, what was printed, the notes, and the steps
+-- the debug heap, the cleanup stack's cell, its items from the oldest on, and how many it has room for; the object whose body the
+-- innermost frame runs, its locals, those of the frames below it, from the outermost on, what was printed, the notes, and the steps
 pub record RunState : Type 0 where
   pub debug : Debug
   pub cleanup : Ptr
+  pub items : List Item
+  pub slots : ℕ
+  pub this : Ptr
   pub locals : Values
   pub callers : Values
   pub lines : List (List ℕ)
@@ -31,7 +35,7 @@ pub record RunState : Type 0 where
 
 -- nothing is done yet
 abbrev pub first_state : Rule → Shape → RunState
-first_state rule shape = record { debug = first_debug rule shape; cleanup = null; locals = []; callers = []; lines = []; notes = []; steps = 0 }
+first_state rule shape = record { debug = first_debug rule shape; cleanup = null; items = []; slots = 8; this = null; locals = []; callers = []; lines = []; notes = []; steps = 0 }
 
 -- the body of `main`
 abbrev pub main_of : Script → Body
@@ -57,9 +61,9 @@ abbrev pub state_of : Script → RunState → State
 state_of script h = record {
   heap = read_heap script h.debug.heap;
   cleanup = h.cleanup;
-  items = [];
-  slots = 8;
-  frame = record { this = null; locals = h.locals };
+  items = h.items;
+  slots = h.slots;
+  frame = record { this = h.this; locals = h.locals };
   lines = h.lines;
   steps = h.steps;
 }

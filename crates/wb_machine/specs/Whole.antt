@@ -9,6 +9,7 @@ use Rattle.wb_model.specs.Rest.{Fits, Progress, next_line}
 use Rattle.wb_machine.specs.declared.machine.Machine.TheInside.{Inside}
 use Rattle.wb_machine.specs.RunState.{HasLines, state_of}
 use Rattle.wb_machine.specs.Asks.{asks_next}
+use Rattle.wb_machine.specs.Owed.{HasStack}
 use Rattle.wb_machine.specs.Seen.{Seen}
 use Rattle.wb_machine.specs.Flow.{is_stop, is_over, AreSound, IsReady, IsFirst, pending_in, progress_of, rest_at}
 use Rattle.wb_machine.specs.Told.{leaks_at_end}
@@ -52,6 +53,8 @@ pub record IsSound (m : Inside) : Type 0 where
   pub first : m.begun ≡ false → IsFirst m.control.ending m.control.pieces.items m.state
   -- a step is to come, or the run is over
   pub settled : m.begun ≡ true → (is_over m.control.ending m.control.pieces.items ≡ true) ⊎ IsReady m.control.ending m.control.pieces.items
+  -- a run that isn't stopped has its cleanup stack
+  pub stack : m.begun ≡ true → is_stop m.control.ending ≡ false → HasStack m.state
   pub pieces : AreSound m.script.now m.control.pieces.items
   -- no statement was begun yet
   pub no_line : m.begun ≡ false → m.control.line ≡ 0

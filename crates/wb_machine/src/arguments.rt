@@ -1,12 +1,21 @@
-//! What the arguments of a call give to its parameters.
+//! What a body is handed by whoever calls it.
 
 ghost use Rattle.std.specs.Prelude.{◌≡◌, ◌≤◌, ◌++◌, map, drop, vec_len, OnOk};
-ghost use Rattle.wb_machine.specs.LocalValues.{value_of, pointer_over, number_over, passed};
+ghost use Rattle.wb_machine.specs.LocalValues.{value_of, pointer_over, number_over, passed, values_handed};
 
 use crate::locals::{NULL, Slot};
 use std::alloc::AllocError;
 use wb_model::heap::Ptr;
 use wb_model::script::{Argument, Holder, Number, Pointer};
+
+/// What a body is handed.
+#[derive(Clone, Copy)]
+pub enum Handed<'b> {
+    /// Arguments of its caller, one for each parameter.
+    Arguments(&'b [Argument]),
+    /// The pointer of an item, which an operation destroys.
+    Item(Ptr),
+}
 
 /// The pointer of an operand, over the locals of a frame.
 pub fn pointer_over(frame: &[Slot], operand: Pointer) -> Ptr
@@ -45,7 +54,7 @@ fn passed(frame: &[Slot], argument: Argument) -> Slot
 }
 
 /// Puts what the arguments give, from left to right, behind the caller's locals, which begin at `base`.
-pub fn pass(slots: &mut Vec<Slot>, base: usize, arguments: &[Argument]) -> Result<(), AllocError>
+fn pass(slots: &mut Vec<Slot>, base: usize, arguments: &[Argument]) -> Result<(), AllocError>
     requires { base ≤ vec_len slots.old }
     ensures passed { OnOk result (map value_of slots.new.items ≡ map value_of slots.old.items ++ map (passed (drop base (map value_of slots.old.items))) arguments.now) }
     ensures within { base ≤ vec_len slots.new }
@@ -56,4 +65,19 @@ pub fn pass(slots: &mut Vec<Slot>, base: usize, arguments: &[Argument]) -> Resul
         slots.push(slot)?;
     }
     Ok(())
+}
+
+/// Puts what a body is handed behind the caller's locals, which begin at `base`.
+pub fn hand(slots: &mut Vec<Slot>, base: usize, handed: Handed) -> Result<(), AllocError>
+    requires { base ≤ vec_len slots.old }
+    ensures handed { OnOk result (map value_of slots.new.items ≡ map value_of slots.old.items ++ values_handed (drop base (map value_of slots.old.items)) handed.entry) }
+    ensures within { base ≤ vec_len slots.new }
+{
+    match handed {
+        Handed::Arguments(arguments) => pass(slots, base, arguments),
+        Handed::Item(ptr) => {
+            slots.push(Slot::Pointer(ptr))?;
+            Ok(())
+        }
+    }
 }

@@ -6,7 +6,7 @@ ghost use Rattle.wb_model.specs.Row.{cell_at, cell_length};
 ghost use Rattle.wb_model.specs.declared.limits.TheConstants.{LARGEST_REQUEST, MOST_UNITS, CEILING};
 ghost use Rattle.wb_model.specs.declared.script.Statement.TheViews.{out-Statement};
 ghost use Rattle.wb_machine.specs.Carried.{pointer_read, number_read};
-ghost use Rattle.wb_machine.specs.Asks.{cell_asks, text_asks, realloc_asks, realloc_text_asks, statement_asks};
+ghost use Rattle.wb_machine.specs.Asks.{cell_asks, text_asks, realloc_asks, realloc_text_asks, push_asks, statement_asks};
 
 use crate::operands::number_within;
 use crate::state::State;
@@ -72,6 +72,16 @@ impl State {
         }
     }
 
+    /// Whether a push asks for an attempt: where it fills the last slot, the stack's cell always is to be longer.
+    fn push_asks(&self) -> bool
+        ensures { result ≡ push_asks self.now }
+    {
+        match &self.cleanup {
+            Some(stack) => stack.has_one_free(),
+            None => false,
+        }
+    }
+
     /// Whether a statement asks for an attempt where it begins now.
     pub fn asks(&self, statement: &Statement) -> bool
         ensures { result ≡ statement_asks self.now (out-Statement statement.now) }
@@ -85,6 +95,8 @@ impl State {
                 number_within(MOST_UNITS, self.number(*units)).is_some()
             }
             Statement::ReallocText(_, source, units) => self.realloc_text_asks(*source, *units),
+            Statement::Push(_) => self.push_asks(),
+            Statement::PushOperation(..) => self.push_asks(),
             _ => false,
         }
     }

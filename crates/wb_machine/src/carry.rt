@@ -4,7 +4,7 @@ ghost use Rattle.std.specs.Prelude.{◌≡◌, ◌+◌, ◌^◌, ◌<◌, IfOk, 
 ghost use Rattle.wb_model.specs.Sound.{is_script};
 ghost use Rattle.wb_model.specs.declared.script.Statement.TheViews.{out-Statement};
 ghost use Rattle.wb_machine.specs.Flow.{IsSimple, IsCarriedOut};
-ghost use Rattle.wb_machine.specs.Owed.{KeepsCount, MayAttempt};
+ghost use Rattle.wb_machine.specs.Owed.{HasStack, KeepsCount, MayAttempt};
 
 use crate::pieces::Ending;
 use crate::state::State;
@@ -14,12 +14,20 @@ use wb_model::script::{Script, Statement};
 
 impl State {
     /// Carries out a statement that runs no other, and tells how it ends.
-    pub fn carry_out(&mut self, script: &Script, first: &Statement) -> Result<Ending, NoMemory>
+    ///
+    /// The `floor` is how many items stood at the entry of the innermost TRAP.
+    pub fn carry_out(
+        &mut self,
+        script: &Script,
+        floor: u32,
+        first: &Statement,
+    ) -> Result<Ending, NoMemory>
         requires script { IsTrue (is_script script.now) }
         requires statement { IsSimple script.now (out-Statement first.now) }
         requires number { MayAttempt self.old }
         requires level { self.old.debug.heap.level + 1 < 2 ^ 32 }
-        ensures kept { IfOk result (λ ending. IsCarriedOut script.now (out-Statement first.now) self.old ending self.new) }
+        requires stack { HasStack self.old }
+        ensures kept { IfOk result (λ ending. IsCarriedOut script.now floor (out-Statement first.now) self.old ending self.new) }
         ensures keeps { KeepsCount self.old self.new }
     {
         match first {
@@ -75,15 +83,17 @@ impl State {
             Statement::NoteHeap => self.note_heap(),
             Statement::NoteAvailable => self.note_available(),
             Statement::NoteCompress => self.note_compress(),
+            Statement::Push(pointer) => self.push(*pointer),
+            Statement::PushOperation(pointer, operation) => {
+                self.push_operation(*pointer, *operation)
+            }
+            Statement::Pop(count) => Ok(self.pop(floor, *count)),
+            Statement::PopCheck(pointer) => Ok(self.pop_check(floor, *pointer)),
             Statement::New(..)
             | Statement::Construct(_)
             | Statement::Delete(_)
-            | Statement::Push(_)
             | Statement::PushObject(_)
-            | Statement::PushOperation(..)
-            | Statement::Pop(_)
             | Statement::PopDestroy(_)
-            | Statement::PopCheck(_)
             | Statement::Call(..)
             | Statement::CallTo(..)
             | Statement::If(..)

@@ -1,9 +1,10 @@
 //! Statements that allocate, reallocate and release cells.
 
-ghost use Rattle.std.specs.Prelude.{◌≡◌, ◌+◌, ◌^◌, ◌<◌, ◌≤◌, length, IfOk, IfSome, IsSome, OnOk};
+ghost use Rattle.std.specs.Prelude.{◌≡◌, ◌≢◌, false, ◌+◌, ◌^◌, ◌<◌, ◌≤◌, length, IfOk, IfSome, IsSome, OnOk};
 ghost use Rattle.wb_model.specs.declared.heap.Kind.TheVariants.{Raw, Text};
-ghost use Rattle.wb_model.specs.Debug.{alloc_made, realloc_made};
-ghost use Rattle.wb_model.specs.Row.{cell_at};
+ghost use Rattle.wb_model.specs.Debug.{alloc_made, realloc_made, with_row};
+ghost use Rattle.wb_model.specs.Row.{cell_at, without};
+ghost use Rattle.wb_model.specs.Heap.{is_cleanup};
 ghost use Rattle.wb_model.specs.Operands.{within};
 ghost use Rattle.wb_machine.specs.RunState.{with_debug};
 ghost use Rattle.wb_machine.specs.Carried.{pointer_read, number_read, refused_carried, given_carried, alloc_carried, realloc_within, realloc_carried, usable_carried, free_carried};
@@ -19,6 +20,16 @@ use wb_model::limits::{CEILING, LARGEST_REQUEST};
 use wb_model::memory::NoMemory;
 use wb_model::run::Why;
 use wb_model::script::{Number, Pointer, Refusal};
+
+/// Whether a cell is the cleanup stack's.
+fn is_cleanup(kind: Kind) -> bool
+    ensures { result ≡ is_cleanup kind }
+{
+    match kind {
+        Kind::Cleanup => true,
+        Kind::Raw | Kind::Object(_) | Kind::Text => false,
+    }
+}
 
 impl State {
     /// An attempt to get a cell for `bytes` bytes.
@@ -156,14 +167,40 @@ impl State {
         Ending::GoesOn
     }
 
-    /// Releases a pointer; null is nothing.
+    /// Takes a cell that isn't the cleanup stack's out of the heap.
+    fn drop_cell(&mut self, ptr: Ptr)
+        requires number { ptr.number ≢ 0 }
+        requires live { IsSome (cell_at ptr self.old.debug.heap.row) }
+        requires other { IfSome (cell_at ptr self.old.debug.heap.row) (λ c. is_cleanup c.head.kind ≡ false) }
+        ensures { self.new ≡ with_debug self.old (with_row self.old.debug (without ptr self.old.debug.heap.row)) }
+    {
+        match self.heap.release(ptr) {
+            Ok(()) => {}
+            Err(_) => unreachable!(),
+        }
+    }
+
+    /// Releases a pointer; null is nothing. One that names no cell, or the cleanup stack's own, is invalid.
+    pub fn release(&mut self, ptr: Ptr) -> Ending
+        ensures { CarriesOut self.old (free_carried self.old ptr) result self.new }
+    {
+        if ptr.number == 0 {
+            return Ending::GoesOn;
+        }
+        let Some(header) = self.heap.header(ptr) else {
+            return Ending::Panics(Panic::BAD_CELL);
+        };
+        if is_cleanup(header.kind) {
+            return Ending::Panics(Panic::BAD_CELL);
+        }
+        self.drop_cell(ptr);
+        Ending::GoesOn
+    }
+
+    /// Releases the pointer of an operand.
     pub fn free(&mut self, pointer: Pointer) -> Ending
         ensures { CarriesOut self.old (free_carried self.old (pointer_read self.old pointer)) result self.new }
     {
-        let ptr = self.pointer(pointer);
-        match self.heap.release(ptr) {
-            Ok(()) => Ending::GoesOn,
-            Err(panic) => Ending::Panics(panic),
-        }
+        self.release(self.pointer(pointer))
     }
 }

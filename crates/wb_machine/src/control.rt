@@ -1,5 +1,5 @@
 //! What is still to do, as explicit pieces, and the turns of a run. What the pieces act on stands in `state`, what the head of a
-//! statement leaves in `heads`, and what becomes of pieces that are done in `unwinding`.
+//! statement leaves in `heads`, the steps that destroy in `destroying`, and what becomes of pieces that are done in `unwinding`.
 
 ghost use Rattle.std.specs.Prelude.{◌≡◌, ◌+◌, ◌^◌, ◌<◌, ◌≤◌, ◌⊎◌, ◌++◌, ◌∷◌, ◌&&◌, [], ℕ, true, false, if◌then◌else◌, nat_lt, length, unwrap_or, min, IsTrue, OnOk};
 ghost use Rattle.wb_model.specs.Sound.{is_script};
@@ -14,22 +14,19 @@ ghost use Rattle.wb_machine.specs.RunState.{RunState, HasLines, first_state, sta
 ghost use Rattle.wb_machine.specs.Flow.{where_of, pending_in, is_stop, is_over, progress_by, AreOwn, AreSound, IsReady, IsFirst, rest_from, rest_of_piece, rest_at};
 ghost use Rattle.wb_machine.specs.Asks.{asks_next};
 ghost use Rattle.wb_machine.specs.Carried.{stepped};
-ghost use Rattle.wb_machine.specs.Owed.{MayAttempt, Stays};
+ghost use Rattle.wb_machine.specs.Owed.{HasStack, MayAttempt, Stays};
 
+mod destroying;
 mod heads;
 mod unwinding;
 
 use crate::pieces::{Ending, IN_MAIN, Piece, Standing, first_statement};
 use crate::state::State;
 use std::alloc::{AllocError, Global};
-use wb_model::heap::{Gave, Kind};
 use wb_model::limits::LARGEST_BUDGET;
 use wb_model::memory::NoMemory;
 use wb_model::run::Why;
 use wb_model::script::{Body, Numbered, Script};
-
-/// How many bytes the cleanup stack's cell is for at first.
-const FIRST_BYTES: u32 = 128;
 
 /// The pending pieces, the last of them on top, how the piece above them ended, and the line of the statement begun last.
 #[derive(Drop)]
@@ -108,18 +105,17 @@ impl<'a> Control<'a> {
         ensures level { OnOk result (state.new.debug.heap.level ≡ 0) }
         ensures steps { OnOk result (state.new.steps ≡ 0) }
         ensures one { OnOk result (state.new.debug.attempts ≡ 1) }
+        ensures stack { OnOk result (is_stop self.new.ending ≡ false → HasStack state.new) }
         ensures line { self.new.line ≡ self.old.line }
     {
-        match state.attempt(FIRST_BYTES, Kind::Cleanup)? {
-            Gave::Granted(cell) => {
-                let main = procedure_at(script, script.main);
-                state.enter(cell, main.locals.as_slice())?;
-                self.push(Piece::MainTrap)?;
-                self.push(Piece::Code(IN_MAIN, main.statements.as_slice()))?;
-            }
-            Gave::Denied => self.ending = Ending::NoCleanup,
-            Gave::Ceiling => self.ending = Ending::Cut(Why::Ceiling),
+        if !state.start()? {
+            self.ending = Ending::NoCleanup;
+            return Ok(());
         }
+        let main = procedure_at(script, script.main);
+        state.enter(main.locals.as_slice())?;
+        self.push(Piece::MainTrap)?;
+        self.push(Piece::Code(IN_MAIN, main.statements.as_slice()))?;
         Ok(())
     }
 
@@ -139,6 +135,7 @@ impl<'a> Control<'a> {
         requires number { MayAttempt state.old }
         requires lines { HasLines state.old }
         requires level { state.old.debug.heap.level + 1 < 2 ^ 32 }
+        requires stack { HasStack state.old }
         requires steps { state.old.steps + 1 < 2 ^ 32 }
         ensures kept { OnOk result ((r : Rule) (budget : ℕ) → state.old.steps < budget → Fits r state.old.debug.rule (is_stop self.new.ending) state.new.debug.attempts →
             rest_from script.now budget r self.new.ending self.new.pieces.items state.new
@@ -189,6 +186,7 @@ impl<'a> Control<'a> {
         requires number { MayAttempt state.old }
         requires lines { HasLines state.old }
         requires level { state.old.debug.heap.level + 1 < 2 ^ 32 }
+        requires stack { HasStack state.old }
         requires steps { state.old.steps + 1 < 2 ^ 32 }
         ensures kept { OnOk result ((r : Rule) (budget : ℕ) → state.old.steps < budget → Fits r state.old.debug.rule (is_stop self.new.ending) state.new.debug.attempts →
             rest_from script.now budget r self.new.ending self.new.pieces.items state.new
@@ -203,6 +201,8 @@ impl<'a> Control<'a> {
                 self.step_code(script, at, first, rest, state)
             }
             Some(Piece::Turns(at, left, body)) => self.step_turns(at, left, body, state),
+            Some(Piece::Items(at, left)) => self.step_items(script, at, left, state),
+            Some(Piece::Object(at, ptr)) => self.step_object(script, at, ptr, state),
             _ => unreachable!(),
         }
     }
@@ -249,6 +249,7 @@ impl<'a> Control<'a> {
         requires script { IsTrue (is_script script.now) }
         requires first { begun ≡ false → IsFirst self.old.ending self.old.pieces.items state.old }
         requires later { begun ≡ true → IsReady self.old.ending self.old.pieces.items }
+        requires stack { begun ≡ true → HasStack state.old }
         requires sound { AreSound script.now self.old.pieces.items }
         requires small { budget ≤ LARGEST_BUDGET }
         requires within { state.old.steps ≤ budget }
@@ -259,6 +260,7 @@ impl<'a> Control<'a> {
             rest_from script.now budget r self.new.ending self.new.pieces.items state.new
             ≡ rest_at script.now budget r begun self.old.ending self.old.pieces.items state.old) }
         ensures settled { OnOk result ((is_over self.new.ending self.new.pieces.items ≡ true) ⊎ IsReady self.new.ending self.new.pieces.items) }
+        ensures stack { OnOk result (is_stop self.new.ending ≡ false → HasStack state.new) }
         ensures sound { OnOk result (AreSound script.now self.new.pieces.items) }
         ensures stays { Stays state.old state.new }
         ensures within { OnOk result (state.new.steps ≤ budget) }
@@ -277,7 +279,7 @@ impl<'a> Control<'a> {
         } else {
             self.cut();
         }
-        self.settle(state);
+        self.settle(state)?;
         Ok(())
     }
 }

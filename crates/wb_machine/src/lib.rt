@@ -3,14 +3,17 @@
 
 mod arguments;
 mod asks;
+mod bodies;
 mod carry;
 mod cells;
+mod cleanup;
 mod control;
 mod leaves;
 mod locals;
 pub mod machine;
 mod marks;
 mod numbers;
+mod objects;
 mod operands;
 mod pieces;
 mod print;

@@ -7,12 +7,12 @@ ghost use Rattle.wb_model.specs.State.{initial};
 ghost use Rattle.wb_machine.specs.RunState.{value_in};
 ghost use Rattle.wb_machine.specs.LocalValues.{value_of, pointer_over, number_over, framed, unframed, buffer_in, window_in};
 
-use crate::arguments::{number_over, pass, pointer_over};
+use crate::arguments::{Handed, hand, number_over, pointer_over};
 use crate::windows::Window;
 use std::alloc::{AllocError, Global};
 use std::marker::Model;
 use wb_model::heap::Ptr;
-use wb_model::script::{Argument, Local, Number, Pointer};
+use wb_model::script::{Local, Number, Pointer};
 use wb_text::buf::Buf;
 
 /// The pointer that names no cell.
@@ -97,16 +97,16 @@ impl Locals {
         }
     }
 
-    /// A frame on top, for a body that is called with these arguments and declares these locals. Answers where the
-    /// caller's frame begins. No memory is asked for where as many locals stood at once before.
-    pub fn call(&mut self, arguments: &[Argument], locals: &[Local]) -> Result<usize, AllocError>
+    /// A frame on top, for a body that is handed this and declares these locals. Answers where the caller's frame begins. No
+    /// memory is asked for where as many locals stood at once before.
+    pub fn call(&mut self, handed: Handed, locals: &[Local]) -> Result<usize, AllocError>
         requires { IsTrue (list_all is_local locals.now) }
-        ensures frames { OnOk result (self.new ≡ framed self.old arguments.now locals.now) }
+        ensures frames { OnOk result (self.new ≡ framed self.old handed.entry locals.now) }
         ensures caller { IfOk result (λ base. base ≡ length self.old.callers) }
     {
         let caller = self.base;
         let top = self.slots.len();
-        pass(&mut self.slots, caller, arguments)?;
+        hand(&mut self.slots, caller, handed)?;
         declare(&mut self.slots, locals)?;
         self.base = top;
         Ok(caller)

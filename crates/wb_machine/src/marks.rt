@@ -1,9 +1,10 @@
 //! Statements that mark the heap, check it, and set which attempts are to fail.
 
-ghost use Rattle.std.specs.Prelude.{◌≡◌, ◌+◌, ◌^◌, ◌<◌};
+ghost use Rattle.std.specs.Prelude.{◌≡◌, ◌+◌, ◌^◌, ◌<◌, None, Some, IfErr, OnErr, OnOk};
 ghost use Rattle.wb_model.specs.Operands.{not_negative};
 ghost use Rattle.wb_model.specs.Statements.{at_least_one};
 ghost use Rattle.wb_model.specs.Rules.{never, next, each};
+ghost use Rattle.wb_model.specs.Heap.{after_mark_end, mark_end_refusal};
 ghost use Rattle.wb_model.specs.Debug.{check_refusal, check_all_refusal, with_setting};
 ghost use Rattle.wb_machine.specs.RunState.{with_debug};
 ghost use Rattle.wb_machine.specs.declared.pieces.Ending.TheVariants.{GoesOn};
@@ -26,6 +27,16 @@ impl State {
         Ending::GoesOn
     }
 
+    /// Ends the last mark, unless that is refused, and then nothing changes.
+    fn end_mark(&mut self, count: u32) -> Result<(), Panic>
+        ensures refused { IfErr result (λ panic. mark_end_refusal self.old.debug.heap count ≡ Some panic) }
+        ensures fine { OnOk result (mark_end_refusal self.old.debug.heap count ≡ None) }
+        ensures closed { OnOk result (self.new ≡ with_debug self.old (record self.old.debug { heap = after_mark_end self.old.debug.heap })) }
+        ensures err { OnErr result (self.new ≡ self.old) }
+    {
+        self.heap.mark_end(count)
+    }
+
     /// Ends the last mark, where `count` cells of its level are live.
     pub fn mark_end(&mut self, count: Number) -> Ending
         ensures { CarriesOut self.old (mark_end_within self.old (not_negative (number_read self.old count))) result self.new }
@@ -33,7 +44,7 @@ impl State {
         let Some(count) = not_negative(self.number(count)) else {
             return Ending::Panics(Panic::NUMBER_OUT_OF_RANGE);
         };
-        match self.heap.mark_end(count) {
+        match self.end_mark(count) {
             Ok(()) => Ending::GoesOn,
             Err(panic) => Ending::Panics(panic),
         }

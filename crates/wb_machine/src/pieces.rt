@@ -48,6 +48,16 @@ pub struct Standing {
 /// Where `main` stands.
 pub const IN_MAIN: Standing = Standing { depth: 1, floor: 0 };
 
+/// What follows the end of a body.
+#[derive(Clone, Copy)]
+pub enum After {
+    Nothing,
+    /// The caller's local with this index gets the result.
+    Gives(u8),
+    /// The object that the body destroyed is released.
+    Releases(Ptr),
+}
+
 /// A pending piece.
 #[derive(Clone, Copy)]
 pub enum Piece<'a> {
@@ -55,12 +65,20 @@ pub enum Piece<'a> {
     Code(Standing, &'a [Numbered]),
     /// The turns that a `repeat` has left.
     Turns(Standing, u32, &'a [Numbered]),
-    /// A TRAP, whose local gets the code.
-    Trap(Standing, u8),
+    /// How many items are left to destroy, the newest first.
+    Items(Standing, u32),
+    /// The destruction of an object, by a pointer that isn't null.
+    Object(Standing, Ptr),
+    /// A TRAP: its local, which gets the code, and how many items stood at its entry.
+    Trap(Standing, u8, u32),
+    /// The code that a TRAP's local gets once the items are destroyed.
+    Caught(u8, i32),
     /// `main`'s own TRAP.
     MainTrap,
-    /// A call: where the caller's frame begins among the locals, and the caller's local that gets the result, where one does.
-    Call(usize, Option<u8>),
+    /// The code with which `main` was left, once the items are destroyed.
+    MainCaught(i32),
+    /// A call: where the caller's frame begins among the locals, the object whose body the caller runs, and what follows.
+    Call(usize, Ptr, After),
 }
 
 /// Whether a piece begins with a step.
@@ -70,8 +88,12 @@ pub fn needs_step(piece: &Piece) -> bool
     match piece {
         Piece::Code(_, statements) => !statements.is_empty(),
         Piece::Turns(_, left, _) => *left > 0,
+        Piece::Items(_, left) => *left > 0,
+        Piece::Object(..) => true,
         Piece::Trap(..) => false,
+        Piece::Caught(..) => false,
         Piece::MainTrap => false,
+        Piece::MainCaught(_) => false,
         Piece::Call(..) => false,
     }
 }
@@ -82,6 +104,13 @@ pub fn first_statement<'a>(piece: &Piece<'a>) -> Option<&'a Numbered>
 {
     match piece {
         Piece::Code(_, statements) => statements.first(),
-        Piece::Turns(..) | Piece::Trap(..) | Piece::MainTrap | Piece::Call(..) => None,
+        Piece::Turns(..)
+        | Piece::Items(..)
+        | Piece::Object(..)
+        | Piece::Trap(..)
+        | Piece::Caught(..)
+        | Piece::MainTrap
+        | Piece::MainCaught(_)
+        | Piece::Call(..) => None,
     }
 }

@@ -5,28 +5,35 @@ ghost use Rattle.std.specs.Prelude.{◌≡◌, ◌+◌, ◌^◌, ◌<◌, ◌↔
 ghost use Rattle.std.specs.List.{list_all};
 ghost use Rattle.wb_model.specs.Sound.{is_local};
 ghost use Rattle.wb_model.specs.Space.{is_shape};
+ghost use Rattle.wb_model.specs.State.{null};
 ghost use Rattle.wb_machine.specs.RunState.{first_state};
 ghost use Rattle.wb_machine.specs.Told.{leaks_at_end, outcome_by, told_by};
-ghost use Rattle.wb_machine.specs.Carried.{pointer_read, number_read, pointer_stored, stored, stepped, entered, called, called_back};
-ghost use Rattle.wb_machine.specs.LocalValues.{value_of};
+ghost use Rattle.wb_machine.specs.Carried.{pointer_read, number_read, pointer_stored, stored, stepped, entered, framed_with, called_back};
+ghost use Rattle.wb_machine.specs.LocalValues.{value_of, values_handed};
+ghost use Rattle.wb_machine.specs.Owed.{IsSameButFrames};
 
+use crate::arguments::Handed;
 use crate::locals::{Locals, NULL, Slot};
 use crate::pieces::Ending;
 use std::alloc::Global;
 use std::marker::Model;
+use wb_cleanup::Cleanup;
 use wb_debug::debug_heap::DebugHeap;
 use wb_debug::fault::DebugFault;
 use wb_model::heap::{Ptr, Rule, Shape};
 use wb_model::items::Items;
 use wb_model::memory::NoMemory;
 use wb_model::run::{Leaks, Lines, Notes, Outcome, RunResult};
-use wb_model::script::{Argument, Holder, Local, Number, Pointer};
+use wb_model::script::{Holder, Local, Number, Pointer};
 
 /// What all bodies share.
 #[derive(Drop)]
 pub struct State {
     pub heap: DebugHeap,
-    pub cleanup: Ptr,
+    /// Where there is none yet, attempt 1 is still to come, or was refused.
+    pub cleanup: Option<Cleanup>,
+    /// The object whose body the innermost frame runs; null where it runs none.
+    pub this: Ptr,
     pub locals: Locals,
     pub lines: Lines,
     pub notes: Notes,
@@ -42,9 +49,9 @@ impl Model for State {
 
     ghost view = { run_state };
 
-    ghost use Rattle.wb_machine.specs.TextInvariant.{AreTexts};
+    ghost use Rattle.wb_machine.specs.StackInvariant.{IsMemory};
 
-    ghost invariant = { λ s. AreTexts s.heap.heap.row };
+    ghost invariant = { λ s. IsMemory s.heap s.cleanup };
 }
 
 impl State {
@@ -56,7 +63,8 @@ impl State {
         let heap = DebugHeap::new(alloc, rule, shape)?;
         Ok(State {
             heap,
-            cleanup: NULL,
+            cleanup: None,
+            this: NULL,
             locals: Locals::new(alloc),
             lines: Items::new(alloc),
             notes: Items::new(alloc),
@@ -86,36 +94,45 @@ impl State {
         self.steps += 1;
     }
 
-    /// `main` begins, with its locals, over the cleanup stack's cell.
-    pub fn enter(&mut self, cell: Ptr, locals: &[Local]) -> Result<(), NoMemory>
+    /// `main` begins, with its locals.
+    pub fn enter(&mut self, locals: &[Local]) -> Result<(), NoMemory>
         requires none { self.old.locals ≡ [] }
         requires no_caller { self.old.callers ≡ [] }
+        requires no_object { self.old.this ≡ null }
         requires locals { IsTrue (list_all is_local locals.now) }
-        ensures entered { OnOk result (self.new ≡ entered self.old cell locals.now) }
+        ensures entered { OnOk result (self.new ≡ entered self.old locals.now) }
         ensures debug { self.new.debug ≡ self.old.debug }
     {
-        self.cleanup = cell;
-        self.locals.call(&[], locals)?;
+        self.locals.call(Handed::Arguments(&[]), locals)?;
         Ok(())
     }
 
-    /// A body is called with arguments, in a frame of its own. Answers where the caller's frame begins.
-    pub fn call(&mut self, arguments: &[Argument], locals: &[Local]) -> Result<usize, NoMemory>
-        requires { IsTrue (list_all is_local locals.now) }
-        ensures called { OnOk result (self.new ≡ called self.old arguments.now locals.now) }
-        ensures caller { IfOk result (λ base. base ≡ length self.old.callers) }
-        ensures debug { self.new.debug ≡ self.old.debug }
-        ensures steps { self.new.steps ≡ self.old.steps }
+    /// The object whose body the innermost frame runs; null where it runs none.
+    pub fn this(&self) -> Ptr
+        ensures { result ≡ self.now.this }
     {
-        let caller = self.locals.call(arguments, locals)?;
+        self.this
+    }
+
+    /// A body is called, of an object or of none, with what it is handed, in a frame of its own. Answers where the caller's
+    /// frame begins.
+    pub fn call(&mut self, this: Ptr, handed: Handed, locals: &[Local]) -> Result<usize, NoMemory>
+        requires { IsTrue (list_all is_local locals.now) }
+        ensures called { OnOk result (self.new ≡ framed_with self.old this (values_handed self.old.locals handed.entry) locals.now) }
+        ensures caller { IfOk result (λ base. base ≡ length self.old.callers) }
+        ensures frames { IsSameButFrames self.old self.new }
+    {
+        let caller = self.locals.call(handed, locals)?;
+        self.this = this;
         Ok(caller)
     }
 
-    /// A body has ended, and its frame is dropped. The caller's begins at `base`.
-    pub fn end_call(&mut self, base: usize)
-        ensures { self.new ≡ called_back self.old base }
+    /// A body has ended, and its frame is dropped. The caller's begins at `base` and runs a body of `this`.
+    pub fn end_call(&mut self, this: Ptr, base: usize)
+        ensures { self.new ≡ called_back self.old this base }
     {
         self.locals.end_call(base);
+        self.this = this;
     }
 
     /// The pointer of an operand.
@@ -165,6 +182,7 @@ impl State {
         let State {
             heap,
             cleanup: _,
+            this: _,
             locals: _,
             lines,
             notes,

@@ -3,7 +3,9 @@
 ghost use Rattle.std.specs.Prelude.{◌≡◌, ◌+◌, ◌*◌, ◌^◌, ◌<◌, ◌≤◌, None, length, IfOk, IfSome, OnOk};
 ghost use Rattle.wb_model.specs.Debug.{realloc_made};
 ghost use Rattle.wb_model.specs.Row.{cell_at};
-ghost use Rattle.wb_model.specs.TextCells.{text_at};
+ghost use Rattle.wb_model.specs.TextCells.{debug_edited, max_at, text_at};
+ghost use Rattle.wb_model.specs.Texts.{answer_of, delete_text, set_length_text};
+ghost use Rattle.wb_hbuf.specs.Sources.{IsApart, IsSource, SuitsEdit, cell_edited};
 ghost use Rattle.wb_machine.specs.RunState.{with_debug};
 ghost use Rattle.wb_machine.specs.TextOperands.{text_refusal};
 ghost use Rattle.wb_machine.specs.TextInvariant.{AreTexts};
@@ -14,6 +16,7 @@ ghost use Rattle.wb_machine.specs.Owed.{CarriesOut, KeepsCount, MayAttempt};
 use crate::operands::number_within;
 use crate::pieces::Ending;
 use crate::state::State;
+use wb_hbuf::sources::{Edit, Source};
 use wb_model::heap::{Gave, Kind, Panic, Ptr};
 use wb_model::limits::MOST_UNITS;
 use wb_model::memory::NoMemory;
@@ -76,5 +79,41 @@ impl State {
         }
         let gave = self.remake(ptr, units)?;
         Ok(self.give(target, Refusal::GivesNull, gave))
+    }
+}
+
+/// Edits of the text in a cell. Where one is refused, nothing changes.
+impl State {
+    /// Changes the text by a source.
+    pub fn edit_cell(&mut self, ptr: Ptr, change: Edit, source: Source) -> Result<(), Panic>
+        requires text { text_refusal (cell_at ptr self.old.debug.heap.row) ≡ None }
+        requires source { IsSource self.old.debug source }
+        requires apart { IsApart ptr source }
+        requires suits { SuitsEdit change source }
+        ensures answer { result ≡ answer_of (cell_edited self.old.debug ptr change source.entry) }
+        ensures changed { self.new ≡ with_debug self.old (debug_edited self.old.debug ptr (cell_edited self.old.debug ptr change source.entry)) }
+        ensures now { OnOk result (cell_edited self.old.debug ptr change source.entry ≡ Ok (text_at ptr self.new.debug)) }
+    {
+        wb_hbuf::edit(&mut self.heap, ptr, change, source)
+    }
+
+    /// Takes `count` units from a position on out of it.
+    pub fn delete_in_cell(&mut self, ptr: Ptr, position: u32, count: u32) -> Result<(), Panic>
+        requires { text_refusal (cell_at ptr self.old.debug.heap.row) ≡ None }
+        ensures answer { result ≡ answer_of (delete_text (text_at ptr self.old.debug) position count) }
+        ensures changed { self.new ≡ with_debug self.old (debug_edited self.old.debug ptr (delete_text (text_at ptr self.old.debug) position count)) }
+        ensures now { OnOk result (delete_text (text_at ptr self.old.debug) position count ≡ Ok (text_at ptr self.new.debug)) }
+    {
+        wb_hbuf::delete(&mut self.heap, ptr, position, count)
+    }
+
+    /// Gives it another length.
+    pub fn set_cell_length(&mut self, ptr: Ptr, length: u32) -> Result<(), Panic>
+        requires { text_refusal (cell_at ptr self.old.debug.heap.row) ≡ None }
+        ensures answer { result ≡ answer_of (set_length_text (max_at ptr self.old.debug) (text_at ptr self.old.debug) length) }
+        ensures changed { self.new ≡ with_debug self.old (debug_edited self.old.debug ptr (set_length_text (max_at ptr self.old.debug) (text_at ptr self.old.debug) length)) }
+        ensures now { OnOk result (set_length_text (max_at ptr self.old.debug) (text_at ptr self.old.debug) length ≡ Ok (text_at ptr self.new.debug)) }
+    {
+        wb_hbuf::set_length(&mut self.heap, ptr, length)
     }
 }

@@ -46,10 +46,10 @@ impl State {
         let copy = self.copied(view.base);
         if is_same_base(Base::Cell(ptr), view.base) {
             let own = Source::Own(view.position, view.length);
-            return ending_of(wb_hbuf::edit(&mut self.heap, ptr, change, own));
+            return ending_of(self.edit_cell(ptr, change, own));
         }
         let source = self.source(script, &copy, view);
-        ending_of(wb_hbuf::edit(&mut self.heap, ptr, change, source))
+        ending_of(self.edit_cell(ptr, change, source))
     }
 
     /// A buffer that was edited goes back to its local, unless the edit was refused.
@@ -162,7 +162,7 @@ impl State {
                 let answer = buf.delete(position, count);
                 self.put_back(index, buf, answer)
             }
-            Base::Cell(ptr) => ending_of(wb_hbuf::delete(&mut self.heap, ptr, position, count)),
+            Base::Cell(ptr) => ending_of(self.delete_in_cell(ptr, position, count)),
             Base::Nothing | Base::Literal(_) => unreachable!(),
         }
     }
@@ -180,7 +180,7 @@ impl State {
                 let answer = buf.set_length(length);
                 self.put_back(index, buf, answer)
             }
-            Base::Cell(ptr) => ending_of(wb_hbuf::set_length(&mut self.heap, ptr, length)),
+            Base::Cell(ptr) => ending_of(self.set_cell_length(ptr, length)),
             Base::Nothing | Base::Literal(_) => unreachable!(),
         }
     }

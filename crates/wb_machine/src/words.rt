@@ -1,15 +1,21 @@
 //! Statements on the words of Raw cells.
 
-ghost use Rattle.std.specs.Prelude.{◌≡◌};
+ghost use Rattle.std.specs.Prelude.{◌≡◌, ◌<◌, true, length, slice_set, IfSome};
+ghost use Rattle.wb_model.specs.Row.{cell_at};
+ghost use Rattle.wb_model.specs.CellRow.{payload_of};
+ghost use Rattle.wb_model.specs.Debug.{debug_changed};
+ghost use Rattle.wb_model.specs.Spelling.{signed};
+ghost use Rattle.wb_model.specs.State.{number};
 ghost use Rattle.wb_model.specs.Statements.{is_raw};
-ghost use Rattle.wb_machine.specs.Carried.{pointer_read, number_read, store_carried, load_carried};
-ghost use Rattle.wb_machine.specs.Owed.{CarriesOut};
+ghost use Rattle.wb_machine.specs.RunState.{with_debug};
+ghost use Rattle.wb_machine.specs.Carried.{pointer_read, number_read, stored, store_carried, load_carried};
+ghost use Rattle.wb_machine.specs.Owed.{CarriesOut, KeepsCount};
 
 use crate::locals::Slot;
 use crate::operands::word_within;
 use crate::pieces::Ending;
 use crate::state::State;
-use wb_model::heap::{Kind, Panic};
+use wb_model::heap::{Kind, Panic, Ptr};
 use wb_model::script::{Number, Pointer};
 
 /// Whether a cell holds words that the script stores itself.
@@ -23,6 +29,16 @@ pub fn is_raw(kind: Kind) -> bool
 }
 
 impl State {
+    /// Puts a word into a Raw cell.
+    fn set_word(&mut self, ptr: Ptr, word: u32, value: u32)
+        requires within { word < length (payload_of ptr self.old.debug.heap.row) }
+        requires raw { IfSome (cell_at ptr self.old.debug.heap.row) (λ c. is_raw c.head.kind ≡ true) }
+        ensures changed { self.new ≡ with_debug self.old (debug_changed self.old.debug ptr (slice_set (payload_of ptr self.old.debug.heap.row) word value)) }
+        ensures keeps { KeepsCount self.old self.new }
+    {
+        self.heap.set_payload(ptr, word, value);
+    }
+
     /// Stores a number in a word of a Raw cell.
     pub fn store(&mut self, pointer: Pointer, index: Number, value: i32) -> Ending
         ensures { CarriesOut self.old (store_carried self.old (pointer_read self.old pointer) (number_read self.old index) value) result self.new }
@@ -37,8 +53,16 @@ impl State {
         let Some(word) = word_within(header.length - 16, self.number(index)) else {
             return Ending::Panics(Panic::NUMBER_OUT_OF_RANGE);
         };
-        self.heap.set_payload(ptr, word, value.cast_unsigned());
+        self.set_word(ptr, word, value.cast_unsigned());
         Ending::GoesOn
+    }
+
+    /// A number local gets a word, as a signed number.
+    fn set_loaded(&mut self, local: u8, word: u32)
+        ensures stored { self.new ≡ stored self.old local (number (signed word)) }
+        ensures keeps { KeepsCount self.old self.new }
+    {
+        self.set(local, Slot::Number(word.cast_signed()));
     }
 
     /// A number local gets a word of a Raw cell, as a signed number.
@@ -56,7 +80,7 @@ impl State {
             return Ending::Panics(Panic::NUMBER_OUT_OF_RANGE);
         };
         let value = self.heap.payload(ptr, at);
-        self.set(local, Slot::Number(value.cast_signed()));
+        self.set_loaded(local, value);
         Ending::GoesOn
     }
 }

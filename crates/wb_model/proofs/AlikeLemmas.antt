@@ -2,7 +2,8 @@
 -- of whatever a script does. Here stand the ways of going on; the statements are in `AlikeStatements`.
 use Rattle.std.proofs.Common.{◌≡◌, ℕ, ℤ, ◌-◌, ◌<◌, ◌≤◌, Bool, true, false, List, ◌∷◌, refl, ap, ◌∙◌, subst, Option, Some, None, Result, Ok, Err}
 use Rattle.std.proofs.Math.Path.{fun_ext}
-use Rattle.std.specs.Prelude.{nat_lt}
+use Rattle.std.specs.Prelude.{nat_lt, nat_eq, [], ◌++◌, length}
+use Rattle.wb_model.specs.declared.heap.TheConstants.{KERR_NO_MEMORY}
 use Rattle.std.proofs.lemmas.Bool.{ltb-true, ltb-false}
 use Rattle.wb_model.specs.declared.heap.Ptr.{Ptr}
 use Rattle.wb_model.specs.declared.heap.Item.{Item}
@@ -30,7 +31,7 @@ use Rattle.wb_model.specs.State.{Content, words, fields, units, none, State, Way
 use Rattle.wb_model.specs.Operands.{raw_words_of, set_field, with_cell, with_fields, with_pointer, set_pointer, set_row}
 use Rattle.wb_model.specs.Attempts.{attempt, allocate, resized, reallocate, reallocate_longer, grow_if, push, after_growth}
 use Rattle.wb_model.specs.Reading.{Source, whole, part, set_units, with_writable, with_readable, with_base, with_units, with_room, with_text_cell, write, write_view}
-use Rattle.wb_model.specs.Statements.{with_words, with_class, Piece, Where, Meaning, given_to, released, release, is_null}
+use Rattle.wb_model.specs.Statements.{with_words, with_class, Piece, Where, Meaning, given_to, released, of_script, release, is_null}
 
 -- the heap with other cells
 abbrev pub with_cells : Heap Content → List (Cell Content) → Heap Content
@@ -225,7 +226,17 @@ module _ (L : Lasting) where
 
   pub push-alike : {ns : List ℕ} (item : Item) (st : State) → Fine ns st → Alike ns (push item st) (push item st)
   unfolding push
-  push-alike _ _ f = grow-alike _ _ _ refl f f
+  push-alike {ns = ns} item st f = by (nat_lt (length st.items) st.slots)
+    where
+      pushed : State
+      pushed = record st { items = st.items ++ item ∷ [] }
+
+      grown : Process
+      grown = grow_if (nat_eq (length pushed.items) st.slots) st pushed
+
+      by : (b : Bool) → Alike ns (elim b [ true ↦ grown | false ↦ ends (leaves KERR_NO_MEMORY) st ]) (elim b [ true ↦ grown | false ↦ ends (leaves KERR_NO_MEMORY) st ])
+      by true = grow-alike _ _ _ refl f f
+      by false = (refl, f)
 
   pub with_writable-alike : {ns : List ℕ} (st : State) (d : Writable) (go go' : Base → Process) → Fine ns st → ((b : Base) → Alike ns (go b) (go' b)) →
       Alike ns (with_writable st d go) (with_writable st d go')
@@ -290,7 +301,7 @@ module _ (L : Lasting) where
   unfolding release
   release-alike {ns = ns} p st f = by (is_null p)
     where
-      by : (b : Bool) → Alike ns (elim b [ true ↦ ends goes_on st | false ↦ released (cell_at p st.heap.row) p st ]) (elim b [ true ↦ ends goes_on st | false ↦ released (cell_at p st.heap.row) p st ])
+      by : (b : Bool) → Alike ns (elim b [ true ↦ ends goes_on st | false ↦ released (of_script (cell_at p st.heap.row)) p st ]) (elim b [ true ↦ ends goes_on st | false ↦ released (of_script (cell_at p st.heap.row)) p st ])
       by true = (refl, f)
       by false = released-alike _ _ _ f
 

@@ -1,7 +1,7 @@
 -- What the definitions make of bytes where a reader might doubt: each example is proved by computing.
 use Rattle.std.specs.Prelude.{◌≡◌, pos, negsuc, [], ◌∷◌, ◌++◌, Some, None, codes, map, replicate}
 use Rattle.std.proofs.Common.{refl}
-use Rattle.wb_model.specs.declared.script_lines.Key.TheVariants.{Proc, Ptr, Buf, Alloc, AllocL, Free, Store, Set, Leave, LeaveIfNull, Call, CallTo, Return, ReturnPointer, Insert, Left, Print, Heap, Available, Compress, IfNull, IfSome, IfEqual, IfLess, Else, Repeat, Trap, End}
+use Rattle.wb_model.specs.declared.script_lines.Key.TheVariants.{Proc, Op, Ptr, Buf, Alloc, AllocL, Free, Store, Set, Leave, LeaveIfNull, Call, CallTo, Return, ReturnPointer, Insert, Left, Print, PushOp, Heap, Available, Compress, IfNull, IfSome, IfEqual, IfLess, Else, Repeat, Trap, End}
 use Rattle.wb_model.specs.declared.script_lines.Operand.TheVariants.{Name, Number, Size, Literal, Parameter, Keyword}
 use Rattle.wb_model.specs.declared.script.Parameter.TheVariants.{OfPointer, OfNumber}
 use Rattle.wb_model.specs.declared.script_lines.Form.TheVariants.{Skip, Unknown, Line}
@@ -227,6 +227,23 @@ returns : map line_form (codes "return" ∷ codes "return p" ∷ codes "return 1
     Line Return [] ∷ Line ReturnPointer (Name (codes "p") ∷ []) ∷ replicate 2 Unknown
 unfolding keys
 returns = refl
+
+-- Operations: the one parameter is a pointer, and no kind is told.
+
+operations : map line_form (codes "op drop p" ∷ codes " op  p p\r" ∷ codes "pushop p drop" ∷ codes "pushop null p" ∷ []) ≡
+    Line Op (Name (codes "drop") ∷ Parameter (codes "p") (OfPointer None) ∷ []) ∷ Line Op (Name (codes "p") ∷ Parameter (codes "p") (OfPointer None) ∷ [])
+    ∷ Line PushOp (Name (codes "p") ∷ Name (codes "drop") ∷ []) ∷ Line PushOp (Name (codes "null") ∷ Name (codes "p") ∷ []) ∷ []
+unfolding keys
+operations = refl
+
+-- a name and a parameter are wanted, each one that can be declared, and nothing behind them
+no_operations : map line_form (codes "op" ∷ codes "op drop" ∷ codes "op drop p q" ∷ codes "op drop p:ptr" ∷ codes "op drop 1" ∷ codes "op drop self" ∷ codes "op drop ptr" ∷ codes "op null p" ∷ []) ≡ replicate 8 Unknown
+unfolding keys
+no_operations = refl
+
+no_pushes : map line_form (codes "pushop" ∷ codes "pushop p" ∷ codes "pushop p drop q" ∷ codes "pushop p 1" ∷ codes "pushop 1 drop" ∷ codes "pushop p self" ∷ []) ≡ replicate 6 Unknown
+unfolding keys
+no_pushes = refl
 
 -- Blocks and leaves.
 

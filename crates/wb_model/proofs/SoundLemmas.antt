@@ -15,6 +15,7 @@ nested-plain declared locals trapped inside Statement-F.Return ok = cc
 nested-plain declared locals trapped inside (Statement-F.ReturnPointer p) ok = cc
 nested-plain declared locals trapped inside (Statement-F.Call n arguments) ok = cc
 nested-plain declared locals trapped inside (Statement-F.CallTo x n arguments) ok = cc
+nested-plain declared locals trapped inside (Statement-F.PushOperation p n) ok = cc
 nested-plain declared locals trapped inside (Statement-F.If c first) ok = cc
 nested-plain declared locals trapped inside (Statement-F.IfElse c first other) ok = cc
 nested-plain declared locals trapped inside (Statement-F.Repeat v body) ok = cc

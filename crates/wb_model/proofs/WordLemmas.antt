@@ -12,7 +12,9 @@ use Rattle.wb_model.specs.declared.script_lines.Key.{Key}
 use Rattle.wb_model.specs.declared.script_lines.Letter.{Letter}
 use Rattle.wb_model.specs.declared.script_lines.Operand.{Operand}
 use Rattle.wb_model.specs.declared.script_lines.Operand.TheVariants.{Name, Number, Literal, Keyword}
+use Rattle.wb_model.specs.declared.script_lines.Operand.TheVariants as spelled
 use Rattle.wb_model.specs.declared.script.Parameter.{Parameter}
+use Rattle.wb_model.specs.declared.script.Parameter.TheVariants as parameter
 use Rattle.wb_model.specs.declared.script_lines.Keyword as model
 use Rattle.wb_model.specs.declared.script_lines.Keyword.TheVariants as keyword
 use Rattle.wb_model.specs.declared.script_lines.Form.{Form}
@@ -176,6 +178,7 @@ word_of_kind kind.Number word operand h = let (z, is) = mapped_back Number (numb
 word_of_kind kind.Size word operand h = word_of_size word operand h
 word_of_kind kind.Literal word operand h = let (text, is) = mapped_back Literal (literal_spelled word) operand h in word_of_literal word text is
 word_of_kind kind.Parameter word operand h = word_of_parameter word operand h
+word_of_kind kind.NewPointer word operand h = let (name, is) = mapped_back (λ n. spelled.Parameter n (parameter.OfPointer None)) (declared_name word) operand h in word_of_declared word name is
 word_of_kind (kind.Keyword k) word operand h = word_of_keyword k word (bytes_eq word (text_of_keyword k)) refl operand h
 
 word_among : (kinds : List WordKind) (word : List ℕ) (operand : Operand (List ℕ)) → operand_among kinds word ≡ Some operand → IsWord word

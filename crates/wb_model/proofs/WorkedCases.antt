@@ -218,6 +218,545 @@ return_in_a_repetition_ends_the_body_run : run script_return_in_a_repetition_end
 unfolding everything
 return_in_a_repetition_ends_the_body_run = refl
 
+abbrev script_budget_cuts_before_the_first_item_run : Script
+script_budget_cuts_before_the_first_item_run = record { classes = []; procedures = (record { line = 1; parameters = []; body = record { locals = (OfPointer None) ∷ (OfPointer None) ∷ (OfPointer None) ∷ []; statements = (on 5 (Statement-F.Alloc (Held (H.Local 0)) (Constant (pos 16)) Leaves)) ∷ (on 6 (Statement-F.Push (Held (H.Local 0)))) ∷ (on 7 (Statement-F.Alloc (Held (H.Local 1)) (Constant (pos 16)) Leaves)) ∷ (on 8 (Statement-F.Push (Held (H.Local 1)))) ∷ (on 9 (Statement-F.Alloc (Held (H.Local 2)) (Constant (pos 16)) Leaves)) ∷ (on 10 (Statement-F.Push (Held (H.Local 2)))) ∷ (on 11 (Statement-F.PopDestroy (Constant (pos 3)))) ∷ (on 12 (Statement-F.PrintText (Quoted 0))) ∷ [] } }) ∷ []; operations = []; literals = (110 ∷ 111 ∷ 110 ∷ 101 ∷ 32 ∷ 105 ∷ 115 ∷ 32 ∷ 108 ∷ 101 ∷ 102 ∷ 116 ∷ []) ∷ []; main = 0 }
+
+budget_cuts_before_the_first_item_run : run script_budget_cuts_before_the_first_item_run R.Unlimited 7 (shaped 4096 4096) ≡ record { outcome = Cut Budget; trace = (line 1 144 0 Granted) ∷ (line 2 32 144 Granted) ∷ (line 3 32 176 Granted) ∷ (line 4 32 208 Granted) ∷ []; lines = []; notes = []; steps = 7 }
+unfolding everything
+budget_cuts_before_the_first_item_run = refl
+
+abbrev script_budget_cuts_between_two_items_of_a_leave_run : Script
+script_budget_cuts_between_two_items_of_a_leave_run = record { classes = []; procedures = (record { line = 1; parameters = []; body = record { locals = (OfPointer None) ∷ (OfPointer None) ∷ OfNumber ∷ []; statements = (on 5 (Statement-F.Trap 2 ((on 6 (Statement-F.Alloc (Held (H.Local 0)) (Constant (pos 16)) Leaves)) ∷ (on 7 (Statement-F.Push (Held (H.Local 0)))) ∷ (on 8 (Statement-F.Alloc (Held (H.Local 1)) (Constant (pos 16)) Leaves)) ∷ (on 9 (Statement-F.Push (Held (H.Local 1)))) ∷ (on 10 (Statement-F.Leave (Constant (negsuc 8)))) ∷ []))) ∷ (on 12 (Statement-F.PrintNumber (Variable 2))) ∷ [] } }) ∷ []; operations = []; literals = []; main = 0 }
+
+budget_cuts_between_two_items_of_a_leave_run : run script_budget_cuts_between_two_items_of_a_leave_run R.Unlimited 7 (shaped 4096 4096) ≡ record { outcome = Cut Budget; trace = (line 1 144 0 Granted) ∷ (line 2 32 144 Granted) ∷ (line 3 32 176 Granted) ∷ []; lines = []; notes = []; steps = 7 }
+unfolding everything
+budget_cuts_between_two_items_of_a_leave_run = refl
+
+abbrev script_budget_cuts_between_two_items_run : Script
+script_budget_cuts_between_two_items_run = record { classes = []; procedures = (record { line = 1; parameters = []; body = record { locals = (OfPointer None) ∷ (OfPointer None) ∷ (OfPointer None) ∷ []; statements = (on 5 (Statement-F.Alloc (Held (H.Local 0)) (Constant (pos 16)) Leaves)) ∷ (on 6 (Statement-F.Push (Held (H.Local 0)))) ∷ (on 7 (Statement-F.Alloc (Held (H.Local 1)) (Constant (pos 16)) Leaves)) ∷ (on 8 (Statement-F.Push (Held (H.Local 1)))) ∷ (on 9 (Statement-F.Alloc (Held (H.Local 2)) (Constant (pos 16)) Leaves)) ∷ (on 10 (Statement-F.Push (Held (H.Local 2)))) ∷ (on 11 (Statement-F.PopDestroy (Constant (pos 3)))) ∷ (on 12 (Statement-F.PrintText (Quoted 0))) ∷ [] } }) ∷ []; operations = []; literals = (110 ∷ 111 ∷ 110 ∷ 101 ∷ 32 ∷ 105 ∷ 115 ∷ 32 ∷ 108 ∷ 101 ∷ 102 ∷ 116 ∷ []) ∷ []; main = 0 }
+
+budget_cuts_between_two_items_run : run script_budget_cuts_between_two_items_run R.Unlimited 9 (shaped 4096 4096) ≡ record { outcome = Cut Budget; trace = (line 1 144 0 Granted) ∷ (line 2 32 144 Granted) ∷ (line 3 32 176 Granted) ∷ (line 4 32 208 Granted) ∷ []; lines = []; notes = []; steps = 9 }
+unfolding everything
+budget_cuts_between_two_items_run = refl
+
+abbrev script_budget_is_enough_for_each_item_run : Script
+script_budget_is_enough_for_each_item_run = record { classes = []; procedures = (record { line = 1; parameters = []; body = record { locals = (OfPointer None) ∷ (OfPointer None) ∷ (OfPointer None) ∷ []; statements = (on 5 (Statement-F.Alloc (Held (H.Local 0)) (Constant (pos 16)) Leaves)) ∷ (on 6 (Statement-F.Push (Held (H.Local 0)))) ∷ (on 7 (Statement-F.Alloc (Held (H.Local 1)) (Constant (pos 16)) Leaves)) ∷ (on 8 (Statement-F.Push (Held (H.Local 1)))) ∷ (on 9 (Statement-F.Alloc (Held (H.Local 2)) (Constant (pos 16)) Leaves)) ∷ (on 10 (Statement-F.Push (Held (H.Local 2)))) ∷ (on 11 (Statement-F.PopDestroy (Constant (pos 3)))) ∷ (on 12 (Statement-F.PrintText (Quoted 0))) ∷ [] } }) ∷ []; operations = []; literals = (110 ∷ 111 ∷ 110 ∷ 101 ∷ 32 ∷ 105 ∷ 115 ∷ 32 ∷ 108 ∷ 101 ∷ 102 ∷ 116 ∷ []) ∷ []; main = 0 }
+
+budget_is_enough_for_each_item_run : run script_budget_is_enough_for_each_item_run R.Unlimited 11 (shaped 4096 4096) ≡ record { outcome = Ended None []; trace = (line 1 144 0 Granted) ∷ (line 2 32 144 Granted) ∷ (line 3 32 176 Granted) ∷ (line 4 32 208 Granted) ∷ []; lines = (110 ∷ 111 ∷ 110 ∷ 101 ∷ 32 ∷ 105 ∷ 115 ∷ 32 ∷ 108 ∷ 101 ∷ 102 ∷ 116 ∷ []) ∷ []; notes = []; steps = 11 }
+unfolding everything
+budget_is_enough_for_each_item_run = refl
+
+abbrev script_budget_is_enough_for_the_items_of_a_leave_run : Script
+script_budget_is_enough_for_the_items_of_a_leave_run = record { classes = []; procedures = (record { line = 1; parameters = []; body = record { locals = (OfPointer None) ∷ (OfPointer None) ∷ OfNumber ∷ []; statements = (on 5 (Statement-F.Trap 2 ((on 6 (Statement-F.Alloc (Held (H.Local 0)) (Constant (pos 16)) Leaves)) ∷ (on 7 (Statement-F.Push (Held (H.Local 0)))) ∷ (on 8 (Statement-F.Alloc (Held (H.Local 1)) (Constant (pos 16)) Leaves)) ∷ (on 9 (Statement-F.Push (Held (H.Local 1)))) ∷ (on 10 (Statement-F.Leave (Constant (negsuc 8)))) ∷ []))) ∷ (on 12 (Statement-F.PrintNumber (Variable 2))) ∷ [] } }) ∷ []; operations = []; literals = []; main = 0 }
+
+budget_is_enough_for_the_items_of_a_leave_run : run script_budget_is_enough_for_the_items_of_a_leave_run R.Unlimited 9 (shaped 4096 4096) ≡ record { outcome = Ended None []; trace = (line 1 144 0 Granted) ∷ (line 2 32 144 Granted) ∷ (line 3 32 176 Granted) ∷ []; lines = (45 ∷ 57 ∷ []) ∷ []; notes = []; steps = 9 }
+unfolding everything
+budget_is_enough_for_the_items_of_a_leave_run = refl
+
+abbrev script_callee_pops_an_item_of_its_caller_run : Script
+script_callee_pops_an_item_of_its_caller_run = record { classes = []; procedures = (record { line = 1; parameters = []; body = record { locals = []; statements = (on 2 (Statement-F.Pop (Constant (pos 1)))) ∷ [] } }) ∷ (record { line = 4; parameters = []; body = record { locals = (OfPointer None) ∷ []; statements = (on 6 (Statement-F.Push (Held (H.Local 0)))) ∷ (on 7 (Statement-F.Call 0 [])) ∷ [] } }) ∷ []; operations = []; literals = []; main = 1 }
+
+callee_pops_an_item_of_its_caller_run : run script_callee_pops_an_item_of_its_caller_run R.Unlimited 10000 (shaped 4096 4096) ≡ record { outcome = Ended None []; trace = (line 1 144 0 Granted) ∷ []; lines = []; notes = []; steps = 3 }
+unfolding everything
+callee_pops_an_item_of_its_caller_run = refl
+
+abbrev script_cell_that_grew_at_its_place_is_still_the_item_run : Script
+script_cell_that_grew_at_its_place_is_still_the_item_run = record { classes = []; procedures = (record { line = 1; parameters = []; body = record { locals = (OfPointer None) ∷ []; statements = (on 3 (Statement-F.Alloc (Held (H.Local 0)) (Constant (pos 16)) GivesNull)) ∷ (on 4 (Statement-F.Push (Held (H.Local 0)))) ∷ (on 5 (Statement-F.Realloc (Held (H.Local 0)) (Held (H.Local 0)) (Constant (pos 64)) GivesNull)) ∷ (on 6 (Statement-F.PopCheck (Held (H.Local 0)))) ∷ (on 7 (Statement-F.Push (Held (H.Local 0)))) ∷ (on 8 (Statement-F.PopDestroy (Constant (pos 1)))) ∷ [] } }) ∷ []; operations = []; literals = []; main = 0 }
+
+cell_that_grew_at_its_place_is_still_the_item_run : run script_cell_that_grew_at_its_place_is_still_the_item_run R.Unlimited 10000 (shaped 4096 4096) ≡ record { outcome = Ended None []; trace = (line 1 144 0 Granted) ∷ (line 2 32 144 Granted) ∷ (line 3 80 144 Granted) ∷ []; lines = []; notes = []; steps = 7 }
+unfolding everything
+cell_that_grew_at_its_place_is_still_the_item_run = refl
+
+abbrev script_check_names_a_cell_after_the_stack_moved_run : Script
+script_check_names_a_cell_after_the_stack_moved_run = record { classes = []; procedures = (record { line = 1; parameters = []; body = record { locals = (OfPointer None) ∷ (OfPointer None) ∷ []; statements = (on 4 (Statement-F.Alloc (Held (H.Local 0)) (Constant (pos 1)) GivesNull)) ∷ (on 5 (Statement-F.Push (Held (H.Local 0)))) ∷ (on 6 (Statement-F.Push (Held (H.Local 0)))) ∷ (on 7 (Statement-F.Push (Held (H.Local 0)))) ∷ (on 8 (Statement-F.Push (Held (H.Local 0)))) ∷ (on 9 (Statement-F.Push (Held (H.Local 0)))) ∷ (on 10 (Statement-F.Push (Held (H.Local 0)))) ∷ (on 11 (Statement-F.Push (Held (H.Local 0)))) ∷ (on 12 (Statement-F.Push (Held (H.Local 0)))) ∷ (on 13 (Statement-F.Alloc (Held (H.Local 1)) (Constant (pos 100)) GivesNull)) ∷ (on 14 (Statement-F.Pop (Constant (pos 8)))) ∷ (on 15 Statement-F.Mark) ∷ (on 16 (Statement-F.Alloc (Held (H.Local 1)) (Constant (pos 4)) GivesNull)) ∷ (on 17 (Statement-F.Check (Constant (pos 0)))) ∷ [] } }) ∷ []; operations = []; literals = []; main = 0 }
+
+check_names_a_cell_after_the_stack_moved_run : run script_check_names_a_cell_after_the_stack_moved_run R.Unlimited 10000 (shaped 4096 4096) ≡ record { outcome = Panicked (P.Alloc 384); trace = (line 1 144 0 Granted) ∷ (line 2 32 144 Granted) ∷ (line 3 208 176 Granted) ∷ (line 4 128 0 Granted) ∷ (line 5 32 384 Granted) ∷ []; lines = []; notes = []; steps = 14 }
+unfolding everything
+check_names_a_cell_after_the_stack_moved_run = refl
+
+abbrev script_check_names_the_cell_at_place_zero_run : Script
+script_check_names_the_cell_at_place_zero_run = record { classes = []; procedures = (record { line = 1; parameters = []; body = record { locals = (OfPointer None) ∷ (OfPointer None) ∷ []; statements = (on 4 (Statement-F.Alloc (Held (H.Local 0)) (Constant (pos 1)) GivesNull)) ∷ (on 5 (Statement-F.Push (Held (H.Local 0)))) ∷ (on 6 (Statement-F.Push (Held (H.Local 0)))) ∷ (on 7 (Statement-F.Push (Held (H.Local 0)))) ∷ (on 8 (Statement-F.Push (Held (H.Local 0)))) ∷ (on 9 (Statement-F.Push (Held (H.Local 0)))) ∷ (on 10 (Statement-F.Push (Held (H.Local 0)))) ∷ (on 11 (Statement-F.Push (Held (H.Local 0)))) ∷ (on 12 (Statement-F.Push (Held (H.Local 0)))) ∷ (on 13 Statement-F.Mark) ∷ (on 14 (Statement-F.Alloc (Held (H.Local 1)) (Constant (pos 100)) GivesNull)) ∷ (on 15 (Statement-F.Check (Constant (pos 0)))) ∷ [] } }) ∷ []; operations = []; literals = []; main = 0 }
+
+check_names_the_cell_at_place_zero_run : run script_check_names_the_cell_at_place_zero_run R.Unlimited 10000 (shaped 4096 4096) ≡ record { outcome = Panicked (P.Alloc 0); trace = (line 1 144 0 Granted) ∷ (line 2 32 144 Granted) ∷ (line 3 208 176 Granted) ∷ (line 4 128 0 Granted) ∷ []; lines = []; notes = []; steps = 12 }
+unfolding everything
+check_names_the_cell_at_place_zero_run = refl
+
+abbrev script_eighth_push_grows_the_cleanup_cell_run : Script
+script_eighth_push_grows_the_cleanup_cell_run = record { classes = []; procedures = (record { line = 1; parameters = []; body = record { locals = (OfPointer None) ∷ []; statements = (on 3 (Statement-F.Repeat (Constant (pos 8)) ((on 4 (Statement-F.Alloc (Held (H.Local 0)) (Constant (pos 16)) Leaves)) ∷ (on 5 (Statement-F.Push (Held (H.Local 0)))) ∷ []))) ∷ (on 7 (Statement-F.PopDestroy (Constant (pos 8)))) ∷ [] } }) ∷ []; operations = []; literals = []; main = 0 }
+
+eighth_push_grows_the_cleanup_cell_run : run script_eighth_push_grows_the_cleanup_cell_run R.Unlimited 10000 (shaped 4096 4096) ≡ record { outcome = Ended None []; trace = (line 1 144 0 Granted) ∷ (line 2 32 144 Granted) ∷ (line 3 32 176 Granted) ∷ (line 4 32 208 Granted) ∷ (line 5 32 240 Granted) ∷ (line 6 32 272 Granted) ∷ (line 7 32 304 Granted) ∷ (line 8 32 336 Granted) ∷ (line 9 32 368 Granted) ∷ (line 10 208 400 Granted) ∷ []; lines = []; notes = []; steps = 34 }
+unfolding everything
+eighth_push_grows_the_cleanup_cell_run = refl
+
+abbrev script_fewer_than_none_are_popped_and_destroyed_run : Script
+script_fewer_than_none_are_popped_and_destroyed_run = record { classes = []; procedures = (record { line = 1; parameters = []; body = record { locals = (OfPointer None) ∷ []; statements = (on 3 (Statement-F.Push (Held (H.Local 0)))) ∷ (on 4 (Statement-F.PopDestroy (Constant (negsuc 0)))) ∷ [] } }) ∷ []; operations = []; literals = []; main = 0 }
+
+fewer_than_none_are_popped_and_destroyed_run : run script_fewer_than_none_are_popped_and_destroyed_run R.Unlimited 10000 (shaped 4096 4096) ≡ record { outcome = Panicked (P.Workbench 9); trace = (line 1 144 0 Granted) ∷ []; lines = []; notes = []; steps = 2 }
+unfolding everything
+fewer_than_none_are_popped_and_destroyed_run = refl
+
+abbrev script_fewer_than_none_are_popped_run : Script
+script_fewer_than_none_are_popped_run = record { classes = []; procedures = (record { line = 1; parameters = []; body = record { locals = (OfPointer None) ∷ []; statements = (on 3 (Statement-F.Push (Held (H.Local 0)))) ∷ (on 4 (Statement-F.Pop (Constant (negsuc 0)))) ∷ [] } }) ∷ []; operations = []; literals = []; main = 0 }
+
+fewer_than_none_are_popped_run : run script_fewer_than_none_are_popped_run R.Unlimited 10000 (shaped 4096 4096) ≡ record { outcome = Panicked (P.Workbench 9); trace = (line 1 144 0 Granted) ∷ []; lines = []; notes = []; steps = 2 }
+unfolding everything
+fewer_than_none_are_popped_run = refl
+
+abbrev script_growth_counts_for_the_setting_run : Script
+script_growth_counts_for_the_setting_run = record { classes = []; procedures = (record { line = 1; parameters = []; body = record { locals = (OfPointer None) ∷ (OfPointer None) ∷ []; statements = (on 4 (Statement-F.FailEvery (Constant (pos 2)))) ∷ (on 5 (Statement-F.Alloc (Held (H.Local 0)) (Constant (pos 16)) GivesNull)) ∷ (on 6 (Statement-F.Repeat (Constant (pos 7)) ((on 7 (Statement-F.Push (Held (H.Local 1)))) ∷ []))) ∷ (on 9 (Statement-F.Push (Held (H.Local 1)))) ∷ [] } }) ∷ []; operations = []; literals = []; main = 0 }
+
+growth_counts_for_the_setting_run : run script_growth_counts_for_the_setting_run R.Unlimited 10000 (shaped 4096 4096) ≡ record { outcome = Ended (Some (negsuc 3)) ((record { number = 2; length = 32; place = 144 }) ∷ []); trace = (line 1 144 0 Granted) ∷ (line 2 32 144 Granted) ∷ (line 3 208 176 Simulated) ∷ []; lines = []; notes = []; steps = 26 }
+unfolding everything
+growth_counts_for_the_setting_run = refl
+
+abbrev script_growth_past_the_ceiling_cuts_the_run_run : Script
+script_growth_past_the_ceiling_cuts_the_run_run = record { classes = []; procedures = (record { line = 1; parameters = []; body = record { locals = (OfPointer None) ∷ (OfPointer None) ∷ []; statements = (on 4 (Statement-F.Repeat (Constant (pos 15)) ((on 5 (Statement-F.Alloc (Held (H.Local 0)) (Constant (pos 1048576)) GivesNull)) ∷ []))) ∷ (on 7 (Statement-F.Alloc (Held (H.Local 0)) (Constant (pos 1048176)) GivesNull)) ∷ (on 8 (Statement-F.Repeat (Constant (pos 8)) ((on 9 (Statement-F.Push (Held (H.Local 1)))) ∷ []))) ∷ (on 11 (Statement-F.Pop (Constant (pos 8)))) ∷ [] } }) ∷ []; operations = []; literals = []; main = 0 }
+
+growth_past_the_ceiling_cuts_the_run_run : run script_growth_past_the_ceiling_cuts_the_run_run R.Unlimited 10000 (shaped 4096 4096) ≡ record { outcome = Cut Ceiling; trace = (line 1 144 0 Granted) ∷ (line 2 1048592 144 Granted) ∷ (line 3 1048592 1048736 Granted) ∷ (line 4 1048592 2097328 Granted) ∷ (line 5 1048592 3145920 Granted) ∷ (line 6 1048592 4194512 Granted) ∷ (line 7 1048592 5243104 Granted) ∷ (line 8 1048592 6291696 Granted) ∷ (line 9 1048592 7340288 Granted) ∷ (line 10 1048592 8388880 Granted) ∷ (line 11 1048592 9437472 Granted) ∷ (line 12 1048592 10486064 Granted) ∷ (line 13 1048592 11534656 Granted) ∷ (line 14 1048592 12583248 Granted) ∷ (line 15 1048592 13631840 Granted) ∷ (line 16 1048592 14680432 Granted) ∷ (line 17 1048192 15729024 Granted) ∷ []; lines = []; notes = []; steps = 49 }
+unfolding everything
+growth_past_the_ceiling_cuts_the_run_run = refl
+
+abbrev script_growth_that_fails_with_the_setting_and_the_limit_run : Script
+script_growth_that_fails_with_the_setting_and_the_limit_run = record { classes = []; procedures = (record { line = 1; parameters = []; body = record { locals = (OfPointer None) ∷ OfNumber ∷ []; statements = (on 4 (Statement-F.FailNext (Constant (pos 1)))) ∷ (on 5 (Statement-F.Trap 1 ((on 6 (Statement-F.Repeat (Constant (pos 8)) ((on 7 (Statement-F.Push (Held (H.Local 0)))) ∷ []))) ∷ []))) ∷ (on 10 (Statement-F.PrintNumber (Variable 1))) ∷ (on 11 (Statement-F.Trap 1 ((on 12 (Statement-F.Repeat (Constant (pos 8)) ((on 13 (Statement-F.Push (Held (H.Local 0)))) ∷ []))) ∷ []))) ∷ (on 16 (Statement-F.PrintNumber (Variable 1))) ∷ [] } }) ∷ []; operations = []; literals = []; main = 0 }
+
+growth_that_fails_with_the_setting_and_the_limit_run : run script_growth_that_fails_with_the_setting_and_the_limit_run (R.Limit 200) 10000 (shaped 4096 4096) ≡ record { outcome = Ended None []; trace = (line 1 144 0 Granted) ∷ (line 2 208 0 Simulated) ∷ (line 3 208 0 Refused) ∷ []; lines = (45 ∷ 52 ∷ []) ∷ (45 ∷ 52 ∷ []) ∷ []; notes = []; steps = 55 }
+unfolding everything
+growth_that_fails_with_the_setting_and_the_limit_run = refl
+
+abbrev script_item_left_at_the_end_of_a_trap_run : Script
+script_item_left_at_the_end_of_a_trap_run = record { classes = []; procedures = (record { line = 1; parameters = []; body = record { locals = (OfPointer None) ∷ OfNumber ∷ []; statements = (on 4 (Statement-F.Trap 1 ((on 5 (Statement-F.Push (Held (H.Local 0)))) ∷ []))) ∷ [] } }) ∷ []; operations = []; literals = []; main = 0 }
+
+item_left_at_the_end_of_a_trap_run : run script_item_left_at_the_end_of_a_trap_run R.Unlimited 10000 (shaped 4096 4096) ≡ record { outcome = Panicked (P.Workbench 5); trace = (line 1 144 0 Granted) ∷ []; lines = []; notes = []; steps = 2 }
+unfolding everything
+item_left_at_the_end_of_a_trap_run = refl
+
+abbrev script_item_left_at_the_end_of_main_run : Script
+script_item_left_at_the_end_of_main_run = record { classes = []; procedures = (record { line = 1; parameters = []; body = record { locals = (OfPointer None) ∷ []; statements = (on 3 (Statement-F.Alloc (Held (H.Local 0)) (Constant (pos 16)) GivesNull)) ∷ (on 4 (Statement-F.Push (Held (H.Local 0)))) ∷ (on 5 (Statement-F.PrintText (Quoted 0))) ∷ [] } }) ∷ []; operations = []; literals = (100 ∷ 111 ∷ 110 ∷ 101 ∷ []) ∷ []; main = 0 }
+
+item_left_at_the_end_of_main_run : run script_item_left_at_the_end_of_main_run R.Unlimited 10000 (shaped 4096 4096) ≡ record { outcome = Panicked (P.Workbench 5); trace = (line 1 144 0 Granted) ∷ (line 2 32 144 Granted) ∷ []; lines = (100 ∷ 111 ∷ 110 ∷ 101 ∷ []) ∷ []; notes = []; steps = 3 }
+unfolding everything
+item_left_at_the_end_of_main_run = refl
+
+abbrev script_item_of_a_callee_is_left_at_the_end_of_a_trap_run : Script
+script_item_of_a_callee_is_left_at_the_end_of_a_trap_run = record { classes = []; procedures = (record { line = 1; parameters = []; body = record { locals = (OfPointer None) ∷ []; statements = (on 3 (Statement-F.Alloc (Held (H.Local 0)) (Constant (pos 16)) Leaves)) ∷ (on 4 (Statement-F.Push (Held (H.Local 0)))) ∷ [] } }) ∷ (record { line = 6; parameters = []; body = record { locals = OfNumber ∷ []; statements = (on 8 (Statement-F.Trap 0 ((on 9 (Statement-F.Call 0 [])) ∷ []))) ∷ (on 11 (Statement-F.PrintNumber (Variable 0))) ∷ [] } }) ∷ []; operations = []; literals = []; main = 1 }
+
+item_of_a_callee_is_left_at_the_end_of_a_trap_run : run script_item_of_a_callee_is_left_at_the_end_of_a_trap_run R.Unlimited 10000 (shaped 4096 4096) ≡ record { outcome = Panicked (P.Workbench 5); trace = (line 1 144 0 Granted) ∷ (line 2 32 144 Granted) ∷ []; lines = []; notes = []; steps = 4 }
+unfolding everything
+item_of_a_callee_is_left_at_the_end_of_a_trap_run = refl
+
+abbrev script_item_of_a_mark_is_freed_by_a_leave_run : Script
+script_item_of_a_mark_is_freed_by_a_leave_run = record { classes = []; procedures = (record { line = 1; parameters = []; body = record { locals = (OfPointer None) ∷ OfNumber ∷ []; statements = (on 4 Statement-F.Mark) ∷ (on 5 (Statement-F.Trap 1 ((on 6 (Statement-F.Alloc (Held (H.Local 0)) (Constant (pos 16)) Leaves)) ∷ (on 7 (Statement-F.Push (Held (H.Local 0)))) ∷ (on 8 (Statement-F.Leave (Constant (negsuc 0)))) ∷ []))) ∷ (on 10 (Statement-F.MarkEnd (Constant (pos 0)))) ∷ [] } }) ∷ []; operations = []; literals = []; main = 0 }
+
+item_of_a_mark_is_freed_by_a_leave_run : run script_item_of_a_mark_is_freed_by_a_leave_run R.Unlimited 10000 (shaped 4096 4096) ≡ record { outcome = Ended None []; trace = (line 1 144 0 Granted) ∷ (line 2 32 144 Granted) ∷ []; lines = []; notes = []; steps = 7 }
+unfolding everything
+item_of_a_mark_is_freed_by_a_leave_run = refl
+
+abbrev script_item_of_a_text_is_freed_run : Script
+script_item_of_a_text_is_freed_run = record { classes = []; procedures = (record { line = 1; parameters = []; body = record { locals = (OfPointer None) ∷ OfNumber ∷ []; statements = (on 4 (Statement-F.Trap 1 ((on 5 (Statement-F.NewText (Held (H.Local 0)) (Constant (pos 4)) Leaves)) ∷ (on 6 (Statement-F.Push (Held (H.Local 0)))) ∷ (on 7 (Statement-F.PopDestroy (Constant (pos 1)))) ∷ []))) ∷ (on 9 (Statement-F.PrintNumber (Variable 1))) ∷ [] } }) ∷ []; operations = []; literals = []; main = 0 }
+
+item_of_a_text_is_freed_run : run script_item_of_a_text_is_freed_run R.Unlimited 10000 (shaped 4096 4096) ≡ record { outcome = Ended None []; trace = (line 1 144 0 Granted) ∷ (line 2 32 144 Granted) ∷ []; lines = (48 ∷ []) ∷ []; notes = []; steps = 6 }
+unfolding everything
+item_of_a_text_is_freed_run = refl
+
+abbrev script_item_of_an_outer_trap_outlives_a_leave_run : Script
+script_item_of_an_outer_trap_outlives_a_leave_run = record { classes = []; procedures = (record { line = 1; parameters = []; body = record { locals = (OfPointer None) ∷ (OfPointer None) ∷ OfNumber ∷ OfNumber ∷ []; statements = (on 6 (Statement-F.Trap 2 ((on 7 (Statement-F.Alloc (Held (H.Local 0)) (Constant (pos 16)) Leaves)) ∷ (on 8 (Statement-F.Push (Held (H.Local 0)))) ∷ (on 9 (Statement-F.Trap 3 ((on 10 (Statement-F.Alloc (Held (H.Local 1)) (Constant (pos 32)) Leaves)) ∷ (on 11 (Statement-F.Push (Held (H.Local 1)))) ∷ (on 12 (Statement-F.Leave (Constant (negsuc 4)))) ∷ []))) ∷ (on 14 (Statement-F.PrintNumber (Variable 3))) ∷ (on 15 (Statement-F.PopCheck (Held (H.Local 0)))) ∷ (on 16 (Statement-F.Push (Held (H.Local 0)))) ∷ (on 17 (Statement-F.PopDestroy (Constant (pos 1)))) ∷ []))) ∷ (on 19 (Statement-F.PrintNumber (Variable 2))) ∷ [] } }) ∷ []; operations = []; literals = []; main = 0 }
+
+item_of_an_outer_trap_outlives_a_leave_run : run script_item_of_an_outer_trap_outlives_a_leave_run R.Unlimited 10000 (shaped 4096 4096) ≡ record { outcome = Ended None []; trace = (line 1 144 0 Granted) ∷ (line 2 32 144 Granted) ∷ (line 3 48 176 Granted) ∷ []; lines = (45 ∷ 53 ∷ []) ∷ (48 ∷ []) ∷ []; notes = []; steps = 14 }
+unfolding everything
+item_of_an_outer_trap_outlives_a_leave_run = refl
+
+abbrev script_item_of_main_outlives_a_leave_run : Script
+script_item_of_main_outlives_a_leave_run = record { classes = []; procedures = (record { line = 1; parameters = []; body = record { locals = (OfPointer None) ∷ (OfPointer None) ∷ OfNumber ∷ []; statements = (on 5 (Statement-F.Alloc (Held (H.Local 0)) (Constant (pos 16)) Leaves)) ∷ (on 6 (Statement-F.Push (Held (H.Local 0)))) ∷ (on 7 (Statement-F.Trap 2 ((on 8 (Statement-F.Alloc (Held (H.Local 1)) (Constant (pos 32)) Leaves)) ∷ (on 9 (Statement-F.Push (Held (H.Local 1)))) ∷ (on 10 (Statement-F.Leave (Constant (negsuc 4)))) ∷ []))) ∷ (on 12 (Statement-F.PrintNumber (Variable 2))) ∷ (on 13 (Statement-F.PopCheck (Held (H.Local 0)))) ∷ (on 14 (Statement-F.Free (Held (H.Local 0)))) ∷ [] } }) ∷ []; operations = []; literals = []; main = 0 }
+
+item_of_main_outlives_a_leave_run : run script_item_of_main_outlives_a_leave_run R.Unlimited 10000 (shaped 4096 4096) ≡ record { outcome = Ended None []; trace = (line 1 144 0 Granted) ∷ (line 2 32 144 Granted) ∷ (line 3 48 176 Granted) ∷ []; lines = (45 ∷ 53 ∷ []) ∷ []; notes = []; steps = 10 }
+unfolding everything
+item_of_main_outlives_a_leave_run = refl
+
+abbrev script_item_that_was_pushed_twice_is_freed_once_run : Script
+script_item_that_was_pushed_twice_is_freed_once_run = record { classes = []; procedures = (record { line = 1; parameters = []; body = record { locals = (OfPointer None) ∷ []; statements = (on 3 (Statement-F.Alloc (Held (H.Local 0)) (Constant (pos 16)) GivesNull)) ∷ (on 4 (Statement-F.Push (Held (H.Local 0)))) ∷ (on 5 (Statement-F.Push (Held (H.Local 0)))) ∷ (on 6 (Statement-F.PopDestroy (Constant (pos 2)))) ∷ [] } }) ∷ []; operations = []; literals = []; main = 0 }
+
+item_that_was_pushed_twice_is_freed_once_run : run script_item_that_was_pushed_twice_is_freed_once_run R.Unlimited 10000 (shaped 4096 4096) ≡ record { outcome = Panicked (P.User 42); trace = (line 1 144 0 Granted) ∷ (line 2 32 144 Granted) ∷ []; lines = []; notes = []; steps = 6 }
+unfolding everything
+item_that_was_pushed_twice_is_freed_once_run = refl
+
+abbrev script_items_are_popped_by_a_variable_run : Script
+script_items_are_popped_by_a_variable_run = record { classes = []; procedures = (record { line = 1; parameters = []; body = record { locals = (OfPointer None) ∷ (OfPointer None) ∷ OfNumber ∷ []; statements = (on 5 (Statement-F.Alloc (Held (H.Local 0)) (Constant (pos 16)) GivesNull)) ∷ (on 6 (Statement-F.Alloc (Held (H.Local 1)) (Constant (pos 16)) GivesNull)) ∷ (on 7 (Statement-F.Push (Held (H.Local 0)))) ∷ (on 8 (Statement-F.Push (Held (H.Local 1)))) ∷ (on 9 (Statement-F.SetNumber 2 (Constant (pos 2)))) ∷ (on 10 (Statement-F.Pop (Variable 2))) ∷ (on 11 (Statement-F.Free (Held (H.Local 0)))) ∷ (on 12 (Statement-F.Free (Held (H.Local 1)))) ∷ [] } }) ∷ []; operations = []; literals = []; main = 0 }
+
+items_are_popped_by_a_variable_run : run script_items_are_popped_by_a_variable_run R.Unlimited 10000 (shaped 4096 4096) ≡ record { outcome = Ended None []; trace = (line 1 144 0 Granted) ∷ (line 2 32 144 Granted) ∷ (line 3 32 176 Granted) ∷ []; lines = []; notes = []; steps = 8 }
+unfolding everything
+items_are_popped_by_a_variable_run = refl
+
+abbrev script_items_left_at_the_plain_end_of_a_trap_run : Script
+script_items_left_at_the_plain_end_of_a_trap_run = record { classes = []; procedures = (record { line = 1; parameters = []; body = record { locals = (OfPointer None) ∷ OfNumber ∷ []; statements = (on 4 (Statement-F.Alloc (Held (H.Local 0)) (Constant (pos 10)) GivesNull)) ∷ (on 5 (Statement-F.Trap 1 ((on 6 (Statement-F.Push (Held (H.Local 0)))) ∷ []))) ∷ (on 8 (Statement-F.PrintNumber (Constant (pos 1)))) ∷ [] } }) ∷ []; operations = []; literals = []; main = 0 }
+
+items_left_at_the_plain_end_of_a_trap_run : run script_items_left_at_the_plain_end_of_a_trap_run R.Unlimited 10000 (shaped 4096 4096) ≡ record { outcome = Panicked (P.Workbench 5); trace = (line 1 144 0 Granted) ∷ (line 2 32 144 Granted) ∷ []; lines = []; notes = []; steps = 3 }
+unfolding everything
+items_left_at_the_plain_end_of_a_trap_run = refl
+
+abbrev script_leave_destroys_a_stale_item_run : Script
+script_leave_destroys_a_stale_item_run = record { classes = []; procedures = (record { line = 1; parameters = []; body = record { locals = (OfPointer None) ∷ (OfPointer None) ∷ OfNumber ∷ []; statements = (on 5 (Statement-F.Trap 2 ((on 6 (Statement-F.Alloc (Held (H.Local 0)) (Constant (pos 16)) Leaves)) ∷ (on 7 (Statement-F.Push (Held (H.Local 0)))) ∷ (on 8 (Statement-F.Alloc (Held (H.Local 1)) (Constant (pos 16)) Leaves)) ∷ (on 9 (Statement-F.Push (Held (H.Local 1)))) ∷ (on 10 (Statement-F.Free (Held (H.Local 0)))) ∷ (on 11 (Statement-F.Leave (Constant (negsuc 4)))) ∷ []))) ∷ (on 13 (Statement-F.PrintNumber (Variable 2))) ∷ [] } }) ∷ []; operations = []; literals = []; main = 0 }
+
+leave_destroys_a_stale_item_run : run script_leave_destroys_a_stale_item_run R.Unlimited 10000 (shaped 4096 4096) ≡ record { outcome = Panicked (P.User 42); trace = (line 1 144 0 Granted) ∷ (line 2 32 144 Granted) ∷ (line 3 32 176 Granted) ∷ []; lines = []; notes = []; steps = 9 }
+unfolding everything
+leave_destroys_a_stale_item_run = refl
+
+abbrev script_leave_destroys_the_items_of_all_callees_run : Script
+script_leave_destroys_the_items_of_all_callees_run = record { classes = []; procedures = (record { line = 1; parameters = []; body = record { locals = (OfPointer None) ∷ []; statements = (on 3 (Statement-F.Alloc (Held (H.Local 0)) (Constant (pos 16)) Leaves)) ∷ (on 4 (Statement-F.Push (Held (H.Local 0)))) ∷ (on 5 (Statement-F.Leave (Constant (negsuc 6)))) ∷ [] } }) ∷ (record { line = 7; parameters = []; body = record { locals = (OfPointer None) ∷ []; statements = (on 9 (Statement-F.Alloc (Held (H.Local 0)) (Constant (pos 32)) Leaves)) ∷ (on 10 (Statement-F.Push (Held (H.Local 0)))) ∷ (on 11 (Statement-F.Call 0 [])) ∷ (on 12 (Statement-F.PopDestroy (Constant (pos 1)))) ∷ [] } }) ∷ (record { line = 14; parameters = []; body = record { locals = (OfPointer None) ∷ []; statements = (on 16 (Statement-F.Alloc (Held (H.Local 0)) (Constant (pos 48)) Leaves)) ∷ (on 17 (Statement-F.Push (Held (H.Local 0)))) ∷ (on 18 (Statement-F.Call 1 [])) ∷ (on 19 (Statement-F.PopDestroy (Constant (pos 1)))) ∷ [] } }) ∷ (record { line = 21; parameters = []; body = record { locals = OfNumber ∷ []; statements = (on 23 (Statement-F.Trap 0 ((on 24 (Statement-F.Call 2 [])) ∷ []))) ∷ (on 26 (Statement-F.PrintNumber (Variable 0))) ∷ [] } }) ∷ []; operations = []; literals = []; main = 3 }
+
+leave_destroys_the_items_of_all_callees_run : run script_leave_destroys_the_items_of_all_callees_run R.Unlimited 10000 (shaped 4096 4096) ≡ record { outcome = Ended None []; trace = (line 1 144 0 Granted) ∷ (line 2 64 144 Granted) ∷ (line 3 48 208 Granted) ∷ (line 4 32 256 Granted) ∷ []; lines = (45 ∷ 55 ∷ []) ∷ []; notes = []; steps = 15 }
+unfolding everything
+leave_destroys_the_items_of_all_callees_run = refl
+
+abbrev script_leave_out_of_callees_ends_main_run : Script
+script_leave_out_of_callees_ends_main_run = record { classes = []; procedures = (record { line = 1; parameters = []; body = record { locals = (OfPointer None) ∷ []; statements = (on 3 (Statement-F.Alloc (Held (H.Local 0)) (Constant (pos 16)) Leaves)) ∷ (on 4 (Statement-F.Push (Held (H.Local 0)))) ∷ (on 5 (Statement-F.Leave (Constant (negsuc 6)))) ∷ [] } }) ∷ (record { line = 7; parameters = []; body = record { locals = (OfPointer None) ∷ []; statements = (on 9 (Statement-F.Alloc (Held (H.Local 0)) (Constant (pos 32)) Leaves)) ∷ (on 10 (Statement-F.Push (Held (H.Local 0)))) ∷ (on 11 (Statement-F.Call 0 [])) ∷ (on 12 (Statement-F.PopDestroy (Constant (pos 1)))) ∷ [] } }) ∷ []; operations = []; literals = []; main = 1 }
+
+leave_out_of_callees_ends_main_run : run script_leave_out_of_callees_ends_main_run R.Unlimited 10000 (shaped 4096 4096) ≡ record { outcome = Ended (Some (negsuc 6)) []; trace = (line 1 144 0 Granted) ∷ (line 2 48 144 Granted) ∷ (line 3 32 192 Granted) ∷ []; lines = []; notes = []; steps = 8 }
+unfolding everything
+leave_out_of_callees_ends_main_run = refl
+
+abbrev script_leave_that_goes_on_destroys_trap_by_trap_run : Script
+script_leave_that_goes_on_destroys_trap_by_trap_run = record { classes = []; procedures = (record { line = 1; parameters = []; body = record { locals = (OfPointer None) ∷ (OfPointer None) ∷ (OfPointer None) ∷ OfNumber ∷ OfNumber ∷ []; statements = (on 7 (Statement-F.Alloc (Held (H.Local 0)) (Constant (pos 16)) Leaves)) ∷ (on 8 (Statement-F.Push (Held (H.Local 0)))) ∷ (on 9 (Statement-F.Trap 3 ((on 10 (Statement-F.Alloc (Held (H.Local 1)) (Constant (pos 32)) Leaves)) ∷ (on 11 (Statement-F.Push (Held (H.Local 1)))) ∷ (on 12 (Statement-F.Trap 4 ((on 13 (Statement-F.Alloc (Held (H.Local 2)) (Constant (pos 48)) Leaves)) ∷ (on 14 (Statement-F.Push (Held (H.Local 2)))) ∷ (on 15 (Statement-F.Leave (Constant (negsuc 4)))) ∷ []))) ∷ (on 17 Statement-F.NoteHeap) ∷ (on 18 (Statement-F.Leave (Variable 4))) ∷ []))) ∷ (on 20 Statement-F.NoteHeap) ∷ (on 21 (Statement-F.Leave (Variable 3))) ∷ [] } }) ∷ []; operations = []; literals = []; main = 0 }
+
+leave_that_goes_on_destroys_trap_by_trap_run : run script_leave_that_goes_on_destroys_trap_by_trap_run R.Unlimited 10000 (shaped 4096 4096) ≡ record { outcome = Ended (Some (negsuc 4)) []; trace = (line 1 144 0 Granted) ∷ (line 2 32 144 Granted) ∷ (line 3 48 176 Granted) ∷ (line 4 64 224 Granted) ∷ []; lines = []; notes = (Heap 3 224 4096) ∷ (Heap 2 176 4096) ∷ []; steps = 16 }
+unfolding everything
+leave_that_goes_on_destroys_trap_by_trap_run = refl
+
+abbrev script_leave_without_items_of_its_trap_destroys_none_run : Script
+script_leave_without_items_of_its_trap_destroys_none_run = record { classes = []; procedures = (record { line = 1; parameters = []; body = record { locals = (OfPointer None) ∷ OfNumber ∷ []; statements = (on 4 (Statement-F.Alloc (Held (H.Local 0)) (Constant (pos 16)) Leaves)) ∷ (on 5 (Statement-F.Push (Held (H.Local 0)))) ∷ (on 6 (Statement-F.Trap 1 ((on 7 (Statement-F.Leave (Constant (negsuc 4)))) ∷ []))) ∷ (on 9 (Statement-F.PopDestroy (Constant (pos 1)))) ∷ [] } }) ∷ []; operations = []; literals = []; main = 0 }
+
+leave_without_items_of_its_trap_destroys_none_run : run script_leave_without_items_of_its_trap_destroys_none_run R.Unlimited 10000 (shaped 4096 4096) ≡ record { outcome = Ended None []; trace = (line 1 144 0 Granted) ∷ (line 2 32 144 Granted) ∷ []; lines = []; notes = []; steps = 6 }
+unfolding everything
+leave_without_items_of_its_trap_destroys_none_run = refl
+
+abbrev script_limit_stops_the_stack_above_a_large_hole_run : Script
+script_limit_stops_the_stack_above_a_large_hole_run = record { classes = []; procedures = (record { line = 1; parameters = []; body = record { locals = (OfPointer None) ∷ (OfPointer None) ∷ []; statements = (on 4 (Statement-F.Alloc (Held (H.Local 0)) (Constant (pos 200)) GivesNull)) ∷ (on 5 (Statement-F.Repeat (Constant (pos 8)) ((on 6 (Statement-F.Push (Held (H.Local 1)))) ∷ []))) ∷ (on 8 (Statement-F.Free (Held (H.Local 0)))) ∷ (on 9 Statement-F.NoteAvailable) ∷ (on 10 (Statement-F.Repeat (Constant (pos 4)) ((on 11 (Statement-F.Push (Held (H.Local 1)))) ∷ []))) ∷ [] } }) ∷ []; operations = []; literals = []; main = 0 }
+
+limit_stops_the_stack_above_a_large_hole_run : run script_limit_stops_the_stack_above_a_large_hole_run (R.Limit 639) 10000 (shaped 4096 4096) ≡ record { outcome = Ended (Some (negsuc 3)) []; trace = (line 1 144 0 Granted) ∷ (line 2 224 144 Granted) ∷ (line 3 208 368 Granted) ∷ (line 4 272 368 Refused) ∷ []; lines = []; notes = (Available 416 368) ∷ []; steps = 41 }
+unfolding everything
+limit_stops_the_stack_above_a_large_hole_run = refl
+
+abbrev script_lines_have_their_words_as_names_too_run : Script
+script_lines_have_their_words_as_names_too_run = record { classes = []; procedures = (record { line = 1; parameters = (Par.OfPointer None) ∷ []; body = record { locals = (OfPointer None) ∷ []; statements = (on 3 (Statement-F.Set (Held (H.Local 1)) (Held (H.Local 0)))) ∷ (on 4 (Statement-F.Push (Held (H.Local 1)))) ∷ [] } }) ∷ (record { line = 6; parameters = []; body = record { locals = (OfPointer None) ∷ OfNumber ∷ []; statements = (on 9 (Statement-F.Alloc (Held (H.Local 0)) (Constant (pos 16)) Leaves)) ∷ (on 10 (Statement-F.Call 0 ((Passed (Held (H.Local 0))) ∷ []))) ∷ (on 11 (Statement-F.PopCheck (Held (H.Local 0)))) ∷ (on 12 (Statement-F.Push (Held (H.Local 0)))) ∷ (on 13 (Statement-F.SetNumber 1 (Constant (pos 1)))) ∷ (on 14 (Statement-F.PopDestroy (Variable 1))) ∷ [] } }) ∷ []; operations = []; literals = []; main = 1 }
+
+lines_have_their_words_as_names_too_run : run script_lines_have_their_words_as_names_too_run R.Unlimited 10000 (shaped 4096 4096) ≡ record { outcome = Ended None []; trace = (line 1 144 0 Granted) ∷ (line 2 32 144 Granted) ∷ []; lines = []; notes = []; steps = 9 }
+unfolding everything
+lines_have_their_words_as_names_too_run = refl
+
+abbrev script_mark_end_of_a_level_that_the_stack_grew_in_run : Script
+script_mark_end_of_a_level_that_the_stack_grew_in_run = record { classes = []; procedures = (record { line = 1; parameters = []; body = record { locals = (OfPointer None) ∷ (OfPointer None) ∷ []; statements = (on 4 (Statement-F.Alloc (Held (H.Local 0)) (Constant (pos 16)) GivesNull)) ∷ (on 5 Statement-F.Mark) ∷ (on 6 (Statement-F.Repeat (Constant (pos 8)) ((on 7 (Statement-F.Push (Held (H.Local 1)))) ∷ []))) ∷ (on 9 (Statement-F.MarkEnd (Constant (pos 0)))) ∷ (on 10 (Statement-F.Check (Constant (pos 1)))) ∷ (on 11 (Statement-F.Repeat (Constant (pos 4)) ((on 12 (Statement-F.Push (Held (H.Local 1)))) ∷ []))) ∷ (on 14 (Statement-F.CheckAll (Constant (pos 1)))) ∷ (on 15 (Statement-F.Pop (Constant (pos 12)))) ∷ (on 16 (Statement-F.Free (Held (H.Local 0)))) ∷ [] } }) ∷ []; operations = []; literals = []; main = 0 }
+
+mark_end_of_a_level_that_the_stack_grew_in_run : run script_mark_end_of_a_level_that_the_stack_grew_in_run R.Unlimited 10000 (shaped 4096 4096) ≡ record { outcome = Ended None []; trace = (line 1 144 0 Granted) ∷ (line 2 32 144 Granted) ∷ (line 3 208 176 Granted) ∷ (line 4 272 176 Granted) ∷ []; lines = []; notes = []; steps = 33 }
+unfolding everything
+mark_end_of_a_level_that_the_stack_grew_in_run = refl
+
+abbrev script_marks_never_count_the_cleanup_cell_run : Script
+script_marks_never_count_the_cleanup_cell_run = record { classes = []; procedures = (record { line = 1; parameters = []; body = record { locals = (OfPointer None) ∷ []; statements = (on 3 Statement-F.Mark) ∷ (on 4 (Statement-F.Repeat (Constant (pos 8)) ((on 5 (Statement-F.Push (Held (H.Local 0)))) ∷ []))) ∷ (on 7 (Statement-F.Pop (Constant (pos 8)))) ∷ (on 8 (Statement-F.MarkEnd (Constant (pos 0)))) ∷ [] } }) ∷ []; operations = []; literals = []; main = 0 }
+
+marks_never_count_the_cleanup_cell_run : run script_marks_never_count_the_cleanup_cell_run R.Unlimited 10000 (shaped 4096 4096) ≡ record { outcome = Ended None []; trace = (line 1 144 0 Granted) ∷ (line 2 208 0 Granted) ∷ []; lines = []; notes = []; steps = 20 }
+unfolding everything
+marks_never_count_the_cleanup_cell_run = refl
+
+abbrev script_moved_cell_leaves_a_stale_item_run : Script
+script_moved_cell_leaves_a_stale_item_run = record { classes = []; procedures = (record { line = 1; parameters = []; body = record { locals = (OfPointer None) ∷ (OfPointer None) ∷ []; statements = (on 4 (Statement-F.Alloc (Held (H.Local 0)) (Constant (pos 16)) GivesNull)) ∷ (on 5 (Statement-F.Push (Held (H.Local 0)))) ∷ (on 6 (Statement-F.Alloc (Held (H.Local 1)) (Constant (pos 16)) GivesNull)) ∷ (on 7 (Statement-F.Realloc (Held (H.Local 0)) (Held (H.Local 0)) (Constant (pos 64)) GivesNull)) ∷ (on 8 (Statement-F.Free (Held (H.Local 1)))) ∷ (on 9 (Statement-F.PopDestroy (Constant (pos 1)))) ∷ [] } }) ∷ []; operations = []; literals = []; main = 0 }
+
+moved_cell_leaves_a_stale_item_run : run script_moved_cell_leaves_a_stale_item_run R.Unlimited 10000 (shaped 4096 4096) ≡ record { outcome = Panicked (P.User 42); trace = (line 1 144 0 Granted) ∷ (line 2 32 144 Granted) ∷ (line 3 32 176 Granted) ∷ (line 4 80 208 Granted) ∷ []; lines = []; notes = []; steps = 7 }
+unfolding everything
+moved_cell_leaves_a_stale_item_run = refl
+
+abbrev script_moved_stack_keeps_its_items_run : Script
+script_moved_stack_keeps_its_items_run = record { classes = []; procedures = (record { line = 1; parameters = []; body = record { locals = (OfPointer None) ∷ (OfPointer None) ∷ (OfPointer None) ∷ []; statements = (on 5 (Statement-F.Alloc (Held (H.Local 0)) (Constant (pos 16)) GivesNull)) ∷ (on 6 (Statement-F.Push (Held (H.Local 0)))) ∷ (on 7 (Statement-F.Alloc (Held (H.Local 1)) (Constant (pos 32)) GivesNull)) ∷ (on 8 (Statement-F.Push (Held (H.Local 1)))) ∷ (on 9 (Statement-F.Repeat (Constant (pos 6)) ((on 10 (Statement-F.Push (Held (H.Local 2)))) ∷ []))) ∷ (on 12 (Statement-F.Pop (Constant (pos 6)))) ∷ (on 13 (Statement-F.PopCheck (Held (H.Local 1)))) ∷ (on 14 (Statement-F.PopCheck (Held (H.Local 0)))) ∷ (on 15 (Statement-F.Free (Held (H.Local 0)))) ∷ (on 16 (Statement-F.Free (Held (H.Local 1)))) ∷ [] } }) ∷ []; operations = []; literals = []; main = 0 }
+
+moved_stack_keeps_its_items_run : run script_moved_stack_keeps_its_items_run R.Unlimited 10000 (shaped 4096 4096) ≡ record { outcome = Ended None []; trace = (line 1 144 0 Granted) ∷ (line 2 32 144 Granted) ∷ (line 3 48 176 Granted) ∷ (line 4 208 224 Granted) ∷ []; lines = []; notes = []; steps = 22 }
+unfolding everything
+moved_stack_keeps_its_items_run = refl
+
+abbrev script_next_push_asks_for_the_growth_again_run : Script
+script_next_push_asks_for_the_growth_again_run = record { classes = []; procedures = (record { line = 1; parameters = []; body = record { locals = (OfPointer None) ∷ (OfPointer None) ∷ OfNumber ∷ []; statements = (on 5 (Statement-F.Repeat (Constant (pos 7)) ((on 6 (Statement-F.Push (Held (H.Local 1)))) ∷ []))) ∷ (on 8 (Statement-F.Alloc (Held (H.Local 0)) (Constant (pos 16)) GivesNull)) ∷ (on 9 (Statement-F.FailNext (Constant (pos 1)))) ∷ (on 10 (Statement-F.Trap 2 ((on 11 (Statement-F.Push (Held (H.Local 0)))) ∷ []))) ∷ (on 13 (Statement-F.PrintNumber (Variable 2))) ∷ (on 14 (Statement-F.Alloc (Held (H.Local 0)) (Constant (pos 16)) GivesNull)) ∷ (on 15 (Statement-F.Push (Held (H.Local 0)))) ∷ (on 16 (Statement-F.PopDestroy (Constant (pos 1)))) ∷ (on 17 (Statement-F.Pop (Constant (pos 7)))) ∷ [] } }) ∷ []; operations = []; literals = []; main = 0 }
+
+next_push_asks_for_the_growth_again_run : run script_next_push_asks_for_the_growth_again_run R.Unlimited 10000 (shaped 4096 4096) ≡ record { outcome = Ended None []; trace = (line 1 144 0 Granted) ∷ (line 2 32 144 Granted) ∷ (line 3 208 176 Simulated) ∷ (line 4 32 144 Granted) ∷ (line 5 208 176 Granted) ∷ []; lines = (45 ∷ 52 ∷ []) ∷ []; notes = []; steps = 26 }
+unfolding everything
+next_push_asks_for_the_growth_again_run = refl
+
+abbrev script_none_are_popped_run : Script
+script_none_are_popped_run = record { classes = []; procedures = (record { line = 1; parameters = []; body = record { locals = (OfPointer None) ∷ OfNumber ∷ []; statements = (on 4 (Statement-F.Pop (Constant (pos 0)))) ∷ (on 5 (Statement-F.PopDestroy (Constant (pos 0)))) ∷ (on 6 (Statement-F.Alloc (Held (H.Local 0)) (Constant (pos 16)) GivesNull)) ∷ (on 7 (Statement-F.Push (Held (H.Local 0)))) ∷ (on 8 (Statement-F.Trap 1 ((on 9 (Statement-F.Pop (Constant (pos 0)))) ∷ (on 10 (Statement-F.PopDestroy (Constant (pos 0)))) ∷ []))) ∷ (on 12 (Statement-F.PopCheck (Held (H.Local 0)))) ∷ (on 13 (Statement-F.Free (Held (H.Local 0)))) ∷ [] } }) ∷ []; operations = []; literals = []; main = 0 }
+
+none_are_popped_run : run script_none_are_popped_run R.Unlimited 10000 (shaped 4096 4096) ≡ record { outcome = Ended None []; trace = (line 1 144 0 Granted) ∷ (line 2 32 144 Granted) ∷ []; lines = []; notes = []; steps = 9 }
+unfolding everything
+none_are_popped_run = refl
+
+abbrev script_null_items_are_destroyed_one_step_each_run : Script
+script_null_items_are_destroyed_one_step_each_run = record { classes = []; procedures = (record { line = 1; parameters = []; body = record { locals = (OfPointer None) ∷ (OfPointer None) ∷ []; statements = (on 4 (Statement-F.Push (Held (H.Local 1)))) ∷ (on 5 (Statement-F.Alloc (Held (H.Local 0)) (Constant (pos 16)) GivesNull)) ∷ (on 6 (Statement-F.Push (Held (H.Local 0)))) ∷ (on 7 (Statement-F.Push (Held (H.Local 1)))) ∷ (on 8 (Statement-F.PopDestroy (Constant (pos 3)))) ∷ [] } }) ∷ []; operations = []; literals = []; main = 0 }
+
+null_items_are_destroyed_one_step_each_run : run script_null_items_are_destroyed_one_step_each_run R.Unlimited 10000 (shaped 4096 4096) ≡ record { outcome = Ended None []; trace = (line 1 144 0 Granted) ∷ (line 2 32 144 Granted) ∷ []; lines = []; notes = []; steps = 8 }
+unfolding everything
+null_items_are_destroyed_one_step_each_run = refl
+
+abbrev script_one_too_many_is_popped_and_destroyed_run : Script
+script_one_too_many_is_popped_and_destroyed_run = record { classes = []; procedures = (record { line = 1; parameters = []; body = record { locals = (OfPointer None) ∷ []; statements = (on 3 (Statement-F.Alloc (Held (H.Local 0)) (Constant (pos 16)) GivesNull)) ∷ (on 4 (Statement-F.Push (Held (H.Local 0)))) ∷ (on 5 (Statement-F.PopDestroy (Constant (pos 2)))) ∷ [] } }) ∷ []; operations = []; literals = []; main = 0 }
+
+one_too_many_is_popped_and_destroyed_run : run script_one_too_many_is_popped_and_destroyed_run R.Unlimited 10000 (shaped 4096 4096) ≡ record { outcome = Panicked (P.Workbench 3); trace = (line 1 144 0 Granted) ∷ (line 2 32 144 Granted) ∷ []; lines = []; notes = []; steps = 3 }
+unfolding everything
+one_too_many_is_popped_and_destroyed_run = refl
+
+abbrev script_one_too_many_is_popped_in_an_inner_trap_run : Script
+script_one_too_many_is_popped_in_an_inner_trap_run = record { classes = []; procedures = (record { line = 1; parameters = []; body = record { locals = (OfPointer None) ∷ OfNumber ∷ OfNumber ∷ []; statements = (on 5 (Statement-F.Push (Held (H.Local 0)))) ∷ (on 6 (Statement-F.Trap 1 ((on 7 (Statement-F.Push (Held (H.Local 0)))) ∷ (on 8 (Statement-F.Push (Held (H.Local 0)))) ∷ (on 9 (Statement-F.Trap 2 ((on 10 (Statement-F.Push (Held (H.Local 0)))) ∷ (on 11 (Statement-F.Pop (Constant (pos 2)))) ∷ []))) ∷ []))) ∷ [] } }) ∷ []; operations = []; literals = []; main = 0 }
+
+one_too_many_is_popped_in_an_inner_trap_run : run script_one_too_many_is_popped_in_an_inner_trap_run R.Unlimited 10000 (shaped 4096 4096) ≡ record { outcome = Panicked (P.Workbench 3); trace = (line 1 144 0 Granted) ∷ []; lines = []; notes = []; steps = 7 }
+unfolding everything
+one_too_many_is_popped_in_an_inner_trap_run = refl
+
+abbrev script_one_too_many_is_popped_run : Script
+script_one_too_many_is_popped_run = record { classes = []; procedures = (record { line = 1; parameters = []; body = record { locals = (OfPointer None) ∷ []; statements = (on 3 (Statement-F.Push (Held (H.Local 0)))) ∷ (on 4 (Statement-F.Push (Held (H.Local 0)))) ∷ (on 5 (Statement-F.Pop (Constant (pos 3)))) ∷ [] } }) ∷ []; operations = []; literals = []; main = 0 }
+
+one_too_many_is_popped_run : run script_one_too_many_is_popped_run R.Unlimited 10000 (shaped 4096 4096) ≡ record { outcome = Panicked (P.Workbench 3); trace = (line 1 144 0 Granted) ∷ []; lines = []; notes = []; steps = 3 }
+unfolding everything
+one_too_many_is_popped_run = refl
+
+abbrev script_pop_below_the_trap_run : Script
+script_pop_below_the_trap_run = record { classes = []; procedures = (record { line = 1; parameters = []; body = record { locals = (OfPointer None) ∷ OfNumber ∷ []; statements = (on 4 (Statement-F.Push (Held (H.Local 0)))) ∷ (on 5 (Statement-F.Trap 1 ((on 6 (Statement-F.Pop (Constant (pos 1)))) ∷ []))) ∷ [] } }) ∷ []; operations = []; literals = []; main = 0 }
+
+pop_below_the_trap_run : run script_pop_below_the_trap_run R.Unlimited 10000 (shaped 4096 4096) ≡ record { outcome = Panicked (P.Workbench 3); trace = (line 1 144 0 Granted) ∷ []; lines = []; notes = []; steps = 3 }
+unfolding everything
+pop_below_the_trap_run = refl
+
+abbrev script_pop_expects_a_cell_that_moved_run : Script
+script_pop_expects_a_cell_that_moved_run = record { classes = []; procedures = (record { line = 1; parameters = []; body = record { locals = (OfPointer None) ∷ (OfPointer None) ∷ []; statements = (on 4 (Statement-F.Alloc (Held (H.Local 0)) (Constant (pos 16)) Leaves)) ∷ (on 5 (Statement-F.Push (Held (H.Local 0)))) ∷ (on 6 (Statement-F.Alloc (Held (H.Local 1)) (Constant (pos 16)) Leaves)) ∷ (on 7 (Statement-F.Realloc (Held (H.Local 0)) (Held (H.Local 0)) (Constant (pos 64)) Leaves)) ∷ (on 8 (Statement-F.PopCheck (Held (H.Local 0)))) ∷ [] } }) ∷ []; operations = []; literals = []; main = 0 }
+
+pop_expects_a_cell_that_moved_run : run script_pop_expects_a_cell_that_moved_run R.Unlimited 10000 (shaped 4096 4096) ≡ record { outcome = Panicked (P.Workbench 4); trace = (line 1 144 0 Granted) ∷ (line 2 32 144 Granted) ∷ (line 3 32 176 Granted) ∷ (line 4 80 208 Granted) ∷ []; lines = []; notes = []; steps = 5 }
+unfolding everything
+pop_expects_a_cell_that_moved_run = refl
+
+abbrev script_pop_expects_a_freed_cell_and_finds_it_run : Script
+script_pop_expects_a_freed_cell_and_finds_it_run = record { classes = []; procedures = (record { line = 1; parameters = []; body = record { locals = (OfPointer None) ∷ []; statements = (on 3 (Statement-F.Alloc (Held (H.Local 0)) (Constant (pos 16)) Leaves)) ∷ (on 4 (Statement-F.Push (Held (H.Local 0)))) ∷ (on 5 (Statement-F.Free (Held (H.Local 0)))) ∷ (on 6 (Statement-F.PopCheck (Held (H.Local 0)))) ∷ [] } }) ∷ []; operations = []; literals = []; main = 0 }
+
+pop_expects_a_freed_cell_and_finds_it_run : run script_pop_expects_a_freed_cell_and_finds_it_run R.Unlimited 10000 (shaped 4096 4096) ≡ record { outcome = Ended None []; trace = (line 1 144 0 Granted) ∷ (line 2 32 144 Granted) ∷ []; lines = []; notes = []; steps = 4 }
+unfolding everything
+pop_expects_a_freed_cell_and_finds_it_run = refl
+
+abbrev script_pop_expects_a_new_cell_at_an_old_place_run : Script
+script_pop_expects_a_new_cell_at_an_old_place_run = record { classes = []; procedures = (record { line = 1; parameters = []; body = record { locals = (OfPointer None) ∷ (OfPointer None) ∷ []; statements = (on 4 (Statement-F.Alloc (Held (H.Local 0)) (Constant (pos 16)) Leaves)) ∷ (on 5 (Statement-F.Push (Held (H.Local 0)))) ∷ (on 6 (Statement-F.Free (Held (H.Local 0)))) ∷ (on 7 (Statement-F.Alloc (Held (H.Local 1)) (Constant (pos 16)) Leaves)) ∷ (on 8 (Statement-F.PopCheck (Held (H.Local 1)))) ∷ [] } }) ∷ []; operations = []; literals = []; main = 0 }
+
+pop_expects_a_new_cell_at_an_old_place_run : run script_pop_expects_a_new_cell_at_an_old_place_run R.Unlimited 10000 (shaped 4096 4096) ≡ record { outcome = Panicked (P.Workbench 4); trace = (line 1 144 0 Granted) ∷ (line 2 32 144 Granted) ∷ (line 3 32 144 Granted) ∷ []; lines = []; notes = []; steps = 5 }
+unfolding everything
+pop_expects_a_new_cell_at_an_old_place_run = refl
+
+abbrev script_pop_expects_an_item_below_the_trap_run : Script
+script_pop_expects_an_item_below_the_trap_run = record { classes = []; procedures = (record { line = 1; parameters = []; body = record { locals = (OfPointer None) ∷ OfNumber ∷ []; statements = (on 4 (Statement-F.Push (Held (H.Local 0)))) ∷ (on 5 (Statement-F.Trap 1 ((on 6 (Statement-F.PopCheck (Held (H.Local 0)))) ∷ []))) ∷ [] } }) ∷ []; operations = []; literals = []; main = 0 }
+
+pop_expects_an_item_below_the_trap_run : run script_pop_expects_an_item_below_the_trap_run R.Unlimited 10000 (shaped 4096 4096) ≡ record { outcome = Panicked (P.Workbench 3); trace = (line 1 144 0 Granted) ∷ []; lines = []; notes = []; steps = 3 }
+unfolding everything
+pop_expects_an_item_below_the_trap_run = refl
+
+abbrev script_pop_expects_an_item_of_an_empty_stack_run : Script
+script_pop_expects_an_item_of_an_empty_stack_run = record { classes = []; procedures = (record { line = 1; parameters = []; body = record { locals = (OfPointer None) ∷ []; statements = (on 3 (Statement-F.PopCheck (Held (H.Local 0)))) ∷ [] } }) ∷ []; operations = []; literals = []; main = 0 }
+
+pop_expects_an_item_of_an_empty_stack_run : run script_pop_expects_an_item_of_an_empty_stack_run R.Unlimited 10000 (shaped 4096 4096) ≡ record { outcome = Panicked (P.Workbench 3); trace = (line 1 144 0 Granted) ∷ []; lines = []; notes = []; steps = 1 }
+unfolding everything
+pop_expects_an_item_of_an_empty_stack_run = refl
+
+abbrev script_pop_expects_another_item_and_none_is_of_the_trap_run : Script
+script_pop_expects_another_item_and_none_is_of_the_trap_run = record { classes = []; procedures = (record { line = 1; parameters = []; body = record { locals = (OfPointer None) ∷ (OfPointer None) ∷ OfNumber ∷ []; statements = (on 5 (Statement-F.Alloc (Held (H.Local 0)) (Constant (pos 16)) Leaves)) ∷ (on 6 (Statement-F.Push (Held (H.Local 0)))) ∷ (on 7 (Statement-F.Trap 2 ((on 8 (Statement-F.PopCheck (Held (H.Local 1)))) ∷ []))) ∷ [] } }) ∷ []; operations = []; literals = []; main = 0 }
+
+pop_expects_another_item_and_none_is_of_the_trap_run : run script_pop_expects_another_item_and_none_is_of_the_trap_run R.Unlimited 10000 (shaped 4096 4096) ≡ record { outcome = Panicked (P.Workbench 3); trace = (line 1 144 0 Granted) ∷ (line 2 32 144 Granted) ∷ []; lines = []; notes = []; steps = 4 }
+unfolding everything
+pop_expects_another_item_and_none_is_of_the_trap_run = refl
+
+abbrev script_pop_expects_another_item_run : Script
+script_pop_expects_another_item_run = record { classes = []; procedures = (record { line = 1; parameters = []; body = record { locals = (OfPointer None) ∷ (OfPointer None) ∷ []; statements = (on 4 (Statement-F.Alloc (Held (H.Local 0)) (Constant (pos 16)) Leaves)) ∷ (on 5 (Statement-F.Push (Held (H.Local 1)))) ∷ (on 6 (Statement-F.PopCheck (Held (H.Local 0)))) ∷ [] } }) ∷ []; operations = []; literals = []; main = 0 }
+
+pop_expects_another_item_run : run script_pop_expects_another_item_run R.Unlimited 10000 (shaped 4096 4096) ≡ record { outcome = Panicked (P.Workbench 4); trace = (line 1 144 0 Granted) ∷ (line 2 32 144 Granted) ∷ []; lines = []; notes = []; steps = 3 }
+unfolding everything
+pop_expects_another_item_run = refl
+
+abbrev script_pop_expects_null_and_finds_a_cell_run : Script
+script_pop_expects_null_and_finds_a_cell_run = record { classes = []; procedures = (record { line = 1; parameters = []; body = record { locals = (OfPointer None) ∷ (OfPointer None) ∷ []; statements = (on 4 (Statement-F.Alloc (Held (H.Local 0)) (Constant (pos 16)) Leaves)) ∷ (on 5 (Statement-F.Push (Held (H.Local 0)))) ∷ (on 6 (Statement-F.PopCheck (Held (H.Local 1)))) ∷ [] } }) ∷ []; operations = []; literals = []; main = 0 }
+
+pop_expects_null_and_finds_a_cell_run : run script_pop_expects_null_and_finds_a_cell_run R.Unlimited 10000 (shaped 4096 4096) ≡ record { outcome = Panicked (P.Workbench 4); trace = (line 1 144 0 Granted) ∷ (line 2 32 144 Granted) ∷ []; lines = []; notes = []; steps = 3 }
+unfolding everything
+pop_expects_null_and_finds_a_cell_run = refl
+
+abbrev script_pop_expects_null_and_finds_null_run : Script
+script_pop_expects_null_and_finds_null_run = record { classes = []; procedures = (record { line = 1; parameters = []; body = record { locals = (OfPointer None) ∷ []; statements = (on 3 (Statement-F.Push (Held (H.Local 0)))) ∷ (on 4 (Statement-F.PopCheck (Held (H.Local 0)))) ∷ [] } }) ∷ []; operations = []; literals = []; main = 0 }
+
+pop_expects_null_and_finds_null_run : run script_pop_expects_null_and_finds_null_run R.Unlimited 10000 (shaped 4096 4096) ≡ record { outcome = Ended None []; trace = (line 1 144 0 Granted) ∷ []; lines = []; notes = []; steps = 2 }
+unfolding everything
+pop_expects_null_and_finds_null_run = refl
+
+abbrev script_pop_expects_the_item_below_the_top_run : Script
+script_pop_expects_the_item_below_the_top_run = record { classes = []; procedures = (record { line = 1; parameters = []; body = record { locals = (OfPointer None) ∷ (OfPointer None) ∷ []; statements = (on 4 (Statement-F.Alloc (Held (H.Local 0)) (Constant (pos 16)) Leaves)) ∷ (on 5 (Statement-F.Alloc (Held (H.Local 1)) (Constant (pos 16)) Leaves)) ∷ (on 6 (Statement-F.Push (Held (H.Local 0)))) ∷ (on 7 (Statement-F.Push (Held (H.Local 1)))) ∷ (on 8 (Statement-F.PopCheck (Held (H.Local 1)))) ∷ (on 9 (Statement-F.Push (Held (H.Local 1)))) ∷ (on 10 (Statement-F.PopCheck (Held (H.Local 0)))) ∷ [] } }) ∷ []; operations = []; literals = []; main = 0 }
+
+pop_expects_the_item_below_the_top_run : run script_pop_expects_the_item_below_the_top_run R.Unlimited 10000 (shaped 4096 4096) ≡ record { outcome = Panicked (P.Workbench 4); trace = (line 1 144 0 Granted) ∷ (line 2 32 144 Granted) ∷ (line 3 32 176 Granted) ∷ []; lines = []; notes = []; steps = 7 }
+unfolding everything
+pop_expects_the_item_below_the_top_run = refl
+
+abbrev script_pop_expects_the_item_of_an_outer_trap_after_its_own_run : Script
+script_pop_expects_the_item_of_an_outer_trap_after_its_own_run = record { classes = []; procedures = (record { line = 1; parameters = []; body = record { locals = (OfPointer None) ∷ (OfPointer None) ∷ OfNumber ∷ []; statements = (on 5 (Statement-F.Alloc (Held (H.Local 0)) (Constant (pos 16)) Leaves)) ∷ (on 6 (Statement-F.Push (Held (H.Local 0)))) ∷ (on 7 (Statement-F.Trap 2 ((on 8 (Statement-F.Alloc (Held (H.Local 1)) (Constant (pos 16)) Leaves)) ∷ (on 9 (Statement-F.Push (Held (H.Local 1)))) ∷ (on 10 (Statement-F.PopCheck (Held (H.Local 1)))) ∷ (on 11 (Statement-F.PopCheck (Held (H.Local 0)))) ∷ []))) ∷ [] } }) ∷ []; operations = []; literals = []; main = 0 }
+
+pop_expects_the_item_of_an_outer_trap_after_its_own_run : run script_pop_expects_the_item_of_an_outer_trap_after_its_own_run R.Unlimited 10000 (shaped 4096 4096) ≡ record { outcome = Panicked (P.Workbench 3); trace = (line 1 144 0 Granted) ∷ (line 2 32 144 Granted) ∷ (line 3 32 176 Granted) ∷ []; lines = []; notes = []; steps = 7 }
+unfolding everything
+pop_expects_the_item_of_an_outer_trap_after_its_own_run = refl
+
+abbrev script_pop_expects_the_newest_item_run : Script
+script_pop_expects_the_newest_item_run = record { classes = []; procedures = (record { line = 1; parameters = []; body = record { locals = (OfPointer None) ∷ (OfPointer None) ∷ []; statements = (on 4 (Statement-F.Alloc (Held (H.Local 0)) (Constant (pos 16)) Leaves)) ∷ (on 5 (Statement-F.Push (Held (H.Local 0)))) ∷ (on 6 (Statement-F.Alloc (Held (H.Local 1)) (Constant (pos 16)) Leaves)) ∷ (on 7 (Statement-F.Push (Held (H.Local 1)))) ∷ (on 8 (Statement-F.PopCheck (Held (H.Local 1)))) ∷ (on 9 (Statement-F.PopCheck (Held (H.Local 0)))) ∷ (on 10 (Statement-F.Free (Held (H.Local 1)))) ∷ (on 11 (Statement-F.Free (Held (H.Local 0)))) ∷ [] } }) ∷ []; operations = []; literals = []; main = 0 }
+
+pop_expects_the_newest_item_run : run script_pop_expects_the_newest_item_run R.Unlimited 10000 (shaped 4096 4096) ≡ record { outcome = Ended None []; trace = (line 1 144 0 Granted) ∷ (line 2 32 144 Granted) ∷ (line 3 32 176 Granted) ∷ []; lines = []; notes = []; steps = 8 }
+unfolding everything
+pop_expects_the_newest_item_run = refl
+
+abbrev script_popped_item_is_not_freed_run : Script
+script_popped_item_is_not_freed_run = record { classes = []; procedures = (record { line = 1; parameters = []; body = record { locals = (OfPointer None) ∷ []; statements = (on 3 (Statement-F.Alloc (Held (H.Local 0)) (Constant (pos 16)) GivesNull)) ∷ (on 4 (Statement-F.Push (Held (H.Local 0)))) ∷ (on 5 (Statement-F.Pop (Constant (pos 1)))) ∷ [] } }) ∷ []; operations = []; literals = []; main = 0 }
+
+popped_item_is_not_freed_run : run script_popped_item_is_not_freed_run R.Unlimited 10000 (shaped 4096 4096) ≡ record { outcome = Ended None ((record { number = 2; length = 32; place = 144 }) ∷ []); trace = (line 1 144 0 Granted) ∷ (line 2 32 144 Granted) ∷ []; lines = []; notes = []; steps = 3 }
+unfolding everything
+popped_item_is_not_freed_run = refl
+
+abbrev script_popped_items_are_not_destroyed_by_a_leave_run : Script
+script_popped_items_are_not_destroyed_by_a_leave_run = record { classes = []; procedures = (record { line = 1; parameters = []; body = record { locals = (OfPointer None) ∷ (OfPointer None) ∷ OfNumber ∷ []; statements = (on 5 (Statement-F.Trap 2 ((on 6 (Statement-F.Alloc (Held (H.Local 0)) (Constant (pos 16)) Leaves)) ∷ (on 7 (Statement-F.Push (Held (H.Local 0)))) ∷ (on 8 (Statement-F.Alloc (Held (H.Local 1)) (Constant (pos 16)) Leaves)) ∷ (on 9 (Statement-F.Push (Held (H.Local 1)))) ∷ (on 10 (Statement-F.PopCheck (Held (H.Local 1)))) ∷ (on 11 (Statement-F.Leave (Constant (negsuc 4)))) ∷ []))) ∷ (on 13 (Statement-F.Free (Held (H.Local 1)))) ∷ [] } }) ∷ []; operations = []; literals = []; main = 0 }
+
+popped_items_are_not_destroyed_by_a_leave_run : run script_popped_items_are_not_destroyed_by_a_leave_run R.Unlimited 10000 (shaped 4096 4096) ≡ record { outcome = Ended None []; trace = (line 1 144 0 Granted) ∷ (line 2 32 144 Granted) ∷ (line 3 32 176 Granted) ∷ []; lines = []; notes = []; steps = 9 }
+unfolding everything
+popped_items_are_not_destroyed_by_a_leave_run = refl
+
+abbrev script_procedure_returns_a_pushed_cell_run : Script
+script_procedure_returns_a_pushed_cell_run = record { classes = []; procedures = (record { line = 1; parameters = Par.OfNumber ∷ []; body = record { locals = (OfPointer None) ∷ []; statements = (on 3 (Statement-F.Alloc (Held (H.Local 1)) (Variable 0) Leaves)) ∷ (on 4 (Statement-F.Push (Held (H.Local 1)))) ∷ (on 5 (Statement-F.ReturnPointer (Held (H.Local 1)))) ∷ [] } }) ∷ (record { line = 7; parameters = []; body = record { locals = (OfPointer None) ∷ []; statements = (on 9 (Statement-F.CallTo 0 0 ((Given (Constant (pos 40))) ∷ []))) ∷ (on 10 (Statement-F.PopDestroy (Constant (pos 1)))) ∷ [] } }) ∷ []; operations = []; literals = []; main = 1 }
+
+procedure_returns_a_pushed_cell_run : run script_procedure_returns_a_pushed_cell_run R.Unlimited 10000 (shaped 4096 4096) ≡ record { outcome = Ended None []; trace = (line 1 144 0 Granted) ∷ (line 2 64 144 Granted) ∷ []; lines = []; notes = []; steps = 6 }
+unfolding everything
+procedure_returns_a_pushed_cell_run = refl
+
+abbrev script_push_past_the_limit_destroys_all_items_run : Script
+script_push_past_the_limit_destroys_all_items_run = record { classes = []; procedures = (record { line = 1; parameters = []; body = record { locals = (OfPointer None) ∷ (OfPointer None) ∷ []; statements = (on 4 (Statement-F.Alloc (Held (H.Local 0)) (Constant (pos 16)) GivesNull)) ∷ (on 5 (Statement-F.Push (Held (H.Local 0)))) ∷ (on 6 (Statement-F.Repeat (Constant (pos 7)) ((on 7 (Statement-F.Push (Held (H.Local 1)))) ∷ []))) ∷ (on 9 (Statement-F.PopDestroy (Constant (pos 8)))) ∷ [] } }) ∷ []; operations = []; literals = []; main = 0 }
+
+push_past_the_limit_destroys_all_items_run : run script_push_past_the_limit_destroys_all_items_run (R.Limit 383) 10000 (shaped 4096 4096) ≡ record { outcome = Ended (Some (negsuc 3)) []; trace = (line 1 144 0 Granted) ∷ (line 2 32 144 Granted) ∷ (line 3 208 176 Refused) ∷ []; lines = []; notes = []; steps = 25 }
+unfolding everything
+push_past_the_limit_destroys_all_items_run = refl
+
+abbrev script_push_that_cannot_grow_keeps_its_item_run : Script
+script_push_that_cannot_grow_keeps_its_item_run = record { classes = []; procedures = (record { line = 1; parameters = []; body = record { locals = (OfPointer None) ∷ []; statements = (on 3 (Statement-F.Repeat (Constant (pos 8)) ((on 4 (Statement-F.Alloc (Held (H.Local 0)) (Constant (pos 16)) Leaves)) ∷ (on 5 (Statement-F.Push (Held (H.Local 0)))) ∷ []))) ∷ (on 7 (Statement-F.PopDestroy (Constant (pos 8)))) ∷ [] } }) ∷ []; operations = []; literals = []; main = 0 }
+
+push_that_cannot_grow_keeps_its_item_run : run script_push_that_cannot_grow_keeps_its_item_run (R.Number 10) 10000 (shaped 4096 4096) ≡ record { outcome = Ended (Some (negsuc 3)) []; trace = (line 1 144 0 Granted) ∷ (line 2 32 144 Granted) ∷ (line 3 32 176 Granted) ∷ (line 4 32 208 Granted) ∷ (line 5 32 240 Granted) ∷ (line 6 32 272 Granted) ∷ (line 7 32 304 Granted) ∷ (line 8 32 336 Granted) ∷ (line 9 32 368 Granted) ∷ (line 10 208 400 Simulated) ∷ []; lines = []; notes = []; steps = 33 }
+unfolding everything
+push_that_cannot_grow_keeps_its_item_run = refl
+
+abbrev script_push_that_fails_by_number_destroys_all_items_run : Script
+script_push_that_fails_by_number_destroys_all_items_run = record { classes = []; procedures = (record { line = 1; parameters = []; body = record { locals = (OfPointer None) ∷ (OfPointer None) ∷ []; statements = (on 4 (Statement-F.Alloc (Held (H.Local 0)) (Constant (pos 16)) GivesNull)) ∷ (on 5 (Statement-F.Push (Held (H.Local 0)))) ∷ (on 6 (Statement-F.Repeat (Constant (pos 7)) ((on 7 (Statement-F.Push (Held (H.Local 1)))) ∷ []))) ∷ (on 9 (Statement-F.PopDestroy (Constant (pos 8)))) ∷ [] } }) ∷ []; operations = []; literals = []; main = 0 }
+
+push_that_fails_by_number_destroys_all_items_run : run script_push_that_fails_by_number_destroys_all_items_run (R.Number 3) 10000 (shaped 4096 4096) ≡ record { outcome = Ended (Some (negsuc 3)) []; trace = (line 1 144 0 Granted) ∷ (line 2 32 144 Granted) ∷ (line 3 208 176 Simulated) ∷ []; lines = []; notes = []; steps = 25 }
+unfolding everything
+push_that_fails_by_number_destroys_all_items_run = refl
+
+abbrev script_push_that_just_fits_the_limit_run : Script
+script_push_that_just_fits_the_limit_run = record { classes = []; procedures = (record { line = 1; parameters = []; body = record { locals = (OfPointer None) ∷ (OfPointer None) ∷ []; statements = (on 4 (Statement-F.Alloc (Held (H.Local 0)) (Constant (pos 16)) GivesNull)) ∷ (on 5 (Statement-F.Push (Held (H.Local 0)))) ∷ (on 6 (Statement-F.Repeat (Constant (pos 7)) ((on 7 (Statement-F.Push (Held (H.Local 1)))) ∷ []))) ∷ (on 9 (Statement-F.PopDestroy (Constant (pos 8)))) ∷ [] } }) ∷ []; operations = []; literals = []; main = 0 }
+
+push_that_just_fits_the_limit_run : run script_push_that_just_fits_the_limit_run (R.Limit 384) 10000 (shaped 4096 4096) ≡ record { outcome = Ended None []; trace = (line 1 144 0 Granted) ∷ (line 2 32 144 Granted) ∷ (line 3 208 176 Granted) ∷ []; lines = []; notes = []; steps = 26 }
+unfolding everything
+push_that_just_fits_the_limit_run = refl
+
+abbrev script_push_that_the_script_refuses_destroys_its_own_item_run : Script
+script_push_that_the_script_refuses_destroys_its_own_item_run = record { classes = []; procedures = (record { line = 1; parameters = []; body = record { locals = (OfPointer None) ∷ (OfPointer None) ∷ OfNumber ∷ []; statements = (on 5 (Statement-F.Alloc (Held (H.Local 0)) (Constant (pos 16)) GivesNull)) ∷ (on 6 (Statement-F.FailNext (Constant (pos 1)))) ∷ (on 7 (Statement-F.Trap 2 ((on 8 (Statement-F.Repeat (Constant (pos 7)) ((on 9 (Statement-F.Push (Held (H.Local 1)))) ∷ []))) ∷ (on 11 (Statement-F.Push (Held (H.Local 0)))) ∷ []))) ∷ (on 13 (Statement-F.PrintNumber (Variable 2))) ∷ (on 14 (Statement-F.Free (Held (H.Local 0)))) ∷ [] } }) ∷ []; operations = []; literals = []; main = 0 }
+
+push_that_the_script_refuses_destroys_its_own_item_run : run script_push_that_the_script_refuses_destroys_its_own_item_run R.Unlimited 10000 (shaped 4096 4096) ≡ record { outcome = Panicked (P.User 42); trace = (line 1 144 0 Granted) ∷ (line 2 32 144 Granted) ∷ (line 3 208 176 Simulated) ∷ []; lines = (45 ∷ 52 ∷ []) ∷ []; notes = []; steps = 29 }
+unfolding everything
+push_that_the_script_refuses_destroys_its_own_item_run = refl
+
+abbrev script_recursion_leaves_its_items_in_each_frame_run : Script
+script_recursion_leaves_its_items_in_each_frame_run = record { classes = []; procedures = (record { line = 1; parameters = Par.OfNumber ∷ []; body = record { locals = (OfPointer None) ∷ []; statements = (on 3 (Statement-F.Alloc (Held (H.Local 1)) (Constant (pos 16)) Leaves)) ∷ (on 4 (Statement-F.Push (Held (H.Local 1)))) ∷ (on 5 (Statement-F.If (Equal (Variable 0) (Constant (pos 0))) ((on 6 (Statement-F.Leave (Constant (negsuc 2)))) ∷ []))) ∷ (on 8 (Statement-F.Add 0 (Constant (negsuc 0)))) ∷ (on 9 (Statement-F.Call 0 ((Given (Variable 0)) ∷ []))) ∷ (on 10 (Statement-F.PopDestroy (Constant (pos 1)))) ∷ [] } }) ∷ (record { line = 12; parameters = []; body = record { locals = OfNumber ∷ []; statements = (on 14 (Statement-F.Trap 0 ((on 15 (Statement-F.Call 0 ((Given (Constant (pos 4))) ∷ []))) ∷ []))) ∷ (on 17 (Statement-F.PrintNumber (Variable 0))) ∷ [] } }) ∷ []; operations = []; literals = []; main = 1 }
+
+recursion_leaves_its_items_in_each_frame_run : run script_recursion_leaves_its_items_in_each_frame_run R.Unlimited 10000 (shaped 4096 4096) ≡ record { outcome = Ended None []; trace = (line 1 144 0 Granted) ∷ (line 2 32 144 Granted) ∷ (line 3 32 176 Granted) ∷ (line 4 32 208 Granted) ∷ (line 5 32 240 Granted) ∷ (line 6 32 272 Granted) ∷ []; lines = (45 ∷ 51 ∷ []) ∷ []; notes = []; steps = 32 }
+unfolding everything
+recursion_leaves_its_items_in_each_frame_run = refl
+
+abbrev script_refused_request_destroys_the_items_before_it_run : Script
+script_refused_request_destroys_the_items_before_it_run = record { classes = []; procedures = (record { line = 1; parameters = []; body = record { locals = (OfPointer None) ∷ (OfPointer None) ∷ (OfPointer None) ∷ OfNumber ∷ []; statements = (on 6 (Statement-F.Trap 3 ((on 7 (Statement-F.Alloc (Held (H.Local 0)) (Constant (pos 16)) Leaves)) ∷ (on 8 (Statement-F.Push (Held (H.Local 0)))) ∷ (on 9 (Statement-F.Alloc (Held (H.Local 1)) (Constant (pos 16)) Leaves)) ∷ (on 10 (Statement-F.Push (Held (H.Local 1)))) ∷ (on 11 (Statement-F.Alloc (Held (H.Local 2)) (Constant (pos 16)) Leaves)) ∷ (on 12 (Statement-F.Push (Held (H.Local 2)))) ∷ (on 13 (Statement-F.PopDestroy (Constant (pos 3)))) ∷ []))) ∷ (on 15 (Statement-F.PrintNumber (Variable 3))) ∷ [] } }) ∷ []; operations = []; literals = []; main = 0 }
+
+refused_request_destroys_the_items_before_it_run : run script_refused_request_destroys_the_items_before_it_run (R.Number 4) 10000 (shaped 4096 4096) ≡ record { outcome = Ended None []; trace = (line 1 144 0 Granted) ∷ (line 2 32 144 Granted) ∷ (line 3 32 176 Granted) ∷ (line 4 32 208 Simulated) ∷ []; lines = (45 ∷ 52 ∷ []) ∷ []; notes = []; steps = 9 }
+unfolding everything
+refused_request_destroys_the_items_before_it_run = refl
+
+abbrev script_return_from_main_with_an_item_run : Script
+script_return_from_main_with_an_item_run = record { classes = []; procedures = (record { line = 1; parameters = []; body = record { locals = (OfPointer None) ∷ []; statements = (on 3 (Statement-F.Push (Held (H.Local 0)))) ∷ (on 4 Statement-F.Return) ∷ [] } }) ∷ []; operations = []; literals = []; main = 0 }
+
+return_from_main_with_an_item_run : run script_return_from_main_with_an_item_run R.Unlimited 10000 (shaped 4096 4096) ≡ record { outcome = Panicked (P.Workbench 5); trace = (line 1 144 0 Granted) ∷ []; lines = []; notes = []; steps = 2 }
+unfolding everything
+return_from_main_with_an_item_run = refl
+
+abbrev script_stack_grows_at_its_place_four_times_run : Script
+script_stack_grows_at_its_place_four_times_run = record { classes = []; procedures = (record { line = 1; parameters = []; body = record { locals = (OfPointer None) ∷ []; statements = (on 3 (Statement-F.Repeat (Constant (pos 20)) ((on 4 (Statement-F.Push (Held (H.Local 0)))) ∷ []))) ∷ (on 6 Statement-F.NoteHeap) ∷ (on 7 Statement-F.NoteAvailable) ∷ (on 8 (Statement-F.Pop (Constant (pos 20)))) ∷ (on 9 Statement-F.NoteCompress) ∷ [] } }) ∷ []; operations = []; literals = []; main = 0 }
+
+stack_grows_at_its_place_four_times_run : run script_stack_grows_at_its_place_four_times_run R.Unlimited 10000 (shaped 0 16) ≡ record { outcome = Ended None []; trace = (line 1 144 0 Granted) ∷ (line 2 208 0 Granted) ∷ (line 3 272 0 Granted) ∷ (line 4 336 0 Granted) ∷ (line 5 400 0 Granted) ∷ []; lines = []; notes = (Heap 1 400 400) ∷ (Available 0 0) ∷ (Compress 0) ∷ []; steps = 45 }
+unfolding everything
+stack_grows_at_its_place_four_times_run = refl
+
+abbrev script_stack_grows_into_the_hole_behind_it_run : Script
+script_stack_grows_into_the_hole_behind_it_run = record { classes = []; procedures = (record { line = 1; parameters = []; body = record { locals = (OfPointer None) ∷ (OfPointer None) ∷ (OfPointer None) ∷ []; statements = (on 5 (Statement-F.Alloc (Held (H.Local 0)) (Constant (pos 300)) GivesNull)) ∷ (on 6 (Statement-F.Alloc (Held (H.Local 1)) (Constant (pos 16)) GivesNull)) ∷ (on 7 (Statement-F.Free (Held (H.Local 0)))) ∷ (on 8 (Statement-F.Repeat (Constant (pos 12)) ((on 9 (Statement-F.Push (Held (H.Local 2)))) ∷ []))) ∷ (on 11 (Statement-F.Alloc (Held (H.Local 0)) (Constant (pos 16)) GivesNull)) ∷ (on 12 (Statement-F.Pop (Constant (pos 12)))) ∷ (on 13 (Statement-F.Free (Held (H.Local 0)))) ∷ (on 14 (Statement-F.Free (Held (H.Local 1)))) ∷ [] } }) ∷ []; operations = []; literals = []; main = 0 }
+
+stack_grows_into_the_hole_behind_it_run : run script_stack_grows_into_the_hole_behind_it_run R.Unlimited 10000 (shaped 4096 4096) ≡ record { outcome = Ended None []; trace = (line 1 144 0 Granted) ∷ (line 2 320 144 Granted) ∷ (line 3 32 464 Granted) ∷ (line 4 208 0 Granted) ∷ (line 5 272 0 Granted) ∷ (line 6 32 272 Granted) ∷ []; lines = []; notes = []; steps = 32 }
+unfolding everything
+stack_grows_into_the_hole_behind_it_run = refl
+
+abbrev script_stack_grows_with_its_notes_run : Script
+script_stack_grows_with_its_notes_run = record { classes = []; procedures = (record { line = 1; parameters = []; body = record { locals = (OfPointer None) ∷ []; statements = (on 3 Statement-F.NoteHeap) ∷ (on 4 (Statement-F.Repeat (Constant (pos 7)) ((on 5 (Statement-F.Push (Held (H.Local 0)))) ∷ []))) ∷ (on 7 Statement-F.NoteHeap) ∷ (on 8 (Statement-F.Push (Held (H.Local 0)))) ∷ (on 9 Statement-F.NoteHeap) ∷ (on 10 (Statement-F.Repeat (Constant (pos 3)) ((on 11 (Statement-F.Push (Held (H.Local 0)))) ∷ []))) ∷ (on 13 Statement-F.NoteHeap) ∷ (on 14 (Statement-F.Push (Held (H.Local 0)))) ∷ (on 15 Statement-F.NoteHeap) ∷ (on 16 (Statement-F.Pop (Constant (pos 12)))) ∷ (on 17 Statement-F.NoteHeap) ∷ [] } }) ∷ []; operations = []; literals = []; main = 0 }
+
+stack_grows_with_its_notes_run : run script_stack_grows_with_its_notes_run R.Unlimited 10000 (shaped 0 16) ≡ record { outcome = Ended None []; trace = (line 1 144 0 Granted) ∷ (line 2 208 0 Granted) ∷ (line 3 272 0 Granted) ∷ []; lines = []; notes = (Heap 1 144 144) ∷ (Heap 1 144 144) ∷ (Heap 1 208 208) ∷ (Heap 1 208 208) ∷ (Heap 1 272 272) ∷ (Heap 1 272 272) ∷ []; steps = 31 }
+unfolding everything
+stack_grows_with_its_notes_run = refl
+
+abbrev script_stack_moves_behind_a_live_cell_run : Script
+script_stack_moves_behind_a_live_cell_run = record { classes = []; procedures = (record { line = 1; parameters = []; body = record { locals = (OfPointer None) ∷ (OfPointer None) ∷ (OfPointer None) ∷ []; statements = (on 5 (Statement-F.Alloc (Held (H.Local 0)) (Constant (pos 16)) GivesNull)) ∷ (on 6 (Statement-F.Repeat (Constant (pos 8)) ((on 7 (Statement-F.Push (Held (H.Local 2)))) ∷ []))) ∷ (on 9 Statement-F.NoteHeap) ∷ (on 10 Statement-F.NoteAvailable) ∷ (on 11 (Statement-F.Alloc (Held (H.Local 1)) (Constant (pos 112)) GivesNull)) ∷ (on 12 (Statement-F.Repeat (Constant (pos 4)) ((on 13 (Statement-F.Push (Held (H.Local 2)))) ∷ []))) ∷ (on 15 Statement-F.NoteHeap) ∷ (on 16 Statement-F.NoteAvailable) ∷ (on 17 (Statement-F.Pop (Constant (pos 12)))) ∷ (on 18 (Statement-F.Free (Held (H.Local 0)))) ∷ (on 19 (Statement-F.Free (Held (H.Local 1)))) ∷ [] } }) ∷ []; operations = []; literals = []; main = 0 }
+
+stack_moves_behind_a_live_cell_run : run script_stack_moves_behind_a_live_cell_run R.Unlimited 10000 (shaped 0 16) ≡ record { outcome = Ended None []; trace = (line 1 144 0 Granted) ∷ (line 2 32 144 Granted) ∷ (line 3 208 176 Granted) ∷ (line 4 128 0 Granted) ∷ (line 5 272 176 Granted) ∷ []; lines = []; notes = (Heap 2 240 384) ∷ (Available 144 144) ∷ (Heap 3 432 448) ∷ (Available 16 16) ∷ []; steps = 35 }
+unfolding everything
+stack_moves_behind_a_live_cell_run = refl
+
+abbrev script_stack_moves_down_again_run : Script
+script_stack_moves_down_again_run = record { classes = []; procedures = (record { line = 1; parameters = []; body = record { locals = (OfPointer None) ∷ (OfPointer None) ∷ (OfPointer None) ∷ []; statements = (on 5 (Statement-F.Alloc (Held (H.Local 0)) (Constant (pos 200)) GivesNull)) ∷ (on 6 (Statement-F.Repeat (Constant (pos 8)) ((on 7 (Statement-F.Push (Held (H.Local 2)))) ∷ []))) ∷ (on 9 (Statement-F.Alloc (Held (H.Local 1)) (Constant (pos 144)) GivesNull)) ∷ (on 10 (Statement-F.Free (Held (H.Local 0)))) ∷ (on 11 (Statement-F.Repeat (Constant (pos 4)) ((on 12 (Statement-F.Push (Held (H.Local 2)))) ∷ []))) ∷ (on 14 (Statement-F.Pop (Constant (pos 12)))) ∷ (on 15 (Statement-F.Free (Held (H.Local 1)))) ∷ [] } }) ∷ []; operations = []; literals = []; main = 0 }
+
+stack_moves_down_again_run : run script_stack_moves_down_again_run R.Unlimited 10000 (shaped 4096 4096) ≡ record { outcome = Ended None []; trace = (line 1 144 0 Granted) ∷ (line 2 224 144 Granted) ∷ (line 3 208 368 Granted) ∷ (line 4 160 576 Granted) ∷ (line 5 272 0 Granted) ∷ []; lines = []; notes = []; steps = 31 }
+unfolding everything
+stack_moves_down_again_run = refl
+
+abbrev script_stack_that_moved_is_not_counted_in_a_mark_run : Script
+script_stack_that_moved_is_not_counted_in_a_mark_run = record { classes = []; procedures = (record { line = 1; parameters = []; body = record { locals = (OfPointer None) ∷ (OfPointer None) ∷ []; statements = (on 4 Statement-F.Mark) ∷ (on 5 (Statement-F.Alloc (Held (H.Local 0)) (Constant (pos 16)) GivesNull)) ∷ (on 6 (Statement-F.Repeat (Constant (pos 8)) ((on 7 (Statement-F.Push (Held (H.Local 1)))) ∷ []))) ∷ (on 9 (Statement-F.Check (Constant (pos 1)))) ∷ (on 10 (Statement-F.CheckAll (Constant (pos 1)))) ∷ (on 11 (Statement-F.Pop (Constant (pos 8)))) ∷ (on 12 (Statement-F.Free (Held (H.Local 0)))) ∷ (on 13 (Statement-F.MarkEnd (Constant (pos 0)))) ∷ [] } }) ∷ []; operations = []; literals = []; main = 0 }
+
+stack_that_moved_is_not_counted_in_a_mark_run : run script_stack_that_moved_is_not_counted_in_a_mark_run R.Unlimited 10000 (shaped 4096 4096) ≡ record { outcome = Ended None []; trace = (line 1 144 0 Granted) ∷ (line 2 32 144 Granted) ∷ (line 3 208 176 Granted) ∷ []; lines = []; notes = []; steps = 24 }
+unfolding everything
+stack_that_moved_is_not_counted_in_a_mark_run = refl
+
+abbrev script_stale_item_below_is_destroyed_second_run : Script
+script_stale_item_below_is_destroyed_second_run = record { classes = []; procedures = (record { line = 1; parameters = []; body = record { locals = (OfPointer None) ∷ (OfPointer None) ∷ []; statements = (on 4 (Statement-F.Alloc (Held (H.Local 0)) (Constant (pos 16)) GivesNull)) ∷ (on 5 (Statement-F.Alloc (Held (H.Local 1)) (Constant (pos 32)) GivesNull)) ∷ (on 6 (Statement-F.Push (Held (H.Local 0)))) ∷ (on 7 (Statement-F.Push (Held (H.Local 1)))) ∷ (on 8 (Statement-F.Free (Held (H.Local 0)))) ∷ (on 9 (Statement-F.PopDestroy (Constant (pos 2)))) ∷ [] } }) ∷ []; operations = []; literals = []; main = 0 }
+
+stale_item_below_is_destroyed_second_run : run script_stale_item_below_is_destroyed_second_run R.Unlimited 10000 (shaped 4096 4096) ≡ record { outcome = Panicked (P.User 42); trace = (line 1 144 0 Granted) ∷ (line 2 32 144 Granted) ∷ (line 3 48 176 Granted) ∷ []; lines = []; notes = []; steps = 8 }
+unfolding everything
+stale_item_below_is_destroyed_second_run = refl
+
+abbrev script_stale_item_on_top_is_destroyed_first_run : Script
+script_stale_item_on_top_is_destroyed_first_run = record { classes = []; procedures = (record { line = 1; parameters = []; body = record { locals = (OfPointer None) ∷ (OfPointer None) ∷ []; statements = (on 4 (Statement-F.Alloc (Held (H.Local 0)) (Constant (pos 16)) GivesNull)) ∷ (on 5 (Statement-F.Alloc (Held (H.Local 1)) (Constant (pos 32)) GivesNull)) ∷ (on 6 (Statement-F.Push (Held (H.Local 1)))) ∷ (on 7 (Statement-F.Push (Held (H.Local 0)))) ∷ (on 8 (Statement-F.Free (Held (H.Local 0)))) ∷ (on 9 (Statement-F.PopDestroy (Constant (pos 2)))) ∷ [] } }) ∷ []; operations = []; literals = []; main = 0 }
+
+stale_item_on_top_is_destroyed_first_run : run script_stale_item_on_top_is_destroyed_first_run R.Unlimited 10000 (shaped 4096 4096) ≡ record { outcome = Panicked (P.User 42); trace = (line 1 144 0 Granted) ∷ (line 2 32 144 Granted) ∷ (line 3 48 176 Granted) ∷ []; lines = []; notes = []; steps = 7 }
+unfolding everything
+stale_item_on_top_is_destroyed_first_run = refl
+
+abbrev script_too_many_items_to_destroy_destroys_none_run : Script
+script_too_many_items_to_destroy_destroys_none_run = record { classes = []; procedures = (record { line = 1; parameters = []; body = record { locals = (OfPointer None) ∷ (OfPointer None) ∷ OfNumber ∷ []; statements = (on 5 (Statement-F.Alloc (Held (H.Local 0)) (Constant (pos 16)) Leaves)) ∷ (on 6 (Statement-F.Push (Held (H.Local 0)))) ∷ (on 7 (Statement-F.Trap 2 ((on 8 (Statement-F.Alloc (Held (H.Local 1)) (Constant (pos 16)) Leaves)) ∷ (on 9 (Statement-F.Push (Held (H.Local 1)))) ∷ (on 10 (Statement-F.PopDestroy (Constant (pos 2)))) ∷ []))) ∷ [] } }) ∷ []; operations = []; literals = []; main = 0 }
+
+too_many_items_to_destroy_destroys_none_run : run script_too_many_items_to_destroy_destroys_none_run R.Unlimited 10000 (shaped 4096 4096) ≡ record { outcome = Panicked (P.Workbench 3); trace = (line 1 144 0 Granted) ∷ (line 2 32 144 Granted) ∷ (line 3 32 176 Granted) ∷ []; lines = []; notes = []; steps = 6 }
+unfolding everything
+too_many_items_to_destroy_destroys_none_run = refl
+
+abbrev script_trap_that_is_repeated_begins_with_its_own_items_run : Script
+script_trap_that_is_repeated_begins_with_its_own_items_run = record { classes = []; procedures = (record { line = 1; parameters = []; body = record { locals = (OfPointer None) ∷ OfNumber ∷ []; statements = (on 4 (Statement-F.Repeat (Constant (pos 3)) ((on 5 (Statement-F.Trap 1 ((on 6 (Statement-F.Alloc (Held (H.Local 0)) (Constant (pos 16)) Leaves)) ∷ (on 7 (Statement-F.Push (Held (H.Local 0)))) ∷ (on 8 (Statement-F.Leave (Constant (pos 6)))) ∷ []))) ∷ []))) ∷ (on 11 (Statement-F.PrintNumber (Variable 1))) ∷ [] } }) ∷ []; operations = []; literals = []; main = 0 }
+
+trap_that_is_repeated_begins_with_its_own_items_run : run script_trap_that_is_repeated_begins_with_its_own_items_run R.Unlimited 10000 (shaped 4096 4096) ≡ record { outcome = Ended None []; trace = (line 1 144 0 Granted) ∷ (line 2 32 144 Granted) ∷ (line 3 32 144 Granted) ∷ (line 4 32 144 Granted) ∷ []; lines = (54 ∷ []) ∷ []; notes = []; steps = 20 }
+unfolding everything
+trap_that_is_repeated_begins_with_its_own_items_run = refl
+
+abbrev script_twelfth_push_is_refused_run : Script
+script_twelfth_push_is_refused_run = record { classes = []; procedures = (record { line = 1; parameters = []; body = record { locals = (OfPointer None) ∷ OfNumber ∷ []; statements = (on 4 (Statement-F.Trap 1 ((on 5 (Statement-F.Repeat (Constant (pos 12)) ((on 6 (Statement-F.Push (Held (H.Local 0)))) ∷ []))) ∷ (on 8 (Statement-F.Pop (Constant (pos 12)))) ∷ []))) ∷ (on 10 (Statement-F.PrintNumber (Variable 1))) ∷ (on 11 Statement-F.NoteHeap) ∷ [] } }) ∷ []; operations = []; literals = []; main = 0 }
+
+twelfth_push_is_refused_run : run script_twelfth_push_is_refused_run (R.Number 3) 10000 (shaped 4096 4096) ≡ record { outcome = Ended None []; trace = (line 1 144 0 Granted) ∷ (line 2 208 0 Granted) ∷ (line 3 272 0 Simulated) ∷ []; lines = (45 ∷ 52 ∷ []) ∷ []; notes = (Heap 1 208 4096) ∷ []; steps = 40 }
+unfolding everything
+twelfth_push_is_refused_run = refl
+
 abbrev script_freed_pointer_is_not_null_run : Script
 script_freed_pointer_is_not_null_run = record { classes = []; procedures = (record { line = 1; parameters = []; body = record { locals = (OfPointer None) ∷ []; statements = (on 3 (Statement-F.If (NotNull (Held (H.Local 0))) ((on 4 (Statement-F.PrintText (Quoted 0))) ∷ []))) ∷ (on 6 (Statement-F.Alloc (Held (H.Local 0)) (Constant (pos 5)) GivesNull)) ∷ (on 7 (Statement-F.IfElse (NotNull (Held (H.Local 0))) ((on 8 (Statement-F.PrintText (Quoted 1))) ∷ []) ((on 10 (Statement-F.PrintText (Quoted 2))) ∷ []))) ∷ (on 12 (Statement-F.Free (Held (H.Local 0)))) ∷ (on 13 (Statement-F.If (NotNull (Held (H.Local 0))) ((on 14 (Statement-F.PrintText (Quoted 3))) ∷ []))) ∷ (on 16 (Statement-F.SetNull (Held (H.Local 0)))) ∷ (on 17 (Statement-F.IfElse (NotNull (Held (H.Local 0))) ((on 18 (Statement-F.PrintText (Quoted 4))) ∷ []) ((on 20 (Statement-F.PrintText (Quoted 5))) ∷ []))) ∷ [] } }) ∷ []; operations = []; literals = (110 ∷ 101 ∷ 118 ∷ 101 ∷ 114 ∷ []) ∷ (115 ∷ 111 ∷ 109 ∷ 101 ∷ []) ∷ (110 ∷ 101 ∷ 118 ∷ 101 ∷ 114 ∷ []) ∷ (115 ∷ 116 ∷ 105 ∷ 108 ∷ 108 ∷ []) ∷ (110 ∷ 101 ∷ 118 ∷ 101 ∷ 114 ∷ []) ∷ (110 ∷ 117 ∷ 108 ∷ 108 ∷ []) ∷ []; main = 0 }
 
@@ -358,6 +897,27 @@ holes_size : (required script_holes_size 10000 (shaped 4096 4096) ≡ 560) × (r
 unfolding everything
 holes_size = (refl, refl)
 
+abbrev script_item_outlives_its_cell_mended_check : Script
+script_item_outlives_its_cell_mended_check = record { classes = []; procedures = (record { line = 2; parameters = []; body = record { locals = (OfPointer None) ∷ (OfPointer None) ∷ OfNumber ∷ []; statements = (on 6 (Statement-F.Trap 2 ((on 7 (Statement-F.NewText (Held (H.Local 0)) (Constant (pos 20)) Leaves)) ∷ (on 8 (Statement-F.Push (Held (H.Local 0)))) ∷ (on 9 (Statement-F.Append (InCell (Held (H.Local 0))) (Quoted 0))) ∷ (on 10 (Statement-F.PrintText (Of (InCell (Held (H.Local 0)))))) ∷ (on 12 (Statement-F.PopDestroy (Constant (pos 1)))) ∷ (on 13 (Statement-F.NewText (Held (H.Local 1)) (Constant (pos 40)) Leaves)) ∷ (on 14 (Statement-F.Free (Held (H.Local 1)))) ∷ []))) ∷ [] } }) ∷ []; operations = []; literals = (68 ∷ 101 ∷ 97 ∷ 114 ∷ 32 ∷ 65 ∷ 100 ∷ 97 ∷ []) ∷ []; main = 0 }
+
+item_outlives_its_cell_mended_check : (required script_item_outlives_its_cell_mended_check 10000 (shaped 4096 4096) ≡ 256) × (rises script_item_outlives_its_cell_mended_check 10000 (shaped 4096 4096) ≡ (rise 1 144) ∷ (rise 2 208) ∷ (rise 3 256) ∷ []) × (length (run_at script_item_outlives_its_cell_mended_check 10000 (shaped 4096 4096) 0).trace ≡ 3) × (least_bad_or_cut script_item_outlives_its_cell_mended_check 10000 (shaped 4096 4096) ≡ None)
+unfolding everything
+item_outlives_its_cell_mended_check = (refl, refl, refl, refl)
+
+abbrev script_item_outlives_its_cell_check : Script
+script_item_outlives_its_cell_check = record { classes = []; procedures = (record { line = 3; parameters = []; body = record { locals = (OfPointer None) ∷ (OfPointer None) ∷ OfNumber ∷ []; statements = (on 7 (Statement-F.Trap 2 ((on 8 (Statement-F.NewText (Held (H.Local 0)) (Constant (pos 20)) Leaves)) ∷ (on 9 (Statement-F.Push (Held (H.Local 0)))) ∷ (on 10 (Statement-F.Append (InCell (Held (H.Local 0))) (Quoted 0))) ∷ (on 11 (Statement-F.PrintText (Of (InCell (Held (H.Local 0)))))) ∷ (on 13 (Statement-F.Free (Held (H.Local 0)))) ∷ (on 14 (Statement-F.NewText (Held (H.Local 1)) (Constant (pos 40)) Leaves)) ∷ (on 15 (Statement-F.Free (Held (H.Local 1)))) ∷ (on 16 (Statement-F.Pop (Constant (pos 1)))) ∷ []))) ∷ [] } }) ∷ []; operations = []; literals = (68 ∷ 101 ∷ 97 ∷ 114 ∷ 32 ∷ 65 ∷ 100 ∷ 97 ∷ []) ∷ []; main = 0 }
+
+item_outlives_its_cell_check : (required script_item_outlives_its_cell_check 10000 (shaped 4096 4096) ≡ 256) × (rises script_item_outlives_its_cell_check 10000 (shaped 4096 4096) ≡ (rise 1 144) ∷ (rise 2 208) ∷ (rise 3 256) ∷ []) × (length (run_at script_item_outlives_its_cell_check 10000 (shaped 4096 4096) 0).trace ≡ 3) × (least_bad_or_cut script_item_outlives_its_cell_check 10000 (shaped 4096 4096) ≡ Some 3) × (run_at script_item_outlives_its_cell_check 10000 (shaped 4096 4096) 3 ≡ record { outcome = Panicked (P.User 42); trace = (line 1 144 0 Granted) ∷ (line 2 64 144 Granted) ∷ (line 3 112 144 Simulated) ∷ []; lines = (68 ∷ 101 ∷ 97 ∷ 114 ∷ 32 ∷ 65 ∷ 100 ∷ 97 ∷ []) ∷ []; notes = []; steps = 8 })
+unfolding everything
+item_outlives_its_cell_check = (refl, refl, refl, refl, refl)
+
+abbrev script_item_outlives_its_cell_run : Script
+script_item_outlives_its_cell_run = record { classes = []; procedures = (record { line = 3; parameters = []; body = record { locals = (OfPointer None) ∷ (OfPointer None) ∷ OfNumber ∷ []; statements = (on 7 (Statement-F.Trap 2 ((on 8 (Statement-F.NewText (Held (H.Local 0)) (Constant (pos 20)) Leaves)) ∷ (on 9 (Statement-F.Push (Held (H.Local 0)))) ∷ (on 10 (Statement-F.Append (InCell (Held (H.Local 0))) (Quoted 0))) ∷ (on 11 (Statement-F.PrintText (Of (InCell (Held (H.Local 0)))))) ∷ (on 13 (Statement-F.Free (Held (H.Local 0)))) ∷ (on 14 (Statement-F.NewText (Held (H.Local 1)) (Constant (pos 40)) Leaves)) ∷ (on 15 (Statement-F.Free (Held (H.Local 1)))) ∷ (on 16 (Statement-F.Pop (Constant (pos 1)))) ∷ []))) ∷ [] } }) ∷ []; operations = []; literals = (68 ∷ 101 ∷ 97 ∷ 114 ∷ 32 ∷ 65 ∷ 100 ∷ 97 ∷ []) ∷ []; main = 0 }
+
+item_outlives_its_cell_run : run script_item_outlives_its_cell_run R.Unlimited 10000 (shaped 4096 4096) ≡ record { outcome = Ended None []; trace = (line 1 144 0 Granted) ∷ (line 2 64 144 Granted) ∷ (line 3 112 144 Granted) ∷ []; lines = (68 ∷ 101 ∷ 97 ∷ 114 ∷ 32 ∷ 65 ∷ 100 ∷ 97 ∷ []) ∷ []; notes = []; steps = 9 }
+unfolding everything
+item_outlives_its_cell_run = refl
+
 abbrev script_leak_under_failure_in_a_large_heap_run : Script
 script_leak_under_failure_in_a_large_heap_run = record { classes = []; procedures = (record { line = 4; parameters = []; body = record { locals = (OfPointer None) ∷ []; statements = (on 6 (Statement-F.Alloc (Held (H.Local 0)) (Constant (pos 16)) GivesNull)) ∷ (on 7 (Statement-F.Realloc (Held (H.Local 0)) (Held (H.Local 0)) (Constant (pos 32)) GivesNull)) ∷ (on 9 (Statement-F.Free (Held (H.Local 0)))) ∷ [] } }) ∷ []; operations = []; literals = []; main = 0 }
 
@@ -379,6 +939,20 @@ leak_under_failure_run : run script_leak_under_failure_run (R.Number 3) 10000 (s
 unfolding everything
 leak_under_failure_run = refl
 
+abbrev script_newlc_refused_run : Script
+script_newlc_refused_run = record { classes = []; procedures = (record { line = 3; parameters = Par.OfNumber ∷ []; body = record { locals = (OfPointer None) ∷ (OfPointer None) ∷ []; statements = (on 6 (Statement-F.Alloc (Held (H.Local 1)) (Constant (pos 40)) Leaves)) ∷ (on 8 (Statement-F.Push (Held (H.Local 1)))) ∷ (on 10 (Statement-F.Alloc (Held (H.Local 2)) (Constant (pos 200)) Leaves)) ∷ (on 11 (Statement-F.Push (Held (H.Local 2)))) ∷ (on 12 (Statement-F.Store (Held (H.Local 2)) (Constant (pos 0)) (Variable 0))) ∷ (on 13 (Statement-F.Store (Held (H.Local 1)) (Constant (pos 0)) (Variable 0))) ∷ (on 14 (Statement-F.PopDestroy (Constant (pos 1)))) ∷ (on 16 (Statement-F.ReturnPointer (Held (H.Local 1)))) ∷ [] } }) ∷ (record { line = 19; parameters = []; body = record { locals = (OfPointer None) ∷ (OfPointer None) ∷ []; statements = (on 22 (Statement-F.CallTo 0 0 ((Given (Constant (pos 3))) ∷ []))) ∷ (on 24 (Statement-F.CallTo 1 0 ((Given (Constant (pos 4))) ∷ []))) ∷ (on 25 (Statement-F.Store (Held (H.Local 0)) (Constant (pos 1)) (Constant (pos 7)))) ∷ (on 26 (Statement-F.Store (Held (H.Local 1)) (Constant (pos 1)) (Constant (pos 7)))) ∷ (on 27 (Statement-F.PopDestroy (Constant (pos 2)))) ∷ [] } }) ∷ []; operations = []; literals = []; main = 1 }
+
+newlc_refused_run : run script_newlc_refused_run (R.Number 5) 10000 (shaped 4096 4096) ≡ record { outcome = Ended (Some (negsuc 3)) []; trace = (line 1 144 0 Granted) ∷ (line 2 64 144 Granted) ∷ (line 3 224 208 Granted) ∷ (line 4 64 208 Granted) ∷ (line 5 224 272 Simulated) ∷ []; lines = []; notes = []; steps = 16 }
+unfolding everything
+newlc_refused_run = refl
+
+abbrev script_newlc_check : Script
+script_newlc_check = record { classes = []; procedures = (record { line = 3; parameters = Par.OfNumber ∷ []; body = record { locals = (OfPointer None) ∷ (OfPointer None) ∷ []; statements = (on 6 (Statement-F.Alloc (Held (H.Local 1)) (Constant (pos 40)) Leaves)) ∷ (on 8 (Statement-F.Push (Held (H.Local 1)))) ∷ (on 10 (Statement-F.Alloc (Held (H.Local 2)) (Constant (pos 200)) Leaves)) ∷ (on 11 (Statement-F.Push (Held (H.Local 2)))) ∷ (on 12 (Statement-F.Store (Held (H.Local 2)) (Constant (pos 0)) (Variable 0))) ∷ (on 13 (Statement-F.Store (Held (H.Local 1)) (Constant (pos 0)) (Variable 0))) ∷ (on 14 (Statement-F.PopDestroy (Constant (pos 1)))) ∷ (on 16 (Statement-F.ReturnPointer (Held (H.Local 1)))) ∷ [] } }) ∷ (record { line = 19; parameters = []; body = record { locals = (OfPointer None) ∷ (OfPointer None) ∷ []; statements = (on 22 (Statement-F.CallTo 0 0 ((Given (Constant (pos 3))) ∷ []))) ∷ (on 24 (Statement-F.CallTo 1 0 ((Given (Constant (pos 4))) ∷ []))) ∷ (on 25 (Statement-F.Store (Held (H.Local 0)) (Constant (pos 1)) (Constant (pos 7)))) ∷ (on 26 (Statement-F.Store (Held (H.Local 1)) (Constant (pos 1)) (Constant (pos 7)))) ∷ (on 27 (Statement-F.PopDestroy (Constant (pos 2)))) ∷ [] } }) ∷ []; operations = []; literals = []; main = 1 }
+
+newlc_check : (required script_newlc_check 10000 (shaped 4096 4096) ≡ 496) × (rises script_newlc_check 10000 (shaped 4096 4096) ≡ (rise 1 144) ∷ (rise 2 208) ∷ (rise 3 432) ∷ (rise 5 496) ∷ []) × (length (run_at script_newlc_check 10000 (shaped 4096 4096) 0).trace ≡ 5) × (least_bad_or_cut script_newlc_check 10000 (shaped 4096 4096) ≡ None)
+unfolding everything
+newlc_check = (refl, refl, refl, refl)
+
 abbrev script_notes_with_a_step_of_64_run : Script
 script_notes_with_a_step_of_64_run = record { classes = []; procedures = (record { line = 2; parameters = []; body = record { locals = (OfPointer None) ∷ (OfPointer None) ∷ []; statements = (on 5 (Statement-F.Alloc (Held (H.Local 0)) (Constant (pos 40)) GivesNull)) ∷ (on 7 (Statement-F.Store (Held (H.Local 0)) (Constant (pos 9)) (Constant (negsuc 0)))) ∷ (on 8 Statement-F.NoteHeap) ∷ (on 9 (Statement-F.Alloc (Held (H.Local 1)) (Constant (pos 5000)) GivesNull)) ∷ (on 10 Statement-F.NoteHeap) ∷ (on 11 (Statement-F.Free (Held (H.Local 1)))) ∷ (on 13 Statement-F.NoteAvailable) ∷ (on 14 Statement-F.NoteCompress) ∷ (on 15 Statement-F.NoteHeap) ∷ (on 16 (Statement-F.Free (Held (H.Local 0)))) ∷ [] } }) ∷ []; operations = []; literals = []; main = 0 }
 
@@ -392,6 +966,13 @@ script_notes_run = record { classes = []; procedures = (record { line = 2; param
 notes_run : run script_notes_run R.Unlimited 10000 (shaped 4096 4096) ≡ record { outcome = Ended None []; trace = (line 1 144 0 Granted) ∷ (line 2 64 144 Granted) ∷ (line 3 5024 208 Granted) ∷ []; lines = []; notes = (Heap 2 208 4096) ∷ (Heap 3 5232 8192) ∷ (Available 7984 7984) ∷ (Compress 4096) ∷ (Heap 2 208 4096) ∷ []; steps = 10 }
 unfolding everything
 notes_run = refl
+
+abbrev script_push_too_late_check : Script
+script_push_too_late_check = record { classes = []; procedures = (record { line = 3; parameters = Par.OfNumber ∷ []; body = record { locals = (OfPointer None) ∷ (OfPointer None) ∷ []; statements = (on 6 (Statement-F.Alloc (Held (H.Local 1)) (Constant (pos 40)) Leaves)) ∷ (on 8 (Statement-F.Alloc (Held (H.Local 2)) (Constant (pos 200)) Leaves)) ∷ (on 9 (Statement-F.Push (Held (H.Local 1)))) ∷ (on 10 (Statement-F.Push (Held (H.Local 2)))) ∷ (on 11 (Statement-F.Store (Held (H.Local 2)) (Constant (pos 0)) (Variable 0))) ∷ (on 12 (Statement-F.Store (Held (H.Local 1)) (Constant (pos 0)) (Variable 0))) ∷ (on 13 (Statement-F.PopDestroy (Constant (pos 1)))) ∷ (on 14 (Statement-F.ReturnPointer (Held (H.Local 1)))) ∷ [] } }) ∷ (record { line = 17; parameters = []; body = record { locals = (OfPointer None) ∷ (OfPointer None) ∷ []; statements = (on 20 (Statement-F.CallTo 0 0 ((Given (Constant (pos 3))) ∷ []))) ∷ (on 21 (Statement-F.CallTo 1 0 ((Given (Constant (pos 4))) ∷ []))) ∷ (on 22 (Statement-F.Store (Held (H.Local 0)) (Constant (pos 1)) (Constant (pos 7)))) ∷ (on 23 (Statement-F.Store (Held (H.Local 1)) (Constant (pos 1)) (Constant (pos 7)))) ∷ (on 24 (Statement-F.PopDestroy (Constant (pos 2)))) ∷ [] } }) ∷ []; operations = []; literals = []; main = 1 }
+
+push_too_late_check : (required script_push_too_late_check 10000 (shaped 4096 4096) ≡ 496) × (rises script_push_too_late_check 10000 (shaped 4096 4096) ≡ (rise 1 144) ∷ (rise 2 208) ∷ (rise 3 432) ∷ (rise 5 496) ∷ []) × (length (run_at script_push_too_late_check 10000 (shaped 4096 4096) 0).trace ≡ 5) × (least_bad_or_cut script_push_too_late_check 10000 (shaped 4096 4096) ≡ Some 3) × (run_at script_push_too_late_check 10000 (shaped 4096 4096) 3 ≡ record { outcome = Ended (Some (negsuc 3)) ((record { number = 2; length = 64; place = 144 }) ∷ []); trace = (line 1 144 0 Granted) ∷ (line 2 64 144 Granted) ∷ (line 3 224 208 Simulated) ∷ []; lines = []; notes = []; steps = 3 })
+unfolding everything
+push_too_late_check = (refl, refl, refl, refl, refl)
 
 abbrev script_retry_in_a_short_heap_run : Script
 script_retry_in_a_short_heap_run = record { classes = []; procedures = (record { line = 3; parameters = []; body = record { locals = (OfPointer None) ∷ (OfPointer None) ∷ OfNumber ∷ []; statements = (on 7 (Statement-F.Alloc (Held (H.Local 0)) (Constant (pos 100)) GivesNull)) ∷ (on 8 (Statement-F.Repeat (Constant (pos 3)) ((on 9 (Statement-F.If (IsNull (Held (H.Local 1))) ((on 10 (Statement-F.Add 2 (Constant (pos 1)))) ∷ (on 11 (Statement-F.Alloc (Held (H.Local 1)) (Constant (pos 300)) GivesNull)) ∷ (on 12 (Statement-F.If (IsNull (Held (H.Local 1))) ((on 14 (Statement-F.Free (Held (H.Local 0)))) ∷ (on 15 (Statement-F.SetNull (Held (H.Local 0)))) ∷ []))) ∷ []))) ∷ []))) ∷ (on 19 (Statement-F.PrintNumber (Variable 2))) ∷ (on 20 (Statement-F.Free (Held (H.Local 1)))) ∷ (on 21 (Statement-F.Free (Held (H.Local 0)))) ∷ [] } }) ∷ []; operations = []; literals = []; main = 0 }
@@ -540,6 +1121,20 @@ failing_requests_run : run script_failing_requests_run R.Unlimited 10000 (shaped
 unfolding everything
 failing_requests_run = refl
 
+abbrev script_items_come_off_run : Script
+script_items_come_off_run = record { classes = []; procedures = (record { line = 2; parameters = []; body = record { locals = (OfPointer None) ∷ (OfPointer None) ∷ (OfPointer None) ∷ OfNumber ∷ []; statements = (on 7 (Statement-F.NewText (Held (H.Local 0)) (Constant (pos 4)) Leaves)) ∷ (on 8 (Statement-F.Push (Held (H.Local 0)))) ∷ (on 9 (Statement-F.Alloc (Held (H.Local 1)) (Constant (pos 16)) Leaves)) ∷ (on 10 (Statement-F.Push (Held (H.Local 1)))) ∷ (on 11 (Statement-F.Alloc (Held (H.Local 2)) (Constant (pos 100)) Leaves)) ∷ (on 12 (Statement-F.Push (Held (H.Local 2)))) ∷ (on 13 (Statement-F.PopDestroy (Constant (pos 2)))) ∷ (on 14 (Statement-F.CheckAll (Constant (pos 1)))) ∷ (on 15 (Statement-F.Pop (Constant (pos 1)))) ∷ (on 17 (Statement-F.AllocLen 3 (Held (H.Local 0)))) ∷ (on 18 (Statement-F.PrintNumber (Variable 3))) ∷ (on 19 (Statement-F.Free (Held (H.Local 0)))) ∷ [] } }) ∷ []; operations = []; literals = []; main = 0 }
+
+items_come_off_run : run script_items_come_off_run R.Unlimited 10000 (shaped 4096 4096) ≡ record { outcome = Ended None []; trace = (line 1 144 0 Granted) ∷ (line 2 32 144 Granted) ∷ (line 3 32 176 Granted) ∷ (line 4 128 208 Granted) ∷ []; lines = (49 ∷ 54 ∷ []) ∷ []; notes = []; steps = 14 }
+unfolding everything
+items_come_off_run = refl
+
+abbrev script_items_of_a_leave_run : Script
+script_items_of_a_leave_run = record { classes = []; procedures = (record { line = 2; parameters = []; body = record { locals = (OfPointer None) ∷ (OfPointer None) ∷ OfNumber ∷ []; statements = (on 6 (Statement-F.Alloc (Held (H.Local 0)) (Constant (pos 16)) Leaves)) ∷ (on 7 (Statement-F.Push (Held (H.Local 0)))) ∷ (on 8 (Statement-F.Trap 2 ((on 9 (Statement-F.Alloc (Held (H.Local 1)) (Constant (pos 100)) Leaves)) ∷ (on 10 (Statement-F.Push (Held (H.Local 1)))) ∷ (on 11 (Statement-F.Leave (Constant (negsuc 19)))) ∷ []))) ∷ (on 13 (Statement-F.PrintNumber (Variable 2))) ∷ (on 15 (Statement-F.CheckAll (Constant (pos 1)))) ∷ (on 16 (Statement-F.PopCheck (Held (H.Local 0)))) ∷ (on 17 (Statement-F.Free (Held (H.Local 0)))) ∷ [] } }) ∷ []; operations = []; literals = []; main = 0 }
+
+items_of_a_leave_run : run script_items_of_a_leave_run R.Unlimited 10000 (shaped 4096 4096) ≡ record { outcome = Ended None []; trace = (line 1 144 0 Granted) ∷ (line 2 32 144 Granted) ∷ (line 3 128 176 Granted) ∷ []; lines = (45 ∷ 50 ∷ 48 ∷ []) ∷ []; notes = []; steps = 11 }
+unfolding everything
+items_of_a_leave_run = refl
+
 abbrev script_leave_is_trapped_run : Script
 script_leave_is_trapped_run = record { classes = []; procedures = (record { line = 2; parameters = []; body = record { locals = (OfPointer None) ∷ (OfPointer None) ∷ OfNumber ∷ []; statements = (on 6 (Statement-F.FailNext (Constant (pos 2)))) ∷ (on 7 (Statement-F.Trap 2 ((on 8 (Statement-F.Alloc (Held (H.Local 0)) (Constant (pos 20)) Leaves)) ∷ (on 9 (Statement-F.Alloc (Held (H.Local 1)) (Constant (pos 20)) Leaves)) ∷ (on 10 (Statement-F.PrintText (Quoted 0))) ∷ []))) ∷ (on 12 (Statement-F.PrintNumber (Variable 2))) ∷ (on 13 (Statement-F.Free (Held (H.Local 0)))) ∷ (on 14 (Statement-F.Free (Held (H.Local 1)))) ∷ [] } }) ∷ []; operations = []; literals = (98 ∷ 111 ∷ 116 ∷ 104 ∷ []) ∷ []; main = 0 }
 
@@ -568,12 +1163,26 @@ numbers_run : run script_numbers_run R.Unlimited 10000 (shaped 4096 4096) ≡ re
 unfolding everything
 numbers_run = refl
 
+abbrev script_operation_of_an_item_run : Script
+script_operation_of_an_item_run = record { classes = []; procedures = (record { line = 11; parameters = []; body = record { locals = (OfPointer None) ∷ OfNumber ∷ []; statements = (on 14 (Statement-F.Trap 1 ((on 15 (Statement-F.Alloc (Held (H.Local 0)) (Constant (pos 8)) Leaves)) ∷ (on 16 (Statement-F.Store (Held (H.Local 0)) (Constant (pos 0)) (Constant (pos 1)))) ∷ (on 17 (Statement-F.PushOperation (Held (H.Local 0)) 0)) ∷ (on 18 (Statement-F.Leave (Constant (negsuc 19)))) ∷ []))) ∷ (on 20 (Statement-F.PrintNumber (Variable 1))) ∷ (on 21 (Statement-F.CheckAll (Constant (pos 0)))) ∷ [] } }) ∷ []; operations = (record { line = 2; body = record { locals = OfNumber ∷ []; statements = (on 4 (Statement-F.Load 1 (Held (H.Local 0)) (Constant (pos 0)))) ∷ (on 5 (Statement-F.If (Less (Constant (pos 0)) (Variable 1)) ((on 6 (Statement-F.PrintText (Quoted 0))) ∷ (on 7 (Statement-F.Store (Held (H.Local 0)) (Constant (pos 0)) (Constant (pos 0)))) ∷ []))) ∷ (on 9 (Statement-F.Free (Held (H.Local 0)))) ∷ [] } }) ∷ []; literals = (99 ∷ 108 ∷ 111 ∷ 115 ∷ 105 ∷ 110 ∷ 103 ∷ []) ∷ []; main = 0 }
+
+operation_of_an_item_run : run script_operation_of_an_item_run R.Unlimited 10000 (shaped 4096 4096) ≡ record { outcome = Ended None []; trace = (line 1 144 0 Granted) ∷ (line 2 32 144 Granted) ∷ []; lines = (99 ∷ 108 ∷ 111 ∷ 115 ∷ 105 ∷ 110 ∷ 103 ∷ []) ∷ (45 ∷ 50 ∷ 48 ∷ []) ∷ []; notes = []; steps = 13 }
+unfolding everything
+operation_of_an_item_run = refl
+
 abbrev script_pointer_to_a_moved_cell_run : Script
 script_pointer_to_a_moved_cell_run = record { classes = []; procedures = (record { line = 2; parameters = []; body = record { locals = (OfPointer None) ∷ (OfPointer None) ∷ (OfPointer None) ∷ []; statements = (on 6 (Statement-F.Alloc (Held (H.Local 0)) (Constant (pos 16)) GivesNull)) ∷ (on 7 (Statement-F.Alloc (Held (H.Local 1)) (Constant (pos 16)) GivesNull)) ∷ (on 8 (Statement-F.Set (Held (H.Local 2)) (Held (H.Local 0)))) ∷ (on 9 (Statement-F.Realloc (Held (H.Local 0)) (Held (H.Local 0)) (Constant (pos 32)) GivesNull)) ∷ (on 10 (Statement-F.Free (Held (H.Local 1)))) ∷ (on 11 (Statement-F.SetNull (Held (H.Local 1)))) ∷ (on 12 (Statement-F.Free (Held (H.Local 1)))) ∷ (on 13 (Statement-F.Free (Held (H.Local 2)))) ∷ [] } }) ∷ []; operations = []; literals = []; main = 0 }
 
 pointer_to_a_moved_cell_run : run script_pointer_to_a_moved_cell_run R.Unlimited 10000 (shaped 4096 4096) ≡ record { outcome = Panicked (P.User 42); trace = (line 1 144 0 Granted) ∷ (line 2 32 144 Granted) ∷ (line 3 32 176 Granted) ∷ (line 4 48 208 Granted) ∷ []; lines = []; notes = []; steps = 8 }
 unfolding everything
 pointer_to_a_moved_cell_run = refl
+
+abbrev script_push_that_leaves_run : Script
+script_push_that_leaves_run = record { classes = []; procedures = (record { line = 2; parameters = []; body = record { locals = (OfPointer None) ∷ OfNumber ∷ []; statements = (on 6 (Statement-F.FailNext (Constant (pos 9)))) ∷ (on 7 (Statement-F.Trap 1 ((on 8 (Statement-F.Repeat (Constant (pos 8)) ((on 9 (Statement-F.Alloc (Held (H.Local 0)) (Constant (pos 16)) Leaves)) ∷ (on 10 (Statement-F.Push (Held (H.Local 0)))) ∷ []))) ∷ (on 12 (Statement-F.PopDestroy (Constant (pos 8)))) ∷ []))) ∷ (on 14 (Statement-F.PrintNumber (Variable 1))) ∷ (on 15 (Statement-F.CheckAll (Constant (pos 0)))) ∷ [] } }) ∷ []; operations = []; literals = []; main = 0 }
+
+push_that_leaves_run : run script_push_that_leaves_run R.Unlimited 10000 (shaped 4096 4096) ≡ record { outcome = Ended None []; trace = (line 1 144 0 Granted) ∷ (line 2 32 144 Granted) ∷ (line 3 32 176 Granted) ∷ (line 4 32 208 Granted) ∷ (line 5 32 240 Granted) ∷ (line 6 32 272 Granted) ∷ (line 7 32 304 Granted) ∷ (line 8 32 336 Granted) ∷ (line 9 32 368 Granted) ∷ (line 10 208 400 Simulated) ∷ []; lines = (45 ∷ 52 ∷ []) ∷ []; notes = []; steps = 37 }
+unfolding everything
+push_that_leaves_run = refl
 
 abbrev script_table_from_a_procedure_run : Script
 script_table_from_a_procedure_run = record { classes = []; procedures = (record { line = 2; parameters = Par.OfNumber ∷ []; body = record { locals = (OfPointer None) ∷ OfNumber ∷ []; statements = (on 6 (Statement-F.Repeat (Variable 0) ((on 7 (Statement-F.Add 2 (Constant (pos 4)))) ∷ []))) ∷ (on 9 (Statement-F.Alloc (Held (H.Local 1)) (Variable 2) GivesNull)) ∷ (on 10 (Statement-F.ReturnPointer (Held (H.Local 1)))) ∷ [] } }) ∷ (record { line = 13; parameters = (Par.OfPointer None) ∷ Par.OfNumber ∷ []; body = record { locals = OfNumber ∷ []; statements = (on 15 (Statement-F.Repeat (Variable 1) ((on 16 (Statement-F.Store (Held (H.Local 0)) (Variable 2) (Constant (pos 7)))) ∷ (on 17 (Statement-F.Add 2 (Constant (pos 1)))) ∷ []))) ∷ [] } }) ∷ (record { line = 21; parameters = []; body = record { locals = (OfPointer None) ∷ OfNumber ∷ []; statements = (on 24 (Statement-F.CallTo 0 0 ((Given (Constant (pos 3))) ∷ []))) ∷ (on 25 (Statement-F.If (NotNull (Held (H.Local 0))) ((on 26 (Statement-F.Call 1 ((Passed (Held (H.Local 0))) ∷ (Given (Constant (pos 3))) ∷ []))) ∷ (on 27 (Statement-F.Load 1 (Held (H.Local 0)) (Constant (pos 2)))) ∷ (on 28 (Statement-F.PrintNumber (Variable 1))) ∷ (on 29 (Statement-F.Free (Held (H.Local 0)))) ∷ []))) ∷ [] } }) ∷ []; operations = []; literals = []; main = 2 }
@@ -616,6 +1225,41 @@ script_words_of_a_table_run = record { classes = []; procedures = (record { line
 words_of_a_table_run : run script_words_of_a_table_run R.Unlimited 10000 (shaped 4096 4096) ≡ record { outcome = Ended None []; trace = (line 1 144 0 Granted) ∷ (line 2 32 144 Granted) ∷ (line 3 64 144 Granted) ∷ []; lines = (49 ∷ 54 ∷ []) ∷ (52 ∷ 56 ∷ []) ∷ (45 ∷ 55 ∷ []) ∷ (48 ∷ []) ∷ []; notes = []; steps = 12 }
 unfolding everything
 words_of_a_table_run = refl
+
+abbrev script_empty_main_json_check : Script
+script_empty_main_json_check = record { classes = []; procedures = (record { line = 1; parameters = []; body = record { locals = []; statements = [] } }) ∷ []; operations = []; literals = []; main = 0 }
+
+empty_main_json_check : (required script_empty_main_json_check 10000 (shaped 4096 4096) ≡ 144) × (rises script_empty_main_json_check 10000 (shaped 4096 4096) ≡ (rise 1 144) ∷ []) × (length (run_at script_empty_main_json_check 10000 (shaped 4096 4096) 0).trace ≡ 1) × (least_bad_or_cut script_empty_main_json_check 10000 (shaped 4096 4096) ≡ None)
+unfolding everything
+empty_main_json_check = (refl, refl, refl, refl)
+
+abbrev script_empty_main_json_run : Script
+script_empty_main_json_run = record { classes = []; procedures = (record { line = 1; parameters = []; body = record { locals = []; statements = [] } }) ∷ []; operations = []; literals = []; main = 0 }
+
+empty_main_json_run : run script_empty_main_json_run R.Unlimited 10000 (shaped 4096 4096) ≡ record { outcome = Ended None []; trace = (line 1 144 0 Granted) ∷ []; lines = []; notes = []; steps = 0 }
+unfolding everything
+empty_main_json_run = refl
+
+abbrev script_empty_main_json_size : Script
+script_empty_main_json_size = record { classes = []; procedures = (record { line = 1; parameters = []; body = record { locals = []; statements = [] } }) ∷ []; operations = []; literals = []; main = 0 }
+
+empty_main_json_size : (required script_empty_main_json_size 10000 (shaped 4096 4096) ≡ 144) × (rises script_empty_main_json_size 10000 (shaped 4096 4096) ≡ (rise 1 144) ∷ [])
+unfolding everything
+empty_main_json_size = (refl, refl)
+
+abbrev script_failure_that_outruns_the_budget_json_check : Script
+script_failure_that_outruns_the_budget_json_check = record { classes = []; procedures = (record { line = 1; parameters = []; body = record { locals = (OfPointer None) ∷ []; statements = (on 3 (Statement-F.Alloc (Held (H.Local 0)) (Constant (pos 16)) GivesNull)) ∷ (on 4 (Statement-F.If (IsNull (Held (H.Local 0))) ((on 5 (Statement-F.Repeat (Constant (pos 20000)) [])) ∷ []))) ∷ (on 8 (Statement-F.Free (Held (H.Local 0)))) ∷ [] } }) ∷ []; operations = []; literals = []; main = 0 }
+
+failure_that_outruns_the_budget_json_check : (required script_failure_that_outruns_the_budget_json_check 10000 (shaped 4096 4096) ≡ 176) × (rises script_failure_that_outruns_the_budget_json_check 10000 (shaped 4096 4096) ≡ (rise 1 144) ∷ (rise 2 176) ∷ []) × (least_bad_or_cut script_failure_that_outruns_the_budget_json_check 10000 (shaped 4096 4096) ≡ Some 2) × ((run_at script_failure_that_outruns_the_budget_json_check 10000 (shaped 4096 4096) 2).outcome ≡ Cut Budget)
+unfolding everything
+failure_that_outruns_the_budget_json_check = (refl, refl, refl, refl)
+
+abbrev script_leak_without_any_failure_json_sweep : Script
+script_leak_without_any_failure_json_sweep = record { classes = []; procedures = (record { line = 1; parameters = []; body = record { locals = (OfPointer None) ∷ []; statements = (on 3 (Statement-F.Alloc (Held (H.Local 0)) (Constant (pos 16)) GivesNull)) ∷ [] } }) ∷ []; operations = []; literals = []; main = 0 }
+
+leak_without_any_failure_json_sweep : (length (run_at script_leak_without_any_failure_json_sweep 10000 (shaped 4096 4096) 0).trace ≡ 2) × (least_bad_or_cut script_leak_without_any_failure_json_sweep 10000 (shaped 4096 4096) ≡ Some 0) × (run_at script_leak_without_any_failure_json_sweep 10000 (shaped 4096 4096) 0 ≡ record { outcome = Ended None ((record { number = 2; length = 32; place = 144 }) ∷ []); trace = (line 1 144 0 Granted) ∷ (line 2 32 144 Granted) ∷ []; lines = []; notes = []; steps = 1 })
+unfolding everything
+leak_without_any_failure_json_sweep = (refl, refl, refl)
 
 abbrev script_cell_behind_a_pointer_made_null_leaks_run : Script
 script_cell_behind_a_pointer_made_null_leaks_run = record { classes = []; procedures = (record { line = 1; parameters = []; body = record { locals = (OfPointer None) ∷ []; statements = (on 3 (Statement-F.Alloc (Held (H.Local 0)) (Constant (pos 1)) GivesNull)) ∷ (on 4 (Statement-F.SetNull (Held (H.Local 0)))) ∷ (on 5 (Statement-F.Free (Held (H.Local 0)))) ∷ [] } }) ∷ []; operations = []; literals = []; main = 0 }
@@ -1100,47 +1744,12 @@ words_of_a_shrunk_cell_are_gone_run : run script_words_of_a_shrunk_cell_are_gone
 unfolding everything
 words_of_a_shrunk_cell_are_gone_run = refl
 
-abbrev script_callee_pops_an_item_of_its_caller_run : Script
-script_callee_pops_an_item_of_its_caller_run = record { classes = []; procedures = (record { line = 1; parameters = []; body = record { locals = []; statements = (on 2 (Statement-F.Pop (Constant (pos 1)))) ∷ [] } }) ∷ (record { line = 4; parameters = []; body = record { locals = (OfPointer None) ∷ []; statements = (on 6 (Statement-F.Push (Held (H.Local 0)))) ∷ (on 7 (Statement-F.Call 0 [])) ∷ [] } }) ∷ []; operations = []; literals = []; main = 1 }
-
-callee_pops_an_item_of_its_caller_run : run script_callee_pops_an_item_of_its_caller_run R.Unlimited 10000 (shaped 4096 4096) ≡ record { outcome = Ended None []; trace = (line 1 144 0 Granted) ∷ []; lines = []; notes = []; steps = 3 }
-unfolding everything
-callee_pops_an_item_of_its_caller_run = refl
-
-abbrev script_return_from_main_with_an_item_run : Script
-script_return_from_main_with_an_item_run = record { classes = []; procedures = (record { line = 1; parameters = []; body = record { locals = (OfPointer None) ∷ []; statements = (on 3 (Statement-F.Push (Held (H.Local 0)))) ∷ (on 4 Statement-F.Return) ∷ [] } }) ∷ []; operations = []; literals = []; main = 0 }
-
-return_from_main_with_an_item_run : run script_return_from_main_with_an_item_run R.Unlimited 10000 (shaped 4096 4096) ≡ record { outcome = Panicked (P.Workbench 5); trace = (line 1 144 0 Granted) ∷ []; lines = []; notes = []; steps = 2 }
-unfolding everything
-return_from_main_with_an_item_run = refl
-
-abbrev script_empty_main_json_run : Script
-script_empty_main_json_run = record { classes = []; procedures = (record { line = 1; parameters = []; body = record { locals = []; statements = [] } }) ∷ []; operations = []; literals = []; main = 0 }
-
-empty_main_json_run : run script_empty_main_json_run R.Unlimited 10000 (shaped 4096 4096) ≡ record { outcome = Ended None []; trace = (line 1 144 0 Granted) ∷ []; lines = []; notes = []; steps = 0 }
-unfolding everything
-empty_main_json_run = refl
-
 abbrev script_field_is_passed_run : Script
 script_field_is_passed_run = record { classes = (record { line = 1; extra = 0; fields = None ∷ []; construct = None; destroy = None }) ∷ []; procedures = (record { line = 4; parameters = (Par.OfPointer None) ∷ []; body = record { locals = []; statements = (on 5 (Statement-F.Store (Held (H.Local 0)) (Constant (pos 0)) (Constant (pos 9)))) ∷ (on 6 (Statement-F.Free (Held (H.Local 0)))) ∷ [] } }) ∷ (record { line = 8; parameters = []; body = record { locals = (OfPointer (Some 0)) ∷ []; statements = (on 10 (Statement-F.New (Held (H.Local 0)) 0 Leaves)) ∷ (on 11 (Statement-F.Alloc (Field (H.Local 0) 0 0) (Constant (pos 4)) GivesNull)) ∷ (on 12 (Statement-F.Call 0 ((Passed (Field (H.Local 0) 0 0)) ∷ []))) ∷ (on 13 (Statement-F.Delete (Held (H.Local 0)))) ∷ [] } }) ∷ []; operations = []; literals = []; main = 1 }
 
 field_is_passed_run : run script_field_is_passed_run R.Unlimited 10000 (shaped 4096 4096) ≡ record { outcome = Ended None []; trace = (line 1 144 0 Granted) ∷ (line 2 32 144 Granted) ∷ (line 3 32 176 Granted) ∷ []; lines = []; notes = []; steps = 7 }
 unfolding everything
 field_is_passed_run = refl
-
-abbrev script_leave_runs_a_cleanup_operation_run : Script
-script_leave_runs_a_cleanup_operation_run = record { classes = []; procedures = (record { line = 5; parameters = []; body = record { locals = (OfPointer None) ∷ OfNumber ∷ []; statements = (on 8 (Statement-F.Alloc (Held (H.Local 0)) (Constant (pos 4)) Leaves)) ∷ (on 9 (Statement-F.PushOperation (Held (H.Local 0)) 0)) ∷ (on 10 (Statement-F.Trap 1 ((on 11 (Statement-F.Leave (Constant (negsuc 6)))) ∷ []))) ∷ (on 13 (Statement-F.PrintNumber (Variable 1))) ∷ (on 14 (Statement-F.LeaveIfError (Variable 1))) ∷ [] } }) ∷ []; operations = (record { line = 1; body = record { locals = []; statements = (on 2 (Statement-F.PrintText (Quoted 0))) ∷ (on 3 (Statement-F.Free (Held (H.Local 0)))) ∷ [] } }) ∷ []; literals = (111 ∷ 112 ∷ []) ∷ []; main = 0 }
-
-leave_runs_a_cleanup_operation_run : run script_leave_runs_a_cleanup_operation_run R.Unlimited 10000 (shaped 4096 4096) ≡ record { outcome = Ended (Some (negsuc 6)) []; trace = (line 1 144 0 Granted) ∷ (line 2 32 144 Granted) ∷ []; lines = (45 ∷ 55 ∷ []) ∷ (111 ∷ 112 ∷ []) ∷ []; notes = []; steps = 9 }
-unfolding everything
-leave_runs_a_cleanup_operation_run = refl
-
-abbrev script_newest_item_is_destroyed_first_run : Script
-script_newest_item_is_destroyed_first_run = record { classes = []; procedures = (record { line = 9; parameters = []; body = record { locals = (OfPointer None) ∷ (OfPointer None) ∷ []; statements = (on 12 (Statement-F.Alloc (Held (H.Local 0)) (Constant (pos 4)) GivesNull)) ∷ (on 13 (Statement-F.Alloc (Held (H.Local 1)) (Constant (pos 4)) GivesNull)) ∷ (on 14 (Statement-F.PushOperation (Held (H.Local 0)) 0)) ∷ (on 15 (Statement-F.PushOperation (Held (H.Local 1)) 1)) ∷ (on 16 (Statement-F.Leave (Constant (negsuc 0)))) ∷ [] } }) ∷ []; operations = (record { line = 1; body = record { locals = []; statements = (on 2 (Statement-F.PrintText (Quoted 0))) ∷ (on 3 (Statement-F.Free (Held (H.Local 0)))) ∷ [] } }) ∷ (record { line = 5; body = record { locals = []; statements = (on 6 (Statement-F.PrintText (Quoted 1))) ∷ (on 7 (Statement-F.Free (Held (H.Local 0)))) ∷ [] } }) ∷ []; literals = (49 ∷ []) ∷ (50 ∷ []) ∷ []; main = 0 }
-
-newest_item_is_destroyed_first_run : run script_newest_item_is_destroyed_first_run R.Unlimited 10000 (shaped 4096 4096) ≡ record { outcome = Ended (Some (negsuc 0)) []; trace = (line 1 144 0 Granted) ∷ (line 2 32 144 Granted) ∷ (line 3 32 176 Granted) ∷ []; lines = (50 ∷ []) ∷ (49 ∷ []) ∷ []; notes = []; steps = 11 }
-unfolding everything
-newest_item_is_destroyed_first_run = refl
 
 abbrev script_object_made_and_deleted_run : Script
 script_object_made_and_deleted_run = record { classes = (record { line = 1; extra = 16; fields = None ∷ []; construct = Some (record { locals = []; statements = (on 4 (Statement-F.NewText (Field H.This 0 0) (Constant (pos 4)) Leaves)) ∷ [] }); destroy = Some (record { locals = []; statements = (on 7 (Statement-F.Free (Field H.This 0 0))) ∷ [] }) }) ∷ []; procedures = (record { line = 10; parameters = []; body = record { locals = (OfPointer (Some 0)) ∷ []; statements = (on 12 (Statement-F.New (Held (H.Local 0)) 0 Leaves)) ∷ (on 13 (Statement-F.Construct (Held (H.Local 0)))) ∷ (on 14 (Statement-F.Delete (Held (H.Local 0)))) ∷ [] } }) ∷ []; operations = []; literals = []; main = 0 }
@@ -1198,132 +1807,6 @@ unpushed_object_leaks_when_construction_fails_run : run script_unpushed_object_l
 unfolding everything
 unpushed_object_leaks_when_construction_fails_run = refl
 
-abbrev script_check_names_a_cell_after_the_stack_moved_run : Script
-script_check_names_a_cell_after_the_stack_moved_run = record { classes = []; procedures = (record { line = 1; parameters = []; body = record { locals = (OfPointer None) ∷ (OfPointer None) ∷ []; statements = (on 4 (Statement-F.Alloc (Held (H.Local 0)) (Constant (pos 1)) GivesNull)) ∷ (on 5 (Statement-F.Push (Held (H.Local 0)))) ∷ (on 6 (Statement-F.Push (Held (H.Local 0)))) ∷ (on 7 (Statement-F.Push (Held (H.Local 0)))) ∷ (on 8 (Statement-F.Push (Held (H.Local 0)))) ∷ (on 9 (Statement-F.Push (Held (H.Local 0)))) ∷ (on 10 (Statement-F.Push (Held (H.Local 0)))) ∷ (on 11 (Statement-F.Push (Held (H.Local 0)))) ∷ (on 12 (Statement-F.Push (Held (H.Local 0)))) ∷ (on 13 (Statement-F.Alloc (Held (H.Local 1)) (Constant (pos 100)) GivesNull)) ∷ (on 14 (Statement-F.Pop (Constant (pos 8)))) ∷ (on 15 Statement-F.Mark) ∷ (on 16 (Statement-F.Alloc (Held (H.Local 1)) (Constant (pos 4)) GivesNull)) ∷ (on 17 (Statement-F.Check (Constant (pos 0)))) ∷ [] } }) ∷ []; operations = []; literals = []; main = 0 }
-
-check_names_a_cell_after_the_stack_moved_run : run script_check_names_a_cell_after_the_stack_moved_run R.Unlimited 10000 (shaped 4096 4096) ≡ record { outcome = Panicked (P.Alloc 384); trace = (line 1 144 0 Granted) ∷ (line 2 32 144 Granted) ∷ (line 3 208 176 Granted) ∷ (line 4 128 0 Granted) ∷ (line 5 32 384 Granted) ∷ []; lines = []; notes = []; steps = 14 }
-unfolding everything
-check_names_a_cell_after_the_stack_moved_run = refl
-
-abbrev script_check_names_the_cell_at_place_zero_run : Script
-script_check_names_the_cell_at_place_zero_run = record { classes = []; procedures = (record { line = 1; parameters = []; body = record { locals = (OfPointer None) ∷ (OfPointer None) ∷ []; statements = (on 4 (Statement-F.Alloc (Held (H.Local 0)) (Constant (pos 1)) GivesNull)) ∷ (on 5 (Statement-F.Push (Held (H.Local 0)))) ∷ (on 6 (Statement-F.Push (Held (H.Local 0)))) ∷ (on 7 (Statement-F.Push (Held (H.Local 0)))) ∷ (on 8 (Statement-F.Push (Held (H.Local 0)))) ∷ (on 9 (Statement-F.Push (Held (H.Local 0)))) ∷ (on 10 (Statement-F.Push (Held (H.Local 0)))) ∷ (on 11 (Statement-F.Push (Held (H.Local 0)))) ∷ (on 12 (Statement-F.Push (Held (H.Local 0)))) ∷ (on 13 Statement-F.Mark) ∷ (on 14 (Statement-F.Alloc (Held (H.Local 1)) (Constant (pos 100)) GivesNull)) ∷ (on 15 (Statement-F.Check (Constant (pos 0)))) ∷ [] } }) ∷ []; operations = []; literals = []; main = 0 }
-
-check_names_the_cell_at_place_zero_run : run script_check_names_the_cell_at_place_zero_run R.Unlimited 10000 (shaped 4096 4096) ≡ record { outcome = Panicked (P.Alloc 0); trace = (line 1 144 0 Granted) ∷ (line 2 32 144 Granted) ∷ (line 3 208 176 Granted) ∷ (line 4 128 0 Granted) ∷ []; lines = []; notes = []; steps = 12 }
-unfolding everything
-check_names_the_cell_at_place_zero_run = refl
-
-abbrev script_eighth_push_grows_the_cleanup_cell_run : Script
-script_eighth_push_grows_the_cleanup_cell_run = record { classes = []; procedures = (record { line = 1; parameters = []; body = record { locals = (OfPointer None) ∷ []; statements = (on 3 (Statement-F.Repeat (Constant (pos 8)) ((on 4 (Statement-F.Alloc (Held (H.Local 0)) (Constant (pos 16)) Leaves)) ∷ (on 5 (Statement-F.Push (Held (H.Local 0)))) ∷ []))) ∷ (on 7 (Statement-F.PopDestroy (Constant (pos 8)))) ∷ [] } }) ∷ []; operations = []; literals = []; main = 0 }
-
-eighth_push_grows_the_cleanup_cell_run : run script_eighth_push_grows_the_cleanup_cell_run R.Unlimited 10000 (shaped 4096 4096) ≡ record { outcome = Ended None []; trace = (line 1 144 0 Granted) ∷ (line 2 32 144 Granted) ∷ (line 3 32 176 Granted) ∷ (line 4 32 208 Granted) ∷ (line 5 32 240 Granted) ∷ (line 6 32 272 Granted) ∷ (line 7 32 304 Granted) ∷ (line 8 32 336 Granted) ∷ (line 9 32 368 Granted) ∷ (line 10 208 400 Granted) ∷ []; lines = []; notes = []; steps = 34 }
-unfolding everything
-eighth_push_grows_the_cleanup_cell_run = refl
-
-abbrev script_item_left_at_the_end_of_a_trap_run : Script
-script_item_left_at_the_end_of_a_trap_run = record { classes = []; procedures = (record { line = 1; parameters = []; body = record { locals = (OfPointer None) ∷ OfNumber ∷ []; statements = (on 4 (Statement-F.Trap 1 ((on 5 (Statement-F.Push (Held (H.Local 0)))) ∷ []))) ∷ [] } }) ∷ []; operations = []; literals = []; main = 0 }
-
-item_left_at_the_end_of_a_trap_run : run script_item_left_at_the_end_of_a_trap_run R.Unlimited 10000 (shaped 4096 4096) ≡ record { outcome = Panicked (P.Workbench 5); trace = (line 1 144 0 Granted) ∷ []; lines = []; notes = []; steps = 2 }
-unfolding everything
-item_left_at_the_end_of_a_trap_run = refl
-
-abbrev script_marks_never_count_the_cleanup_cell_run : Script
-script_marks_never_count_the_cleanup_cell_run = record { classes = []; procedures = (record { line = 1; parameters = []; body = record { locals = (OfPointer None) ∷ []; statements = (on 3 Statement-F.Mark) ∷ (on 4 (Statement-F.Repeat (Constant (pos 8)) ((on 5 (Statement-F.Push (Held (H.Local 0)))) ∷ []))) ∷ (on 7 (Statement-F.Pop (Constant (pos 8)))) ∷ (on 8 (Statement-F.MarkEnd (Constant (pos 0)))) ∷ [] } }) ∷ []; operations = []; literals = []; main = 0 }
-
-marks_never_count_the_cleanup_cell_run : run script_marks_never_count_the_cleanup_cell_run R.Unlimited 10000 (shaped 4096 4096) ≡ record { outcome = Ended None []; trace = (line 1 144 0 Granted) ∷ (line 2 208 0 Granted) ∷ []; lines = []; notes = []; steps = 20 }
-unfolding everything
-marks_never_count_the_cleanup_cell_run = refl
-
-abbrev script_pop_below_the_trap_run : Script
-script_pop_below_the_trap_run = record { classes = []; procedures = (record { line = 1; parameters = []; body = record { locals = (OfPointer None) ∷ OfNumber ∷ []; statements = (on 4 (Statement-F.Push (Held (H.Local 0)))) ∷ (on 5 (Statement-F.Trap 1 ((on 6 (Statement-F.Pop (Constant (pos 1)))) ∷ []))) ∷ [] } }) ∷ []; operations = []; literals = []; main = 0 }
-
-pop_below_the_trap_run : run script_pop_below_the_trap_run R.Unlimited 10000 (shaped 4096 4096) ≡ record { outcome = Panicked (P.Workbench 3); trace = (line 1 144 0 Granted) ∷ []; lines = []; notes = []; steps = 3 }
-unfolding everything
-pop_below_the_trap_run = refl
-
-abbrev script_pop_expects_a_new_cell_at_an_old_place_run : Script
-script_pop_expects_a_new_cell_at_an_old_place_run = record { classes = []; procedures = (record { line = 1; parameters = []; body = record { locals = (OfPointer None) ∷ (OfPointer None) ∷ []; statements = (on 4 (Statement-F.Alloc (Held (H.Local 0)) (Constant (pos 16)) Leaves)) ∷ (on 5 (Statement-F.Push (Held (H.Local 0)))) ∷ (on 6 (Statement-F.Free (Held (H.Local 0)))) ∷ (on 7 (Statement-F.Alloc (Held (H.Local 1)) (Constant (pos 16)) Leaves)) ∷ (on 8 (Statement-F.PopCheck (Held (H.Local 1)))) ∷ [] } }) ∷ []; operations = []; literals = []; main = 0 }
-
-pop_expects_a_new_cell_at_an_old_place_run : run script_pop_expects_a_new_cell_at_an_old_place_run R.Unlimited 10000 (shaped 4096 4096) ≡ record { outcome = Panicked (P.Workbench 4); trace = (line 1 144 0 Granted) ∷ (line 2 32 144 Granted) ∷ (line 3 32 144 Granted) ∷ []; lines = []; notes = []; steps = 5 }
-unfolding everything
-pop_expects_a_new_cell_at_an_old_place_run = refl
-
-abbrev script_pop_expects_an_item_below_the_trap_run : Script
-script_pop_expects_an_item_below_the_trap_run = record { classes = []; procedures = (record { line = 1; parameters = []; body = record { locals = (OfPointer None) ∷ OfNumber ∷ []; statements = (on 4 (Statement-F.Push (Held (H.Local 0)))) ∷ (on 5 (Statement-F.Trap 1 ((on 6 (Statement-F.PopCheck (Held (H.Local 0)))) ∷ []))) ∷ [] } }) ∷ []; operations = []; literals = []; main = 0 }
-
-pop_expects_an_item_below_the_trap_run : run script_pop_expects_an_item_below_the_trap_run R.Unlimited 10000 (shaped 4096 4096) ≡ record { outcome = Panicked (P.Workbench 3); trace = (line 1 144 0 Granted) ∷ []; lines = []; notes = []; steps = 3 }
-unfolding everything
-pop_expects_an_item_below_the_trap_run = refl
-
-abbrev script_pop_expects_an_item_of_an_empty_stack_run : Script
-script_pop_expects_an_item_of_an_empty_stack_run = record { classes = []; procedures = (record { line = 1; parameters = []; body = record { locals = (OfPointer None) ∷ []; statements = (on 3 (Statement-F.PopCheck (Held (H.Local 0)))) ∷ [] } }) ∷ []; operations = []; literals = []; main = 0 }
-
-pop_expects_an_item_of_an_empty_stack_run : run script_pop_expects_an_item_of_an_empty_stack_run R.Unlimited 10000 (shaped 4096 4096) ≡ record { outcome = Panicked (P.Workbench 3); trace = (line 1 144 0 Granted) ∷ []; lines = []; notes = []; steps = 1 }
-unfolding everything
-pop_expects_an_item_of_an_empty_stack_run = refl
-
-abbrev script_pop_expects_another_item_run : Script
-script_pop_expects_another_item_run = record { classes = []; procedures = (record { line = 1; parameters = []; body = record { locals = (OfPointer None) ∷ (OfPointer None) ∷ []; statements = (on 4 (Statement-F.Alloc (Held (H.Local 0)) (Constant (pos 16)) Leaves)) ∷ (on 5 (Statement-F.Push (Held (H.Local 1)))) ∷ (on 6 (Statement-F.PopCheck (Held (H.Local 0)))) ∷ [] } }) ∷ []; operations = []; literals = []; main = 0 }
-
-pop_expects_another_item_run : run script_pop_expects_another_item_run R.Unlimited 10000 (shaped 4096 4096) ≡ record { outcome = Panicked (P.Workbench 4); trace = (line 1 144 0 Granted) ∷ (line 2 32 144 Granted) ∷ []; lines = []; notes = []; steps = 3 }
-unfolding everything
-pop_expects_another_item_run = refl
-
-abbrev script_pop_expects_the_item_below_the_top_run : Script
-script_pop_expects_the_item_below_the_top_run = record { classes = []; procedures = (record { line = 1; parameters = []; body = record { locals = (OfPointer None) ∷ (OfPointer None) ∷ []; statements = (on 4 (Statement-F.Alloc (Held (H.Local 0)) (Constant (pos 16)) Leaves)) ∷ (on 5 (Statement-F.Alloc (Held (H.Local 1)) (Constant (pos 16)) Leaves)) ∷ (on 6 (Statement-F.Push (Held (H.Local 0)))) ∷ (on 7 (Statement-F.Push (Held (H.Local 1)))) ∷ (on 8 (Statement-F.PopCheck (Held (H.Local 1)))) ∷ (on 9 (Statement-F.Push (Held (H.Local 1)))) ∷ (on 10 (Statement-F.PopCheck (Held (H.Local 0)))) ∷ [] } }) ∷ []; operations = []; literals = []; main = 0 }
-
-pop_expects_the_item_below_the_top_run : run script_pop_expects_the_item_below_the_top_run R.Unlimited 10000 (shaped 4096 4096) ≡ record { outcome = Panicked (P.Workbench 4); trace = (line 1 144 0 Granted) ∷ (line 2 32 144 Granted) ∷ (line 3 32 176 Granted) ∷ []; lines = []; notes = []; steps = 7 }
-unfolding everything
-pop_expects_the_item_below_the_top_run = refl
-
-abbrev script_procedure_returns_a_pushed_cell_run : Script
-script_procedure_returns_a_pushed_cell_run = record { classes = []; procedures = (record { line = 1; parameters = Par.OfNumber ∷ []; body = record { locals = (OfPointer None) ∷ []; statements = (on 3 (Statement-F.Alloc (Held (H.Local 1)) (Variable 0) Leaves)) ∷ (on 4 (Statement-F.Push (Held (H.Local 1)))) ∷ (on 5 (Statement-F.ReturnPointer (Held (H.Local 1)))) ∷ [] } }) ∷ (record { line = 7; parameters = []; body = record { locals = (OfPointer None) ∷ []; statements = (on 9 (Statement-F.CallTo 0 0 ((Given (Constant (pos 40))) ∷ []))) ∷ (on 10 (Statement-F.PopDestroy (Constant (pos 1)))) ∷ [] } }) ∷ []; operations = []; literals = []; main = 1 }
-
-procedure_returns_a_pushed_cell_run : run script_procedure_returns_a_pushed_cell_run R.Unlimited 10000 (shaped 4096 4096) ≡ record { outcome = Ended None []; trace = (line 1 144 0 Granted) ∷ (line 2 64 144 Granted) ∷ []; lines = []; notes = []; steps = 6 }
-unfolding everything
-procedure_returns_a_pushed_cell_run = refl
-
-abbrev script_push_that_cannot_grow_keeps_its_item_run : Script
-script_push_that_cannot_grow_keeps_its_item_run = record { classes = []; procedures = (record { line = 1; parameters = []; body = record { locals = (OfPointer None) ∷ []; statements = (on 3 (Statement-F.Repeat (Constant (pos 8)) ((on 4 (Statement-F.Alloc (Held (H.Local 0)) (Constant (pos 16)) Leaves)) ∷ (on 5 (Statement-F.Push (Held (H.Local 0)))) ∷ []))) ∷ (on 7 (Statement-F.PopDestroy (Constant (pos 8)))) ∷ [] } }) ∷ []; operations = []; literals = []; main = 0 }
-
-push_that_cannot_grow_keeps_its_item_run : run script_push_that_cannot_grow_keeps_its_item_run (R.Number 10) 10000 (shaped 4096 4096) ≡ record { outcome = Ended (Some (negsuc 3)) []; trace = (line 1 144 0 Granted) ∷ (line 2 32 144 Granted) ∷ (line 3 32 176 Granted) ∷ (line 4 32 208 Granted) ∷ (line 5 32 240 Granted) ∷ (line 6 32 272 Granted) ∷ (line 7 32 304 Granted) ∷ (line 8 32 336 Granted) ∷ (line 9 32 368 Granted) ∷ (line 10 208 400 Simulated) ∷ []; lines = []; notes = []; steps = 33 }
-unfolding everything
-push_that_cannot_grow_keeps_its_item_run = refl
-
-abbrev script_too_many_items_to_destroy_destroys_none_run : Script
-script_too_many_items_to_destroy_destroys_none_run = record { classes = []; procedures = (record { line = 1; parameters = []; body = record { locals = (OfPointer None) ∷ (OfPointer None) ∷ OfNumber ∷ []; statements = (on 5 (Statement-F.Alloc (Held (H.Local 0)) (Constant (pos 16)) Leaves)) ∷ (on 6 (Statement-F.Push (Held (H.Local 0)))) ∷ (on 7 (Statement-F.Trap 2 ((on 8 (Statement-F.Alloc (Held (H.Local 1)) (Constant (pos 16)) Leaves)) ∷ (on 9 (Statement-F.Push (Held (H.Local 1)))) ∷ (on 10 (Statement-F.PopDestroy (Constant (pos 2)))) ∷ []))) ∷ [] } }) ∷ []; operations = []; literals = []; main = 0 }
-
-too_many_items_to_destroy_destroys_none_run : run script_too_many_items_to_destroy_destroys_none_run R.Unlimited 10000 (shaped 4096 4096) ≡ record { outcome = Panicked (P.Workbench 3); trace = (line 1 144 0 Granted) ∷ (line 2 32 144 Granted) ∷ (line 3 32 176 Granted) ∷ []; lines = []; notes = []; steps = 6 }
-unfolding everything
-too_many_items_to_destroy_destroys_none_run = refl
-
-abbrev script_items_left_at_the_plain_end_of_a_trap_run : Script
-script_items_left_at_the_plain_end_of_a_trap_run = record { classes = []; procedures = (record { line = 1; parameters = []; body = record { locals = (OfPointer None) ∷ OfNumber ∷ []; statements = (on 4 (Statement-F.Alloc (Held (H.Local 0)) (Constant (pos 10)) GivesNull)) ∷ (on 5 (Statement-F.Trap 1 ((on 6 (Statement-F.Push (Held (H.Local 0)))) ∷ []))) ∷ (on 8 (Statement-F.PrintNumber (Constant (pos 1)))) ∷ [] } }) ∷ []; operations = []; literals = []; main = 0 }
-
-items_left_at_the_plain_end_of_a_trap_run : run script_items_left_at_the_plain_end_of_a_trap_run R.Unlimited 10000 (shaped 4096 4096) ≡ record { outcome = Panicked (P.Workbench 5); trace = (line 1 144 0 Granted) ∷ (line 2 32 144 Granted) ∷ []; lines = []; notes = []; steps = 3 }
-unfolding everything
-items_left_at_the_plain_end_of_a_trap_run = refl
-
-abbrev script_eighth_push_grows_the_cleanup_cell_size : Script
-script_eighth_push_grows_the_cleanup_cell_size = record { classes = []; procedures = (record { line = 1; parameters = []; body = record { locals = (OfPointer None) ∷ []; statements = (on 3 (Statement-F.Repeat (Constant (pos 8)) ((on 4 (Statement-F.Alloc (Held (H.Local 0)) (Constant (pos 16)) Leaves)) ∷ (on 5 (Statement-F.Push (Held (H.Local 0)))) ∷ []))) ∷ (on 7 (Statement-F.PopDestroy (Constant (pos 8)))) ∷ [] } }) ∷ []; operations = []; literals = []; main = 0 }
-
-eighth_push_grows_the_cleanup_cell_size : (required script_eighth_push_grows_the_cleanup_cell_size 10000 (shaped 4096 4096) ≡ 608) × (rises script_eighth_push_grows_the_cleanup_cell_size 10000 (shaped 4096 4096) ≡ (rise 1 144) ∷ (rise 2 176) ∷ (rise 3 208) ∷ (rise 4 240) ∷ (rise 5 272) ∷ (rise 6 304) ∷ (rise 7 336) ∷ (rise 8 368) ∷ (rise 9 400) ∷ (rise 10 608) ∷ [])
-unfolding everything
-eighth_push_grows_the_cleanup_cell_size = (refl, refl)
-
-abbrev script_empty_main_json_size : Script
-script_empty_main_json_size = record { classes = []; procedures = (record { line = 1; parameters = []; body = record { locals = []; statements = [] } }) ∷ []; operations = []; literals = []; main = 0 }
-
-empty_main_json_size : (required script_empty_main_json_size 10000 (shaped 4096 4096) ≡ 144) × (rises script_empty_main_json_size 10000 (shaped 4096 4096) ≡ (rise 1 144) ∷ [])
-unfolding everything
-empty_main_json_size = (refl, refl)
-
-abbrev script_marks_never_count_the_cleanup_cell_size : Script
-script_marks_never_count_the_cleanup_cell_size = record { classes = []; procedures = (record { line = 1; parameters = []; body = record { locals = (OfPointer None) ∷ []; statements = (on 3 Statement-F.Mark) ∷ (on 4 (Statement-F.Repeat (Constant (pos 8)) ((on 5 (Statement-F.Push (Held (H.Local 0)))) ∷ []))) ∷ (on 7 (Statement-F.Pop (Constant (pos 8)))) ∷ (on 8 (Statement-F.MarkEnd (Constant (pos 0)))) ∷ [] } }) ∷ []; operations = []; literals = []; main = 0 }
-
-marks_never_count_the_cleanup_cell_size : (required script_marks_never_count_the_cleanup_cell_size 10000 (shaped 4096 4096) ≡ 208) × (rises script_marks_never_count_the_cleanup_cell_size 10000 (shaped 4096 4096) ≡ (rise 1 144) ∷ (rise 2 208) ∷ [])
-unfolding everything
-marks_never_count_the_cleanup_cell_size = (refl, refl)
-
 abbrev script_objects_that_delete_each_other_small_budget_size : Script
 script_objects_that_delete_each_other_small_budget_size = record { classes = (record { line = 1; extra = 0; fields = (Some 0) ∷ []; construct = None; destroy = Some (record { locals = []; statements = (on 4 (Statement-F.Delete (Field H.This 0 0))) ∷ [] }) }) ∷ []; procedures = (record { line = 7; parameters = []; body = record { locals = (OfPointer (Some 0)) ∷ (OfPointer (Some 0)) ∷ []; statements = (on 10 (Statement-F.New (Held (H.Local 0)) 0 Leaves)) ∷ (on 11 (Statement-F.New (Held (H.Local 1)) 0 Leaves)) ∷ (on 12 (Statement-F.Set (Field (H.Local 0) 0 0) (Held (H.Local 1)))) ∷ (on 13 (Statement-F.Set (Field (H.Local 1) 0 0) (Held (H.Local 0)))) ∷ (on 14 (Statement-F.Delete (Held (H.Local 0)))) ∷ [] } }) ∷ []; operations = []; literals = []; main = 0 }
 
@@ -1331,68 +1814,12 @@ objects_that_delete_each_other_small_budget_size : (run script_objects_that_dele
 unfolding everything
 objects_that_delete_each_other_small_budget_size = refl
 
-abbrev script_procedure_returns_a_pushed_cell_size : Script
-script_procedure_returns_a_pushed_cell_size = record { classes = []; procedures = (record { line = 1; parameters = Par.OfNumber ∷ []; body = record { locals = (OfPointer None) ∷ []; statements = (on 3 (Statement-F.Alloc (Held (H.Local 1)) (Variable 0) Leaves)) ∷ (on 4 (Statement-F.Push (Held (H.Local 1)))) ∷ (on 5 (Statement-F.ReturnPointer (Held (H.Local 1)))) ∷ [] } }) ∷ (record { line = 7; parameters = []; body = record { locals = (OfPointer None) ∷ []; statements = (on 9 (Statement-F.CallTo 0 0 ((Given (Constant (pos 40))) ∷ []))) ∷ (on 10 (Statement-F.PopDestroy (Constant (pos 1)))) ∷ [] } }) ∷ []; operations = []; literals = []; main = 1 }
-
-procedure_returns_a_pushed_cell_size : (required script_procedure_returns_a_pushed_cell_size 10000 (shaped 4096 4096) ≡ 208) × (rises script_procedure_returns_a_pushed_cell_size 10000 (shaped 4096 4096) ≡ (rise 1 144) ∷ (rise 2 208) ∷ [])
-unfolding everything
-procedure_returns_a_pushed_cell_size = (refl, refl)
-
 abbrev script_pushed_object_made_and_deleted_size : Script
 script_pushed_object_made_and_deleted_size = record { classes = (record { line = 1; extra = 16; fields = None ∷ []; construct = Some (record { locals = []; statements = (on 4 (Statement-F.NewText (Field H.This 0 0) (Constant (pos 4)) Leaves)) ∷ [] }); destroy = Some (record { locals = []; statements = (on 7 (Statement-F.Free (Field H.This 0 0))) ∷ [] }) }) ∷ []; procedures = (record { line = 10; parameters = []; body = record { locals = (OfPointer (Some 0)) ∷ []; statements = (on 12 (Statement-F.New (Held (H.Local 0)) 0 Leaves)) ∷ (on 13 (Statement-F.PushObject (Held (H.Local 0)))) ∷ (on 14 (Statement-F.Construct (Held (H.Local 0)))) ∷ (on 15 (Statement-F.Pop (Constant (pos 1)))) ∷ (on 16 (Statement-F.Delete (Held (H.Local 0)))) ∷ [] } }) ∷ []; operations = []; literals = []; main = 0 }
 
 pushed_object_made_and_deleted_size : (required script_pushed_object_made_and_deleted_size 10000 (shaped 4096 4096) ≡ 224) × (rises script_pushed_object_made_and_deleted_size 10000 (shaped 4096 4096) ≡ (rise 1 144) ∷ (rise 2 192) ∷ (rise 3 224) ∷ [])
 unfolding everything
 pushed_object_made_and_deleted_size = (refl, refl)
-
-abbrev script_eighth_push_grows_the_cleanup_cell_check : Script
-script_eighth_push_grows_the_cleanup_cell_check = record { classes = []; procedures = (record { line = 1; parameters = []; body = record { locals = (OfPointer None) ∷ []; statements = (on 3 (Statement-F.Repeat (Constant (pos 8)) ((on 4 (Statement-F.Alloc (Held (H.Local 0)) (Constant (pos 16)) Leaves)) ∷ (on 5 (Statement-F.Push (Held (H.Local 0)))) ∷ []))) ∷ (on 7 (Statement-F.PopDestroy (Constant (pos 8)))) ∷ [] } }) ∷ []; operations = []; literals = []; main = 0 }
-
-eighth_push_grows_the_cleanup_cell_check : (required script_eighth_push_grows_the_cleanup_cell_check 10000 (shaped 4096 4096) ≡ 608) × (rises script_eighth_push_grows_the_cleanup_cell_check 10000 (shaped 4096 4096) ≡ (rise 1 144) ∷ (rise 2 176) ∷ (rise 3 208) ∷ (rise 4 240) ∷ (rise 5 272) ∷ (rise 6 304) ∷ (rise 7 336) ∷ (rise 8 368) ∷ (rise 9 400) ∷ (rise 10 608) ∷ []) × (length (run_at script_eighth_push_grows_the_cleanup_cell_check 10000 (shaped 4096 4096) 0).trace ≡ 10) × (least_bad_or_cut script_eighth_push_grows_the_cleanup_cell_check 10000 (shaped 4096 4096) ≡ None)
-unfolding everything
-eighth_push_grows_the_cleanup_cell_check = (refl, refl, refl, refl)
-
-abbrev script_eighth_push_grows_the_cleanup_cell_sweep : Script
-script_eighth_push_grows_the_cleanup_cell_sweep = record { classes = []; procedures = (record { line = 1; parameters = []; body = record { locals = (OfPointer None) ∷ []; statements = (on 3 (Statement-F.Repeat (Constant (pos 8)) ((on 4 (Statement-F.Alloc (Held (H.Local 0)) (Constant (pos 16)) Leaves)) ∷ (on 5 (Statement-F.Push (Held (H.Local 0)))) ∷ []))) ∷ (on 7 (Statement-F.PopDestroy (Constant (pos 8)))) ∷ [] } }) ∷ []; operations = []; literals = []; main = 0 }
-
-eighth_push_grows_the_cleanup_cell_sweep : (length (run_at script_eighth_push_grows_the_cleanup_cell_sweep 10000 (shaped 4096 4096) 0).trace ≡ 10) × (least_bad_or_cut script_eighth_push_grows_the_cleanup_cell_sweep 10000 (shaped 4096 4096) ≡ None)
-unfolding everything
-eighth_push_grows_the_cleanup_cell_sweep = (refl, refl)
-
-abbrev script_empty_main_json_check : Script
-script_empty_main_json_check = record { classes = []; procedures = (record { line = 1; parameters = []; body = record { locals = []; statements = [] } }) ∷ []; operations = []; literals = []; main = 0 }
-
-empty_main_json_check : (required script_empty_main_json_check 10000 (shaped 4096 4096) ≡ 144) × (rises script_empty_main_json_check 10000 (shaped 4096 4096) ≡ (rise 1 144) ∷ []) × (length (run_at script_empty_main_json_check 10000 (shaped 4096 4096) 0).trace ≡ 1) × (least_bad_or_cut script_empty_main_json_check 10000 (shaped 4096 4096) ≡ None)
-unfolding everything
-empty_main_json_check = (refl, refl, refl, refl)
-
-abbrev script_failure_that_outruns_the_budget_json_check : Script
-script_failure_that_outruns_the_budget_json_check = record { classes = []; procedures = (record { line = 1; parameters = []; body = record { locals = (OfPointer None) ∷ []; statements = (on 3 (Statement-F.Alloc (Held (H.Local 0)) (Constant (pos 16)) GivesNull)) ∷ (on 4 (Statement-F.If (IsNull (Held (H.Local 0))) ((on 5 (Statement-F.Repeat (Constant (pos 20000)) [])) ∷ []))) ∷ (on 8 (Statement-F.Free (Held (H.Local 0)))) ∷ [] } }) ∷ []; operations = []; literals = []; main = 0 }
-
-failure_that_outruns_the_budget_json_check : (required script_failure_that_outruns_the_budget_json_check 10000 (shaped 4096 4096) ≡ 176) × (rises script_failure_that_outruns_the_budget_json_check 10000 (shaped 4096 4096) ≡ (rise 1 144) ∷ (rise 2 176) ∷ []) × (least_bad_or_cut script_failure_that_outruns_the_budget_json_check 10000 (shaped 4096 4096) ≡ Some 2) × ((run_at script_failure_that_outruns_the_budget_json_check 10000 (shaped 4096 4096) 2).outcome ≡ Cut Budget)
-unfolding everything
-failure_that_outruns_the_budget_json_check = (refl, refl, refl, refl)
-
-abbrev script_leak_without_any_failure_json_sweep : Script
-script_leak_without_any_failure_json_sweep = record { classes = []; procedures = (record { line = 1; parameters = []; body = record { locals = (OfPointer None) ∷ []; statements = (on 3 (Statement-F.Alloc (Held (H.Local 0)) (Constant (pos 16)) GivesNull)) ∷ [] } }) ∷ []; operations = []; literals = []; main = 0 }
-
-leak_without_any_failure_json_sweep : (length (run_at script_leak_without_any_failure_json_sweep 10000 (shaped 4096 4096) 0).trace ≡ 2) × (least_bad_or_cut script_leak_without_any_failure_json_sweep 10000 (shaped 4096 4096) ≡ Some 0) × (run_at script_leak_without_any_failure_json_sweep 10000 (shaped 4096 4096) 0 ≡ record { outcome = Ended None ((record { number = 2; length = 32; place = 144 }) ∷ []); trace = (line 1 144 0 Granted) ∷ (line 2 32 144 Granted) ∷ []; lines = []; notes = []; steps = 1 })
-unfolding everything
-leak_without_any_failure_json_sweep = (refl, refl, refl)
-
-abbrev script_marks_never_count_the_cleanup_cell_check : Script
-script_marks_never_count_the_cleanup_cell_check = record { classes = []; procedures = (record { line = 1; parameters = []; body = record { locals = (OfPointer None) ∷ []; statements = (on 3 Statement-F.Mark) ∷ (on 4 (Statement-F.Repeat (Constant (pos 8)) ((on 5 (Statement-F.Push (Held (H.Local 0)))) ∷ []))) ∷ (on 7 (Statement-F.Pop (Constant (pos 8)))) ∷ (on 8 (Statement-F.MarkEnd (Constant (pos 0)))) ∷ [] } }) ∷ []; operations = []; literals = []; main = 0 }
-
-marks_never_count_the_cleanup_cell_check : (required script_marks_never_count_the_cleanup_cell_check 10000 (shaped 4096 4096) ≡ 208) × (rises script_marks_never_count_the_cleanup_cell_check 10000 (shaped 4096 4096) ≡ (rise 1 144) ∷ (rise 2 208) ∷ []) × (length (run_at script_marks_never_count_the_cleanup_cell_check 10000 (shaped 4096 4096) 0).trace ≡ 2) × (least_bad_or_cut script_marks_never_count_the_cleanup_cell_check 10000 (shaped 4096 4096) ≡ None)
-unfolding everything
-marks_never_count_the_cleanup_cell_check = (refl, refl, refl, refl)
-
-abbrev script_procedure_returns_a_pushed_cell_check : Script
-script_procedure_returns_a_pushed_cell_check = record { classes = []; procedures = (record { line = 1; parameters = Par.OfNumber ∷ []; body = record { locals = (OfPointer None) ∷ []; statements = (on 3 (Statement-F.Alloc (Held (H.Local 1)) (Variable 0) Leaves)) ∷ (on 4 (Statement-F.Push (Held (H.Local 1)))) ∷ (on 5 (Statement-F.ReturnPointer (Held (H.Local 1)))) ∷ [] } }) ∷ (record { line = 7; parameters = []; body = record { locals = (OfPointer None) ∷ []; statements = (on 9 (Statement-F.CallTo 0 0 ((Given (Constant (pos 40))) ∷ []))) ∷ (on 10 (Statement-F.PopDestroy (Constant (pos 1)))) ∷ [] } }) ∷ []; operations = []; literals = []; main = 1 }
-
-procedure_returns_a_pushed_cell_check : (required script_procedure_returns_a_pushed_cell_check 10000 (shaped 4096 4096) ≡ 208) × (rises script_procedure_returns_a_pushed_cell_check 10000 (shaped 4096 4096) ≡ (rise 1 144) ∷ (rise 2 208) ∷ []) × (length (run_at script_procedure_returns_a_pushed_cell_check 10000 (shaped 4096 4096) 0).trace ≡ 2) × (least_bad_or_cut script_procedure_returns_a_pushed_cell_check 10000 (shaped 4096 4096) ≡ None)
-unfolding everything
-procedure_returns_a_pushed_cell_check = (refl, refl, refl, refl)
 
 abbrev script_pushed_object_survives_every_failure_sweep : Script
 script_pushed_object_survives_every_failure_sweep = record { classes = (record { line = 1; extra = 16; fields = None ∷ []; construct = Some (record { locals = []; statements = (on 4 (Statement-F.NewText (Field H.This 0 0) (Constant (pos 4)) Leaves)) ∷ [] }); destroy = Some (record { locals = []; statements = (on 7 (Statement-F.Free (Field H.This 0 0))) ∷ [] }) }) ∷ []; procedures = (record { line = 10; parameters = []; body = record { locals = (OfPointer (Some 0)) ∷ []; statements = (on 12 (Statement-F.New (Held (H.Local 0)) 0 Leaves)) ∷ (on 13 (Statement-F.PushObject (Held (H.Local 0)))) ∷ (on 14 (Statement-F.Construct (Held (H.Local 0)))) ∷ (on 15 (Statement-F.Pop (Constant (pos 1)))) ∷ (on 16 (Statement-F.Delete (Held (H.Local 0)))) ∷ [] } }) ∷ []; operations = []; literals = []; main = 0 }
@@ -1597,6 +2024,111 @@ one_mark_end_more_than_marks_run : run script_one_mark_end_more_than_marks_run R
 unfolding everything
 one_mark_end_more_than_marks_run = refl
 
+abbrev script_as_many_operations_as_may_be_run : Script
+script_as_many_operations_as_may_be_run = record { classes = []; procedures = (record { line = 511; parameters = []; body = record { locals = []; statements = [] } }) ∷ []; operations = (record { line = 1; body = record { locals = []; statements = [] } }) ∷ (record { line = 3; body = record { locals = []; statements = [] } }) ∷ (record { line = 5; body = record { locals = []; statements = [] } }) ∷ (record { line = 7; body = record { locals = []; statements = [] } }) ∷ (record { line = 9; body = record { locals = []; statements = [] } }) ∷ (record { line = 11; body = record { locals = []; statements = [] } }) ∷ (record { line = 13; body = record { locals = []; statements = [] } }) ∷ (record { line = 15; body = record { locals = []; statements = [] } }) ∷ (record { line = 17; body = record { locals = []; statements = [] } }) ∷ (record { line = 19; body = record { locals = []; statements = [] } }) ∷ (record { line = 21; body = record { locals = []; statements = [] } }) ∷ (record { line = 23; body = record { locals = []; statements = [] } }) ∷ (record { line = 25; body = record { locals = []; statements = [] } }) ∷ (record { line = 27; body = record { locals = []; statements = [] } }) ∷ (record { line = 29; body = record { locals = []; statements = [] } }) ∷ (record { line = 31; body = record { locals = []; statements = [] } }) ∷ (record { line = 33; body = record { locals = []; statements = [] } }) ∷ (record { line = 35; body = record { locals = []; statements = [] } }) ∷ (record { line = 37; body = record { locals = []; statements = [] } }) ∷ (record { line = 39; body = record { locals = []; statements = [] } }) ∷ (record { line = 41; body = record { locals = []; statements = [] } }) ∷ (record { line = 43; body = record { locals = []; statements = [] } }) ∷ (record { line = 45; body = record { locals = []; statements = [] } }) ∷ (record { line = 47; body = record { locals = []; statements = [] } }) ∷ (record { line = 49; body = record { locals = []; statements = [] } }) ∷ (record { line = 51; body = record { locals = []; statements = [] } }) ∷ (record { line = 53; body = record { locals = []; statements = [] } }) ∷ (record { line = 55; body = record { locals = []; statements = [] } }) ∷ (record { line = 57; body = record { locals = []; statements = [] } }) ∷ (record { line = 59; body = record { locals = []; statements = [] } }) ∷ (record { line = 61; body = record { locals = []; statements = [] } }) ∷ (record { line = 63; body = record { locals = []; statements = [] } }) ∷ (record { line = 65; body = record { locals = []; statements = [] } }) ∷ (record { line = 67; body = record { locals = []; statements = [] } }) ∷ (record { line = 69; body = record { locals = []; statements = [] } }) ∷ (record { line = 71; body = record { locals = []; statements = [] } }) ∷ (record { line = 73; body = record { locals = []; statements = [] } }) ∷ (record { line = 75; body = record { locals = []; statements = [] } }) ∷ (record { line = 77; body = record { locals = []; statements = [] } }) ∷ (record { line = 79; body = record { locals = []; statements = [] } }) ∷ (record { line = 81; body = record { locals = []; statements = [] } }) ∷ (record { line = 83; body = record { locals = []; statements = [] } }) ∷ (record { line = 85; body = record { locals = []; statements = [] } }) ∷ (record { line = 87; body = record { locals = []; statements = [] } }) ∷ (record { line = 89; body = record { locals = []; statements = [] } }) ∷ (record { line = 91; body = record { locals = []; statements = [] } }) ∷ (record { line = 93; body = record { locals = []; statements = [] } }) ∷ (record { line = 95; body = record { locals = []; statements = [] } }) ∷ (record { line = 97; body = record { locals = []; statements = [] } }) ∷ (record { line = 99; body = record { locals = []; statements = [] } }) ∷ (record { line = 101; body = record { locals = []; statements = [] } }) ∷ (record { line = 103; body = record { locals = []; statements = [] } }) ∷ (record { line = 105; body = record { locals = []; statements = [] } }) ∷ (record { line = 107; body = record { locals = []; statements = [] } }) ∷ (record { line = 109; body = record { locals = []; statements = [] } }) ∷ (record { line = 111; body = record { locals = []; statements = [] } }) ∷ (record { line = 113; body = record { locals = []; statements = [] } }) ∷ (record { line = 115; body = record { locals = []; statements = [] } }) ∷ (record { line = 117; body = record { locals = []; statements = [] } }) ∷ (record { line = 119; body = record { locals = []; statements = [] } }) ∷ (record { line = 121; body = record { locals = []; statements = [] } }) ∷ (record { line = 123; body = record { locals = []; statements = [] } }) ∷ (record { line = 125; body = record { locals = []; statements = [] } }) ∷ (record { line = 127; body = record { locals = []; statements = [] } }) ∷ (record { line = 129; body = record { locals = []; statements = [] } }) ∷ (record { line = 131; body = record { locals = []; statements = [] } }) ∷ (record { line = 133; body = record { locals = []; statements = [] } }) ∷ (record { line = 135; body = record { locals = []; statements = [] } }) ∷ (record { line = 137; body = record { locals = []; statements = [] } }) ∷ (record { line = 139; body = record { locals = []; statements = [] } }) ∷ (record { line = 141; body = record { locals = []; statements = [] } }) ∷ (record { line = 143; body = record { locals = []; statements = [] } }) ∷ (record { line = 145; body = record { locals = []; statements = [] } }) ∷ (record { line = 147; body = record { locals = []; statements = [] } }) ∷ (record { line = 149; body = record { locals = []; statements = [] } }) ∷ (record { line = 151; body = record { locals = []; statements = [] } }) ∷ (record { line = 153; body = record { locals = []; statements = [] } }) ∷ (record { line = 155; body = record { locals = []; statements = [] } }) ∷ (record { line = 157; body = record { locals = []; statements = [] } }) ∷ (record { line = 159; body = record { locals = []; statements = [] } }) ∷ (record { line = 161; body = record { locals = []; statements = [] } }) ∷ (record { line = 163; body = record { locals = []; statements = [] } }) ∷ (record { line = 165; body = record { locals = []; statements = [] } }) ∷ (record { line = 167; body = record { locals = []; statements = [] } }) ∷ (record { line = 169; body = record { locals = []; statements = [] } }) ∷ (record { line = 171; body = record { locals = []; statements = [] } }) ∷ (record { line = 173; body = record { locals = []; statements = [] } }) ∷ (record { line = 175; body = record { locals = []; statements = [] } }) ∷ (record { line = 177; body = record { locals = []; statements = [] } }) ∷ (record { line = 179; body = record { locals = []; statements = [] } }) ∷ (record { line = 181; body = record { locals = []; statements = [] } }) ∷ (record { line = 183; body = record { locals = []; statements = [] } }) ∷ (record { line = 185; body = record { locals = []; statements = [] } }) ∷ (record { line = 187; body = record { locals = []; statements = [] } }) ∷ (record { line = 189; body = record { locals = []; statements = [] } }) ∷ (record { line = 191; body = record { locals = []; statements = [] } }) ∷ (record { line = 193; body = record { locals = []; statements = [] } }) ∷ (record { line = 195; body = record { locals = []; statements = [] } }) ∷ (record { line = 197; body = record { locals = []; statements = [] } }) ∷ (record { line = 199; body = record { locals = []; statements = [] } }) ∷ (record { line = 201; body = record { locals = []; statements = [] } }) ∷ (record { line = 203; body = record { locals = []; statements = [] } }) ∷ (record { line = 205; body = record { locals = []; statements = [] } }) ∷ (record { line = 207; body = record { locals = []; statements = [] } }) ∷ (record { line = 209; body = record { locals = []; statements = [] } }) ∷ (record { line = 211; body = record { locals = []; statements = [] } }) ∷ (record { line = 213; body = record { locals = []; statements = [] } }) ∷ (record { line = 215; body = record { locals = []; statements = [] } }) ∷ (record { line = 217; body = record { locals = []; statements = [] } }) ∷ (record { line = 219; body = record { locals = []; statements = [] } }) ∷ (record { line = 221; body = record { locals = []; statements = [] } }) ∷ (record { line = 223; body = record { locals = []; statements = [] } }) ∷ (record { line = 225; body = record { locals = []; statements = [] } }) ∷ (record { line = 227; body = record { locals = []; statements = [] } }) ∷ (record { line = 229; body = record { locals = []; statements = [] } }) ∷ (record { line = 231; body = record { locals = []; statements = [] } }) ∷ (record { line = 233; body = record { locals = []; statements = [] } }) ∷ (record { line = 235; body = record { locals = []; statements = [] } }) ∷ (record { line = 237; body = record { locals = []; statements = [] } }) ∷ (record { line = 239; body = record { locals = []; statements = [] } }) ∷ (record { line = 241; body = record { locals = []; statements = [] } }) ∷ (record { line = 243; body = record { locals = []; statements = [] } }) ∷ (record { line = 245; body = record { locals = []; statements = [] } }) ∷ (record { line = 247; body = record { locals = []; statements = [] } }) ∷ (record { line = 249; body = record { locals = []; statements = [] } }) ∷ (record { line = 251; body = record { locals = []; statements = [] } }) ∷ (record { line = 253; body = record { locals = []; statements = [] } }) ∷ (record { line = 255; body = record { locals = []; statements = [] } }) ∷ (record { line = 257; body = record { locals = []; statements = [] } }) ∷ (record { line = 259; body = record { locals = []; statements = [] } }) ∷ (record { line = 261; body = record { locals = []; statements = [] } }) ∷ (record { line = 263; body = record { locals = []; statements = [] } }) ∷ (record { line = 265; body = record { locals = []; statements = [] } }) ∷ (record { line = 267; body = record { locals = []; statements = [] } }) ∷ (record { line = 269; body = record { locals = []; statements = [] } }) ∷ (record { line = 271; body = record { locals = []; statements = [] } }) ∷ (record { line = 273; body = record { locals = []; statements = [] } }) ∷ (record { line = 275; body = record { locals = []; statements = [] } }) ∷ (record { line = 277; body = record { locals = []; statements = [] } }) ∷ (record { line = 279; body = record { locals = []; statements = [] } }) ∷ (record { line = 281; body = record { locals = []; statements = [] } }) ∷ (record { line = 283; body = record { locals = []; statements = [] } }) ∷ (record { line = 285; body = record { locals = []; statements = [] } }) ∷ (record { line = 287; body = record { locals = []; statements = [] } }) ∷ (record { line = 289; body = record { locals = []; statements = [] } }) ∷ (record { line = 291; body = record { locals = []; statements = [] } }) ∷ (record { line = 293; body = record { locals = []; statements = [] } }) ∷ (record { line = 295; body = record { locals = []; statements = [] } }) ∷ (record { line = 297; body = record { locals = []; statements = [] } }) ∷ (record { line = 299; body = record { locals = []; statements = [] } }) ∷ (record { line = 301; body = record { locals = []; statements = [] } }) ∷ (record { line = 303; body = record { locals = []; statements = [] } }) ∷ (record { line = 305; body = record { locals = []; statements = [] } }) ∷ (record { line = 307; body = record { locals = []; statements = [] } }) ∷ (record { line = 309; body = record { locals = []; statements = [] } }) ∷ (record { line = 311; body = record { locals = []; statements = [] } }) ∷ (record { line = 313; body = record { locals = []; statements = [] } }) ∷ (record { line = 315; body = record { locals = []; statements = [] } }) ∷ (record { line = 317; body = record { locals = []; statements = [] } }) ∷ (record { line = 319; body = record { locals = []; statements = [] } }) ∷ (record { line = 321; body = record { locals = []; statements = [] } }) ∷ (record { line = 323; body = record { locals = []; statements = [] } }) ∷ (record { line = 325; body = record { locals = []; statements = [] } }) ∷ (record { line = 327; body = record { locals = []; statements = [] } }) ∷ (record { line = 329; body = record { locals = []; statements = [] } }) ∷ (record { line = 331; body = record { locals = []; statements = [] } }) ∷ (record { line = 333; body = record { locals = []; statements = [] } }) ∷ (record { line = 335; body = record { locals = []; statements = [] } }) ∷ (record { line = 337; body = record { locals = []; statements = [] } }) ∷ (record { line = 339; body = record { locals = []; statements = [] } }) ∷ (record { line = 341; body = record { locals = []; statements = [] } }) ∷ (record { line = 343; body = record { locals = []; statements = [] } }) ∷ (record { line = 345; body = record { locals = []; statements = [] } }) ∷ (record { line = 347; body = record { locals = []; statements = [] } }) ∷ (record { line = 349; body = record { locals = []; statements = [] } }) ∷ (record { line = 351; body = record { locals = []; statements = [] } }) ∷ (record { line = 353; body = record { locals = []; statements = [] } }) ∷ (record { line = 355; body = record { locals = []; statements = [] } }) ∷ (record { line = 357; body = record { locals = []; statements = [] } }) ∷ (record { line = 359; body = record { locals = []; statements = [] } }) ∷ (record { line = 361; body = record { locals = []; statements = [] } }) ∷ (record { line = 363; body = record { locals = []; statements = [] } }) ∷ (record { line = 365; body = record { locals = []; statements = [] } }) ∷ (record { line = 367; body = record { locals = []; statements = [] } }) ∷ (record { line = 369; body = record { locals = []; statements = [] } }) ∷ (record { line = 371; body = record { locals = []; statements = [] } }) ∷ (record { line = 373; body = record { locals = []; statements = [] } }) ∷ (record { line = 375; body = record { locals = []; statements = [] } }) ∷ (record { line = 377; body = record { locals = []; statements = [] } }) ∷ (record { line = 379; body = record { locals = []; statements = [] } }) ∷ (record { line = 381; body = record { locals = []; statements = [] } }) ∷ (record { line = 383; body = record { locals = []; statements = [] } }) ∷ (record { line = 385; body = record { locals = []; statements = [] } }) ∷ (record { line = 387; body = record { locals = []; statements = [] } }) ∷ (record { line = 389; body = record { locals = []; statements = [] } }) ∷ (record { line = 391; body = record { locals = []; statements = [] } }) ∷ (record { line = 393; body = record { locals = []; statements = [] } }) ∷ (record { line = 395; body = record { locals = []; statements = [] } }) ∷ (record { line = 397; body = record { locals = []; statements = [] } }) ∷ (record { line = 399; body = record { locals = []; statements = [] } }) ∷ (record { line = 401; body = record { locals = []; statements = [] } }) ∷ (record { line = 403; body = record { locals = []; statements = [] } }) ∷ (record { line = 405; body = record { locals = []; statements = [] } }) ∷ (record { line = 407; body = record { locals = []; statements = [] } }) ∷ (record { line = 409; body = record { locals = []; statements = [] } }) ∷ (record { line = 411; body = record { locals = []; statements = [] } }) ∷ (record { line = 413; body = record { locals = []; statements = [] } }) ∷ (record { line = 415; body = record { locals = []; statements = [] } }) ∷ (record { line = 417; body = record { locals = []; statements = [] } }) ∷ (record { line = 419; body = record { locals = []; statements = [] } }) ∷ (record { line = 421; body = record { locals = []; statements = [] } }) ∷ (record { line = 423; body = record { locals = []; statements = [] } }) ∷ (record { line = 425; body = record { locals = []; statements = [] } }) ∷ (record { line = 427; body = record { locals = []; statements = [] } }) ∷ (record { line = 429; body = record { locals = []; statements = [] } }) ∷ (record { line = 431; body = record { locals = []; statements = [] } }) ∷ (record { line = 433; body = record { locals = []; statements = [] } }) ∷ (record { line = 435; body = record { locals = []; statements = [] } }) ∷ (record { line = 437; body = record { locals = []; statements = [] } }) ∷ (record { line = 439; body = record { locals = []; statements = [] } }) ∷ (record { line = 441; body = record { locals = []; statements = [] } }) ∷ (record { line = 443; body = record { locals = []; statements = [] } }) ∷ (record { line = 445; body = record { locals = []; statements = [] } }) ∷ (record { line = 447; body = record { locals = []; statements = [] } }) ∷ (record { line = 449; body = record { locals = []; statements = [] } }) ∷ (record { line = 451; body = record { locals = []; statements = [] } }) ∷ (record { line = 453; body = record { locals = []; statements = [] } }) ∷ (record { line = 455; body = record { locals = []; statements = [] } }) ∷ (record { line = 457; body = record { locals = []; statements = [] } }) ∷ (record { line = 459; body = record { locals = []; statements = [] } }) ∷ (record { line = 461; body = record { locals = []; statements = [] } }) ∷ (record { line = 463; body = record { locals = []; statements = [] } }) ∷ (record { line = 465; body = record { locals = []; statements = [] } }) ∷ (record { line = 467; body = record { locals = []; statements = [] } }) ∷ (record { line = 469; body = record { locals = []; statements = [] } }) ∷ (record { line = 471; body = record { locals = []; statements = [] } }) ∷ (record { line = 473; body = record { locals = []; statements = [] } }) ∷ (record { line = 475; body = record { locals = []; statements = [] } }) ∷ (record { line = 477; body = record { locals = []; statements = [] } }) ∷ (record { line = 479; body = record { locals = []; statements = [] } }) ∷ (record { line = 481; body = record { locals = []; statements = [] } }) ∷ (record { line = 483; body = record { locals = []; statements = [] } }) ∷ (record { line = 485; body = record { locals = []; statements = [] } }) ∷ (record { line = 487; body = record { locals = []; statements = [] } }) ∷ (record { line = 489; body = record { locals = []; statements = [] } }) ∷ (record { line = 491; body = record { locals = []; statements = [] } }) ∷ (record { line = 493; body = record { locals = []; statements = [] } }) ∷ (record { line = 495; body = record { locals = []; statements = [] } }) ∷ (record { line = 497; body = record { locals = []; statements = [] } }) ∷ (record { line = 499; body = record { locals = []; statements = [] } }) ∷ (record { line = 501; body = record { locals = []; statements = [] } }) ∷ (record { line = 503; body = record { locals = []; statements = [] } }) ∷ (record { line = 505; body = record { locals = []; statements = [] } }) ∷ (record { line = 507; body = record { locals = []; statements = [] } }) ∷ (record { line = 509; body = record { locals = []; statements = [] } }) ∷ []; literals = []; main = 0 }
+
+as_many_operations_as_may_be_run : run script_as_many_operations_as_may_be_run R.Unlimited 10000 (shaped 4096 4096) ≡ record { outcome = Ended None []; trace = (line 1 144 0 Granted) ∷ []; lines = []; notes = []; steps = 0 }
+unfolding everything
+as_many_operations_as_may_be_run = refl
+
+abbrev script_items_of_all_kinds_on_a_leave_run : Script
+script_items_of_all_kinds_on_a_leave_run = record { classes = []; procedures = (record { line = 5; parameters = []; body = record { locals = (OfPointer None) ∷ (OfPointer None) ∷ OfNumber ∷ []; statements = (on 9 (Statement-F.Trap 2 ((on 10 (Statement-F.Alloc (Held (H.Local 0)) (Constant (pos 16)) GivesNull)) ∷ (on 11 (Statement-F.Push (Held (H.Local 0)))) ∷ (on 12 (Statement-F.Alloc (Held (H.Local 1)) (Constant (pos 16)) GivesNull)) ∷ (on 13 (Statement-F.PushOperation (Held (H.Local 1)) 0)) ∷ (on 14 (Statement-F.Leave (Constant (pos 3)))) ∷ []))) ∷ (on 16 (Statement-F.CheckAll (Constant (pos 0)))) ∷ (on 17 (Statement-F.PrintNumber (Variable 2))) ∷ [] } }) ∷ []; operations = (record { line = 1; body = record { locals = []; statements = (on 2 (Statement-F.PrintText (Quoted 0))) ∷ (on 3 (Statement-F.Free (Held (H.Local 0)))) ∷ [] } }) ∷ []; literals = (116 ∷ 111 ∷ 108 ∷ 100 ∷ []) ∷ []; main = 0 }
+
+items_of_all_kinds_on_a_leave_run : run script_items_of_all_kinds_on_a_leave_run R.Unlimited 10000 (shaped 4096 4096) ≡ record { outcome = Ended None []; trace = (line 1 144 0 Granted) ∷ (line 2 32 144 Granted) ∷ (line 3 32 176 Granted) ∷ []; lines = (116 ∷ 111 ∷ 108 ∷ 100 ∷ []) ∷ (51 ∷ []) ∷ []; notes = []; steps = 12 }
+unfolding everything
+items_of_all_kinds_on_a_leave_run = refl
+
+abbrev script_leave_runs_a_cleanup_operation_run : Script
+script_leave_runs_a_cleanup_operation_run = record { classes = []; procedures = (record { line = 5; parameters = []; body = record { locals = (OfPointer None) ∷ OfNumber ∷ []; statements = (on 8 (Statement-F.Alloc (Held (H.Local 0)) (Constant (pos 4)) Leaves)) ∷ (on 9 (Statement-F.PushOperation (Held (H.Local 0)) 0)) ∷ (on 10 (Statement-F.Trap 1 ((on 11 (Statement-F.Leave (Constant (negsuc 6)))) ∷ []))) ∷ (on 13 (Statement-F.PrintNumber (Variable 1))) ∷ (on 14 (Statement-F.LeaveIfError (Variable 1))) ∷ [] } }) ∷ []; operations = (record { line = 1; body = record { locals = []; statements = (on 2 (Statement-F.PrintText (Quoted 0))) ∷ (on 3 (Statement-F.Free (Held (H.Local 0)))) ∷ [] } }) ∷ []; literals = (111 ∷ 112 ∷ []) ∷ []; main = 0 }
+
+leave_runs_a_cleanup_operation_run : run script_leave_runs_a_cleanup_operation_run R.Unlimited 10000 (shaped 4096 4096) ≡ record { outcome = Ended (Some (negsuc 6)) []; trace = (line 1 144 0 Granted) ∷ (line 2 32 144 Granted) ∷ []; lines = (45 ∷ 55 ∷ []) ∷ (111 ∷ 112 ∷ []) ∷ []; notes = []; steps = 9 }
+unfolding everything
+leave_runs_a_cleanup_operation_run = refl
+
+abbrev script_newest_item_is_destroyed_first_run : Script
+script_newest_item_is_destroyed_first_run = record { classes = []; procedures = (record { line = 9; parameters = []; body = record { locals = (OfPointer None) ∷ (OfPointer None) ∷ []; statements = (on 12 (Statement-F.Alloc (Held (H.Local 0)) (Constant (pos 4)) GivesNull)) ∷ (on 13 (Statement-F.Alloc (Held (H.Local 1)) (Constant (pos 4)) GivesNull)) ∷ (on 14 (Statement-F.PushOperation (Held (H.Local 0)) 0)) ∷ (on 15 (Statement-F.PushOperation (Held (H.Local 1)) 1)) ∷ (on 16 (Statement-F.Leave (Constant (negsuc 0)))) ∷ [] } }) ∷ []; operations = (record { line = 1; body = record { locals = []; statements = (on 2 (Statement-F.PrintText (Quoted 0))) ∷ (on 3 (Statement-F.Free (Held (H.Local 0)))) ∷ [] } }) ∷ (record { line = 5; body = record { locals = []; statements = (on 6 (Statement-F.PrintText (Quoted 1))) ∷ (on 7 (Statement-F.Free (Held (H.Local 0)))) ∷ [] } }) ∷ []; literals = (49 ∷ []) ∷ (50 ∷ []) ∷ []; main = 0 }
+
+newest_item_is_destroyed_first_run : run script_newest_item_is_destroyed_first_run R.Unlimited 10000 (shaped 4096 4096) ≡ record { outcome = Ended (Some (negsuc 0)) []; trace = (line 1 144 0 Granted) ∷ (line 2 32 144 Granted) ∷ (line 3 32 176 Granted) ∷ []; lines = (50 ∷ []) ∷ (49 ∷ []) ∷ []; notes = []; steps = 11 }
+unfolding everything
+newest_item_is_destroyed_first_run = refl
+
+abbrev script_newest_operation_runs_first_run : Script
+script_newest_operation_runs_first_run = record { classes = []; procedures = (record { line = 7; parameters = []; body = record { locals = (OfPointer None) ∷ OfNumber ∷ []; statements = (on 10 (Statement-F.Trap 1 ((on 11 (Statement-F.PushOperation (Held (H.Local 0)) 0)) ∷ (on 12 (Statement-F.PushOperation (Held (H.Local 0)) 1)) ∷ (on 13 (Statement-F.Leave (Constant (pos 7)))) ∷ []))) ∷ (on 15 (Statement-F.PrintNumber (Variable 1))) ∷ [] } }) ∷ []; operations = (record { line = 1; body = record { locals = []; statements = (on 2 (Statement-F.PrintText (Quoted 0))) ∷ [] } }) ∷ (record { line = 4; body = record { locals = []; statements = (on 5 (Statement-F.PrintText (Quoted 1))) ∷ [] } }) ∷ []; literals = (102 ∷ 105 ∷ 114 ∷ 115 ∷ 116 ∷ []) ∷ (115 ∷ 101 ∷ 99 ∷ 111 ∷ 110 ∷ 100 ∷ []) ∷ []; main = 0 }
+
+newest_operation_runs_first_run : run script_newest_operation_runs_first_run R.Unlimited 10000 (shaped 4096 4096) ≡ record { outcome = Ended None []; trace = (line 1 144 0 Granted) ∷ []; lines = (115 ∷ 101 ∷ 99 ∷ 111 ∷ 110 ∷ 100 ∷ []) ∷ (102 ∷ 105 ∷ 114 ∷ 115 ∷ 116 ∷ []) ∷ (55 ∷ []) ∷ []; notes = []; steps = 9 }
+unfolding everything
+newest_operation_runs_first_run = refl
+
+abbrev script_operation_cut_at_the_budget_run : Script
+script_operation_cut_at_the_budget_run = record { classes = []; procedures = (record { line = 6; parameters = []; body = record { locals = (OfPointer None) ∷ []; statements = (on 8 (Statement-F.PushOperation (Held (H.Local 0)) 0)) ∷ (on 9 (Statement-F.PopDestroy (Constant (pos 1)))) ∷ [] } }) ∷ []; operations = (record { line = 1; body = record { locals = []; statements = (on 2 (Statement-F.If (IsNull (Held (H.Local 0))) ((on 3 (Statement-F.PrintText (Quoted 0))) ∷ []))) ∷ [] } }) ∷ []; literals = (110 ∷ 117 ∷ 108 ∷ 108 ∷ []) ∷ []; main = 0 }
+
+operation_cut_at_the_budget_run : run script_operation_cut_at_the_budget_run R.Unlimited 4 (shaped 4096 4096) ≡ record { outcome = Cut Budget; trace = (line 1 144 0 Granted) ∷ []; lines = []; notes = []; steps = 4 }
+unfolding everything
+operation_cut_at_the_budget_run = refl
+
+abbrev script_operation_frees_its_cell_run : Script
+script_operation_frees_its_cell_run = record { classes = []; procedures = (record { line = 4; parameters = []; body = record { locals = (OfPointer None) ∷ []; statements = (on 6 (Statement-F.Alloc (Held (H.Local 0)) (Constant (pos 16)) GivesNull)) ∷ (on 7 (Statement-F.PushOperation (Held (H.Local 0)) 0)) ∷ (on 8 (Statement-F.PopDestroy (Constant (pos 1)))) ∷ (on 9 (Statement-F.CheckAll (Constant (pos 0)))) ∷ [] } }) ∷ []; operations = (record { line = 1; body = record { locals = []; statements = (on 2 (Statement-F.Free (Held (H.Local 0)))) ∷ [] } }) ∷ []; literals = []; main = 0 }
+
+operation_frees_its_cell_run : run script_operation_frees_its_cell_run R.Unlimited 10000 (shaped 4096 4096) ≡ record { outcome = Ended None []; trace = (line 1 144 0 Granted) ∷ (line 2 32 144 Granted) ∷ []; lines = []; notes = []; steps = 6 }
+unfolding everything
+operation_frees_its_cell_run = refl
+
+abbrev script_operation_has_locals_of_its_own_run : Script
+script_operation_has_locals_of_its_own_run = record { classes = []; procedures = (record { line = 10; parameters = []; body = record { locals = (OfPointer None) ∷ OfNumber ∷ []; statements = (on 13 (Statement-F.SetNumber 1 (Constant (pos 5)))) ∷ (on 14 (Statement-F.Alloc (Held (H.Local 0)) (Constant (pos 16)) GivesNull)) ∷ (on 15 (Statement-F.PushOperation (Held (H.Local 0)) 0)) ∷ (on 16 (Statement-F.PushOperation (Held (H.Local 0)) 0)) ∷ (on 17 (Statement-F.PopDestroy (Constant (pos 2)))) ∷ (on 18 (Statement-F.PrintNumber (Variable 1))) ∷ (on 19 (Statement-F.Free (Held (H.Local 0)))) ∷ [] } }) ∷ []; operations = (record { line = 1; body = record { locals = OfNumber ∷ (OfPointer None) ∷ []; statements = (on 4 (Statement-F.Add 1 (Constant (pos 1)))) ∷ (on 5 (Statement-F.If (IsNull (Held (H.Local 2))) ((on 6 (Statement-F.PrintNumber (Variable 1))) ∷ []))) ∷ (on 8 (Statement-F.Set (Held (H.Local 0)) (Held (H.Local 2)))) ∷ [] } }) ∷ []; literals = []; main = 0 }
+
+operation_has_locals_of_its_own_run : run script_operation_has_locals_of_its_own_run R.Unlimited 10000 (shaped 4096 4096) ≡ record { outcome = Ended None []; trace = (line 1 144 0 Granted) ∷ (line 2 32 144 Granted) ∷ []; lines = (49 ∷ []) ∷ (49 ∷ []) ∷ (53 ∷ []) ∷ []; notes = []; steps = 17 }
+unfolding everything
+operation_has_locals_of_its_own_run = refl
+
+abbrev script_operation_in_one_frame_too_many_run : Script
+script_operation_in_one_frame_too_many_run = record { classes = []; procedures = (record { line = 1; parameters = Par.OfNumber ∷ []; body = record { locals = (OfPointer None) ∷ []; statements = (on 3 (Statement-F.IfElse (Less (Constant (pos 0)) (Variable 0)) ((on 4 (Statement-F.Add 0 (Constant (negsuc 0)))) ∷ (on 5 (Statement-F.Call 0 ((Given (Variable 0)) ∷ []))) ∷ []) ((on 7 (Statement-F.PushOperation (Held (H.Local 1)) 0)) ∷ (on 8 (Statement-F.PopDestroy (Constant (pos 1)))) ∷ []))) ∷ [] } }) ∷ (record { line = 14; parameters = []; body = record { locals = []; statements = (on 15 (Statement-F.Call 0 ((Given (Constant (pos 126))) ∷ []))) ∷ [] } }) ∷ []; operations = (record { line = 11; body = record { locals = []; statements = (on 12 (Statement-F.PrintText (Quoted 0))) ∷ [] } }) ∷ []; literals = (116 ∷ 111 ∷ 108 ∷ 100 ∷ []) ∷ []; main = 1 }
+
+operation_in_one_frame_too_many_run : run script_operation_in_one_frame_too_many_run R.Unlimited 10000 (shaped 4096 4096) ≡ record { outcome = Panicked (P.Workbench 7); trace = (line 1 144 0 Granted) ∷ []; lines = []; notes = []; steps = 383 }
+unfolding everything
+operation_in_one_frame_too_many_run = refl
+
+abbrev script_operation_in_the_last_frame_run : Script
+script_operation_in_the_last_frame_run = record { classes = []; procedures = (record { line = 1; parameters = Par.OfNumber ∷ []; body = record { locals = (OfPointer None) ∷ []; statements = (on 3 (Statement-F.IfElse (Less (Constant (pos 0)) (Variable 0)) ((on 4 (Statement-F.Add 0 (Constant (negsuc 0)))) ∷ (on 5 (Statement-F.Call 0 ((Given (Variable 0)) ∷ []))) ∷ []) ((on 7 (Statement-F.PushOperation (Held (H.Local 1)) 0)) ∷ (on 8 (Statement-F.PopDestroy (Constant (pos 1)))) ∷ []))) ∷ [] } }) ∷ (record { line = 14; parameters = []; body = record { locals = []; statements = (on 15 (Statement-F.Call 0 ((Given (Constant (pos 125))) ∷ []))) ∷ [] } }) ∷ []; operations = (record { line = 11; body = record { locals = []; statements = (on 12 (Statement-F.PrintText (Quoted 0))) ∷ [] } }) ∷ []; literals = (116 ∷ 111 ∷ 108 ∷ 100 ∷ []) ∷ []; main = 1 }
+
+operation_in_the_last_frame_run : run script_operation_in_the_last_frame_run R.Unlimited 10000 (shaped 4096 4096) ≡ record { outcome = Ended None []; trace = (line 1 144 0 Granted) ∷ []; lines = (116 ∷ 111 ∷ 108 ∷ 100 ∷ []) ∷ []; notes = []; steps = 381 }
+unfolding everything
+operation_in_the_last_frame_run = refl
+
+abbrev script_operation_of_a_null_item_run : Script
+script_operation_of_a_null_item_run = record { classes = []; procedures = (record { line = 6; parameters = []; body = record { locals = (OfPointer None) ∷ []; statements = (on 8 (Statement-F.PushOperation (Held (H.Local 0)) 0)) ∷ (on 9 (Statement-F.PopDestroy (Constant (pos 1)))) ∷ [] } }) ∷ []; operations = (record { line = 1; body = record { locals = []; statements = (on 2 (Statement-F.If (IsNull (Held (H.Local 0))) ((on 3 (Statement-F.PrintText (Quoted 0))) ∷ []))) ∷ [] } }) ∷ []; literals = (110 ∷ 117 ∷ 108 ∷ 108 ∷ []) ∷ []; main = 0 }
+
+operation_of_a_null_item_run : run script_operation_of_a_null_item_run R.Unlimited 10000 (shaped 4096 4096) ≡ record { outcome = Ended None []; trace = (line 1 144 0 Granted) ∷ []; lines = (110 ∷ 117 ∷ 108 ∷ 108 ∷ []) ∷ []; notes = []; steps = 5 }
+unfolding everything
+operation_of_a_null_item_run = refl
+
+abbrev script_operation_repeats_and_looks_at_the_heap_run : Script
+script_operation_repeats_and_looks_at_the_heap_run = record { classes = []; procedures = (record { line = 9; parameters = []; body = record { locals = (OfPointer None) ∷ []; statements = (on 11 (Statement-F.Alloc (Held (H.Local 0)) (Constant (pos 16)) GivesNull)) ∷ (on 12 (Statement-F.PushOperation (Held (H.Local 0)) 0)) ∷ (on 13 (Statement-F.PopDestroy (Constant (pos 1)))) ∷ [] } }) ∷ []; operations = (record { line = 1; body = record { locals = []; statements = (on 2 (Statement-F.Repeat (Constant (pos 2)) ((on 3 Statement-F.NoteHeap) ∷ []))) ∷ (on 5 Statement-F.NoteAvailable) ∷ (on 6 Statement-F.NoteCompress) ∷ (on 7 (Statement-F.Free (Held (H.Local 0)))) ∷ [] } }) ∷ []; literals = []; main = 0 }
+
+operation_repeats_and_looks_at_the_heap_run : run script_operation_repeats_and_looks_at_the_heap_run R.Unlimited 10000 (shaped 4096 4096) ≡ record { outcome = Ended None []; trace = (line 1 144 0 Granted) ∷ (line 2 32 144 Granted) ∷ []; lines = []; notes = (Heap 2 176 4096) ∷ (Heap 2 176 4096) ∷ (Available 3920 3920) ∷ (Compress 0) ∷ []; steps = 12 }
+unfolding everything
+operation_repeats_and_looks_at_the_heap_run = refl
+
+abbrev script_operation_with_its_last_step_run : Script
+script_operation_with_its_last_step_run = record { classes = []; procedures = (record { line = 6; parameters = []; body = record { locals = (OfPointer None) ∷ []; statements = (on 8 (Statement-F.PushOperation (Held (H.Local 0)) 0)) ∷ (on 9 (Statement-F.PopDestroy (Constant (pos 1)))) ∷ [] } }) ∷ []; operations = (record { line = 1; body = record { locals = []; statements = (on 2 (Statement-F.If (IsNull (Held (H.Local 0))) ((on 3 (Statement-F.PrintText (Quoted 0))) ∷ []))) ∷ [] } }) ∷ []; literals = (110 ∷ 117 ∷ 108 ∷ 108 ∷ []) ∷ []; main = 0 }
+
+operation_with_its_last_step_run : run script_operation_with_its_last_step_run R.Unlimited 5 (shaped 4096 4096) ≡ record { outcome = Ended None []; trace = (line 1 144 0 Granted) ∷ []; lines = (110 ∷ 117 ∷ 108 ∷ 108 ∷ []) ∷ []; notes = []; steps = 5 }
+unfolding everything
+operation_with_its_last_step_run = refl
+
+abbrev script_panic_in_an_operation_run : Script
+script_panic_in_an_operation_run = record { classes = []; procedures = (record { line = 4; parameters = []; body = record { locals = (OfPointer None) ∷ []; statements = (on 6 (Statement-F.Alloc (Held (H.Local 0)) (Constant (pos 16)) GivesNull)) ∷ (on 7 (Statement-F.PushOperation (Held (H.Local 0)) 0)) ∷ (on 8 (Statement-F.Free (Held (H.Local 0)))) ∷ (on 9 (Statement-F.PopDestroy (Constant (pos 1)))) ∷ [] } }) ∷ []; operations = (record { line = 1; body = record { locals = []; statements = (on 2 (Statement-F.Free (Held (H.Local 0)))) ∷ [] } }) ∷ []; literals = []; main = 0 }
+
+panic_in_an_operation_run : run script_panic_in_an_operation_run R.Unlimited 10000 (shaped 4096 4096) ≡ record { outcome = Panicked (P.User 42); trace = (line 1 144 0 Granted) ∷ (line 2 32 144 Granted) ∷ []; lines = []; notes = []; steps = 6 }
+unfolding everything
+panic_in_an_operation_run = refl
+
+abbrev script_popped_operation_does_not_run_run : Script
+script_popped_operation_does_not_run_run = record { classes = []; procedures = (record { line = 1; parameters = []; body = record { locals = (OfPointer None) ∷ []; statements = (on 3 (Statement-F.Alloc (Held (H.Local 0)) (Constant (pos 16)) GivesNull)) ∷ (on 4 (Statement-F.PushOperation (Held (H.Local 0)) 0)) ∷ (on 5 (Statement-F.PopCheck (Held (H.Local 0)))) ∷ (on 6 (Statement-F.PushOperation (Held (H.Local 0)) 0)) ∷ (on 7 (Statement-F.Pop (Constant (pos 1)))) ∷ (on 8 (Statement-F.Free (Held (H.Local 0)))) ∷ [] } }) ∷ []; operations = (record { line = 10; body = record { locals = []; statements = (on 11 (Statement-F.PrintText (Quoted 0))) ∷ [] } }) ∷ []; literals = (116 ∷ 111 ∷ 108 ∷ 100 ∷ []) ∷ []; main = 0 }
+
+popped_operation_does_not_run_run : run script_popped_operation_does_not_run_run R.Unlimited 10000 (shaped 4096 4096) ≡ record { outcome = Ended None []; trace = (line 1 144 0 Granted) ∷ (line 2 32 144 Granted) ∷ []; lines = []; notes = []; steps = 6 }
+unfolding everything
+popped_operation_does_not_run_run = refl
+
 abbrev script_committed_length_notes_run : Script
 script_committed_length_notes_run = record { classes = []; procedures = (record { line = 1; parameters = []; body = record { locals = (OfPointer None) ∷ []; statements = (on 3 (Statement-F.Alloc (Held (H.Local 0)) (Constant (pos 200)) GivesNull)) ∷ (on 4 Statement-F.NoteAvailable) ∷ (on 5 Statement-F.NoteHeap) ∷ (on 6 (Statement-F.Free (Held (H.Local 0)))) ∷ (on 7 Statement-F.NoteAvailable) ∷ (on 8 Statement-F.NoteCompress) ∷ (on 9 Statement-F.NoteHeap) ∷ [] } }) ∷ []; operations = []; literals = []; main = 0 }
 
@@ -1765,6 +2297,13 @@ cell_for_zero_bytes_size : (required script_cell_for_zero_bytes_size 10000 (shap
 unfolding everything
 cell_for_zero_bytes_size = (refl, refl)
 
+abbrev script_eighth_push_grows_the_cleanup_cell_size : Script
+script_eighth_push_grows_the_cleanup_cell_size = record { classes = []; procedures = (record { line = 1; parameters = []; body = record { locals = (OfPointer None) ∷ []; statements = (on 3 (Statement-F.Repeat (Constant (pos 8)) ((on 4 (Statement-F.Alloc (Held (H.Local 0)) (Constant (pos 16)) Leaves)) ∷ (on 5 (Statement-F.Push (Held (H.Local 0)))) ∷ []))) ∷ (on 7 (Statement-F.PopDestroy (Constant (pos 8)))) ∷ [] } }) ∷ []; operations = []; literals = []; main = 0 }
+
+eighth_push_grows_the_cleanup_cell_size : (required script_eighth_push_grows_the_cleanup_cell_size 10000 (shaped 4096 4096) ≡ 608) × (rises script_eighth_push_grows_the_cleanup_cell_size 10000 (shaped 4096 4096) ≡ (rise 1 144) ∷ (rise 2 176) ∷ (rise 3 208) ∷ (rise 4 240) ∷ (rise 5 272) ∷ (rise 6 304) ∷ (rise 7 336) ∷ (rise 8 368) ∷ (rise 9 400) ∷ (rise 10 608) ∷ [])
+unfolding everything
+eighth_push_grows_the_cleanup_cell_size = (refl, refl)
+
 abbrev script_empty_main_size : Script
 script_empty_main_size = record { classes = []; procedures = (record { line = 1; parameters = []; body = record { locals = []; statements = [] } }) ∷ []; operations = []; literals = []; main = 0 }
 
@@ -1786,6 +2325,13 @@ freed_neighbours_merge_size : (required script_freed_neighbours_merge_size 10000
 unfolding everything
 freed_neighbours_merge_size = (refl, refl)
 
+abbrev script_items_that_are_destroyed_leave_their_room_size : Script
+script_items_that_are_destroyed_leave_their_room_size = record { classes = []; procedures = (record { line = 1; parameters = []; body = record { locals = (OfPointer None) ∷ []; statements = (on 3 (Statement-F.Repeat (Constant (pos 8)) ((on 4 (Statement-F.Alloc (Held (H.Local 0)) (Constant (pos 100)) Leaves)) ∷ (on 5 (Statement-F.Push (Held (H.Local 0)))) ∷ (on 6 (Statement-F.PopDestroy (Constant (pos 1)))) ∷ []))) ∷ (on 8 (Statement-F.Alloc (Held (H.Local 0)) (Constant (pos 16)) Leaves)) ∷ (on 9 (Statement-F.Push (Held (H.Local 0)))) ∷ (on 10 (Statement-F.Alloc (Held (H.Local 0)) (Constant (pos 16)) Leaves)) ∷ (on 11 (Statement-F.Push (Held (H.Local 0)))) ∷ (on 12 (Statement-F.PopDestroy (Constant (pos 2)))) ∷ [] } }) ∷ []; operations = []; literals = []; main = 0 }
+
+items_that_are_destroyed_leave_their_room_size : (required script_items_that_are_destroyed_leave_their_room_size 10000 (shaped 4096 4096) ≡ 272) × (rises script_items_that_are_destroyed_leave_their_room_size 10000 (shaped 4096 4096) ≡ (rise 1 144) ∷ (rise 2 272) ∷ [])
+unfolding everything
+items_that_are_destroyed_leave_their_room_size = (refl, refl)
+
 abbrev script_last_cell_ends_at_the_ceiling_size : Script
 script_last_cell_ends_at_the_ceiling_size = record { classes = []; procedures = (record { line = 1; parameters = []; body = record { locals = (OfPointer None) ∷ []; statements = (on 3 (Statement-F.Repeat (Constant (pos 15)) ((on 4 (Statement-F.Alloc (Held (H.Local 0)) (Constant (pos 1048560)) GivesNull)) ∷ []))) ∷ (on 6 (Statement-F.Alloc (Held (H.Local 0)) (Constant (pos 1048416)) GivesNull)) ∷ [] } }) ∷ []; operations = []; literals = []; main = 0 }
 
@@ -1800,6 +2346,20 @@ last_cell_passes_the_ceiling_size : (run script_last_cell_passes_the_ceiling_siz
 unfolding everything
 last_cell_passes_the_ceiling_size = refl
 
+abbrev script_marks_never_count_the_cleanup_cell_size : Script
+script_marks_never_count_the_cleanup_cell_size = record { classes = []; procedures = (record { line = 1; parameters = []; body = record { locals = (OfPointer None) ∷ []; statements = (on 3 Statement-F.Mark) ∷ (on 4 (Statement-F.Repeat (Constant (pos 8)) ((on 5 (Statement-F.Push (Held (H.Local 0)))) ∷ []))) ∷ (on 7 (Statement-F.Pop (Constant (pos 8)))) ∷ (on 8 (Statement-F.MarkEnd (Constant (pos 0)))) ∷ [] } }) ∷ []; operations = []; literals = []; main = 0 }
+
+marks_never_count_the_cleanup_cell_size : (required script_marks_never_count_the_cleanup_cell_size 10000 (shaped 4096 4096) ≡ 208) × (rises script_marks_never_count_the_cleanup_cell_size 10000 (shaped 4096 4096) ≡ (rise 1 144) ∷ (rise 2 208) ∷ [])
+unfolding everything
+marks_never_count_the_cleanup_cell_size = (refl, refl)
+
+abbrev script_procedure_returns_a_pushed_cell_size : Script
+script_procedure_returns_a_pushed_cell_size = record { classes = []; procedures = (record { line = 1; parameters = Par.OfNumber ∷ []; body = record { locals = (OfPointer None) ∷ []; statements = (on 3 (Statement-F.Alloc (Held (H.Local 1)) (Variable 0) Leaves)) ∷ (on 4 (Statement-F.Push (Held (H.Local 1)))) ∷ (on 5 (Statement-F.ReturnPointer (Held (H.Local 1)))) ∷ [] } }) ∷ (record { line = 7; parameters = []; body = record { locals = (OfPointer None) ∷ []; statements = (on 9 (Statement-F.CallTo 0 0 ((Given (Constant (pos 40))) ∷ []))) ∷ (on 10 (Statement-F.PopDestroy (Constant (pos 1)))) ∷ [] } }) ∷ []; operations = []; literals = []; main = 1 }
+
+procedure_returns_a_pushed_cell_size : (required script_procedure_returns_a_pushed_cell_size 10000 (shaped 4096 4096) ≡ 208) × (rises script_procedure_returns_a_pushed_cell_size 10000 (shaped 4096 4096) ≡ (rise 1 144) ∷ (rise 2 208) ∷ [])
+unfolding everything
+procedure_returns_a_pushed_cell_size = (refl, refl)
+
 abbrev script_simulated_refusal_needs_no_room_size : Script
 script_simulated_refusal_needs_no_room_size = record { classes = []; procedures = (record { line = 1; parameters = []; body = record { locals = (OfPointer None) ∷ (OfPointer None) ∷ []; statements = (on 4 (Statement-F.NewText (Held (H.Local 0)) (Constant (pos 4)) Leaves)) ∷ (on 5 (Statement-F.Append (InCell (Held (H.Local 0))) (Quoted 0))) ∷ (on 6 (Statement-F.FailNext (Constant (pos 1)))) ∷ (on 7 (Statement-F.ReallocText (Held (H.Local 1)) (Held (H.Local 0)) (Constant (pos 20)))) ∷ (on 8 (Statement-F.PrintText (Of (InCell (Held (H.Local 0)))))) ∷ (on 9 (Statement-F.Free (Held (H.Local 0)))) ∷ [] } }) ∷ []; operations = []; literals = (97 ∷ 98 ∷ 99 ∷ []) ∷ []; main = 0 }
 
@@ -1807,12 +2367,40 @@ simulated_refusal_needs_no_room_size : (required script_simulated_refusal_needs_
 unfolding everything
 simulated_refusal_needs_no_room_size = (refl, refl)
 
+abbrev script_stack_that_moves_size : Script
+script_stack_that_moves_size = record { classes = []; procedures = (record { line = 1; parameters = []; body = record { locals = (OfPointer None) ∷ (OfPointer None) ∷ (OfPointer None) ∷ []; statements = (on 5 (Statement-F.Alloc (Held (H.Local 0)) (Constant (pos 16)) GivesNull)) ∷ (on 6 (Statement-F.Repeat (Constant (pos 8)) ((on 7 (Statement-F.Push (Held (H.Local 2)))) ∷ []))) ∷ (on 9 Statement-F.NoteHeap) ∷ (on 10 Statement-F.NoteAvailable) ∷ (on 11 (Statement-F.Alloc (Held (H.Local 1)) (Constant (pos 112)) GivesNull)) ∷ (on 12 (Statement-F.Repeat (Constant (pos 4)) ((on 13 (Statement-F.Push (Held (H.Local 2)))) ∷ []))) ∷ (on 15 Statement-F.NoteHeap) ∷ (on 16 Statement-F.NoteAvailable) ∷ (on 17 (Statement-F.Pop (Constant (pos 12)))) ∷ (on 18 (Statement-F.Free (Held (H.Local 0)))) ∷ (on 19 (Statement-F.Free (Held (H.Local 1)))) ∷ [] } }) ∷ []; operations = []; literals = []; main = 0 }
+
+stack_that_moves_size : (required script_stack_that_moves_size 10000 (shaped 4096 4096) ≡ 448) × (rises script_stack_that_moves_size 10000 (shaped 4096 4096) ≡ (rise 1 144) ∷ (rise 2 176) ∷ (rise 3 384) ∷ (rise 5 448) ∷ [])
+unfolding everything
+stack_that_moves_size = (refl, refl)
+
 abbrev script_top_cell_grows_in_place_size : Script
 script_top_cell_grows_in_place_size = record { classes = []; procedures = (record { line = 1; parameters = []; body = record { locals = (OfPointer None) ∷ (OfPointer None) ∷ (OfPointer None) ∷ []; statements = (on 5 (Statement-F.Alloc (Held (H.Local 0)) (Constant (pos 48)) GivesNull)) ∷ (on 6 (Statement-F.Alloc (Held (H.Local 1)) (Constant (pos 16)) GivesNull)) ∷ (on 7 (Statement-F.Free (Held (H.Local 0)))) ∷ (on 8 (Statement-F.Realloc (Held (H.Local 2)) (Held (H.Local 1)) (Constant (pos 48)) GivesNull)) ∷ (on 9 (Statement-F.IfElse (IsNull (Held (H.Local 2))) ((on 10 (Statement-F.Free (Held (H.Local 1)))) ∷ []) ((on 12 (Statement-F.Free (Held (H.Local 2)))) ∷ []))) ∷ [] } }) ∷ []; operations = []; literals = []; main = 0 }
 
 top_cell_grows_in_place_size : (required script_top_cell_grows_in_place_size 10000 (shaped 4096 4096) ≡ 272) × (rises script_top_cell_grows_in_place_size 10000 (shaped 4096 4096) ≡ (rise 1 144) ∷ (rise 2 208) ∷ (rise 3 240) ∷ (rise 4 272) ∷ [])
 unfolding everything
 top_cell_grows_in_place_size = (refl, refl)
+
+abbrev script_budget_is_enough_for_each_item_check : Script
+script_budget_is_enough_for_each_item_check = record { classes = []; procedures = (record { line = 1; parameters = []; body = record { locals = (OfPointer None) ∷ (OfPointer None) ∷ (OfPointer None) ∷ []; statements = (on 5 (Statement-F.Alloc (Held (H.Local 0)) (Constant (pos 16)) Leaves)) ∷ (on 6 (Statement-F.Push (Held (H.Local 0)))) ∷ (on 7 (Statement-F.Alloc (Held (H.Local 1)) (Constant (pos 16)) Leaves)) ∷ (on 8 (Statement-F.Push (Held (H.Local 1)))) ∷ (on 9 (Statement-F.Alloc (Held (H.Local 2)) (Constant (pos 16)) Leaves)) ∷ (on 10 (Statement-F.Push (Held (H.Local 2)))) ∷ (on 11 (Statement-F.PopDestroy (Constant (pos 3)))) ∷ (on 12 (Statement-F.PrintText (Quoted 0))) ∷ [] } }) ∷ []; operations = []; literals = (110 ∷ 111 ∷ 110 ∷ 101 ∷ 32 ∷ 105 ∷ 115 ∷ 32 ∷ 108 ∷ 101 ∷ 102 ∷ 116 ∷ []) ∷ []; main = 0 }
+
+budget_is_enough_for_each_item_check : (required script_budget_is_enough_for_each_item_check 10000 (shaped 4096 4096) ≡ 240) × (rises script_budget_is_enough_for_each_item_check 10000 (shaped 4096 4096) ≡ (rise 1 144) ∷ (rise 2 176) ∷ (rise 3 208) ∷ (rise 4 240) ∷ []) × (length (run_at script_budget_is_enough_for_each_item_check 10000 (shaped 4096 4096) 0).trace ≡ 4) × (least_bad_or_cut script_budget_is_enough_for_each_item_check 10000 (shaped 4096 4096) ≡ None)
+unfolding everything
+budget_is_enough_for_each_item_check = (refl, refl, refl, refl)
+
+abbrev script_eighth_push_grows_the_cleanup_cell_check : Script
+script_eighth_push_grows_the_cleanup_cell_check = record { classes = []; procedures = (record { line = 1; parameters = []; body = record { locals = (OfPointer None) ∷ []; statements = (on 3 (Statement-F.Repeat (Constant (pos 8)) ((on 4 (Statement-F.Alloc (Held (H.Local 0)) (Constant (pos 16)) Leaves)) ∷ (on 5 (Statement-F.Push (Held (H.Local 0)))) ∷ []))) ∷ (on 7 (Statement-F.PopDestroy (Constant (pos 8)))) ∷ [] } }) ∷ []; operations = []; literals = []; main = 0 }
+
+eighth_push_grows_the_cleanup_cell_check : (required script_eighth_push_grows_the_cleanup_cell_check 10000 (shaped 4096 4096) ≡ 608) × (rises script_eighth_push_grows_the_cleanup_cell_check 10000 (shaped 4096 4096) ≡ (rise 1 144) ∷ (rise 2 176) ∷ (rise 3 208) ∷ (rise 4 240) ∷ (rise 5 272) ∷ (rise 6 304) ∷ (rise 7 336) ∷ (rise 8 368) ∷ (rise 9 400) ∷ (rise 10 608) ∷ []) × (length (run_at script_eighth_push_grows_the_cleanup_cell_check 10000 (shaped 4096 4096) 0).trace ≡ 10) × (least_bad_or_cut script_eighth_push_grows_the_cleanup_cell_check 10000 (shaped 4096 4096) ≡ None)
+unfolding everything
+eighth_push_grows_the_cleanup_cell_check = (refl, refl, refl, refl)
+
+abbrev script_eighth_push_grows_the_cleanup_cell_sweep : Script
+script_eighth_push_grows_the_cleanup_cell_sweep = record { classes = []; procedures = (record { line = 1; parameters = []; body = record { locals = (OfPointer None) ∷ []; statements = (on 3 (Statement-F.Repeat (Constant (pos 8)) ((on 4 (Statement-F.Alloc (Held (H.Local 0)) (Constant (pos 16)) Leaves)) ∷ (on 5 (Statement-F.Push (Held (H.Local 0)))) ∷ []))) ∷ (on 7 (Statement-F.PopDestroy (Constant (pos 8)))) ∷ [] } }) ∷ []; operations = []; literals = []; main = 0 }
+
+eighth_push_grows_the_cleanup_cell_sweep : (length (run_at script_eighth_push_grows_the_cleanup_cell_sweep 10000 (shaped 4096 4096) 0).trace ≡ 10) × (least_bad_or_cut script_eighth_push_grows_the_cleanup_cell_sweep 10000 (shaped 4096 4096) ≡ None)
+unfolding everything
+eighth_push_grows_the_cleanup_cell_sweep = (refl, refl)
 
 abbrev script_empty_main_check : Script
 script_empty_main_check = record { classes = []; procedures = (record { line = 1; parameters = []; body = record { locals = []; statements = [] } }) ∷ []; operations = []; literals = []; main = 0 }
@@ -1842,6 +2430,13 @@ first_fit_reuses_hole_check : (required script_first_fit_reuses_hole_check 10000
 unfolding everything
 first_fit_reuses_hole_check = (refl, refl, refl, refl)
 
+abbrev script_item_that_was_freed_by_hand_check : Script
+script_item_that_was_freed_by_hand_check = record { classes = []; procedures = (record { line = 1; parameters = []; body = record { locals = (OfPointer None) ∷ (OfPointer None) ∷ []; statements = (on 4 (Statement-F.Alloc (Held (H.Local 0)) (Constant (pos 16)) Leaves)) ∷ (on 5 (Statement-F.Push (Held (H.Local 0)))) ∷ (on 6 (Statement-F.Free (Held (H.Local 0)))) ∷ (on 7 (Statement-F.Alloc (Held (H.Local 1)) (Constant (pos 16)) Leaves)) ∷ (on 8 (Statement-F.Pop (Constant (pos 1)))) ∷ (on 9 (Statement-F.Free (Held (H.Local 1)))) ∷ [] } }) ∷ []; operations = []; literals = []; main = 0 }
+
+item_that_was_freed_by_hand_check : (required script_item_that_was_freed_by_hand_check 10000 (shaped 4096 4096) ≡ 176) × (rises script_item_that_was_freed_by_hand_check 10000 (shaped 4096 4096) ≡ (rise 1 144) ∷ (rise 2 176) ∷ []) × (length (run_at script_item_that_was_freed_by_hand_check 10000 (shaped 4096 4096) 0).trace ≡ 3) × (least_bad_or_cut script_item_that_was_freed_by_hand_check 10000 (shaped 4096 4096) ≡ Some 3) × (run_at script_item_that_was_freed_by_hand_check 10000 (shaped 4096 4096) 3 ≡ record { outcome = Panicked (P.User 42); trace = (line 1 144 0 Granted) ∷ (line 2 32 144 Granted) ∷ (line 3 32 144 Simulated) ∷ []; lines = []; notes = []; steps = 5 })
+unfolding everything
+item_that_was_freed_by_hand_check = (refl, refl, refl, refl, refl)
+
 abbrev script_leak_that_needs_two_failures_sweep : Script
 script_leak_that_needs_two_failures_sweep = record { classes = []; procedures = (record { line = 1; parameters = []; body = record { locals = (OfPointer None) ∷ (OfPointer None) ∷ (OfPointer None) ∷ []; statements = (on 5 (Statement-F.Alloc (Held (H.Local 0)) (Constant (pos 16)) GivesNull)) ∷ (on 6 (Statement-F.Alloc (Held (H.Local 1)) (Constant (pos 16)) GivesNull)) ∷ (on 7 (Statement-F.Alloc (Held (H.Local 2)) (Constant (pos 16)) GivesNull)) ∷ (on 8 (Statement-F.If (IsNull (Held (H.Local 0))) ((on 9 (Statement-F.If (IsNull (Held (H.Local 2))) ((on 10 (Statement-F.Leave (Constant (negsuc 3)))) ∷ []))) ∷ []))) ∷ (on 13 (Statement-F.Free (Held (H.Local 0)))) ∷ (on 14 (Statement-F.Free (Held (H.Local 1)))) ∷ (on 15 (Statement-F.Free (Held (H.Local 2)))) ∷ [] } }) ∷ []; operations = []; literals = []; main = 0 }
 
@@ -1856,6 +2451,27 @@ leak_without_any_failure_sweep : (length (run_at script_leak_without_any_failure
 unfolding everything
 leak_without_any_failure_sweep = (refl, refl, refl)
 
+abbrev script_leave_destroys_the_items_of_all_callees_sweep : Script
+script_leave_destroys_the_items_of_all_callees_sweep = record { classes = []; procedures = (record { line = 1; parameters = []; body = record { locals = (OfPointer None) ∷ []; statements = (on 3 (Statement-F.Alloc (Held (H.Local 0)) (Constant (pos 16)) Leaves)) ∷ (on 4 (Statement-F.Push (Held (H.Local 0)))) ∷ (on 5 (Statement-F.Leave (Constant (negsuc 6)))) ∷ [] } }) ∷ (record { line = 7; parameters = []; body = record { locals = (OfPointer None) ∷ []; statements = (on 9 (Statement-F.Alloc (Held (H.Local 0)) (Constant (pos 32)) Leaves)) ∷ (on 10 (Statement-F.Push (Held (H.Local 0)))) ∷ (on 11 (Statement-F.Call 0 [])) ∷ (on 12 (Statement-F.PopDestroy (Constant (pos 1)))) ∷ [] } }) ∷ (record { line = 14; parameters = []; body = record { locals = (OfPointer None) ∷ []; statements = (on 16 (Statement-F.Alloc (Held (H.Local 0)) (Constant (pos 48)) Leaves)) ∷ (on 17 (Statement-F.Push (Held (H.Local 0)))) ∷ (on 18 (Statement-F.Call 1 [])) ∷ (on 19 (Statement-F.PopDestroy (Constant (pos 1)))) ∷ [] } }) ∷ (record { line = 21; parameters = []; body = record { locals = OfNumber ∷ []; statements = (on 23 (Statement-F.Trap 0 ((on 24 (Statement-F.Call 2 [])) ∷ []))) ∷ (on 26 (Statement-F.PrintNumber (Variable 0))) ∷ [] } }) ∷ []; operations = []; literals = []; main = 3 }
+
+leave_destroys_the_items_of_all_callees_sweep : (length (run_at script_leave_destroys_the_items_of_all_callees_sweep 10000 (shaped 4096 4096) 0).trace ≡ 4) × (least_bad_or_cut script_leave_destroys_the_items_of_all_callees_sweep 10000 (shaped 4096 4096) ≡ None)
+unfolding everything
+leave_destroys_the_items_of_all_callees_sweep = (refl, refl)
+
+abbrev script_marks_never_count_the_cleanup_cell_check : Script
+script_marks_never_count_the_cleanup_cell_check = record { classes = []; procedures = (record { line = 1; parameters = []; body = record { locals = (OfPointer None) ∷ []; statements = (on 3 Statement-F.Mark) ∷ (on 4 (Statement-F.Repeat (Constant (pos 8)) ((on 5 (Statement-F.Push (Held (H.Local 0)))) ∷ []))) ∷ (on 7 (Statement-F.Pop (Constant (pos 8)))) ∷ (on 8 (Statement-F.MarkEnd (Constant (pos 0)))) ∷ [] } }) ∷ []; operations = []; literals = []; main = 0 }
+
+marks_never_count_the_cleanup_cell_check : (required script_marks_never_count_the_cleanup_cell_check 10000 (shaped 4096 4096) ≡ 208) × (rises script_marks_never_count_the_cleanup_cell_check 10000 (shaped 4096 4096) ≡ (rise 1 144) ∷ (rise 2 208) ∷ []) × (length (run_at script_marks_never_count_the_cleanup_cell_check 10000 (shaped 4096 4096) 0).trace ≡ 2) × (least_bad_or_cut script_marks_never_count_the_cleanup_cell_check 10000 (shaped 4096 4096) ≡ None)
+unfolding everything
+marks_never_count_the_cleanup_cell_check = (refl, refl, refl, refl)
+
+abbrev script_next_push_asks_for_the_growth_again_check : Script
+script_next_push_asks_for_the_growth_again_check = record { classes = []; procedures = (record { line = 1; parameters = []; body = record { locals = (OfPointer None) ∷ (OfPointer None) ∷ OfNumber ∷ []; statements = (on 5 (Statement-F.Repeat (Constant (pos 7)) ((on 6 (Statement-F.Push (Held (H.Local 1)))) ∷ []))) ∷ (on 8 (Statement-F.Alloc (Held (H.Local 0)) (Constant (pos 16)) GivesNull)) ∷ (on 9 (Statement-F.FailNext (Constant (pos 1)))) ∷ (on 10 (Statement-F.Trap 2 ((on 11 (Statement-F.Push (Held (H.Local 0)))) ∷ []))) ∷ (on 13 (Statement-F.PrintNumber (Variable 2))) ∷ (on 14 (Statement-F.Alloc (Held (H.Local 0)) (Constant (pos 16)) GivesNull)) ∷ (on 15 (Statement-F.Push (Held (H.Local 0)))) ∷ (on 16 (Statement-F.PopDestroy (Constant (pos 1)))) ∷ (on 17 (Statement-F.Pop (Constant (pos 7)))) ∷ [] } }) ∷ []; operations = []; literals = []; main = 0 }
+
+next_push_asks_for_the_growth_again_check : (required script_next_push_asks_for_the_growth_again_check 10000 (shaped 4096 4096) ≡ 384) × (rises script_next_push_asks_for_the_growth_again_check 10000 (shaped 4096 4096) ≡ (rise 1 144) ∷ (rise 2 176) ∷ (rise 5 384) ∷ []) × (length (run_at script_next_push_asks_for_the_growth_again_check 10000 (shaped 4096 4096) 0).trace ≡ 5) × (least_bad_or_cut script_next_push_asks_for_the_growth_again_check 10000 (shaped 4096 4096) ≡ None)
+unfolding everything
+next_push_asks_for_the_growth_again_check = (refl, refl, refl, refl)
+
 abbrev script_panic_without_any_failure_sweep : Script
 script_panic_without_any_failure_sweep = record { classes = []; procedures = (record { line = 1; parameters = []; body = record { locals = (OfPointer None) ∷ (OfPointer None) ∷ []; statements = (on 4 (Statement-F.Alloc (Held (H.Local 0)) (Constant (pos 16)) GivesNull)) ∷ (on 5 (Statement-F.Free (Held (H.Local 0)))) ∷ (on 6 (Statement-F.Alloc (Held (H.Local 1)) (Constant (pos 16)) GivesNull)) ∷ (on 7 (Statement-F.Free (Held (H.Local 0)))) ∷ [] } }) ∷ []; operations = []; literals = []; main = 0 }
 
@@ -1863,12 +2479,40 @@ panic_without_any_failure_sweep : (length (run_at script_panic_without_any_failu
 unfolding everything
 panic_without_any_failure_sweep = (refl, refl, refl)
 
+abbrev script_popped_item_of_a_refused_request_sweep : Script
+script_popped_item_of_a_refused_request_sweep = record { classes = []; procedures = (record { line = 1; parameters = []; body = record { locals = (OfPointer None) ∷ (OfPointer None) ∷ []; statements = (on 4 (Statement-F.Alloc (Held (H.Local 0)) (Constant (pos 16)) Leaves)) ∷ (on 5 (Statement-F.Push (Held (H.Local 0)))) ∷ (on 6 (Statement-F.Pop (Constant (pos 1)))) ∷ (on 7 (Statement-F.Alloc (Held (H.Local 1)) (Constant (pos 16)) Leaves)) ∷ (on 8 (Statement-F.Free (Held (H.Local 1)))) ∷ (on 9 (Statement-F.Free (Held (H.Local 0)))) ∷ [] } }) ∷ []; operations = []; literals = []; main = 0 }
+
+popped_item_of_a_refused_request_sweep : (length (run_at script_popped_item_of_a_refused_request_sweep 10000 (shaped 4096 4096) 0).trace ≡ 3) × (least_bad_or_cut script_popped_item_of_a_refused_request_sweep 10000 (shaped 4096 4096) ≡ Some 3) × (run_at script_popped_item_of_a_refused_request_sweep 10000 (shaped 4096 4096) 3 ≡ record { outcome = Ended (Some (negsuc 3)) ((record { number = 2; length = 32; place = 144 }) ∷ []); trace = (line 1 144 0 Granted) ∷ (line 2 32 144 Granted) ∷ (line 3 32 176 Simulated) ∷ []; lines = []; notes = []; steps = 4 })
+unfolding everything
+popped_item_of_a_refused_request_sweep = (refl, refl, refl)
+
+abbrev script_procedure_returns_a_pushed_cell_check : Script
+script_procedure_returns_a_pushed_cell_check = record { classes = []; procedures = (record { line = 1; parameters = Par.OfNumber ∷ []; body = record { locals = (OfPointer None) ∷ []; statements = (on 3 (Statement-F.Alloc (Held (H.Local 1)) (Variable 0) Leaves)) ∷ (on 4 (Statement-F.Push (Held (H.Local 1)))) ∷ (on 5 (Statement-F.ReturnPointer (Held (H.Local 1)))) ∷ [] } }) ∷ (record { line = 7; parameters = []; body = record { locals = (OfPointer None) ∷ []; statements = (on 9 (Statement-F.CallTo 0 0 ((Given (Constant (pos 40))) ∷ []))) ∷ (on 10 (Statement-F.PopDestroy (Constant (pos 1)))) ∷ [] } }) ∷ []; operations = []; literals = []; main = 1 }
+
+procedure_returns_a_pushed_cell_check : (required script_procedure_returns_a_pushed_cell_check 10000 (shaped 4096 4096) ≡ 208) × (rises script_procedure_returns_a_pushed_cell_check 10000 (shaped 4096 4096) ≡ (rise 1 144) ∷ (rise 2 208) ∷ []) × (length (run_at script_procedure_returns_a_pushed_cell_check 10000 (shaped 4096 4096) 0).trace ≡ 2) × (least_bad_or_cut script_procedure_returns_a_pushed_cell_check 10000 (shaped 4096 4096) ≡ None)
+unfolding everything
+procedure_returns_a_pushed_cell_check = (refl, refl, refl, refl)
+
+abbrev script_push_that_the_script_refuses_destroys_its_own_item_sweep : Script
+script_push_that_the_script_refuses_destroys_its_own_item_sweep = record { classes = []; procedures = (record { line = 1; parameters = []; body = record { locals = (OfPointer None) ∷ (OfPointer None) ∷ OfNumber ∷ []; statements = (on 5 (Statement-F.Alloc (Held (H.Local 0)) (Constant (pos 16)) GivesNull)) ∷ (on 6 (Statement-F.FailNext (Constant (pos 1)))) ∷ (on 7 (Statement-F.Trap 2 ((on 8 (Statement-F.Repeat (Constant (pos 7)) ((on 9 (Statement-F.Push (Held (H.Local 1)))) ∷ []))) ∷ (on 11 (Statement-F.Push (Held (H.Local 0)))) ∷ []))) ∷ (on 13 (Statement-F.PrintNumber (Variable 2))) ∷ (on 14 (Statement-F.Free (Held (H.Local 0)))) ∷ [] } }) ∷ []; operations = []; literals = []; main = 0 }
+
+push_that_the_script_refuses_destroys_its_own_item_sweep : (length (run_at script_push_that_the_script_refuses_destroys_its_own_item_sweep 10000 (shaped 4096 4096) 0).trace ≡ 3) × (least_bad_or_cut script_push_that_the_script_refuses_destroys_its_own_item_sweep 10000 (shaped 4096 4096) ≡ Some 0) × (run_at script_push_that_the_script_refuses_destroys_its_own_item_sweep 10000 (shaped 4096 4096) 0 ≡ record { outcome = Panicked (P.User 42); trace = (line 1 144 0 Granted) ∷ (line 2 32 144 Granted) ∷ (line 3 208 176 Simulated) ∷ []; lines = (45 ∷ 52 ∷ []) ∷ []; notes = []; steps = 29 })
+unfolding everything
+push_that_the_script_refuses_destroys_its_own_item_sweep = (refl, refl, refl)
+
 abbrev script_retry_that_fails_again_sweep : Script
 script_retry_that_fails_again_sweep = record { classes = []; procedures = (record { line = 1; parameters = []; body = record { locals = (OfPointer None) ∷ (OfPointer None) ∷ []; statements = (on 4 (Statement-F.Alloc (Held (H.Local 1)) (Constant (pos 16)) GivesNull)) ∷ (on 5 (Statement-F.Alloc (Held (H.Local 0)) (Constant (pos 16)) GivesNull)) ∷ (on 6 (Statement-F.If (IsNull (Held (H.Local 0))) ((on 7 (Statement-F.Alloc (Held (H.Local 0)) (Constant (pos 16)) GivesNull)) ∷ (on 8 (Statement-F.If (IsNull (Held (H.Local 0))) ((on 9 (Statement-F.Leave (Constant (negsuc 3)))) ∷ []))) ∷ []))) ∷ (on 12 (Statement-F.Free (Held (H.Local 0)))) ∷ (on 13 (Statement-F.Free (Held (H.Local 1)))) ∷ [] } }) ∷ []; operations = []; literals = []; main = 0 }
 
 retry_that_fails_again_sweep : (length (run_at script_retry_that_fails_again_sweep 10000 (shaped 4096 4096) 0).trace ≡ 3) × (least_bad_or_cut script_retry_that_fails_again_sweep 10000 (shaped 4096 4096) ≡ None)
 unfolding everything
 retry_that_fails_again_sweep = (refl, refl)
+
+abbrev script_stack_that_moves_check : Script
+script_stack_that_moves_check = record { classes = []; procedures = (record { line = 1; parameters = []; body = record { locals = (OfPointer None) ∷ (OfPointer None) ∷ (OfPointer None) ∷ []; statements = (on 5 (Statement-F.Alloc (Held (H.Local 0)) (Constant (pos 16)) GivesNull)) ∷ (on 6 (Statement-F.Repeat (Constant (pos 8)) ((on 7 (Statement-F.Push (Held (H.Local 2)))) ∷ []))) ∷ (on 9 Statement-F.NoteHeap) ∷ (on 10 Statement-F.NoteAvailable) ∷ (on 11 (Statement-F.Alloc (Held (H.Local 1)) (Constant (pos 112)) GivesNull)) ∷ (on 12 (Statement-F.Repeat (Constant (pos 4)) ((on 13 (Statement-F.Push (Held (H.Local 2)))) ∷ []))) ∷ (on 15 Statement-F.NoteHeap) ∷ (on 16 Statement-F.NoteAvailable) ∷ (on 17 (Statement-F.Pop (Constant (pos 12)))) ∷ (on 18 (Statement-F.Free (Held (H.Local 0)))) ∷ (on 19 (Statement-F.Free (Held (H.Local 1)))) ∷ [] } }) ∷ []; operations = []; literals = []; main = 0 }
+
+stack_that_moves_check : (required script_stack_that_moves_check 10000 (shaped 4096 4096) ≡ 448) × (rises script_stack_that_moves_check 10000 (shaped 4096 4096) ≡ (rise 1 144) ∷ (rise 2 176) ∷ (rise 3 384) ∷ (rise 5 448) ∷ []) × (length (run_at script_stack_that_moves_check 10000 (shaped 4096 4096) 0).trace ≡ 5) × (least_bad_or_cut script_stack_that_moves_check 10000 (shaped 4096 4096) ≡ Some 3) × (run_at script_stack_that_moves_check 10000 (shaped 4096 4096) 3 ≡ record { outcome = Ended (Some (negsuc 3)) ((record { number = 2; length = 32; place = 144 }) ∷ []); trace = (line 1 144 0 Granted) ∷ (line 2 32 144 Granted) ∷ (line 3 208 176 Simulated) ∷ []; lines = []; notes = []; steps = 26 })
+unfolding everything
+stack_that_moves_check = (refl, refl, refl, refl, refl)
 
 abbrev script_top_cell_grows_in_place_check : Script
 script_top_cell_grows_in_place_check = record { classes = []; procedures = (record { line = 1; parameters = []; body = record { locals = (OfPointer None) ∷ (OfPointer None) ∷ (OfPointer None) ∷ []; statements = (on 5 (Statement-F.Alloc (Held (H.Local 0)) (Constant (pos 48)) GivesNull)) ∷ (on 6 (Statement-F.Alloc (Held (H.Local 1)) (Constant (pos 16)) GivesNull)) ∷ (on 7 (Statement-F.Free (Held (H.Local 0)))) ∷ (on 8 (Statement-F.Realloc (Held (H.Local 2)) (Held (H.Local 1)) (Constant (pos 48)) GivesNull)) ∷ (on 9 (Statement-F.IfElse (IsNull (Held (H.Local 2))) ((on 10 (Statement-F.Free (Held (H.Local 1)))) ∷ []) ((on 12 (Statement-F.Free (Held (H.Local 2)))) ∷ []))) ∷ [] } }) ∷ []; operations = []; literals = []; main = 0 }

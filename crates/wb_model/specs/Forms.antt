@@ -11,6 +11,7 @@ use Rattle.wb_model.specs.declared.script_lines.Operand.TheVariants.{Name, Numbe
 use Rattle.wb_model.specs.declared.script_lines.Form.{Form}
 use Rattle.wb_model.specs.declared.script_lines.Form.TheVariants.{Skip, Unknown, Line}
 use Rattle.wb_model.specs.declared.script.Parameter as model
+use Rattle.wb_model.specs.declared.script.Parameter.TheVariants as kind
 use Rattle.wb_model.specs.declared.script_lines.Role.{Role}
 use Rattle.wb_model.specs.declared.script_lines.Role.TheVariants as role
 use Rattle.wb_model.specs.Lines.{words_of}
@@ -58,6 +59,7 @@ operand_as word.Number text = option_map Number (number_spelled text)
 operand_as word.Size text = size_of (number_spelled text)
 operand_as word.Literal text = option_map Literal (literal_spelled text)
 operand_as word.Parameter text = parameter_of (parameter_name text) (parameter_kind text)
+operand_as word.NewPointer text = option_map (λ name. Parameter name (kind.OfPointer None)) (declared_name text)
 operand_as (word.Keyword k) text = if bytes_eq text (text_of_keyword k) then Some Keyword else None
 
 -- the operand by the first of the kinds that the word is of

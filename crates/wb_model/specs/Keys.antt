@@ -2,9 +2,9 @@
 -- the grammar of blocks; and for each letter the words that are grammatical where it stands, and the sorts that are right.
 use Rattle.std.specs.Prelude.{ℕ, ◌-◌, List, [], ◌∷◌, ◌++◌, Bool, true, false, Option, Some, None, codes, length, replicate}
 use Rattle.wb_model.specs.declared.script_lines.Key.{Key}
-use Rattle.wb_model.specs.declared.script_lines.Key.TheVariants.{Proc, Ptr, Int, Buf, View, Alloc, AllocL, Realloc, ReallocL, Free, AllocLen, Store, Load, Set, Null, Add, Leave, LeaveIfError, LeaveIfNull, Call, CallTo, Return, ReturnPointer, Mark, MarkEnd, Check, CheckAll, FailNext, FailEvery, FailNone, HNew, HNewL, HRealloc, Copy, Append, Insert, DelText, SetLength, Left, Right, Mid, GetLen, GetMax, Print, Heap, Available, Compress, IfNull, IfSome, IfEqual, IfLess, Else, Repeat, Trap, End}
+use Rattle.wb_model.specs.declared.script_lines.Key.TheVariants.{Proc, Op, Ptr, Int, Buf, View, Alloc, AllocL, Realloc, ReallocL, Free, AllocLen, Store, Load, Set, Null, Add, Push, PushOp, Pop, PopDestroy, PopCheck, Leave, LeaveIfError, LeaveIfNull, Call, CallTo, Return, ReturnPointer, Mark, MarkEnd, Check, CheckAll, FailNext, FailEvery, FailNone, HNew, HNewL, HRealloc, Copy, Append, Insert, DelText, SetLength, Left, Right, Mid, GetLen, GetMax, Print, Heap, Available, Compress, IfNull, IfSome, IfEqual, IfLess, Else, Repeat, Trap, End}
 use Rattle.wb_model.specs.declared.script_lines.Letter.{Letter}
-use Rattle.wb_model.specs.declared.script_lines.Letter.TheVariants.{Declared, Pointer, Value, Variable, Target, Source, Size, Writable, Readable, ViewName, Printed, Procedure, Parameter, Argument, Keyword}
+use Rattle.wb_model.specs.declared.script_lines.Letter.TheVariants.{Declared, Pointer, Value, Variable, Target, Source, Size, Writable, Readable, ViewName, Printed, Procedure, Operation, Parameter, ItsPointer, Argument, Keyword}
 use Rattle.wb_model.specs.declared.script_lines.Keyword.TheVariants as keyword
 use Rattle.wb_model.specs.declared.script_lines.WordKind.{WordKind}
 use Rattle.wb_model.specs.declared.script_lines.WordKind.TheVariants as word
@@ -16,8 +16,8 @@ use Rattle.wb_model.specs.declared.script_lines.Role.TheVariants as role
 -- Opened only where a line is read, so that no other goal grows with the number of keys.
 unfoldable pub keys : List Key
 keys =
-    Proc ∷ Ptr ∷ Int ∷ Buf ∷ View ∷ Alloc ∷ AllocL ∷ Realloc ∷ ReallocL ∷ Free ∷ AllocLen ∷ Store ∷ Load ∷ Set
-    ∷ Null ∷ Add ∷ Leave ∷ LeaveIfError ∷ LeaveIfNull ∷ Call ∷ CallTo ∷ Return ∷ ReturnPointer
+    Proc ∷ Op ∷ Ptr ∷ Int ∷ Buf ∷ View ∷ Alloc ∷ AllocL ∷ Realloc ∷ ReallocL ∷ Free ∷ AllocLen ∷ Store ∷ Load ∷ Set
+    ∷ Null ∷ Add ∷ Push ∷ PushOp ∷ Pop ∷ PopDestroy ∷ PopCheck ∷ Leave ∷ LeaveIfError ∷ LeaveIfNull ∷ Call ∷ CallTo ∷ Return ∷ ReturnPointer
     ∷ Mark ∷ MarkEnd ∷ Check ∷ CheckAll ∷ FailNext ∷ FailEvery ∷ FailNone
     ∷ HNew ∷ HNewL ∷ HRealloc ∷ Copy ∷ Append ∷ Insert ∷ DelText ∷ SetLength ∷ Left ∷ Right ∷ Mid ∷ GetLen ∷ GetMax
     ∷ Print ∷ Heap ∷ Available ∷ Compress ∷ IfNull ∷ IfSome ∷ IfEqual ∷ IfLess ∷ Else ∷ Repeat ∷ Trap ∷ End
@@ -25,6 +25,7 @@ keys =
 
 abbrev pub text_of : Key → List ℕ
 text_of Proc = codes "proc"
+text_of Op = codes "op"
 text_of Ptr = codes "ptr"
 text_of Int = codes "int"
 text_of Buf = codes "buf"
@@ -40,6 +41,11 @@ text_of Load = codes "load"
 text_of Set = codes "set"
 text_of Null = codes "null"
 text_of Add = codes "add"
+text_of Push = codes "push"
+text_of PushOp = codes "pushop"
+text_of Pop = codes "pop"
+text_of PopDestroy = codes "popdestroy"
+text_of PopCheck = codes "popcheck"
 text_of Leave = codes "leave"
 text_of LeaveIfError = codes "leaveiferror"
 text_of LeaveIfNull = codes "leaveifnull"
@@ -82,6 +88,7 @@ text_of End = codes "end"
 
 abbrev pub letters_of : Key → List Letter
 letters_of Proc = Declared ∷ []
+letters_of Op = Declared ∷ ItsPointer ∷ []
 letters_of Ptr = Declared ∷ []
 letters_of Int = Declared ∷ []
 letters_of Buf = Declared ∷ Size ∷ []
@@ -97,6 +104,11 @@ letters_of Load = Variable ∷ Pointer ∷ Value ∷ []
 letters_of Set = Target ∷ Source ∷ []
 letters_of Null = Pointer ∷ []
 letters_of Add = Variable ∷ Value ∷ []
+letters_of Push = Pointer ∷ []
+letters_of PushOp = Pointer ∷ Operation ∷ []
+letters_of Pop = Value ∷ []
+letters_of PopDestroy = Value ∷ []
+letters_of PopCheck = Pointer ∷ []
 letters_of Leave = Value ∷ []
 letters_of LeaveIfError = Value ∷ []
 letters_of LeaveIfNull = Pointer ∷ []
@@ -154,6 +166,7 @@ letters_for key count = letters_with (letters_of key) (rest_of key) count
 
 abbrev pub role_of : Key → Role
 role_of Proc = role.Procedure
+role_of Op = role.Procedure
 role_of Ptr = role.Declaration
 role_of Int = role.Declaration
 role_of Buf = role.Declaration
@@ -169,6 +182,11 @@ role_of Load = role.Plain
 role_of Set = role.Plain
 role_of Null = role.Plain
 role_of Add = role.Plain
+role_of Push = role.Plain
+role_of PushOp = role.Plain
+role_of Pop = role.Plain
+role_of PopDestroy = role.Plain
+role_of PopCheck = role.Plain
 role_of Leave = role.Plain
 role_of LeaveIfError = role.Plain
 role_of LeaveIfNull = role.Plain
@@ -223,7 +241,9 @@ word_kinds Readable = word.Name ∷ word.Literal ∷ []
 word_kinds ViewName = word.Name ∷ []
 word_kinds Printed = word.Number ∷ word.Name ∷ word.Literal ∷ []
 word_kinds Procedure = word.Name ∷ []
+word_kinds Operation = word.Name ∷ []
 word_kinds Parameter = word.Parameter ∷ []
+word_kinds ItsPointer = word.NewPointer ∷ []
 word_kinds Argument = word.Number ∷ word.Name ∷ []
 word_kinds (Keyword k) = word.Keyword k ∷ []
 
@@ -255,7 +275,9 @@ takes Printed sort.Buffer = true
 takes Printed sort.View = true
 takes Printed sort.Literal = true
 takes Procedure sort.Procedure = true
+takes Operation sort.Operation = true
 takes Parameter sort.Parameter = true
+takes ItsPointer sort.Parameter = true
 takes Argument sort.Number = true
 takes Argument sort.Variable = true
 takes Argument sort.Pointer = true

@@ -3,6 +3,8 @@ use Rattle.std.specs.Prelude.{List, [], ◌∷◌, Bool, true, false, not, ◌&&
 use Rattle.std.specs.List.{list_any}
 use Rattle.wb_model.specs.declared.script_lines.Key.{Key}
 use Rattle.wb_model.specs.declared.script_lines.Key.TheVariants as key
+use Rattle.wb_model.specs.declared.script_lines.ItemKind.{ItemKind}
+use Rattle.wb_model.specs.declared.script_lines.ItemKind.TheVariants as item
 use Rattle.wb_model.specs.declared.script_lines.Letter.{Letter}
 use Rattle.wb_model.specs.declared.script_lines.Letter.TheVariants as letter
 use Rattle.wb_model.specs.declared.script.Parameter as model
@@ -16,7 +18,7 @@ use Rattle.wb_model.specs.declared.script_lines.Form.TheVariants.{Line}
 use Rattle.wb_model.specs.declared.script_lines.Sort.{Sort}
 use Rattle.wb_model.specs.declared.script_lines.Sort.TheVariants as sort
 use Rattle.wb_model.specs.Keys.{letters_for, takes}
-use Rattle.wb_model.specs.Names.{Text, Known, Item, names_of, first_name, is_among, parameters_in, key_in}
+use Rattle.wb_model.specs.Names.{Text, Known, Item, first_name, is_among, parameters_in, key_in, kind_begun, signatures_among}
 use Rattle.wb_model.specs.Resolved.{resolved_line}
 
 abbrev pub sort_named : Meant → Sort
@@ -26,6 +28,7 @@ sort_named (meant.Number index) = sort.Variable
 sort_named (meant.Buffer index) = sort.Buffer
 sort_named (meant.View index) = sort.View
 sort_named (meant.Procedure index) = sort.Procedure
+sort_named (meant.Operation index) = sort.Operation
 sort_named _ = sort.Nothing
 
 abbrev pub sort_of : Operand Meant → Sort
@@ -68,19 +71,19 @@ are_given [] [] = true
 are_given (parameter ∷ parameters) (operand ∷ operands) = is_given parameter operand && are_given parameters operands
 are_given _ _ = false
 
-abbrev pub is_given_to : Option Item → List (Operand Meant) → Bool
-is_given_to (Some item) operands = are_given item.parameters operands
+abbrev pub is_given_to : Option (List model.Parameter) → List (Operand Meant) → Bool
+is_given_to (Some parameters) operands = are_given parameters operands
 is_given_to None operands = false
 
 -- a procedure, and then its arguments
-abbrev pub is_call : List Item → List (Operand Meant) → Bool
-is_call items (Name (meant.Procedure index) ∷ operands) = is_given_to (slice_get items index) operands
-is_call items _ = true
+abbrev pub call_agrees : List Item → List (Operand Meant) → Bool
+call_agrees items (Name (meant.Procedure index) ∷ operands) = is_given_to (slice_get (signatures_among item.Procedure items) index) operands
+call_agrees items _ = true
 
 -- A call gives what the procedure takes.
 abbrev pub arguments_agree : List Item → Key → List (Operand Meant) → Bool
-arguments_agree items key.Call operands = is_call items operands
-arguments_agree items key.CallTo (target ∷ operands) = is_call items operands
+arguments_agree items key.Call operands = call_agrees items operands
+arguments_agree items key.CallTo (target ∷ operands) = call_agrees items operands
 arguments_agree items _ _ = true
 
 abbrev pub is_right_line : List Item → Form Meant → Bool
@@ -91,7 +94,7 @@ abbrev pub is_nothing : {X : Type 0} → List X → Bool
 is_nothing [] = true
 is_nothing (x ∷ xs) = false
 
--- a line that gives `main` parameters
+-- a line that gives `main` parameters, or makes an operation of it, which has one
 abbrev pub gives_main_parameters : Form Text → Bool
 gives_main_parameters form = is_among (first_name form) (codes "main") && not (is_nothing (parameters_in form))
 
@@ -108,6 +111,56 @@ is_trap _ = false
 abbrev pub returns_in_trap : Known → Form Text → Bool
 returns_in_trap known form = list_any ends_body (key_in form) && list_any is_trap known.blocks
 
+abbrev pub is_procedure_kind : ItemKind → Bool
+is_procedure_kind item.Procedure = true
+is_procedure_kind _ = false
+
+abbrev pub returns_pointer : Key → Bool
+returns_pointer key.ReturnPointer = true
+returns_pointer _ = false
+
+-- a `return` with a pointer outside of a procedure
+abbrev pub returns_outside : Known → Form Text → Bool
+returns_outside known form = list_any returns_pointer (key_in form) && not (is_procedure_kind known.body)
+
 -- a line with an operand of another sort than it takes, or that has no place where it stands
 abbrev pub has_wrong_kind : List Item → Known → Form Text → Bool
-has_wrong_kind items known form = not (is_right_line items (resolved_line (names_of items) known form)) || (gives_main_parameters form || returns_in_trap known form)
+has_wrong_kind items known form =
+    not (is_right_line items (resolved_line items known form)) || (gives_main_parameters form || (returns_in_trap known form || returns_outside known form))
+
+-- what may stand in the body of an operation: nothing that can leave
+abbrev pub is_quiet : Key → Bool
+is_quiet key.Ptr = true
+is_quiet key.Int = true
+is_quiet key.Free = true
+is_quiet key.Set = true
+is_quiet key.Null = true
+is_quiet key.Add = true
+is_quiet key.AllocLen = true
+is_quiet key.Load = true
+is_quiet key.Store = true
+is_quiet key.IfNull = true
+is_quiet key.IfSome = true
+is_quiet key.IfEqual = true
+is_quiet key.IfLess = true
+is_quiet key.Else = true
+is_quiet key.Repeat = true
+is_quiet key.Print = true
+is_quiet key.Heap = true
+is_quiet key.Available = true
+is_quiet key.Compress = true
+is_quiet key.End = true
+is_quiet _ = false
+
+-- a line that begins a procedure or an operation is none of the body before it
+abbrev pub is_loud : Option ItemKind → Key → Bool
+is_loud (Some kind) key = false
+is_loud None key = not (is_quiet key)
+
+abbrev pub may_leave_in : ItemKind → Key → Bool
+may_leave_in item.Procedure key = false
+may_leave_in item.Operation key = is_loud (kind_begun key) key
+
+-- a line of an operation that may leave
+abbrev pub may_leave : Known → Form Text → Bool
+may_leave known form = list_any (may_leave_in known.body) (key_in form)

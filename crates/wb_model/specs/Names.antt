@@ -1,12 +1,14 @@
 -- The names of a script: which lines declare them, what stands declared at a line, and which lines declare a name again or
 -- pass a limit.
-use Rattle.std.specs.Prelude.{ℕ, ◌+◌, ◌-◌, List, [], ◌∷◌, ◌++◌, Option, Some, None, Bool, false, ◌||◌, is_some, nat_le, nat_lt, length, map, take}
+use Rattle.std.specs.Prelude.{ℕ, ◌+◌, ◌-◌, List, [], ◌∷◌, ◌++◌, Option, Some, None, Bool, true, false, ◌||◌, if◌then◌else◌, is_some, nat_le, nat_lt, length, map, take}
 use Rattle.std.specs.List.{list_any, flat_map}
 use Rattle.std.specs.Option.{option_map_or}
 use Rattle.std.specs.Str.{bytes_eq}
 use Rattle.wb_model.specs.declared.limits.TheConstants.{MOST_PROCEDURES, MOST_PARAMETERS, MOST_LOCALS, DEEPEST_BLOCK, LARGEST_BUFFER, LONGEST_NAME}
 use Rattle.wb_model.specs.declared.script_lines.Key.{Key}
 use Rattle.wb_model.specs.declared.script_lines.Key.TheVariants as key
+use Rattle.wb_model.specs.declared.script_lines.ItemKind.{ItemKind}
+use Rattle.wb_model.specs.declared.script_lines.ItemKind.TheVariants as item
 use Rattle.wb_model.specs.declared.script_lines.Kind.{Kind}
 use Rattle.wb_model.specs.declared.script_lines.Kind.TheVariants as kind
 use Rattle.wb_model.specs.declared.script_lines.Operand.{Operand}
@@ -56,25 +58,53 @@ abbrev pub parameters_in : {N : Type 0} → Form N → List model.Parameter
 parameters_in (Line key operands) = flat_map kind_passed operands
 parameters_in _ = []
 
--- something of the script's own space: a procedure
+-- something of the script's own space: a procedure or an operation
 pub record Item : Type 0 where
   pub name : Text
+  pub kind : ItemKind
   pub parameters : List model.Parameter
 
-abbrev pub item_of : Form Text → Text → Item
-item_of form name = record { name = name; parameters = parameters_in form }
+-- what a line of a key begins
+abbrev pub kind_begun : Key → Option ItemKind
+kind_begun key.Proc = Some item.Procedure
+kind_begun key.Op = Some item.Operation
+kind_begun _ = None
+
+abbrev pub item_begun : {N : Type 0} → Form N → Option ItemKind
+item_begun (Line key operands) = kind_begun key
+item_begun _ = None
+
+abbrev pub item_declared : Form Text → ItemKind → Text → Item
+item_declared form kind name = record { name = name; kind = kind; parameters = parameters_in form }
+
+abbrev pub items_of_kind : Form Text → Option ItemKind → List Item
+items_of_kind form (Some kind) = map (item_declared form kind) (first_name form)
+items_of_kind form None = []
 
 -- what a line declares in the script's own space
-abbrev pub items_by : Role → Form Text → List Item
-items_by Procedure form = map (item_of form) (first_name form)
-items_by _ form = []
+abbrev pub items_by : Form Text → List Item
+items_by form = items_of_kind form (item_begun form)
 
 -- the script's own space, from all its lines
 abbrev pub items_of : List (Form Text) → List Item
-items_of forms = flat_map (λ form. items_by (role_of_form form) form) forms
+items_of forms = flat_map items_by forms
 
 abbrev pub names_of : List Item → List Text
 names_of items = map (λ item. item.name) items
+
+abbrev pub is_same_kind : ItemKind → ItemKind → Bool
+is_same_kind item.Procedure item.Procedure = true
+is_same_kind item.Operation item.Operation = true
+is_same_kind _ _ = false
+
+-- the parameters of each one of a kind among items
+abbrev pub signatures_among : ItemKind → List Item → List (List model.Parameter)
+signatures_among kind [] = []
+signatures_among kind (i ∷ items) = if is_same_kind i.kind kind then (i.parameters ∷ signatures_among kind items) else signatures_among kind items
+
+-- how many of a kind stand among items
+abbrev pub count_among : ItemKind → List Item → ℕ
+count_among kind items = length (signatures_among kind items)
 
 -- the literals of a script, in order
 abbrev pub literals_of : List (Form Text) → List Text
@@ -108,17 +138,20 @@ abbrev pub key_in : {N : Type 0} → Form N → List Key
 key_in (Line key operands) = key ∷ []
 key_in _ = []
 
--- What stands before a line: how many items of the script's own space, how many literals, the locals of the body that is open
--- or was the last, its parameters first, each with what it holds; and the keys of the blocks that are open, the innermost last.
+-- What stands before a line: how many procedures and operations of the script's own space, how many literals; of what kind the
+-- body is that is open or was the last, its locals, its parameters first, each with what it holds; and the keys of the blocks
+-- that are open, the innermost last.
 pub record Known : Type 0 where
-  pub items : ℕ
+  pub procedures : ℕ
+  pub operations : ℕ
   pub literals : ℕ
+  pub body : ItemKind
   pub locals : List Text
   pub kinds : List Kind
   pub blocks : List Key
 
 abbrev pub nothing_known : Known
-nothing_known = record { items = 0; literals = 0; locals = []; kinds = []; blocks = [] }
+nothing_known = record { procedures = 0; operations = 0; literals = 0; body = item.Procedure; locals = []; kinds = []; blocks = [] }
 
 -- the names that a line declares in the space of a body: a procedure's parameters are the first of its own
 abbrev pub locals_by : Role → Form Text → List Text
@@ -144,10 +177,16 @@ blocks_after If form blocks = blocks ++ key_in form
 blocks_after End form blocks = without_last blocks
 blocks_after _ form blocks = blocks
 
+abbrev pub body_after : Option ItemKind → ItemKind → ItemKind
+body_after (Some kind) body = kind
+body_after None body = body
+
 abbrev pub known_with : Role → Form Text → Known → Known
 known_with role form known = record {
-  items = known.items + length (items_by role form);
+  procedures = known.procedures + count_among item.Procedure (items_by form);
+  operations = known.operations + count_among item.Operation (items_by form);
   literals = known.literals + length (literals_in form);
+  body = body_after (item_begun form) known.body;
   locals = locals_after role form known.locals;
   kinds = kinds_after role form known.kinds;
   blocks = blocks_after role form known.blocks;
@@ -161,9 +200,14 @@ known_after known form = known_with (role_of_form form) form known
 abbrev pub first_declaration_of : List Text → Text → Option ℕ
 first_declaration_of names name = first_where (λ n. bytes_eq n name) names
 
--- how many names of its space stand before one that a line declares
-abbrev pub names_before : Role → Known → ℕ
-names_before Procedure known = known.items
+-- how many procedures and operations stand before a line
+abbrev pub items_before : Known → ℕ
+items_before known = known.procedures + known.operations
+
+-- how many of its kind stand before what a line of a key declares
+abbrev pub names_before : Key → Known → ℕ
+names_before key.Proc known = known.procedures
+names_before key.Op known = known.operations
 names_before _ known = length known.locals
 
 -- a name is that of one of the first items of the script's own space
@@ -172,7 +216,7 @@ is_item_before items before name = option_map_or (λ index. nat_lt index before)
 
 -- a name that stands declared in the space of a line of this role
 abbrev pub stands_declared : List Text → Known → Role → Text → Bool
-stands_declared items known Procedure name = is_item_before items known.items name
+stands_declared items known Procedure name = is_item_before items (items_before known) name
 stands_declared items known Declaration name = is_some (first_declaration_of known.locals name)
 stands_declared items known _ name = false
 
@@ -190,7 +234,7 @@ declares_again items known form = list_any (stands_declared items known (role_of
 
 -- a declaration or a block where there are as many as there may be
 abbrev pub is_one_more : Role → Known → Bool
-is_one_more Procedure known = nat_le MOST_PROCEDURES known.items
+is_one_more Procedure known = nat_le MOST_PROCEDURES (items_before known)
 is_one_more Declaration known = nat_le MOST_LOCALS (length known.locals)
 is_one_more Loop known = nat_le DEEPEST_BLOCK (length known.blocks)
 is_one_more If known = nat_le DEEPEST_BLOCK (length known.blocks)

@@ -4,13 +4,15 @@ use Rattle.std.specs.Option.{option_map}
 use Rattle.wb_model.specs.declared.fault.ScriptFault.{ScriptFault}
 use Rattle.wb_model.specs.declared.fault.ScriptFault.TheVariants.{TooLong, NotAscii, Grammar, UnknownName, DoubleName, WrongKind, MayLeave, NoMain, TooMany, NoMemory}
 use Rattle.wb_model.specs.declared.script_lines.Form.{Form}
+use Rattle.wb_model.specs.declared.script_lines.Meant.{Meant}
+use Rattle.wb_model.specs.declared.script_lines.Meant.TheVariants as meant
 use Rattle.wb_model.specs.declared.script.Script.{Script}
 use Rattle.wb_model.specs.Forms.{forms_of, role_of_form}
 use Rattle.wb_model.specs.Grammar.{IsGrammatical}
-use Rattle.wb_model.specs.Kinds.{has_wrong_kind}
+use Rattle.wb_model.specs.Kinds.{has_wrong_kind, may_leave}
 use Rattle.wb_model.specs.Lines.{lines_of, first_foreign_line, is_too_long}
-use Rattle.wb_model.specs.Names.{Text, first_refused, declares_again, passes_limit, items_of, names_of, literals_of, first_declaration_of}
-use Rattle.wb_model.specs.Resolved.{resolved, uses_unknown}
+use Rattle.wb_model.specs.Names.{Text, first_refused, declares_again, passes_limit, items_of, names_of, literals_of}
+use Rattle.wb_model.specs.Resolved.{resolved, item_meant, uses_unknown}
 use Rattle.wb_model.specs.Trees.{counted_from, script_lines}
 
 -- the lines are those of a script, whatever their names
@@ -30,9 +32,13 @@ pub record IsGrammarLine (lines : List Text) (n : ℕ) : Type 0 where
   pub here : n ≤ length lines → AreFirstLines (take n lines) → ⊥
   pub unfinished : n ≡ length lines + 1 → AreLines lines → ⊥
 
+abbrev pub procedure_meant : Meant → Option ℕ
+procedure_meant (meant.Procedure index) = Some index
+procedure_meant _ = None
+
 -- the index of `main` among the procedures
 abbrev pub main_of : List (Form Text) → Option ℕ
-main_of forms = first_declaration_of (names_of (items_of forms)) (codes "main")
+main_of forms = procedure_meant (item_meant (items_of forms) (codes "main"))
 
 -- not too long, and of lines alone
 pub record IsPlainText (bytes : List ℕ) : Type 0 where
@@ -46,7 +52,7 @@ pub record IsWellFormed (bytes : List ℕ) : Type 0 where
 
 -- the first line of each kind of fault, by the script's own space
 abbrev pub first_unknown : List (Form Text) → Option ℕ
-first_unknown forms = first_refused (uses_unknown (names_of (items_of forms))) forms
+first_unknown forms = first_refused (uses_unknown (items_of forms)) forms
 
 abbrev pub first_double : List (Form Text) → Option ℕ
 first_double forms = first_refused (declares_again (names_of (items_of forms))) forms
@@ -54,11 +60,15 @@ first_double forms = first_refused (declares_again (names_of (items_of forms))) 
 abbrev pub first_wrong : List (Form Text) → Option ℕ
 first_wrong forms = first_refused (has_wrong_kind (items_of forms)) forms
 
--- the names of lines are declared, each once, and their operands are of the right kinds
+abbrev pub first_leaving : List (Form Text) → Option ℕ
+first_leaving forms = first_refused may_leave forms
+
+-- the names of lines are declared, each once, their operands are of the right kinds, and no line of an operation may leave
 pub record IsNamed (forms : List (Form Text)) : Type 0 where
   pub known : first_unknown forms ≡ None
   pub once : first_double forms ≡ None
   pub right : first_wrong forms ≡ None
+  pub quiet : first_leaving forms ≡ None
 
 -- The tree that lines without a fault in their names, kinds and limits have. Its items and its statements have the numbers of
 -- their lines.
@@ -67,7 +77,6 @@ pub record IsTreeOf (forms : List (Form Text)) (script : Script) : Type 0 where
   pub main : main_of forms ≡ Some script.main
   pub within : first_refused passes_limit forms ≡ None
   pub classes : script.classes ≡ []
-  pub operations : script.operations ≡ []
   pub literals : script.literals ≡ literals_of forms
   pub tree : script_lines script ≡ counted_from 1 (resolved forms)
 
@@ -77,23 +86,23 @@ pub record IsScriptOf (bytes : List ℕ) (script : Script) : Type 0 where
   pub tree : IsTreeOf (forms_of (lines_of bytes)) script
 
 -- the number of the first line that a test refuses, from 1
-abbrev pub line_of : Option ℕ → Option ℕ
-line_of index = option_map suc index
+abbrev pub number_of_line : Option ℕ → Option ℕ
+number_of_line index = option_map suc index
 
 -- the first fault of lines that are grammatical
 abbrev pub IsLinesFault : List (Form Text) → ScriptFault → Type 0
-IsLinesFault forms (UnknownName n) = line_of (first_unknown forms) ≡ Some n
-IsLinesFault forms (DoubleName n) = (first_unknown forms ≡ None) × (line_of (first_double forms) ≡ Some n)
-IsLinesFault forms (WrongKind n) = (first_unknown forms ≡ None) × (first_double forms ≡ None) × (line_of (first_wrong forms) ≡ Some n)
+IsLinesFault forms (UnknownName n) = number_of_line (first_unknown forms) ≡ Some n
+IsLinesFault forms (DoubleName n) = (first_unknown forms ≡ None) × (number_of_line (first_double forms) ≡ Some n)
+IsLinesFault forms (WrongKind n) = (first_unknown forms ≡ None) × (first_double forms ≡ None) × (number_of_line (first_wrong forms) ≡ Some n)
+IsLinesFault forms (MayLeave n) = (first_unknown forms ≡ None) × (first_double forms ≡ None) × (first_wrong forms ≡ None) × (number_of_line (first_leaving forms) ≡ Some n)
 IsLinesFault forms NoMain = IsNamed forms × (main_of forms ≡ None)
-IsLinesFault forms (TooMany n) = IsNamed forms × (main_of forms ≡ None → ⊥) × (line_of (first_refused passes_limit forms) ≡ Some n)
+IsLinesFault forms (TooMany n) = IsNamed forms × (main_of forms ≡ None → ⊥) × (number_of_line (first_refused passes_limit forms) ≡ Some n)
 IsLinesFault forms _ = ⊥
 
--- The first fault of bytes, with its line. No body that may not leave is read, so `MayLeave` is a fault of no bytes.
+-- the first fault of bytes, with its line
 abbrev pub IsFaultOf : List ℕ → ScriptFault → Type 0
 IsFaultOf bytes TooLong = is_too_long bytes ≡ true
 IsFaultOf bytes (NotAscii n) = (is_too_long bytes ≡ false) × (first_foreign_line bytes ≡ Some n)
 IsFaultOf bytes (Grammar n) = IsPlainText bytes × IsGrammarLine (lines_of bytes) n
-IsFaultOf bytes (MayLeave n) = ⊥
 IsFaultOf bytes NoMemory = ⊥
 IsFaultOf bytes fault = IsWellFormed bytes × IsLinesFault (forms_of (lines_of bytes)) fault

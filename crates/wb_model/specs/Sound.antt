@@ -1,10 +1,11 @@
 -- Which trees are scripts: those that keep the checks and the limits of the lines that the reader knows. Whoever runs a
 -- script asks for such a tree, and the reader gives no other.
-use Rattle.std.specs.Prelude.{ℕ, zero, suc, pos, negsuc, List, Bool, true, false, not, ◌&&◌, nat_eq, nat_le, nat_lt, Option, Some, None, [], ◌∷◌, ◌++◌, length, map, slice_get}
+use Rattle.std.specs.Prelude.{ℕ, zero, suc, ◌+◌, pos, negsuc, List, Bool, true, false, not, ◌&&◌, nat_eq, nat_le, nat_lt, Option, Some, None, [], ◌∷◌, ◌++◌, length, map, slice_get}
 use Rattle.std.specs.List.{list_all}
 use Rattle.wb_model.specs.declared.limits.TheConstants.{LONGEST_LITERAL, LARGEST_BUFFER, NINE_DIGITS, MOST_LOCALS, MOST_PROCEDURES, DEEPEST_BLOCK, MOST_PARAMETERS}
 use Rattle.wb_model.specs.declared.script.Script.{Script}
 use Rattle.wb_model.specs.declared.script.Procedure.{Procedure}
+use Rattle.wb_model.specs.declared.script.Operation.{Operation}
 use Rattle.wb_model.specs.declared.script.Parameter.{Parameter}
 use Rattle.wb_model.specs.declared.script.Parameter.TheVariants as parameter
 use Rattle.wb_model.specs.declared.script.Argument.{Argument}
@@ -98,6 +99,10 @@ is_statement literals locals (Statement-F.Set p q) = is_pointer locals p && is_p
 is_statement literals locals (Statement-F.SetNumber x v) = is_variable locals x && is_number locals v
 is_statement literals locals (Statement-F.SetNull p) = is_pointer locals p
 is_statement literals locals (Statement-F.Add x v) = is_variable locals x && is_number locals v
+is_statement literals locals (Statement-F.Push p) = is_pointer locals p
+is_statement literals locals (Statement-F.Pop v) = is_number locals v
+is_statement literals locals (Statement-F.PopDestroy v) = is_number locals v
+is_statement literals locals (Statement-F.PopCheck p) = is_pointer locals p
 is_statement literals locals (Statement-F.Leave v) = is_number locals v
 is_statement literals locals (Statement-F.LeaveIfError v) = is_number locals v
 is_statement literals locals (Statement-F.LeaveIfNull p) = is_pointer locals p
@@ -133,10 +138,12 @@ is_simple literals locals trapped Statement-F.Return = not trapped
 is_simple literals locals trapped (Statement-F.ReturnPointer p) = not trapped && is_pointer locals p
 is_simple literals locals trapped layer = is_statement literals locals layer
 
--- what a script declares that all its statements may name: how many literals, and the parameters of each procedure
+-- what a script declares that all its statements may name: how many literals, the parameters of each procedure, and how many
+-- operations
 pub record Declared : Type 0 where
   pub literals : ℕ
   pub signatures : List (List Parameter)
+  pub operations : ℕ
 
 -- a parameter gets an argument of its own kind
 abbrev pub is_passed : List Local → Parameter → Argument → Bool
@@ -162,6 +169,7 @@ is_call signatures locals index arguments = is_called locals (slice_get signatur
 abbrev pub is_nested : Declared → List Local → Bool → (Bool → List Numbered → Bool) → Statement-F Statement Numbered → Bool
 is_nested declared locals trapped inside (Statement-F.Call n arguments) = is_call declared.signatures locals n arguments
 is_nested declared locals trapped inside (Statement-F.CallTo x n arguments) = is_pointer_local (slice_get locals x) && is_call declared.signatures locals n arguments
+is_nested declared locals trapped inside (Statement-F.PushOperation p n) = is_pointer locals p && nat_lt n declared.operations
 is_nested declared locals trapped inside (Statement-F.If c first) = is_condition locals c && inside trapped first
 is_nested declared locals trapped inside (Statement-F.IfElse c first other) = is_condition locals c && (inside trapped first && inside trapped other)
 is_nested declared locals trapped inside (Statement-F.Repeat v body) = is_number locals v && inside trapped body
@@ -201,6 +209,14 @@ is_procedure declared p =
     list_all is_parameter p.parameters && nat_le (length p.parameters) MOST_PARAMETERS
     && is_body declared (locals_of p.parameters p.body.locals) p.body.statements
 
+-- the one parameter of an operation, a pointer without a class
+abbrev pub its_parameters : List Parameter
+its_parameters = parameter.OfPointer None ∷ []
+
+-- an operation
+abbrev pub is_operation : Declared → Operation → Bool
+is_operation declared o = is_body declared (locals_of its_parameters o.body.locals) o.body.statements
+
 -- what may stand between quotes
 abbrev pub is_quotable : ℕ → Bool
 is_quotable byte = nat_le 32 byte && nat_le byte 126 && not (nat_eq byte 34)
@@ -213,7 +229,7 @@ abbrev pub signatures_of : List Procedure → List (List Parameter)
 signatures_of procedures = map (λ p. p.parameters) procedures
 
 abbrev pub declared_in : Script → Declared
-declared_in script = record { literals = length script.literals; signatures = signatures_of script.procedures }
+declared_in script = record { literals = length script.literals; signatures = signatures_of script.procedures; operations = length script.operations }
 
 -- a procedure that takes nothing
 abbrev pub is_entry : Option (List Parameter) → Bool
@@ -222,6 +238,6 @@ is_entry _ = false
 
 abbrev pub is_script : Script → Bool
 is_script script =
-    nat_eq (length script.classes) 0 && nat_eq (length script.operations) 0
-    && (nat_le (length script.procedures) MOST_PROCEDURES && is_entry (slice_get (signatures_of script.procedures) script.main))
-    && (list_all (is_procedure (declared_in script)) script.procedures && list_all is_literal_text script.literals)
+    nat_eq (length script.classes) 0
+    && (nat_le (length script.procedures + length script.operations) MOST_PROCEDURES && is_entry (slice_get (signatures_of script.procedures) script.main))
+    && (list_all (is_procedure (declared_in script)) script.procedures && (list_all (is_operation (declared_in script)) script.operations && list_all is_literal_text script.literals))

@@ -26,7 +26,7 @@ use Rattle.wb_model.specs.declared.script.Statement.{Statement}
 use Rattle.wb_model.specs.declared.script.Statement.TheOpen.{Statement-F}
 use Rattle.wb_model.specs.Row.{Cell, headers, cell_at, without, changed, usable_of, top_of, total_length}
 use Rattle.wb_model.specs.Rules.{never, next, each}
-use Rattle.wb_model.specs.Heap.{after_mark, after_mark_end, mark_end_refusal, checked, cells_of_level, cells_of_all_levels}
+use Rattle.wb_model.specs.Heap.{is_cleanup, after_mark, after_mark_end, mark_end_refusal, checked, cells_of_level, cells_of_all_levels}
 use Rattle.wb_model.specs.Texts.{at_most, insert_text, delete_text, set_length_text, left_part, right_part, mid_part}
 use Rattle.wb_model.specs.State.{Content, words, fields, units, Value, pointer, number, initial, State, Way, goes_on, returns, leaves, panics, heap_note, available_note, compress_note, Process, ends, stops, notes, and_then, then_do, require, with_some, unless, set_heap, set_local, local_of, number_in, null}
 use Rattle.wb_model.specs.Operands.{number_of, within, not_negative, with_cell, with_pointer, set_pointer, set_row, raw_words_of, units_of}
@@ -81,9 +81,14 @@ unfoldable pub released : Option (Cell Content) → Ptr → State → Process
 released None p st = panic_with BAD_CELL st
 released (Some c) p st = done (set_row st (without p st.heap.row))
 
+-- a cell that can be released: any but the cleanup stack's own, which no pointer of a script names
+abbrev pub of_script : Option (Cell Content) → Option (Cell Content)
+of_script None = None
+of_script (Some c) = if is_cleanup c.head.kind then None else Some c
+
 -- `free`, and the end of an object's destruction
 unfoldable pub release : Ptr → State → Process
-release p st = elim (is_null p) [ true ↦ done st | false ↦ released (cell_at p st.heap.row) p st ]
+release p st = elim (is_null p) [ true ↦ done st | false ↦ released (of_script (cell_at p st.heap.row)) p st ]
 
 abbrev pub is_raw : Kind → Bool
 is_raw Raw = true

@@ -1,5 +1,5 @@
 -- The lines of a script's tree, with what their names and literals stand for, and with their numbers where the tree keeps them.
-use Rattle.std.specs.Prelude.{ℕ, suc, List, [], ◌∷◌, ◌++◌, Option, Some, None, length, map}
+use Rattle.std.specs.Prelude.{ℕ, suc, List, [], ◌∷◌, ◌++◌, Option, Some, None, length, map, fold, nat_lt, if◌then◌else◌}
 use Rattle.std.specs.List.{flat_map}
 use Rattle.wb_model.specs.declared.script_lines.Key.TheVariants as key
 use Rattle.wb_model.specs.declared.script_lines.Key.{Key}
@@ -15,6 +15,7 @@ use Rattle.wb_model.specs.declared.script_lines.Role.TheVariants as role
 use Rattle.wb_model.specs.declared.script.Script.{Script}
 use Rattle.wb_model.specs.declared.script.Body.{Body}
 use Rattle.wb_model.specs.declared.script.Procedure.{Procedure}
+use Rattle.wb_model.specs.declared.script.Operation.{Operation}
 use Rattle.wb_model.specs.declared.script.Parameter.{Parameter}
 use Rattle.wb_model.specs.declared.script.Parameter.TheVariants as parameter
 use Rattle.wb_model.specs.declared.script.Argument.{Argument}
@@ -38,6 +39,7 @@ use Rattle.wb_model.specs.declared.script.Statement.{Statement}
 use Rattle.wb_model.specs.declared.script.Statement.TheOpen.{Statement-F, Numbered-F}
 use Rattle.wb_model.specs.declared.script.Statement.TheFolds.{fold-Statement}
 use Rattle.wb_model.specs.Forms.{role_of_form}
+use Rattle.wb_model.specs.Sound.{its_parameters}
 
 abbrev pub Indexed : Type 0
 Indexed = Form Meant
@@ -99,6 +101,9 @@ text_operand (Quoted i) = Some (Literal (meant.Literal i))
 abbrev pub procedure_operand : ℕ → Spelled
 procedure_operand i = Some (Name (meant.Procedure i))
 
+abbrev pub operation_operand : ℕ → Spelled
+operation_operand i = Some (Name (meant.Operation i))
+
 abbrev pub parameter_operand : Parameter → Spelled
 parameter_operand (parameter.OfPointer None) = Some (spelled.Parameter meant.Parameter (parameter.OfPointer None))
 parameter_operand (parameter.OfPointer (Some class)) = None
@@ -147,6 +152,11 @@ statement_line (Statement-F.Set p q) = line key.Set (pointer_operand p ∷ point
 statement_line (Statement-F.SetNumber x v) = line key.Set (variable_operand x ∷ number_operand v ∷ [])
 statement_line (Statement-F.SetNull p) = line key.Null (pointer_operand p ∷ [])
 statement_line (Statement-F.Add x v) = line key.Add (variable_operand x ∷ number_operand v ∷ [])
+statement_line (Statement-F.Push p) = line key.Push (pointer_operand p ∷ [])
+statement_line (Statement-F.PushOperation p n) = line key.PushOp (pointer_operand p ∷ operation_operand n ∷ [])
+statement_line (Statement-F.Pop v) = line key.Pop (number_operand v ∷ [])
+statement_line (Statement-F.PopDestroy v) = line key.PopDestroy (number_operand v ∷ [])
+statement_line (Statement-F.PopCheck p) = line key.PopCheck (pointer_operand p ∷ [])
 statement_line Statement-F.Mark = line key.Mark []
 statement_line (Statement-F.MarkEnd v) = line key.MarkEnd (number_operand v ∷ [])
 statement_line (Statement-F.Check v) = line key.Check (number_operand v ∷ [])
@@ -191,16 +201,16 @@ end_line = (None, Line key.End [])
 abbrev pub else_line : Marked
 else_line = (None, Line key.Else [])
 
-abbrev pub joined : {X : Type 0} → List (List X) → List X
-joined [] = []
-joined (part ∷ parts) = part ++ joined parts
+abbrev pub lines_joined : {X : Type 0} → List (List X) → List X
+lines_joined [] = []
+lines_joined (part ∷ parts) = part ++ lines_joined parts
 
 -- the lines behind the first of a block, with its end; a statement that is no block has none
 abbrev pub lines_inside : {A : Type 0} → Statement-F A (List Marked) → List Marked
-lines_inside (Statement-F.If c first) = joined first ++ end_line ∷ []
-lines_inside (Statement-F.IfElse c first other) = joined first ++ else_line ∷ (joined other ++ end_line ∷ [])
-lines_inside (Statement-F.Repeat v body) = joined body ++ end_line ∷ []
-lines_inside (Statement-F.Trap x body) = joined body ++ end_line ∷ []
+lines_inside (Statement-F.If c first) = lines_joined first ++ end_line ∷ []
+lines_inside (Statement-F.IfElse c first other) = lines_joined first ++ else_line ∷ (lines_joined other ++ end_line ∷ [])
+lines_inside (Statement-F.Repeat v body) = lines_joined body ++ end_line ∷ []
+lines_inside (Statement-F.Trap x body) = lines_joined body ++ end_line ∷ []
 lines_inside _ = []
 
 -- the lines of a statement with this number, with those of each statement inside it in their places
@@ -244,10 +254,39 @@ procedure_head index p = (Some p.line, head_line index p.parameters)
 abbrev pub procedure_lines : ℕ → Procedure → List Marked
 procedure_lines index p = procedure_head index p ∷ (body_lines (length p.parameters) p.body ++ end_line ∷ [])
 
--- the procedures, from an index on
-abbrev pub procedures_lines : ℕ → List Procedure → List Marked
-procedures_lines index [] = []
-procedures_lines index (p ∷ ps) = procedure_lines index p ++ procedures_lines (suc index) ps
+abbrev pub operation_head : ℕ → Operation → Marked
+operation_head index o = (Some o.line, line key.Op (Some (Name (meant.Declared index)) ∷ map parameter_operand its_parameters))
+
+abbrev pub operation_lines : ℕ → Operation → List Marked
+operation_lines index o = operation_head index o ∷ (body_lines (length its_parameters) o.body ++ end_line ∷ [])
+
+-- the lines of an item, with the number of the first of them
+pub record Lines : Type 0 where
+  pub number : ℕ
+  pub lines : List Marked
+
+abbrev pub lines_of_procedure : ℕ → Procedure → Lines
+lines_of_procedure index p = record { number = p.line; lines = procedure_lines index p }
+
+abbrev pub lines_of_operation : ℕ → Operation → Lines
+lines_of_operation index o = record { number = o.line; lines = operation_lines index o }
+
+-- each item of a kind by its index
+abbrev pub each_from : {A : Type 0} → (ℕ → A → Lines) → ℕ → List A → List Lines
+each_from lines index [] = []
+each_from lines index (item ∷ items) = lines index item ∷ each_from lines (suc index) items
+
+-- the lines of an item among those of others, by their numbers
+abbrev pub in_place : Lines → List Lines → List Lines
+in_place item [] = item ∷ []
+in_place item (other ∷ others) = if nat_lt other.number item.number then (other ∷ in_place item others) else (item ∷ other ∷ others)
+
+-- the items of two kinds in the order of their lines
+abbrev pub in_order : List Lines → List Lines → List Lines
+in_order items others = fold (λ found item. in_place item found) others items
+
+abbrev pub all_lines : List Lines → List Marked
+all_lines items = flat_map (λ item. item.lines) items
 
 abbrev pub script_lines : Script → List Marked
-script_lines script = procedures_lines 0 script.procedures
+script_lines script = all_lines (in_order (each_from lines_of_procedure 0 script.procedures) (each_from lines_of_operation 0 script.operations))

@@ -1,5 +1,5 @@
 -- What an unknown name is, said of the lines of a script: a line uses a name that no line of its body declares before it, or the
--- name of a procedure that no line of the script declares. By the grammar no declaration stands behind a line that uses a name,
+-- name of a procedure or an operation that no line of the script declares. By the grammar no declaration stands behind a line that uses a name,
 -- so these are all that the body declares.
 use Rattle.std.specs.Prelude.{◌≡◌, ◌⊎◌, ℕ, suc, ◌<◌, List, [], ◌∷◌, ◌++◌, Bool, true, false, length}
 use Rattle.std.specs.List.{list_all}
@@ -19,12 +19,14 @@ use Rattle.wb_model.specs.Names.{Text, is_among, items_of, names_of, locals_by}
 abbrev pub local_used : Letter → Operand Text → List Text
 local_used letter.Declared operand = []
 local_used letter.Procedure operand = []
+local_used letter.Operation operand = []
 local_used _ (Name name) = name ∷ []
 local_used _ operand = []
 
 -- a name that is looked up in the script's own space
 abbrev pub item_used : Letter → Operand Text → List Text
 item_used letter.Procedure (Name name) = name ∷ []
+item_used letter.Operation (Name name) = name ∷ []
 item_used _ operand = []
 
 -- the names that operands use, by what one uses

@@ -8,6 +8,7 @@ use crate::script::Parameter;
 #[derive(Clone, Copy)]
 pub enum Key {
     Proc,
+    Op,
     Ptr,
     Int,
     Buf,
@@ -23,6 +24,11 @@ pub enum Key {
     Set,
     Null,
     Add,
+    Push,
+    PushOp,
+    Pop,
+    PopDestroy,
+    PopCheck,
     Leave,
     LeaveIfError,
     LeaveIfNull,
@@ -92,8 +98,12 @@ pub enum Letter {
     Printed,
     /// The name of a procedure.
     Procedure,
+    /// The name of an operation.
+    Operation,
     /// A parameter that the line declares, with its kind.
     Parameter,
+    /// The name of the one parameter of an operation, a pointer.
+    ItsPointer,
     /// What a call gives: a number, or the name of a pointer or of a local that holds a number.
     Argument,
     /// A word of the line's own.
@@ -107,6 +117,13 @@ pub enum Keyword {
     Some,
     Equal,
     Less,
+}
+
+/// What something of the script's own space is, and so its body.
+#[derive(Clone, Copy)]
+pub enum ItemKind {
+    Procedure,
+    Operation,
 }
 
 /// What a word is to the grammar.
@@ -123,6 +140,8 @@ pub enum WordKind {
     Literal,
     /// A name that can be declared, a colon, and a kind.
     Parameter,
+    /// A name that can be declared, of a parameter that is a pointer.
+    NewPointer,
     Keyword(Keyword),
 }
 
@@ -151,11 +170,11 @@ pub enum Operand<N> {
     Keyword,
 }
 
-/// What a name or a literal stands for. Locals count from 0 in their body, procedures and literals in the
+/// What a name or a literal stands for. Locals count from 0 in their body, procedures, operations and literals in the
 /// script.
 #[derive(Clone, Copy)]
 pub enum Meant {
-    /// The next one of the procedures, or of the locals of the body: the line declares it.
+    /// The next one of the procedures, of the operations, or of the locals of the body: the line declares it.
     Declared(usize),
     /// A local that holds a pointer.
     Pointer(usize),
@@ -167,7 +186,8 @@ pub enum Meant {
     View(usize),
     Literal(usize),
     Procedure(usize),
-    /// The next parameter of the procedure that the line begins: the order of the words tells which.
+    Operation(usize),
+    /// The next parameter of what the line begins: the order of the words tells which.
     Parameter,
     /// Nothing: the name is declared nowhere.
     Nothing,
@@ -189,6 +209,7 @@ pub enum Sort {
     Size,
     Literal,
     Procedure,
+    Operation,
     Parameter,
     Keyword,
     /// A name that is declared nowhere.

@@ -39,7 +39,7 @@ const CALLS_NOTHING: &[u8] = b"proc none\nend\nproc main\ncall none\nend\n";
 const TWO_TURNS: &[u8] = b"proc main\nrepeat 2\nend\nend\n";
 
 /// How a run without failures ends under some budget, with how many steps and attempts.
-type Unlimited = (&'static [u8], u32, End, u32, usize);
+pub(crate) type Unlimited = (&'static [u8], u32, End, u32, usize);
 
 static FRAMES: [Unlimited; 6] = [
     (
@@ -85,7 +85,7 @@ static BUDGETS: [Unlimited; 9] = [
 ];
 
 /// The index of the first run that ends otherwise.
-fn first_other(alloc: Global, runs: &[Unlimited]) -> Result<Option<usize>, Fail> {
+pub(crate) fn first_other(alloc: Global, runs: &[Unlimited]) -> Result<Option<usize>, Fail> {
     for (index, (script, budget, end, steps, attempts)) in runs.iter().enumerate() {
         let worked = WorkedRun {
             script: *script,
@@ -114,7 +114,7 @@ const RETRIES: &[u8] =
     b"proc make\nptr a\nallocl a 16\nfree a\nend\nproc main\nint c\nrepeat 3\ntrap c\ncall make\nend\nif less c 0\ntrap c\ncall make\nend\nleaveiferror c\nend\nend\nend\n";
 
 /// How a run ends whose attempt with this number fails, with how many steps and attempts.
-type Failing = (u32, End, u32, usize);
+pub(crate) type Failing = (u32, End, u32, usize);
 
 static RETRIES_FAIL: [Failing; 7] = [
     (0, End::Plainly(0), 19, 4),
@@ -133,7 +133,11 @@ static BLOCKS_FAIL: [Failing; 3] = [
 ];
 
 /// Whether the runs of a script end as they must, each with another attempt that fails.
-fn fail_so(alloc: Global, script: &'static [u8], runs: &[Failing]) -> Result<bool, Fail> {
+pub(crate) fn fail_so(
+    alloc: Global,
+    script: &'static [u8],
+    runs: &[Failing],
+) -> Result<bool, Fail> {
     for (number, end, steps, attempts) in runs {
         let worked = WorkedRun {
             script,

@@ -4,6 +4,10 @@
 #![tactic(auto)]
 
 #[cfg(test)]
+mod cleanup_lines;
+#[cfg(test)]
+mod cleanup_runs;
+#[cfg(test)]
 mod control_faults;
 #[cfg(test)]
 mod control_lines;
@@ -15,6 +19,8 @@ mod faults;
 mod limits;
 #[cfg(test)]
 mod lines;
+#[cfg(test)]
+mod operation_faults;
 #[cfg(test)]
 mod refused;
 #[cfg(test)]

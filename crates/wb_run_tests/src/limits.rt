@@ -17,7 +17,7 @@ enum Part {
 }
 
 /// The parts of a script, and its first fault, where it has one.
-static LONG_SCRIPTS: [(&[Part], Option<ScriptFault>); 10] = [
+static LONG_SCRIPTS: [(&[Part], Option<ScriptFault>); 12] = [
     (&[Part::Times(65_536, b"\n")], Some(NoMain)),
     (&[Part::Times(65_537, b"\x80")], Some(TooLong)),
     (
@@ -31,6 +31,23 @@ static LONG_SCRIPTS: [(&[Part], Option<ScriptFault>); 10] = [
         &[
             Part::Numbered(255, b"proc ", b"\nend\n"),
             Part::Text(b"proc main\nend\nproc another\nend\n"),
+        ],
+        Some(TooMany { line: 513 }),
+    ),
+    // Procedures and operations count together.
+    (
+        &[
+            Part::Numbered(128, b"op a", b" p\nend\n"),
+            Part::Numbered(127, b"proc b", b"\nend\n"),
+            Part::Text(b"proc main\nend\n"),
+        ],
+        None,
+    ),
+    (
+        &[
+            Part::Numbered(128, b"proc a", b"\nend\n"),
+            Part::Text(b"proc main\nend\n"),
+            Part::Numbered(128, b"op b", b" p\nend\n"),
         ],
         Some(TooMany { line: 513 }),
     ),

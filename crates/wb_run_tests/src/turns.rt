@@ -40,7 +40,7 @@ fn turns_of_a_machine(rt: HostRuntime) -> Result<(), Fail> {
 }
 
 /// A script, a rule and a budget.
-type Setting = (&'static [u8], Rule, u32);
+pub(crate) type Setting = (&'static [u8], Rule, u32);
 
 /// Runs whose attempts lie in calls, turns and TRAPs, or aren't made where a statement is refused before.
 static SETTINGS: [Setting; 12] = [
@@ -91,7 +91,7 @@ static SETTINGS: [Setting; 12] = [
 
 /// Whether a machine tells exactly before those turns that make an attempt that they do, and of none that follows the
 /// end of the run.
-fn tells_attempts(alloc: Global, setting: &Setting) -> Result<bool, Fail> {
+pub(crate) fn tells_attempts(alloc: Global, setting: &Setting) -> Result<bool, Fail> {
     let (script, rule, budget) = *setting;
     let script = read(alloc, script)?;
     if budget == 0 || budget > 1_000_000 {

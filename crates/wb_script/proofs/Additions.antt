@@ -1,14 +1,13 @@
--- One more line of an open procedure.
+-- One more line of an open body.
 use Rattle.std.proofs.Common.{◌≡◌, refl, sym, ap, subst, ◌∙◌, ℕ, suc, ◌+◌, ◌<◌, ◌≤◌, nat_le, nat_lt, ◌==◌, List, [], ◌∷◌, ◌++◌, length, map, Some, None, Bool, true, false, ◌&&◌, IsTrue, append_assoc, append-nil, add-zero, length-append, arith}
 use Rattle.std.proofs.lemmas.List.{length-map}
 use Rattle.std.specs.List.{list_all, list_any}
 use Rattle.std.proofs.lemmas.List.Folds.{list_all-append}
 use Rattle.std.proofs.lemmas.Bool.Decides.{nat_tests}
-use Rattle.wb_model.specs.declared.limits.TheConstants.{MOST_LOCALS, MOST_PARAMETERS, DEEPEST_BLOCK}
+use Rattle.wb_model.specs.declared.limits.TheConstants.{MOST_LOCALS, DEEPEST_BLOCK}
 use Rattle.wb_model.specs.declared.script.Condition.TheVariants.{IsNull, NotNull, Equal, Less}
 use Rattle.wb_model.specs.declared.script.Local.{Local}
 use Rattle.wb_model.specs.declared.script.Numbered.{Numbered}
-use Rattle.wb_model.specs.declared.script.Parameter.{Parameter}
 use Rattle.wb_model.specs.declared.script.Statement.{Statement}
 use Rattle.wb_model.specs.declared.script.Statement.TheViews.{out-Statement}
 use Rattle.wb_model.specs.declared.script_lines.Key.{Key}
@@ -20,18 +19,19 @@ use Rattle.wb_model.specs.declared.script_lines.Role.{Role}
 use Rattle.wb_model.specs.declared.script_lines.Role.TheVariants as role
 use Rattle.wb_model.specs.Keys.{role_of}
 use Rattle.wb_model.specs.Kinds.{is_trap}
-use Rattle.wb_model.specs.Names.{with_one, without_last}
-use Rattle.wb_model.specs.Sound.{Declared, is_local, is_parameter, is_nested, are_statements, local_of_parameter}
-use Rattle.wb_model.specs.Trees.{Marked, number_kept, local_line, local_lines, statement_lines, else_line, end_line}
+use Rattle.wb_model.specs.Names.{with_one, without_last, blocks_after, kind_begun}
+use Rattle.wb_model.specs.Sound.{Declared, is_body, is_local, is_nested, are_statements, local_of_parameter}
+use Rattle.wb_model.specs.Trees.{Indexed, Marked, number_kept, local_line, local_lines, statement_lines, else_line, end_line}
 use Rattle.wb_script.specs.declared.checks.nesting.Open.{Open}
 use Rattle.wb_script.specs.declared.checks.nesting.Open.TheVariants.{Branch, Block}
 use Rattle.wb_script.specs.declared.tree.blocks.Head.{Head}
 use Rattle.wb_script.specs.declared.tree.blocks.Head.TheVariants as head
 use Rattle.wb_script.specs.declared.tree.blocks.Nest.{Nest}
 use Rattle.wb_script.specs.declared.tree.blocks.OpenBlock.{OpenBlock}
-use Rattle.wb_script.specs.declared.tree.procedures.OpenProcedure.{OpenProcedure}
-use Rattle.wb_script.specs.declared.tree.procedures.Left.TheVariants.{Inside, Done}
-use Rattle.wb_script.specs.Building.{fits, is_due, declares, begins, begins_block, Adds, AreOpen, BecomesElse, ClosesBlock, Counts, IsSoundOpen, TakesLocal, is_head, head_key, head_form, first_part, nest_lines, nest_places, place_in_block, keys_of_blocks, inside_lines, counts_in, counts_with}
+use Rattle.wb_script.specs.declared.tree.bodies.OpenBody.{OpenBody}
+use Rattle.wb_script.specs.declared.tree.bodies.Left.TheVariants.{Inside, Done}
+use Rattle.wb_script.specs.Building.{fits, is_due, declares, begins, begins_block, AreOpen, BecomesElse, ClosesBlock, Counts, is_head, head_key, head_form, first_part, nest_lines, nest_places, place_in_block, keys_of_blocks, counts_after, locals_after, procedures_after, operations_after}
+use Rattle.wb_script.specs.Growing.{Adds, IsSoundOpen, TakesLocal, inside_lines, counts_in}
 use Rattle.wb_script.specs.Fitting.{operands_fit}
 use Rattle.wb_script.specs.Machine.{step}
 use Rattle.wb_script.specs.Stated.{IsOneLine}
@@ -41,23 +41,41 @@ use Rattle.wb_script.proofs.Nests.{stated_lines, entered_lines, else_lines, clos
 same_nest : (n : Nest) (blocks : List OpenBlock) (statements : List Numbered) → n.blocks ≡ blocks → n.statements ≡ statements → n ≡ record { blocks = blocks; statements = statements }
 same_nest n blocks statements b s = ap (λ x. record { blocks = x; statements = n.statements }) b ∙ ap (λ x. record { blocks = blocks; statements = x }) s
 
--- a line that adds to what stands in the blocks
-behind : (p : OpenProcedure) (nest : Nest) (line : Marked) → nest_lines nest ≡ nest_lines p.nest ++ line ∷ [] → local_lines (length p.parameters) p.locals ++ nest_lines nest ≡ inside_lines p ++ line ∷ []
-behind p nest line is =
-    ap (λ l. local_lines (length p.parameters) p.locals ++ l) is
-    ∙ sym (append_assoc (local_lines (length p.parameters) p.locals) (nest_lines p.nest) (line ∷ []))
+-- a line inside a body begins none, so that it counts locals and blocks alone
+abbrev opens : Role → Bool
+opens role.Procedure = true
+opens _ = false
 
-with_sound : (declared : Declared) (p : OpenProcedure) (nest : Nest) → IsSoundOpen declared p → AreOpen declared p.scope (suc DEEPEST_BLOCK) false nest.blocks nest.statements → IsSoundOpen declared (record p { nest = nest })
+begins_none : (k : Key) → opens (role_of k) ≡ false → kind_begun k ≡ None
+begins_none key.Proc is = let clash : ⊥ = cc in absurd clash
+begins_none key.Op is = let clash : ⊥ = cc in absurd clash
+begins_none _ is = refl
+
+abbrev inner_counts : Role → Indexed → Counts → Counts
+inner_counts r line counts = record counts { locals = locals_after r line counts.locals; blocks = blocks_after r line counts.blocks }
+
+same_counts : (k : Key) (operands : List (Operand Meant)) (r : Role) (counts : Counts) → role_of k ≡ r → opens r ≡ false → inner_counts r (Line k operands) counts ≡ counts_after counts (Line k operands)
+same_counts k operands r counts is inner =
+    let line : Indexed = Line k operands in
+    ap (λ q. inner_counts q line counts) (sym is)
+    ∙ ap (λ i. record { procedures = procedures_after i line counts.procedures; operations = operations_after i counts.operations; locals = locals_after (role_of k) line counts.locals; blocks = blocks_after (role_of k) line counts.blocks }) (sym (begins_none k (ap opens is ∙ inner)))
+
+-- a line that adds to what stands in the blocks
+behind : (p : OpenBody) (nest : Nest) (line : Marked) → nest_lines nest ≡ nest_lines p.nest ++ line ∷ [] → local_lines (length p.opening.parameters) p.locals ++ nest_lines nest ≡ inside_lines p ++ line ∷ []
+behind p nest line is =
+    ap (λ l. local_lines (length p.opening.parameters) p.locals ++ l) is
+    ∙ sym (append_assoc (local_lines (length p.opening.parameters) p.locals) (nest_lines p.nest) (line ∷ []))
+
+with_sound : (declared : Declared) (p : OpenBody) (nest : Nest) → IsSoundOpen declared p → AreOpen declared p.scope (suc DEEPEST_BLOCK) false nest.blocks nest.statements → IsSoundOpen declared (record p { nest = nest })
 with_sound declared p nest sound is = record {
   parameters = sound.parameters;
-  few = sound.few;
   scope = sound.scope;
   locals = sound.locals;
   most = sound.most;
   nest = is;
 }
 
-pub stated_adds : (declared : Declared) (number : ℕ) (p : OpenProcedure) (k : Key) (operands : List (Operand Meant)) (s : Statement) → IsSoundOpen declared p → role_of k ≡ role.Plain →
+pub stated_adds : (declared : Declared) (number : ℕ) (p : OpenBody) (k : Key) (operands : List (Operand Meant)) (s : Statement) → IsSoundOpen declared p → role_of k ≡ role.Plain →
     IsOneLine declared p.scope (list_any is_trap (keys_of_blocks p.nest.blocks)) k operands s →
     Adds declared number (Line k operands) p (Inside (record p { nest = record { blocks = p.nest.blocks; statements = p.nest.statements ++ (record { line = number; statement = s }) ∷ [] } }))
 stated_adds declared number p k operands s sound is one =
@@ -67,16 +85,15 @@ stated_adds declared number p k operands s sound is one =
       lines =
           behind p nest (Some number, Line k operands) (stated_lines p.nest.blocks p.nest.statements numbered ∙ ap (λ l. nest_lines p.nest ++ l) (one.lines number))
           ∙ ap (λ r. inside_lines p ++ (number_kept r number, Line k operands) ∷ []) (sym is);
-      head = λ index. refl;
-      parameters = refl;
+      opening = refl;
       sound = with_sound declared p nest sound (stated_open declared p.scope (suc DEEPEST_BLOCK) false p.nest.blocks p.nest.statements numbered sound.nest
           (λ inside. subst (λ t. IsTrue (is_nested declared p.scope t inside (out-Statement s))) (sym (in_trap-outside p.nest.blocks)) (one.sound inside)));
-      counts = λ procedures. sym (ap (λ r. counts_with r (Line k operands) (counts_in procedures p)) is);
+      counts = λ before. same_counts k operands role.Plain (counts_in before p) is refl;
       places = ap (step (nest_places p.nest)) is ∙ step-plain p.nest.blocks p.nest.statements ∙ ap Some (sym (places-stated p.nest.blocks p.nest.statements numbered));
     }
 
 -- a block's first line
-module _ (declared : Declared) (number : ℕ) (p : OpenProcedure) (k : Key) (operands : List (Operand Meant)) (h : Head) where
+module _ (declared : Declared) (number : ℕ) (p : OpenBody) (k : Key) (operands : List (Operand Meant)) (h : Head) where
   abbrev begun : OpenBlock
   begun = record { before = p.nest.statements; line = number; head = h }
 
@@ -85,20 +102,19 @@ module _ (declared : Declared) (number : ℕ) (p : OpenProcedure) (k : Key) (ope
 
   entered_as : (r : Role) (place : Open) → IsSoundOpen declared p → length p.nest.blocks < DEEPEST_BLOCK → head_form h ≡ Line k operands → head_key h ≡ k → first_part h ≡ [] →
       ((depth : ℕ) (trapped : Bool) → IsTrue (is_head declared p.scope depth trapped h)) → role_of k ≡ r → place_in_block begun ≡ place → number_kept r number ≡ Some number →
-      ((counts : Counts) → counts_with r (Line k operands) counts ≡ record counts { blocks = counts.blocks ++ k ∷ [] }) →
+      opens r ≡ false → ((counts : Counts) → inner_counts r (Line k operands) counts ≡ record counts { blocks = counts.blocks ++ k ∷ [] }) →
       step (nest_places p.nest) r ≡ Some (place ∷ around p.nest.blocks) →
       Adds declared number (Line k operands) p (Inside (record p { nest = within }))
-  entered_as r place sound room line key_is first head_sound is at kept counted moved = record {
+  entered_as r place sound room line key_is first head_sound is at kept inner counted moved = record {
     lines =
         behind p within (Some number, Line k operands)
         (entered_lines p.nest.blocks p.nest.statements number h ∙ ap (λ l. nest_lines p.nest ++ (Some number, head_form h) ∷ l) first ∙ ap (λ l. nest_lines p.nest ++ (Some number, l) ∷ []) line)
         ∙ ap (λ n. inside_lines p ++ (n, Line k operands) ∷ []) (sym kept) ∙ ap (λ q. inside_lines p ++ (number_kept q number, Line k operands) ∷ []) (sym is);
-    head = λ index. refl;
-    parameters = refl;
+    opening = refl;
     sound = with_sound declared p within sound (entered_open declared p.scope (suc DEEPEST_BLOCK) false p.nest.blocks p.nest.statements number h sound.nest (omega (arith, room)) head_sound);
-    counts = λ procedures.
-        ap (λ l. record { procedures = procedures; locals = p.scope; blocks = l }) (keys-last p.nest.blocks begun ∙ ap (λ l. keys_of_blocks p.nest.blocks ++ l ∷ []) key_is)
-        ∙ sym (counted (counts_in procedures p)) ∙ sym (ap (λ q. counts_with q (Line k operands) (counts_in procedures p)) is);
+    counts = λ before.
+        ap (λ l. record before { locals = p.scope; blocks = l }) (keys-last p.nest.blocks begun ∙ ap (λ l. keys_of_blocks p.nest.blocks ++ l ∷ []) key_is)
+        ∙ sym (counted (counts_in before p)) ∙ same_counts k operands r (counts_in before p) is inner;
     places = ap (step (nest_places p.nest)) is ∙ moved ∙ ap (λ l. Some (l ∷ around p.nest.blocks)) (sym at) ∙ ap Some (sym (places-block p.nest.blocks begun []));
   }
 
@@ -106,25 +122,25 @@ not_empty : {X : Type 0} (l : List X) (x : X) → l ++ x ∷ [] ≡ [] → ⊥
 not_empty [] x e = let clash : ⊥ = cc in clash
 not_empty (y ∷ l) x e = let clash : ⊥ = cc in clash
 
-pub entered_adds : (declared : Declared) (number : ℕ) (p : OpenProcedure) (k : Key) (operands : List (Operand Meant)) (h : Head) → IsSoundOpen declared p → length p.nest.blocks < DEEPEST_BLOCK → head_form h ≡ Line k operands → head_key h ≡ k → first_part h ≡ [] →
+pub entered_adds : (declared : Declared) (number : ℕ) (p : OpenBody) (k : Key) (operands : List (Operand Meant)) (h : Head) → IsSoundOpen declared p → length p.nest.blocks < DEEPEST_BLOCK → head_form h ≡ Line k operands → head_key h ≡ k → first_part h ≡ [] →
     ((depth : ℕ) (trapped : Bool) → IsTrue (is_head declared p.scope depth trapped h)) →
     Adds declared number (Line k operands) p (Inside (record p { nest = record { blocks = p.nest.blocks ++ (record { before = p.nest.statements; line = number; head = h }) ∷ []; statements = [] } }))
 entered_adds declared number p k operands (head.If (IsNull q)) sound room line key_is first head_sound =
-    entered_as declared number p k operands (head.If (IsNull q)) role.If Branch sound room line key_is first head_sound (ap role_of (sym key_is)) refl refl (λ c. refl) (step-if p.nest.blocks p.nest.statements)
+    entered_as declared number p k operands (head.If (IsNull q)) role.If Branch sound room line key_is first head_sound (ap role_of (sym key_is)) refl refl refl (λ c. refl) (step-if p.nest.blocks p.nest.statements)
 entered_adds declared number p k operands (head.If (NotNull q)) sound room line key_is first head_sound =
-    entered_as declared number p k operands (head.If (NotNull q)) role.If Branch sound room line key_is first head_sound (ap role_of (sym key_is)) refl refl (λ c. refl) (step-if p.nest.blocks p.nest.statements)
+    entered_as declared number p k operands (head.If (NotNull q)) role.If Branch sound room line key_is first head_sound (ap role_of (sym key_is)) refl refl refl (λ c. refl) (step-if p.nest.blocks p.nest.statements)
 entered_adds declared number p k operands (head.If (Equal v w)) sound room line key_is first head_sound =
-    entered_as declared number p k operands (head.If (Equal v w)) role.If Branch sound room line key_is first head_sound (ap role_of (sym key_is)) refl refl (λ c. refl) (step-if p.nest.blocks p.nest.statements)
+    entered_as declared number p k operands (head.If (Equal v w)) role.If Branch sound room line key_is first head_sound (ap role_of (sym key_is)) refl refl refl (λ c. refl) (step-if p.nest.blocks p.nest.statements)
 entered_adds declared number p k operands (head.If (Less v w)) sound room line key_is first head_sound =
-    entered_as declared number p k operands (head.If (Less v w)) role.If Branch sound room line key_is first head_sound (ap role_of (sym key_is)) refl refl (λ c. refl) (step-if p.nest.blocks p.nest.statements)
+    entered_as declared number p k operands (head.If (Less v w)) role.If Branch sound room line key_is first head_sound (ap role_of (sym key_is)) refl refl refl (λ c. refl) (step-if p.nest.blocks p.nest.statements)
 entered_adds declared number p k operands (head.Else c part) sound room line key_is first head_sound = absurd (not_empty (statement_lines part) else_line first)
 entered_adds declared number p k operands (head.Repeat v) sound room line key_is first head_sound =
-    entered_as declared number p k operands (head.Repeat v) role.Loop Block sound room line key_is first head_sound (ap role_of (sym key_is)) refl refl (λ c. refl) (step-loop p.nest.blocks p.nest.statements)
+    entered_as declared number p k operands (head.Repeat v) role.Loop Block sound room line key_is first head_sound (ap role_of (sym key_is)) refl refl refl (λ c. refl) (step-loop p.nest.blocks p.nest.statements)
 entered_adds declared number p k operands (head.Trap x) sound room line key_is first head_sound =
-    entered_as declared number p k operands (head.Trap x) role.Loop Block sound room line key_is first head_sound (ap role_of (sym key_is)) refl refl (λ c. refl) (step-loop p.nest.blocks p.nest.statements)
+    entered_as declared number p k operands (head.Trap x) role.Loop Block sound room line key_is first head_sound (ap role_of (sym key_is)) refl refl refl (λ c. refl) (step-loop p.nest.blocks p.nest.statements)
 
 -- an `else`
-pub else_adds : (declared : Declared) (number : ℕ) (p : OpenProcedure) (next : Nest) → IsSoundOpen declared p → BecomesElse p.nest next → Adds declared number (Line key.Else []) p (Inside (record p { nest = next }))
+pub else_adds : (declared : Declared) (number : ℕ) (p : OpenBody) (next : Nest) → IsSoundOpen declared p → BecomesElse p.nest next → Adds declared number (Line key.Else []) p (Inside (record p { nest = next }))
 else_adds declared number p next sound turn =
     let from : OpenBlock = record { before = turn.before; line = turn.line; head = head.If turn.condition } in
     let to : OpenBlock = record { before = turn.before; line = turn.line; head = head.Else turn.condition p.nest.statements } in
@@ -133,14 +149,13 @@ else_adds declared number p next sound turn =
     record {
       lines = behind p next else_line
           (ap nest_lines new ∙ else_lines turn.below turn.before p.nest.statements turn.line turn.condition ∙ ap (λ n. nest_lines n ++ else_line ∷ []) (sym old));
-      head = λ index. refl;
-      parameters = refl;
+      opening = refl;
       sound = with_sound declared p next sound
           (subst (λ n. AreOpen declared p.scope (suc DEEPEST_BLOCK) false n.blocks n.statements) (sym new)
           (else_open declared p.scope (suc DEEPEST_BLOCK) false turn.below turn.before p.nest.statements turn.line turn.condition
           (subst (λ n. AreOpen declared p.scope (suc DEEPEST_BLOCK) false n.blocks n.statements) old sound.nest)));
-      counts = λ procedures.
-          ap (λ l. record { procedures = procedures; locals = p.scope; blocks = l })
+      counts = λ before.
+          ap (λ l. record before { locals = p.scope; blocks = l })
           (ap keys_of_blocks turn.next_blocks ∙ keys-last turn.below to ∙ sym (keys-last turn.below from) ∙ ap keys_of_blocks (sym turn.blocks));
       places =
           ap (λ n. step (nest_places n) role.Else) old
@@ -149,7 +164,7 @@ else_adds declared number p next sound turn =
     }
 
 -- the end of a block
-pub closed_adds : (declared : Declared) (number : ℕ) (p : OpenProcedure) (next : Nest) → IsSoundOpen declared p → ClosesBlock p.nest next → Adds declared number (Line key.End []) p (Inside (record p { nest = next }))
+pub closed_adds : (declared : Declared) (number : ℕ) (p : OpenBody) (next : Nest) → IsSoundOpen declared p → ClosesBlock p.nest next → Adds declared number (Line key.End []) p (Inside (record p { nest = next }))
 closed_adds declared number p next sound closes =
     let b : OpenBlock = closes.block in
     let one : Numbered = record { line = b.line; statement = closes.statement } in
@@ -158,14 +173,13 @@ closed_adds declared number p next sound closes =
     record {
       lines = behind p next end_line
           (ap nest_lines new ∙ closed_lines next.blocks b p.nest.statements closes.statement closes.whole ∙ ap (λ n. nest_lines n ++ end_line ∷ []) (sym old));
-      head = λ index. refl;
-      parameters = refl;
+      opening = refl;
       sound = with_sound declared p next sound
           (subst (λ n. AreOpen declared p.scope (suc DEEPEST_BLOCK) false n.blocks n.statements) (sym new)
           (closed_open declared p.scope (suc DEEPEST_BLOCK) false next.blocks b p.nest.statements closes.statement closes.whole
           (subst (λ n. AreOpen declared p.scope (suc DEEPEST_BLOCK) false n.blocks n.statements) old sound.nest)));
-      counts = λ procedures.
-          ap (λ l. record { procedures = procedures; locals = p.scope; blocks = l })
+      counts = λ before.
+          ap (λ l. record before { locals = p.scope; blocks = l })
           (sym (ap without_last (ap keys_of_blocks closes.blocks ∙ keys-last next.blocks b) ∙ without_last-last (keys_of_blocks next.blocks) (head_key b.head)));
       places =
           ap (λ n. step (nest_places n) role.End) old
@@ -181,10 +195,10 @@ nothing (x ∷ l) e = absurd (some (length l) e)
     some n e = grind (arith, nat_tests)
 
 -- no local comes behind a block, behind a statement, or past the limit
-pub late_by_block : (p : OpenProcedure) → 0 < length p.nest.blocks → step (nest_places p.nest) role.Declaration ≡ None
+pub late_by_block : (p : OpenBody) → 0 < length p.nest.blocks → step (nest_places p.nest) role.Declaration ≡ None
 late_by_block p lt = late_declaration p.nest.blocks p.nest.statements lt
 
-pub late_by_statement : (p : OpenProcedure) → 0 < length p.nest.statements → step (nest_places p.nest) role.Declaration ≡ None
+pub late_by_statement : (p : OpenBody) → 0 < length p.nest.statements → step (nest_places p.nest) role.Declaration ≡ None
 late_by_statement p lt = on p.nest.blocks p.nest.statements lt
   where
     on : (blocks : List OpenBlock) (statements : List Numbered) → 0 < length statements → step (places blocks statements) role.Declaration ≡ None
@@ -203,20 +217,20 @@ first false b is = is
 below_of : (a b : ℕ) → nat_lt a b ≡ true → a < b
 below_of a b is = grind (arith, nat_tests)
 
-pub late_by_room : {X : Type 0} (declared : Declared) (p : OpenProcedure) (k : Key) (operands : List (Operand Meant)) (procedures : List (List Parameter)) → role_of k ≡ role.Declaration → MOST_LOCALS ≤ length p.scope → IsTrue (fits declared (counts_in procedures p) (Line k operands)) → X
-late_by_room declared p k operands procedures is full fit =
-    let due : IsTrue (is_due (role_of k) (counts_in procedures p) (Line k operands) operands) = first _ _ (second (operands_fit declared p.scope k operands) _ fit) in
-    let there : IsTrue (is_due role.Declaration (counts_in procedures p) (Line k operands) operands) = subst (λ r. IsTrue (is_due r (counts_in procedures p) (Line k operands) operands)) is due in
+pub late_by_room : {X : Type 0} (declared : Declared) (p : OpenBody) (k : Key) (operands : List (Operand Meant)) (before : Counts) → role_of k ≡ role.Declaration → MOST_LOCALS ≤ length p.scope → IsTrue (fits declared (counts_in before p) (Line k operands)) → X
+late_by_room declared p k operands before is full fit =
+    let due : IsTrue (is_due (role_of k) (counts_in before p) (Line k operands) operands) = first _ _ (second (operands_fit declared p.scope k operands) _ fit) in
+    let there : IsTrue (is_due role.Declaration (counts_in before p) (Line k operands) operands) = subst (λ r. IsTrue (is_due r (counts_in before p) (Line k operands) operands)) is due in
     let room : IsTrue (nat_lt (length p.scope) MOST_LOCALS) = first _ _ (second (declares (length p.scope) operands) _ there) in
     absurd (omega (arith, full, below_of (length p.scope) MOST_LOCALS room))
 
-pub late_by_depth : {X : Type 0} (declared : Declared) (p : OpenProcedure) (k : Key) (operands : List (Operand Meant)) (procedures : List (List Parameter)) → IsTrue (begins_block k) → DEEPEST_BLOCK ≤ length p.nest.blocks → IsTrue (fits declared (counts_in procedures p) (Line k operands)) → X
-late_by_depth declared p k operands procedures begins_it full fit =
-    let due : IsTrue (is_due (role_of k) (counts_in procedures p) (Line k operands) operands) = first _ _ (second (operands_fit declared p.scope k operands) _ fit) in
+pub late_by_depth : {X : Type 0} (declared : Declared) (p : OpenBody) (k : Key) (operands : List (Operand Meant)) (before : Counts) → IsTrue (begins_block k) → DEEPEST_BLOCK ≤ length p.nest.blocks → IsTrue (fits declared (counts_in before p) (Line k operands)) → X
+late_by_depth declared p k operands before begins_it full fit =
+    let due : IsTrue (is_due (role_of k) (counts_in before p) (Line k operands) operands) = first _ _ (second (operands_fit declared p.scope k operands) _ fit) in
     let room : IsTrue (nat_lt (length (keys_of_blocks p.nest.blocks)) DEEPEST_BLOCK) = of_role (role_of k) begins_it due in
     absurd (omega (arith, full, below_of (length (keys_of_blocks p.nest.blocks)) DEEPEST_BLOCK room, length-map p.nest.blocks (λ b. head_key b.head)))
   where
-    of_role : (r : Role) → IsTrue (begins r) → IsTrue (is_due r (counts_in procedures p) (Line k operands) operands) → IsTrue (nat_lt (length (keys_of_blocks p.nest.blocks)) DEEPEST_BLOCK)
+    of_role : (r : Role) → IsTrue (begins r) → IsTrue (is_due r (counts_in before p) (Line k operands) operands) → IsTrue (nat_lt (length (keys_of_blocks p.nest.blocks)) DEEPEST_BLOCK)
     of_role role.Loop is due = due
     of_role role.If is due = due
     of_role _ is due = let clash : ⊥ = cc in absurd clash
@@ -225,24 +239,24 @@ within_test : (a b : ℕ) → a ≤ b → nat_le a b ≡ true
 within_test a b le = grind (arith, nat_tests)
 
 -- the end of a body
-pub done_adds : (declared : Declared) (number : ℕ) (p : OpenProcedure) (statements : List Numbered) → IsSoundOpen declared p → p.nest.blocks ≡ [] → statements ≡ p.nest.statements →
-    Adds declared number (Line key.End []) p (Done (record { line = p.line; parameters = p.parameters; body = record { locals = p.locals; statements = statements } }))
+pub done_adds : (declared : Declared) (number : ℕ) (p : OpenBody) (statements : List Numbered) → IsSoundOpen declared p → p.nest.blocks ≡ [] → statements ≡ p.nest.statements →
+    Adds declared number (Line key.End []) p (Done p.opening (record { locals = p.locals; statements = statements }))
 done_adds declared number p statements sound outside same =
     let old : p.nest ≡ record { blocks = []; statements = statements } = same_nest p.nest [] statements outside (sym same) in
     let whole : IsTrue (are_statements declared p.scope statements) = subst (λ n. AreOpen declared p.scope (suc DEEPEST_BLOCK) false n.blocks n.statements) old sound.nest in
     record {
-      lines = ap (λ n. (local_lines (length p.parameters) p.locals ++ nest_lines n) ++ end_line ∷ []) (sym old);
-      head = λ index. refl;
-      parameters = refl;
-      sound =
-          both (list_all is_parameter p.parameters && nat_le (length p.parameters) MOST_PARAMETERS) _
-          (both (list_all is_parameter p.parameters) (nat_le (length p.parameters) MOST_PARAMETERS) sound.parameters (within_test (length p.parameters) MOST_PARAMETERS sound.few))
-          (subst (λ l. IsTrue ((list_all is_local l && nat_le (length l) MOST_LOCALS) && are_statements declared l statements)) sound.scope
-          (both (list_all is_local p.scope && nat_le (length p.scope) MOST_LOCALS) (are_statements declared p.scope statements)
-          (both (list_all is_local p.scope) (nat_le (length p.scope) MOST_LOCALS) sound.locals (within_test (length p.scope) MOST_LOCALS sound.most)) whole));
-      counts = λ procedures.
-          ap (λ l. record { procedures = procedures; locals = l; blocks = [] }) (sym sound.scope)
-          ∙ ap (λ n. record { procedures = procedures; locals = p.scope; blocks = without_last (keys_of_blocks n.blocks) }) (sym old);
+      lines = ap (λ n. (local_lines (length p.opening.parameters) p.locals ++ nest_lines n) ++ end_line ∷ []) (sym old);
+      opening = refl;
+      sound = record {
+        parameters = sound.parameters;
+        inside =
+            subst (λ l. IsTrue (is_body declared l statements)) sound.scope
+            (both (list_all is_local p.scope && nat_le (length p.scope) MOST_LOCALS) (are_statements declared p.scope statements)
+            (both (list_all is_local p.scope) (nat_le (length p.scope) MOST_LOCALS) sound.locals (within_test (length p.scope) MOST_LOCALS sound.most)) whole);
+      };
+      counts = λ before.
+          ap (λ l. record before { locals = l; blocks = [] }) (sym sound.scope)
+          ∙ ap (λ n. record before { locals = p.scope; blocks = without_last (keys_of_blocks n.blocks) }) (sym old);
       places = ap (λ n. step (nest_places n) role.End) old ∙ step-outer_end statements;
     }
 
@@ -253,46 +267,44 @@ local_lines-last index (l ∷ ls) local =
     ap (λ lines. (None, local_line index l) ∷ lines) (local_lines-last (suc index) ls local ∙ ap (λ i. local_lines (suc index) ls ++ (None, local_line i local) ∷ []) same)
 
 -- a local
-pub declared_adds : (declared : Declared) (number : ℕ) (p : OpenProcedure) (k : Key) (operands : List (Operand Meant)) (local : Local) → IsSoundOpen declared p → role_of k ≡ role.Declaration → TakesLocal p k operands local →
+pub declared_adds : (declared : Declared) (number : ℕ) (p : OpenBody) (k : Key) (operands : List (Operand Meant)) (local : Local) → IsSoundOpen declared p → role_of k ≡ role.Declaration → TakesLocal p k operands local →
     Adds declared number (Line k operands) p (Inside (record p { locals = p.locals ++ local ∷ []; scope = p.scope ++ local ∷ [] }))
 declared_adds declared number p k operands local sound is takes =
     let old : p.nest ≡ record { blocks = []; statements = [] } = same_nest p.nest [] [] takes.outside takes.first in
-    let index : length p.parameters + length p.locals ≡ length p.scope = sym (ap length sound.scope ∙ length-append (map local_of_parameter p.parameters) p.locals ∙ ap (λ n. n + length p.locals) (length-map p.parameters local_of_parameter)) in
-    let front : List Marked = local_lines (length p.parameters) p.locals in
+    let index : length p.opening.parameters + length p.locals ≡ length p.scope = sym (ap length sound.scope ∙ length-append (map local_of_parameter p.opening.parameters) p.locals ∙ ap (λ n. n + length p.locals) (length-map p.opening.parameters local_of_parameter)) in
+    let front : List Marked = local_lines (length p.opening.parameters) p.locals in
     record {
       lines =
-          ap (λ n. local_lines (length p.parameters) (p.locals ++ local ∷ []) ++ nest_lines n) old
-          ∙ append-nil (local_lines (length p.parameters) (p.locals ++ local ∷ []))
-          ∙ local_lines-last (length p.parameters) p.locals local
+          ap (λ n. local_lines (length p.opening.parameters) (p.locals ++ local ∷ []) ++ nest_lines n) old
+          ∙ append-nil (local_lines (length p.opening.parameters) (p.locals ++ local ∷ []))
+          ∙ local_lines-last (length p.opening.parameters) p.locals local
           ∙ ap (λ i. front ++ (None, local_line i local) ∷ []) index
           ∙ ap (λ l. front ++ (None, l) ∷ []) takes.line
           ∙ ap (λ l. l ++ (None, Line k operands) ∷ []) (sym (append-nil front))
           ∙ ap (λ n. (front ++ nest_lines n) ++ (None, Line k operands) ∷ []) (sym old)
           ∙ ap (λ r. inside_lines p ++ (number_kept r number, Line k operands) ∷ []) (sym is);
-      head = λ index. refl;
-      parameters = refl;
+      opening = refl;
       sound = record {
         parameters = sound.parameters;
-        few = sound.few;
-        scope = ap (λ l. l ++ local ∷ []) sound.scope ∙ append_assoc (map local_of_parameter p.parameters) p.locals (local ∷ []);
+        scope = ap (λ l. l ++ local ∷ []) sound.scope ∙ append_assoc (map local_of_parameter p.opening.parameters) p.locals (local ∷ []);
         locals = list_all-append is_local p.scope (local ∷ []) ∙ both (list_all is_local p.scope) (list_all is_local (local ∷ [])) sound.locals (both (is_local local) true takes.sound refl);
         most = omega (arith, length-append p.scope (local ∷ []), takes.room);
         nest = subst (λ n. AreOpen declared (p.scope ++ local ∷ []) (suc DEEPEST_BLOCK) false n.blocks n.statements) (sym old) refl;
       };
-      counts = λ procedures.
-          ap (λ l. record { procedures = procedures; locals = with_one p.scope l; blocks = keys_of_blocks p.nest.blocks }) (sym takes.declared)
-          ∙ sym (ap (λ r. counts_with r (Line k operands) (counts_in procedures p)) is);
+      counts = λ before.
+          ap (λ l. record before { locals = with_one p.scope l; blocks = keys_of_blocks p.nest.blocks }) (sym takes.declared)
+          ∙ same_counts k operands role.Declaration (counts_in before p) is refl;
       places = ap (step (nest_places p.nest)) is ∙ ap (λ n. step (nest_places n) role.Declaration) old ∙ ap (λ n. Some (nest_places n)) (sym old);
     }
 
 -- the same, of lines that have no operands
-pub else_adds_where : (declared : Declared) (number : ℕ) (p : OpenProcedure) (operands : List (Operand Meant)) (next : Nest) → true ≡ (length operands == 0) → IsSoundOpen declared p → BecomesElse p.nest next → Adds declared number (Line key.Else operands) p (Inside (record p { nest = next }))
+pub else_adds_where : (declared : Declared) (number : ℕ) (p : OpenBody) (operands : List (Operand Meant)) (next : Nest) → true ≡ (length operands == 0) → IsSoundOpen declared p → BecomesElse p.nest next → Adds declared number (Line key.Else operands) p (Inside (record p { nest = next }))
 else_adds_where declared number p operands next empty sound turn = subst (λ o. Adds declared number (Line key.Else o) p (Inside (record p { nest = next }))) (sym (nothing operands empty)) (else_adds declared number p next sound turn)
 
-pub closed_adds_where : (declared : Declared) (number : ℕ) (p : OpenProcedure) (operands : List (Operand Meant)) (next : Nest) → true ≡ (length operands == 0) → IsSoundOpen declared p → ClosesBlock p.nest next → Adds declared number (Line key.End operands) p (Inside (record p { nest = next }))
+pub closed_adds_where : (declared : Declared) (number : ℕ) (p : OpenBody) (operands : List (Operand Meant)) (next : Nest) → true ≡ (length operands == 0) → IsSoundOpen declared p → ClosesBlock p.nest next → Adds declared number (Line key.End operands) p (Inside (record p { nest = next }))
 closed_adds_where declared number p operands next empty sound closes = subst (λ o. Adds declared number (Line key.End o) p (Inside (record p { nest = next }))) (sym (nothing operands empty)) (closed_adds declared number p next sound closes)
 
-pub done_adds_where : (declared : Declared) (number : ℕ) (p : OpenProcedure) (operands : List (Operand Meant)) (statements : List Numbered) → true ≡ (length operands == 0) → IsSoundOpen declared p → p.nest.blocks ≡ [] → statements ≡ p.nest.statements →
-    Adds declared number (Line key.End operands) p (Done (record { line = p.line; parameters = p.parameters; body = record { locals = p.locals; statements = statements } }))
+pub done_adds_where : (declared : Declared) (number : ℕ) (p : OpenBody) (operands : List (Operand Meant)) (statements : List Numbered) → true ≡ (length operands == 0) → IsSoundOpen declared p → p.nest.blocks ≡ [] → statements ≡ p.nest.statements →
+    Adds declared number (Line key.End operands) p (Done p.opening (record { locals = p.locals; statements = statements }))
 done_adds_where declared number p operands statements empty sound outside same =
-    subst (λ o. Adds declared number (Line key.End o) p (Done (record { line = p.line; parameters = p.parameters; body = record { locals = p.locals; statements = statements } }))) (sym (nothing operands empty)) (done_adds declared number p statements sound outside same)
+    subst (λ o. Adds declared number (Line key.End o) p (Done p.opening (record { locals = p.locals; statements = statements }))) (sym (nothing operands empty)) (done_adds declared number p statements sound outside same)

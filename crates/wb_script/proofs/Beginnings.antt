@@ -13,7 +13,7 @@ use Rattle.wb_model.specs.declared.script_lines.Operand.TheVariants.{Name, Param
 use Rattle.wb_model.specs.Names.{kind_passed}
 use Rattle.wb_model.specs.Sound.{is_parameter, is_local, local_of_parameter}
 use Rattle.wb_model.specs.Trees.{all_spelled, and_operand, parameter_operand}
-use Rattle.wb_script.specs.Building.{is_parameter_operand}
+use Rattle.wb_script.specs.Growing.{is_parameter_operand}
 
 -- parameters are spelled by their operands, and are sound
 pub spelled_parameters : (operands : List (Operand Meant)) → IsTrue (list_all is_parameter_operand operands) → all_spelled (map parameter_operand (flat_map kind_passed operands)) ≡ Some operands
@@ -52,6 +52,7 @@ fit_parameters literals locals (Name (meant.Buffer i) ∷ operands) is = let cla
 fit_parameters literals locals (Name (meant.View i) ∷ operands) is = let clash : ⊥ = cc in absurd clash
 fit_parameters literals locals (Name (meant.Literal i) ∷ operands) is = let clash : ⊥ = cc in absurd clash
 fit_parameters literals locals (Name (meant.Procedure i) ∷ operands) is = let clash : ⊥ = cc in absurd clash
+fit_parameters literals locals (Name (meant.Operation i) ∷ operands) is = let clash : ⊥ = cc in absurd clash
 fit_parameters literals locals (Name meant.Parameter ∷ operands) is = let clash : ⊥ = cc in absurd clash
 fit_parameters literals locals (Name meant.Nothing ∷ operands) is = let clash : ⊥ = cc in absurd clash
 fit_parameters literals locals (_ ∷ operands) is = let clash : ⊥ = cc in absurd clash

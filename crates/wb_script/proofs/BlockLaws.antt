@@ -9,10 +9,11 @@ use Rattle.wb_model.specs.declared.script.Statement.{Statement}
 use Rattle.wb_model.specs.declared.script.Statement.TheOpen.{Statement-F}
 use Rattle.wb_model.specs.declared.script.Statement.TheViews.{roll-Statement}
 use Rattle.wb_model.specs.declared.script.Statement.TheFolds.{fold-Numbered, fold_out-Numbered, fold-roll-Statement, map-Statement, ind-Statement}
-use Rattle.wb_model.specs.Trees.{Marked, number_operand, variable_operand, line, condition_line, layer_lines, numbered_layer, joined, lines_of_statement, numbered_lines, statement_lines, end_line, else_line}
+use Rattle.wb_model.specs.Trees.{Marked, number_operand, variable_operand, line, condition_line, layer_lines, numbered_layer, lines_joined, lines_of_statement, numbered_lines, statement_lines, end_line, else_line}
 use Rattle.wb_script.proofs.TypedLemmas.{both}
 use Rattle.wb_script.proofs.KnownLines.{is_known, is_told}
-use Rattle.wb_script.proofs.StatementLaws.{Part, with_statement, opened, with_line, with_lines, with_lines-append, plain_line, statement_said, choice_said, loop_said}
+use Rattle.wb_script.proofs.Said.{Part, with_statement, opened, with_line, with_lines, with_lines-append}
+use Rattle.wb_script.proofs.StatementLaws.{plain_line, statement_said, choice_said, loop_said}
 
 -- the lines of a numbered statement, as the fold has them
 abbrev pub numbered_fold : Numbered → List Marked
@@ -30,7 +31,7 @@ layer_lines_are layer number = ap (λ f. f number) (fold-roll-Statement (ℕ →
 
 -- the lines of a list of statements, as the fold has them
 abbrev pub inside : List Numbered → List Marked
-inside ss = joined (map numbered_fold ss)
+inside ss = lines_joined (map numbered_fold ss)
 
 pub inside_is : (ss : List Numbered) → inside ss ≡ statement_lines ss
 inside_is [] = refl

@@ -9,7 +9,7 @@ use Rattle.wb_model.specs.declared.script.Script.{Script}
 use Rattle.wb_model.specs.Forms.{forms_of}
 use Rattle.wb_model.specs.Lines.{lines_of, first_foreign_line, is_too_long}
 use Rattle.wb_model.specs.Names.{Text, first_refused, passes_limit}
-use Rattle.wb_model.specs.Scripts.{AreLines, AreFirstLines, IsGrammarLine, IsPlainText, IsWellFormed, IsTreeOf, IsScriptOf, IsLinesFault, IsFaultOf, main_of, line_of, first_unknown, first_double, first_wrong}
+use Rattle.wb_model.specs.Scripts.{AreLines, AreFirstLines, IsGrammarLine, IsPlainText, IsWellFormed, IsTreeOf, IsScriptOf, IsLinesFault, IsFaultOf, main_of, number_of_line, first_unknown, first_double, first_wrong, first_leaving}
 
 take_fewer : {X : Type 0} (n m : ℕ) (xs : List X) → n ≤ m → take n (take m xs) ≡ take n xs
 take_fewer zero m xs le = refl
@@ -39,11 +39,15 @@ no_grammar_line lines n are line =
 -- the fault that the checks of names, kinds and limits find
 abbrev with_main : Option ℕ → List (Form Text) → Option ScriptFault
 with_main None forms = Some NoMain
-with_main (Some main) forms = option_map TooMany (line_of (first_refused passes_limit forms))
+with_main (Some main) forms = option_map TooMany (number_of_line (first_refused passes_limit forms))
+
+abbrev with_leaving : Option ℕ → List (Form Text) → Option ScriptFault
+with_leaving (Some index) forms = Some (MayLeave (suc index))
+with_leaving None forms = with_main (main_of forms) forms
 
 abbrev with_wrong : Option ℕ → List (Form Text) → Option ScriptFault
 with_wrong (Some index) forms = Some (WrongKind (suc index))
-with_wrong None forms = with_main (main_of forms) forms
+with_wrong None forms = with_leaving (first_leaving forms) forms
 
 abbrev with_double : Option ℕ → List (Form Text) → Option ScriptFault
 with_double (Some index) forms = Some (DoubleName (suc index))
@@ -56,7 +60,7 @@ with_unknown None forms = with_double (first_double forms) forms
 abbrev lines_fault : List (Form Text) → Option ScriptFault
 lines_fault forms = with_unknown (first_unknown forms) forms
 
-pub found_line : (o : Option ℕ) (n : ℕ) → line_of o ≡ Some n → (index : ℕ) × (o ≡ Some index) × (suc index ≡ n)
+pub found_line : (o : Option ℕ) (n : ℕ) → number_of_line o ≡ Some n → (index : ℕ) × (o ≡ Some index) × (suc index ≡ n)
 found_line None n is = let clash : ⊥ = cc in absurd clash
 found_line (Some index) n is = (index, refl, cc)
 
@@ -70,8 +74,11 @@ lines_fault_is forms (DoubleName n) (known, is) =
 lines_fault_is forms (WrongKind n) (known, once, is) =
     let (index, at, same) = found_line (first_wrong forms) n is in
     rw (known, once, at) (ap (λ k. Some (WrongKind k)) same)
-lines_fault_is forms NoMain (named, none) = rw (named.known, named.once, named.right, none) refl
-lines_fault_is forms (TooMany n) (named, some, is) = rw (named.known, named.once, named.right) (go (main_of forms) some)
+lines_fault_is forms (MayLeave n) (known, once, right, is) =
+    let (index, at, same) = found_line (first_leaving forms) n is in
+    rw (known, once, right, at) (ap (λ k. Some (MayLeave k)) same)
+lines_fault_is forms NoMain (named, none) = rw (named.known, named.once, named.right, named.quiet, none) refl
+lines_fault_is forms (TooMany n) (named, some, is) = rw (named.known, named.once, named.right, named.quiet) (go (main_of forms) some)
   where
     go : (o : Option ℕ) → (o ≡ None → ⊥) → with_main o forms ≡ Some (TooMany n)
     go None some = absurd (some refl)
@@ -79,11 +86,10 @@ lines_fault_is forms (TooMany n) (named, some, is) = rw (named.known, named.once
 lines_fault_is forms TooLong is = absurd is
 lines_fault_is forms (NotAscii n) is = absurd is
 lines_fault_is forms (Grammar n) is = absurd is
-lines_fault_is forms (MayLeave n) is = absurd is
 lines_fault_is forms NoMemory is = absurd is
 
 no_lines_fault : (forms : List (Form Text)) (script : Script) → IsTreeOf forms script → lines_fault forms ≡ None
-no_lines_fault forms script tree = rw (tree.named.known, tree.named.once, tree.named.right, tree.main, tree.within) refl
+no_lines_fault forms script tree = rw (tree.named.known, tree.named.once, tree.named.right, tree.named.quiet, tree.main, tree.within) refl
 
 -- the check that finds a fault
 data Finds (bytes : List ℕ) : ScriptFault → Type 0 where
@@ -101,7 +107,7 @@ finds bytes (DoubleName n) (formed, is) = Finds.names formed (lines_fault_is (fo
 finds bytes NoMain (formed, is) = Finds.names formed (lines_fault_is (forms_of (lines_of bytes)) NoMain is)
 finds bytes (TooMany n) (formed, is) = Finds.names formed (lines_fault_is (forms_of (lines_of bytes)) (TooMany n) is)
 finds bytes (WrongKind n) (formed, is) = Finds.names formed (lines_fault_is (forms_of (lines_of bytes)) (WrongKind n) is)
-finds bytes (MayLeave n) is = absurd is
+finds bytes (MayLeave n) (formed, is) = Finds.names formed (lines_fault_is (forms_of (lines_of bytes)) (MayLeave n) is)
 finds bytes NoMemory is = absurd is
 
 one_found : (bytes : List ℕ) (fault other : ScriptFault) → Finds bytes fault → Finds bytes other → fault ≡ other

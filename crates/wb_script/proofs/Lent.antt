@@ -6,10 +6,9 @@ use Rattle.wb_model.specs.declared.script_lines.Operand.TheVariants.{Name, Numbe
 use Rattle.wb_model.specs.declared.script_lines.Form.{Form}
 use Rattle.wb_model.specs.declared.script_lines.Form.TheVariants.{Skip, Unknown, Line}
 use Rattle.wb_model.specs.Forms.{renamed_operand, renamed}
-use Rattle.wb_model.specs.Names.{kind_passed, parameters_in, key_in, names_of}
+use Rattle.wb_model.specs.Names.{kind_passed, parameters_in, item_begun, key_in, names_of}
 use Rattle.wb_script.specs.Lent.{lent_items}
 use Rattle.wb_script.specs.declared.checks.items.Item.{Item}
-use Rattle.wb_script.proofs.FitLemmas.{parameters_of}
 
 module _ {N M : Type 0} (f : N → M) where
   kind-renamed : (operand : Operand N) → kind_passed (renamed_operand f operand) ≡ kind_passed operand
@@ -34,10 +33,11 @@ module _ {N M : Type 0} (f : N → M) where
   key-renamed Unknown = refl
   key-renamed (Line key operands) = refl
 
+  pub item-begun-renamed : (form : Form N) → item_begun (renamed f form) ≡ item_begun form
+  item-begun-renamed Skip = refl
+  item-begun-renamed Unknown = refl
+  item-begun-renamed (Line key operands) = refl
+
 pub names-lent : (items : List Item) → names_of (lent_items items) ≡ map (λ item. item.name.now) items
 names-lent [] = refl
 names-lent (item ∷ items) = ap (λ l. item.name.now ∷ l) (names-lent items)
-
-pub parameters-lent : (items : List Item) → parameters_of (lent_items items) ≡ map (λ item. item.parameters) items
-parameters-lent [] = refl
-parameters-lent (item ∷ items) = ap (λ l. item.parameters ∷ l) (parameters-lent items)

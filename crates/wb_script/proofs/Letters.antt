@@ -9,10 +9,10 @@ use Rattle.wb_model.specs.declared.script.Parameter.{Parameter}
 use Rattle.wb_model.specs.declared.script_lines.Letter.{Letter}
 use Rattle.wb_model.specs.declared.script_lines.Meant.{Meant}
 use Rattle.wb_model.specs.declared.script_lines.Operand.{Operand}
-use Rattle.wb_model.specs.declared.script_lines.Role.{Role}
+use Rattle.wb_model.specs.declared.script_lines.Key.{Key}
 use Rattle.wb_model.specs.Forms.{operand_of, operands_of, onto}
 use Rattle.wb_model.specs.Kinds.{is_right, are_right, is_given, are_given}
-use Rattle.wb_model.specs.Names.{Text, Known}
+use Rattle.wb_model.specs.Names.{Text, Item, Known}
 use Rattle.wb_model.specs.Resolved.{resolved_operand, resolved_operands}
 use Rattle.wb_script.specs.Lent.{lent_texts}
 
@@ -80,23 +80,22 @@ module _ (letters : List Letter) (operands : List (Operand Meant)) (i : ℕ) whe
       nothing_right [] = refl
       nothing_right (l ∷ ls) = refl
 
-module _ {V : Type 0} (view : V → Operand Text) (items : List Text) (known : Known) (role : Role) (letters : List Letter) (operands : List V) (i : ℕ) where
+module _ {V : Type 0} (view : V → Operand Text) (items : List Item) (known : Known) (key : Key) (letters : List Letter) (operands : List V) (i : ℕ) where
   -- the operands from one on
-  pub resolved_here : (d : V) (letter : Letter) (own : Role) (here : Operand Meant) → i < length operands → slice_get letters i ≡ Some letter → own ≡ role → here ≡ resolved_operand items known own letter (view (get_or operands i d)) →
-      resolved_operands items known role (drop i letters) (map view (drop i operands)) ≡ here ∷ resolved_operands items known role (drop (i + 1) letters) (map view (drop (i + 1) operands))
-  resolved_here d letter own here lt at same is =
-      let one : resolved_operand items known role letter (view (get_or operands i d)) ≡ here = ap (λ r. resolved_operand items known r letter (view (get_or operands i d))) (sym same) ∙ sym is in
-      rw (drop_some letters i letter at, drop-cons operands i d lt, add-one i) (ap (λ o. o ∷ resolved_operands items known role (drop (suc i) letters) (map view (drop (suc i) operands))) one)
+  pub resolved_here : (d : V) (letter : Letter) (here : Operand Meant) → i < length operands → slice_get letters i ≡ Some letter → here ≡ resolved_operand items known key letter (view (get_or operands i d)) →
+      resolved_operands items known key (drop i letters) (map view (drop i operands)) ≡ here ∷ resolved_operands items known key (drop (i + 1) letters) (map view (drop (i + 1) operands))
+  resolved_here d letter here lt at is =
+      rw (drop_some letters i letter at, drop-cons operands i d lt, add-one i) (ap (λ o. o ∷ resolved_operands items known key (drop (suc i) letters) (map view (drop (suc i) operands))) (sym is))
 
   -- where no letters are left
-  pub resolved_past : slice_get letters i ≡ None → resolved_operands items known role (drop i letters) (map view (drop i operands)) ≡ []
+  pub resolved_past : slice_get letters i ≡ None → resolved_operands items known key (drop i letters) (map view (drop i operands)) ≡ []
   resolved_past none = rw (drop_none letters i none) refl
 
   -- and where no operands are
-  pub resolved_short : length operands ≤ i → resolved_operands items known role (drop i letters) (map view (drop i operands)) ≡ []
+  pub resolved_short : length operands ≤ i → resolved_operands items known key (drop i letters) (map view (drop i operands)) ≡ []
   resolved_short le = rw (drop_all i operands le) (nothing_resolved (drop i letters))
     where
-      nothing_resolved : (ls : List Letter) → resolved_operands items known role ls [] ≡ []
+      nothing_resolved : (ls : List Letter) → resolved_operands items known key ls [] ≡ []
       nothing_resolved [] = refl
       nothing_resolved (l ∷ ls) = refl
 

@@ -1,11 +1,15 @@
 -- The first unknown name is the first that its body doesn't declare.
-use Rattle.std.proofs.Common.{◌≡◌, ℕ, zero, suc, ◌<◌, ◌≤◌, List, [], ◌∷◌, ◌++◌, length, Option, Some, None, Bool, true, false, not, ◌||◌, ◌⊎◌, inl, inr, refl, sym, ap, subst, ◌∙◌, arith}
+use Rattle.std.proofs.Common.{◌≡◌, ℕ, zero, suc, ◌<◌, ◌≤◌, List, [], ◌∷◌, ◌++◌, length, take, Option, Some, None, Bool, true, false, not, ◌||◌, ◌⊎◌, inl, inr, refl, sym, ap, subst, ◌∙◌, arith}
 use Rattle.std.specs.Prelude.{if◌then◌else◌, slice_get}
 use Rattle.std.specs.Option.{option_map}
 use Rattle.std.specs.List.{list_all, list_any}
 use Rattle.std.specs.Str.{bytes_eq}
+use Rattle.std.proofs.lemmas.List.{length-map}
 use Rattle.std.proofs.lemmas.List.Folds.{list_any-append, list_all-append}
 use Rattle.std.proofs.lemmas.Slice.Eq.{bytes_eq-Decides}
+use Rattle.wb_model.specs.declared.script_lines.Key.{Key}
+use Rattle.wb_model.specs.declared.script_lines.ItemKind.{ItemKind}
+use Rattle.wb_model.specs.declared.script_lines.ItemKind.TheVariants as item
 use Rattle.wb_model.specs.declared.script_lines.Kind.{Kind}
 use Rattle.wb_model.specs.declared.script_lines.Kind.TheVariants as kind
 use Rattle.wb_model.specs.declared.script_lines.Letter.{Letter}
@@ -20,11 +24,11 @@ use Rattle.wb_model.specs.declared.fault.ScriptFault.TheVariants.{UnknownName}
 use Rattle.wb_model.specs.declared.script.Script.{Script}
 use Rattle.wb_model.specs.Forms.{role_of_form, forms_of}
 use Rattle.wb_model.specs.Lines.{lines_of, is_too_long}
-use Rattle.wb_model.specs.Scripts.{IsScriptOf, IsFaultOf, line_of, first_unknown}
-use Rattle.wb_model.specs.Keys.{letters_for, role_of}
-use Rattle.wb_model.specs.Names.{Text, Known, known_after, nothing_known, first_name, is_among, items_of, names_of, locals_by, locals_after, first_declaration_of, first_refused}
+use Rattle.wb_model.specs.Scripts.{IsScriptOf, IsFaultOf, number_of_line, first_unknown}
+use Rattle.wb_model.specs.Keys.{letters_for}
+use Rattle.wb_model.specs.Names.{Text, Known, Item, count_among, known_after, nothing_known, first_name, is_among, items_of, names_of, locals_by, locals_after, first_declaration_of, first_refused}
 use Rattle.wb_model.specs.Passes.{first_bad, first_where, state_after}
-use Rattle.wb_model.specs.Resolved.{meant_at, local_meant, item_meant, resolved_operand, resolved_operands, means_nothing, uses_unknown}
+use Rattle.wb_model.specs.Resolved.{meant_at, local_meant, kind_meant, item_behind, item_at, item_meant, resolved_operand, resolved_operands, means_nothing, uses_unknown}
 use Rattle.wb_model.specs.Undeclared.{local_used, item_used, names_used, used_in, is_inside, stays_inside, IsDeclared, UsesUndeclared, UsesDeclaredUpTo, IsFirstUndeclaredLine}
 use Rattle.wb_script.specs.Typed.{is_typed, AreTyped}
 use Rattle.wb_script.proofs.Cuts.{lines_within}
@@ -60,12 +64,23 @@ or_false false = refl
 abbrev absent : List Text → Text → Bool
 absent names name = not (is_among names name)
 
-item_nothing : (items : List Text) (name : Text) → means_nothing (Name (item_meant (first_declaration_of items name))) ≡ absent items name
-item_nothing items name = go (first_declaration_of items name) refl
+item_nothing : (items : List Item) (name : Text) → means_nothing (Name (item_meant items name)) ≡ absent (names_of items) name
+item_nothing items name = go (first_declaration_of (names_of items) name) refl
   where
-    go : (o : Option ℕ) → first_declaration_of items name ≡ o → means_nothing (Name (item_meant o)) ≡ absent items name
-    go None is = ap not (sym (found_among (λ n. bytes_eq n name) items None is))
-    go (Some i) is = ap not (sym (found_among (λ n. bytes_eq n name) items (Some i) is))
+    of_kind : (kind : ItemKind) (i : ℕ) → means_nothing (Name (kind_meant kind i)) ≡ false
+    of_kind item.Procedure i = refl
+    of_kind item.Operation i = refl
+
+    behind : (before : List Item) (o : Option Item) → (o ≡ None → ⊥) → means_nothing (Name (item_behind before o)) ≡ false
+    behind before None some = absurd (some refl)
+    behind before (Some i) some = of_kind i.kind (count_among i.kind before)
+
+    go : (o : Option ℕ) → first_declaration_of (names_of items) name ≡ o → means_nothing (Name (item_at items o)) ≡ absent (names_of items) name
+    go None is = ap not (sym (found_among (λ n. bytes_eq n name) (names_of items) None is))
+    go (Some i) is =
+        let within : i < length (names_of items) = place_within (names_of items) name i is in
+        let many = length-map items (λ (item : Item). item.name) in
+        behind (take i items) (slice_get items i) (held items i (omega (arith, within, many))) ∙ ap not (sym (found_among (λ n. bytes_eq n name) (names_of items) (Some i) is))
 
 interchanged : (a b c d : Bool) → ((a || b) || (c || d)) ≡ ((a || c) || (b || d))
 interchanged true b c d = refl
@@ -73,7 +88,7 @@ interchanged false true true d = refl
 interchanged false true false d = refl
 interchanged false false c d = refl
 
-module _ (items : List Text) (known : Known) (parallel : length known.kinds ≡ length known.locals) where
+module _ (items : List Item) (known : Known) (parallel : length known.kinds ≡ length known.locals) where
   local_nothing : (name : Text) → means_nothing (Name (meant_at known.kinds (first_declaration_of known.locals name))) ≡ absent known.locals name
   local_nothing name = go (first_declaration_of known.locals name) refl
     where
@@ -92,33 +107,35 @@ module _ (items : List Text) (known : Known) (parallel : length known.kinds ≡ 
 
   -- what a line uses of each space, that isn't in it
   abbrev one_absent : Letter → Operand Text → Bool
-  one_absent at operand = list_any (absent known.locals) (local_used at operand) || list_any (absent items) (item_used at operand)
+  one_absent at operand = list_any (absent known.locals) (local_used at operand) || list_any (absent (names_of items)) (item_used at operand)
 
-  one_unknown : (role : Role) (at : Letter) (operand : Operand Text) → means_nothing (resolved_operand items known role at operand) ≡ one_absent at operand
-  one_unknown role letter.Declared (Name name) = refl
-  one_unknown role letter.Declared _ = refl
-  one_unknown role letter.Procedure (Name name) = item_nothing items name ∙ sym (or_false (absent items name))
-  one_unknown role letter.Procedure _ = refl
-  one_unknown role _ (Name name) = local_nothing name ∙ sym (or_false (absent known.locals name)) ∙ sym (or_false (absent known.locals name || false))
-  one_unknown role _ _ = refl
+  one_unknown : (key : Key) (at : Letter) (operand : Operand Text) → means_nothing (resolved_operand items known key at operand) ≡ one_absent at operand
+  one_unknown key letter.Declared (Name name) = refl
+  one_unknown key letter.Declared _ = refl
+  one_unknown key letter.Procedure (Name name) = item_nothing items name ∙ sym (or_false (absent (names_of items) name))
+  one_unknown key letter.Procedure _ = refl
+  one_unknown key letter.Operation (Name name) = item_nothing items name ∙ sym (or_false (absent (names_of items) name))
+  one_unknown key letter.Operation _ = refl
+  one_unknown key _ (Name name) = local_nothing name ∙ sym (or_false (absent known.locals name)) ∙ sym (or_false (absent known.locals name || false))
+  one_unknown key _ _ = refl
 
-  all_unknown : (role : Role) (letters : List Letter) (operands : List (Operand Text)) →
-      list_any means_nothing (resolved_operands items known role letters operands) ≡ (list_any (absent known.locals) (names_used local_used letters operands) || list_any (absent items) (names_used item_used letters operands))
-  all_unknown role [] operands = refl
-  all_unknown role (at ∷ letters) [] = refl
-  all_unknown role (at ∷ letters) (operand ∷ operands) =
+  all_unknown : (key : Key) (letters : List Letter) (operands : List (Operand Text)) →
+      list_any means_nothing (resolved_operands items known key letters operands) ≡ (list_any (absent known.locals) (names_used local_used letters operands) || list_any (absent (names_of items)) (names_used item_used letters operands))
+  all_unknown key [] operands = refl
+  all_unknown key (at ∷ letters) [] = refl
+  all_unknown key (at ∷ letters) (operand ∷ operands) =
       let locals = list_any (absent known.locals) (names_used local_used letters operands) in
-      let globals = list_any (absent items) (names_used item_used letters operands) in
-      ap (λ b. b || list_any means_nothing (resolved_operands items known role letters operands)) (one_unknown role at operand)
-      ∙ ap (λ b. one_absent at operand || b) (all_unknown role letters operands)
-      ∙ interchanged (list_any (absent known.locals) (local_used at operand)) (list_any (absent items) (item_used at operand)) locals globals
-      ∙ ap (λ b. b || (list_any (absent items) (item_used at operand) || globals)) (sym (list_any-append (absent known.locals) (local_used at operand) (names_used local_used letters operands)))
-      ∙ ap (λ b. list_any (absent known.locals) (names_used local_used (at ∷ letters) (operand ∷ operands)) || b) (sym (list_any-append (absent items) (item_used at operand) (names_used item_used letters operands)))
+      let globals = list_any (absent (names_of items)) (names_used item_used letters operands) in
+      ap (λ b. b || list_any means_nothing (resolved_operands items known key letters operands)) (one_unknown key at operand)
+      ∙ ap (λ b. one_absent at operand || b) (all_unknown key letters operands)
+      ∙ interchanged (list_any (absent known.locals) (local_used at operand)) (list_any (absent (names_of items)) (item_used at operand)) locals globals
+      ∙ ap (λ b. b || (list_any (absent (names_of items)) (item_used at operand) || globals)) (sym (list_any-append (absent known.locals) (local_used at operand) (names_used local_used letters operands)))
+      ∙ ap (λ b. list_any (absent known.locals) (names_used local_used (at ∷ letters) (operand ∷ operands)) || b) (sym (list_any-append (absent (names_of items)) (item_used at operand) (names_used item_used letters operands)))
 
-  pub unknown_is_absent : (form : Form Text) → uses_unknown items known form ≡ (list_any (absent known.locals) (used_in local_used form) || list_any (absent items) (used_in item_used form))
+  pub unknown_is_absent : (form : Form Text) → uses_unknown items known form ≡ (list_any (absent known.locals) (used_in local_used form) || list_any (absent (names_of items)) (used_in item_used form))
   unknown_is_absent Skip = refl
   unknown_is_absent Unknown = refl
-  unknown_is_absent (Line key operands) = all_unknown (role_of key) (letters_for key (length operands)) operands
+  unknown_is_absent (Line key operands) = all_unknown key (letters_for key (length operands)) operands
 
 -- one more line declares a name, or leaves those that its body declares
 locals_with : (role : Role) (form : Form Text) (locals : List Text) (name : Text) → is_among (locals_after role form locals) name ≡ true →
@@ -218,32 +235,32 @@ is_false true never = absurd (never refl)
 is_false false never = refl
 
 module _ (forms before : List (Form Text)) (form : Form Text) (typed : AreTyped before) where
-  abbrev items : List Text
-  items = names_of (items_of forms)
+  abbrev items : List Item
+  items = items_of forms
 
   abbrev locals : List Text
   locals = (known_behind before).locals
 
   undeclared : uses_unknown items (known_behind before) form ≡ true → UsesUndeclared forms before form
-  undeclared is = go (which (list_any (absent locals) (used_in local_used form)) (list_any (absent items) (used_in item_used form)) (sym (unknown_is_absent items (known_behind before) (names_and_kinds before typed) form) ∙ is))
+  undeclared is = go (which (list_any (absent locals) (used_in local_used form)) (list_any (absent (names_of items)) (used_in item_used form)) (sym (unknown_is_absent items (known_behind before) (names_and_kinds before typed) form) ∙ is))
     where
-      go : (list_any (absent locals) (used_in local_used form) ≡ true) ⊎ (list_any (absent items) (used_in item_used form) ≡ true) → UsesUndeclared forms before form
+      go : (list_any (absent locals) (used_in local_used form) ≡ true) ⊎ (list_any (absent (names_of items)) (used_in item_used form) ≡ true) → UsesUndeclared forms before form
       go (inl some) =
           let (name, among, missing) = some_name (absent locals) (used_in local_used form) some in
           let none = not_true (is_among locals name) missing in
           (name, inl (among, λ declares. let there = declared_is before name declares in cc (there, none)))
       go (inr some) =
-          let (name, among, missing) = some_name (absent items) (used_in item_used form) some in
-          (name, inr (among, not_true (is_among items name) missing))
+          let (name, among, missing) = some_name (absent (names_of items)) (used_in item_used form) some in
+          (name, inr (among, not_true (is_among (names_of items) name) missing))
 
   is_unknown : UsesUndeclared forms before form → uses_unknown items (known_behind before) form ≡ true
   is_unknown (name, uses) =
-      unknown_is_absent items (known_behind before) (names_and_kinds before typed) form ∙ either_true (list_any (absent locals) (used_in local_used form)) (list_any (absent items) (used_in item_used form)) (go uses)
+      unknown_is_absent items (known_behind before) (names_and_kinds before typed) form ∙ either_true (list_any (absent locals) (used_in local_used form)) (list_any (absent (names_of items)) (used_in item_used form)) (go uses)
     where
-      go : ((is_among (used_in local_used form) name ≡ true) × (IsDeclared before name → ⊥)) ⊎ ((is_among (used_in item_used form) name ≡ true) × (is_among items name ≡ false)) →
-          (list_any (absent locals) (used_in local_used form) ≡ true) ⊎ (list_any (absent items) (used_in item_used form) ≡ true)
+      go : ((is_among (used_in local_used form) name ≡ true) × (IsDeclared before name → ⊥)) ⊎ ((is_among (used_in item_used form) name ≡ true) × (is_among (names_of items) name ≡ false)) →
+          (list_any (absent locals) (used_in local_used form) ≡ true) ⊎ (list_any (absent (names_of items)) (used_in item_used form) ≡ true)
       go (inl (among, undeclared)) = inl (any_of (absent locals) (used_in local_used form) name among (ap not (is_false (is_among locals name) (λ e. undeclared (is_declared before name e)))))
-      go (inr (among, missing)) = inr (any_of (absent items) (used_in item_used form) name among (ap not missing))
+      go (inr (among, missing)) = inr (any_of (absent (names_of items)) (used_in item_used form) name among (ap not missing))
 
 -- where a pass finds a line
 module _ {S L : Type 0} (next : S → L → S) (bad : S → L → Bool) where
@@ -273,7 +290,7 @@ front_typed before after typed = (both (list_all is_typed before) (list_all is_t
 
 -- a line that uses a name of neither space
 abbrev unknown_in : List (Form Text) → Known → Form Text → Bool
-unknown_in forms = uses_unknown (names_of (items_of forms))
+unknown_in forms = uses_unknown (items_of forms)
 
 -- nothing is found before what is found, and nothing at all where nothing is
 declared_up_to : (forms : List (Form Text)) (n : ℕ) → AreTyped forms → ((m : ℕ) → first_unknown forms ≡ Some m → n ≤ m) → UsesDeclaredUpTo forms n
@@ -283,7 +300,7 @@ declared_up_to forms n typed least before after form parts lt undeclared =
     let at_least = least m (ap (first_refused (unknown_in forms)) parts ∙ found) in
     omega (arith, at_least, le, lt)
 
-pub first_undeclared : (forms : List (Form Text)) (n : ℕ) → AreTyped forms → line_of (first_unknown forms) ≡ Some n → IsFirstUndeclaredLine forms n
+pub first_undeclared : (forms : List (Form Text)) (n : ℕ) → AreTyped forms → number_of_line (first_unknown forms) ≡ Some n → IsFirstUndeclaredLine forms n
 first_undeclared forms n typed is =
     let (index, found, same) = found_line (first_unknown forms) n is in
     let (before, after, form, parts, at, unknown) = first_split known_after (unknown_in forms) forms nothing_known index found in

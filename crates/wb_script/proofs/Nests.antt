@@ -1,5 +1,5 @@
 -- Blocks inside one another, with one more statement, block, `else` or end.
-use Rattle.std.proofs.Common.{◌≡◌, refl, sym, ap, subst, ◌∙◌, ℕ, zero, suc, ◌-◌, ◌<◌, List, [], ◌∷◌, ◌++◌, length, take, get_or, Some, None, Bool, true, false, IsTrue, append_assoc, append-nil, length-append, arith}
+use Rattle.std.proofs.Common.{◌≡◌, ◌⊎◌, inl, inr, refl, sym, ap, subst, ◌∙◌, ℕ, zero, suc, ◌-◌, ◌<◌, List, [], ◌∷◌, ◌++◌, length, take, get_or, Some, None, Bool, true, false, IsTrue, append_assoc, append-nil, length-append, arith}
 use Rattle.std.specs.Prelude.{◌||◌, fold}
 use Rattle.std.specs.List.{flat_map, list_all, list_any}
 use Rattle.std.proofs.lemmas.Grind.{flat_map-append, fold-append}
@@ -11,6 +11,9 @@ use Rattle.wb_model.specs.declared.script.Numbered.{Numbered}
 use Rattle.wb_model.specs.declared.script.Statement.{Statement}
 use Rattle.wb_model.specs.declared.script.Statement.TheViews.{out-Statement}
 use Rattle.wb_model.specs.declared.script_lines.Role.TheVariants as role
+use Rattle.wb_model.specs.declared.script_lines.Key.{Key}
+use Rattle.wb_model.specs.declared.script_lines.Key.TheVariants as key
+use Rattle.wb_model.specs.Keys.{role_of}
 use Rattle.wb_model.specs.Kinds.{is_trap}
 use Rattle.wb_model.specs.Names.{without_last}
 use Rattle.wb_model.specs.Sound.{Declared, is_condition, is_nested, are_within}
@@ -25,7 +28,7 @@ use Rattle.wb_script.specs.Machine.{step}
 use Rattle.wb_script.proofs.Wholes.{both, no_trap}
 
 module _ {X : Type 0} where
-  flat_map-last : {Y : Type 0} (f : X → List Y) (xs : List X) (x : X) → flat_map f (xs ++ x ∷ []) ≡ flat_map f xs ++ f x
+  pub flat_map-last : {Y : Type 0} (f : X → List Y) (xs : List X) (x : X) → flat_map f (xs ++ x ∷ []) ≡ flat_map f xs ++ f x
   flat_map-last f xs x = flat_map-append f xs (x ∷ []) ∙ ap (λ l. flat_map f xs ++ l) (append-nil (f x))
 
   last_of : (x : X) (xs : List X) → (ys : List X) × (y : X) × (x ∷ xs ≡ ys ++ y ∷ [])
@@ -237,11 +240,11 @@ step-outer_end (s ∷ statements) = refl
 pub step-else : (below : List OpenBlock) (before statements : List Numbered) (n : ℕ) (c : Condition) → step (places (below ++ (record { before = before; line = n; head = head.If c }) ∷ []) statements) role.Else ≡ Some (Block ∷ around below)
 step-else below before statements n c = ap (λ l. step l role.Else) (places-block below (record { before = before; line = n; head = head.If c }) statements)
 
--- no procedure begins in another, and no declaration stands behind a statement or in a block
-pub no_procedure : (blocks : List OpenBlock) (statements : List Numbered) → step (places blocks statements) role.Procedure ≡ None
-no_procedure [] [] = refl
-no_procedure [] (s ∷ statements) = refl
-no_procedure (b ∷ blocks) statements =
+-- no body begins in another, and no declaration stands behind a statement or in a block
+no_body : (blocks : List OpenBlock) (statements : List Numbered) → step (places blocks statements) role.Procedure ≡ None
+no_body [] [] = refl
+no_body [] (s ∷ statements) = refl
+no_body (b ∷ blocks) statements =
     let last = last_of b blocks in
     ap (λ l. step (places l statements) role.Procedure) last.2 ∙ ap (λ l. step l role.Procedure) (places-block last.0 last.1 statements) ∙ on last.1 (around last.0) last.1.head
   where
@@ -250,6 +253,10 @@ no_procedure (b ∷ blocks) statements =
     on c below (head.Else x first) = refl
     on c below (head.Repeat v) = refl
     on c below (head.Trap x) = refl
+
+pub no_body_inside : (k : Key) (blocks : List OpenBlock) (statements : List Numbered) → (k ≡ key.Proc) ⊎ (k ≡ key.Op) → step (places blocks statements) (role_of k) ≡ None
+no_body_inside k blocks statements (inl is) = ap (λ q. step (places blocks statements) (role_of q)) is ∙ no_body blocks statements
+no_body_inside k blocks statements (inr is) = ap (λ q. step (places blocks statements) (role_of q)) is ∙ no_body blocks statements
 
 pub late_declaration : (blocks : List OpenBlock) (statements : List Numbered) → (0 < length blocks) → step (places blocks statements) role.Declaration ≡ None
 late_declaration [] statements lt = absurd (omega arith)

@@ -20,7 +20,7 @@ use Rattle.wb_model.specs.declared.script.Writable.TheVariants.{OwnBuffer, InCel
 use Rattle.wb_model.specs.declared.script.Readable.{Readable}
 use Rattle.wb_model.specs.declared.script.Readable.TheVariants.{Of, ViewOf, Quoted}
 use Rattle.wb_model.specs.Names.{kind_passed}
-use Rattle.wb_model.specs.Trees.{Spelled, pointer_operand, variable_operand, number_operand, writable_operand, view_operand, text_operand, procedure_operand, parameter_operand, argument_operand, and_operand, all_spelled}
+use Rattle.wb_model.specs.Trees.{Spelled, pointer_operand, variable_operand, number_operand, writable_operand, view_operand, text_operand, procedure_operand, operation_operand, parameter_operand, argument_operand, and_operand, all_spelled}
 
 -- the pointer, the number or the local that an operand spells
 abbrev pub pointer_in : Operand Meant → Pointer
@@ -62,6 +62,10 @@ abbrev pub procedure_in : Operand Meant → ℕ
 procedure_in (Name (meant.Procedure i)) = i
 procedure_in _ = 0
 
+abbrev pub operation_in : Operand Meant → ℕ
+operation_in (Name (meant.Operation i)) = i
+operation_in _ = 0
+
 -- an operand that is spelled tells what it spells
 pub pointer_back : (p : Pointer) (a : Operand Meant) → pointer_operand p ≡ Some a → pointer_in a ≡ p
 pointer_back (Held (H.Local i)) a is = let same : Name (meant.Pointer i) ≡ a = cc in subst (λ o. pointer_in o ≡ Held (H.Local i)) same refl
@@ -94,6 +98,9 @@ local_back x a is = let same : Name (meant.Pointer x) ≡ a = cc in subst (λ o.
 
 pub procedure_back : (n : ℕ) (a : Operand Meant) → procedure_operand n ≡ Some a → procedure_in a ≡ n
 procedure_back n a is = let same : Name (meant.Procedure n) ≡ a = cc in subst (λ o. procedure_in o ≡ n) same refl
+
+pub operation_back : (n : ℕ) (a : Operand Meant) → operation_operand n ≡ Some a → operation_in a ≡ n
+operation_back n a is = let same : Name (meant.Operation n) ≡ a = cc in subst (λ o. operation_in o ≡ n) same refl
 
 -- how operands that are spelled begin
 begun : (s : Spelled) (rest : Option (List (Operand Meant))) (operands : List (Operand Meant)) → and_operand s rest ≡ Some operands → (a : Operand Meant) × (more : List (Operand Meant)) × (s ≡ Some a) × (rest ≡ Some more) × (a ∷ more ≡ operands)

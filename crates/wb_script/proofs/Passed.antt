@@ -1,5 +1,5 @@
--- Arguments, one more at a time, and which operands are none.
-use Rattle.std.proofs.Common.{◌≡◌, refl, sym, ap, ◌∙◌, ℕ, zero, suc, ◌<◌, List, [], ◌∷◌, ◌++◌, length, map, get_or, Option, Some, None, Bool, true, false, ◌&&◌, IsTrue, arith}
+-- Arguments, one more at a time, which operands are none, and operands that are two.
+use Rattle.std.proofs.Common.{◌≡◌, refl, sym, ap, ◌∙◌, ℕ, zero, suc, ◌<◌, ◌≤◌, List, [], ◌∷◌, ◌++◌, length, map, get_or, Option, Some, None, Bool, true, false, ◌&&◌, IsTrue, arith}
 use Rattle.std.proofs.lemmas.List.{map-append}
 use Rattle.wb_model.specs.declared.script.Argument.{Argument}
 use Rattle.wb_model.specs.declared.script.Local.{Local}
@@ -64,3 +64,10 @@ one_differs literals locals (q ∷ parameters) (r ∷ operands) zero p d lt belo
     ap (λ b. b && arguments_fit literals locals parameters operands) (ap (λ x. argument_fits literals locals x r) (sym here) ∙ misfit)
 one_differs literals locals (q ∷ parameters) (r ∷ operands) (suc i) p d lt below here misfit =
     never (argument_fits literals locals q r) (arguments_fit literals locals parameters operands) (one_differs literals locals parameters operands i p d (omega arith) (omega arith) here misfit)
+
+-- a list of two is its elements
+pub two_items : {X : Type 0} (xs : List X) (d : X) → 2 ≤ length xs → length xs < 3 → xs ≡ get_or xs 0 d ∷ get_or xs 1 d ∷ []
+two_items [] d least below = absurd (omega arith)
+two_items (x ∷ []) d least below = absurd (omega arith)
+two_items (x ∷ y ∷ []) d least below = refl
+two_items (x ∷ y ∷ z ∷ xs) d least below = absurd (omega arith)

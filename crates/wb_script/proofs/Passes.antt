@@ -1,10 +1,10 @@
 -- The steps of a loop that makes a pass.
-use Rattle.std.proofs.Common.{◌≡◌, ℕ, suc, ◌+◌, ◌<◌, ◌≤◌, List, [], ◌∷◌, length, get_or, drop, map, Option, Some, None, Bool, true, false, refl, ap, ◌∙◌, arith, add-zero, add-one, drop-cons, ◌++◌}
-use Rattle.std.proofs.lemmas.List.{drop_all}
+use Rattle.std.proofs.Common.{◌≡◌, ℕ, suc, ◌+◌, ◌<◌, ◌≤◌, List, [], ◌∷◌, length, get_or, drop, map, Option, Some, None, Bool, true, false, refl, ap, ◌∙◌, arith, add-zero, add-one, drop-cons, ◌++◌, take, sym}
+use Rattle.std.proofs.lemmas.List.{drop_all, take_more, map-append}
 use Rattle.std.specs.Prelude.{if◌then◌else◌}
 use Rattle.std.specs.Option.{option_map}
 use Rattle.wb_model.specs.Passes.{first_bad, each_with, state_after}
-use Rattle.wb_model.specs.Scripts.{line_of}
+use Rattle.wb_model.specs.Scripts.{number_of_line}
 use Rattle.wb_script.specs.Checks.{or_here}
 
 shifted : (i : ℕ) (o : Option ℕ) → option_map (λ n. i + n) (option_map suc o) ≡ option_map (λ n. suc i + n) o
@@ -39,10 +39,10 @@ module _ {S L : Type 0} (next : S → L → S) where
   each_length out [] state = refl
   each_length out (l ∷ ls) state = ap suc (each_length out ls (next state l))
 
-  pub first_last : (bad : S → L → Bool) (lines : List L) (line : L) (state : S) → line_of (first_bad next bad state (lines ++ line ∷ [])) ≡ or_here (line_of (first_bad next bad state lines)) (suc (length lines)) (bad (state_after next state lines) line)
+  pub first_last : (bad : S → L → Bool) (lines : List L) (line : L) (state : S) → number_of_line (first_bad next bad state (lines ++ line ∷ [])) ≡ or_here (number_of_line (first_bad next bad state lines)) (suc (length lines)) (bad (state_after next state lines) line)
   first_last bad [] line state = go (bad state line)
     where
-      go : (b : Bool) → line_of (if b then Some 0 else None) ≡ or_here None 1 b
+      go : (b : Bool) → number_of_line (if b then Some 0 else None) ≡ or_here None 1 b
       go true = refl
       go false = refl
   first_last bad (l ∷ ls) line state = go (bad state l) (first_bad next bad (next state l) (ls ++ line ∷ [])) (first_bad next bad (next state l) ls) (first_last bad ls line (next state l))
@@ -52,7 +52,11 @@ module _ {S L : Type 0} (next : S → L → S) where
       later None n true = refl
       later None n false = refl
 
-      go : (b : Bool) (long short : Option ℕ) → line_of long ≡ or_here (line_of short) (suc (length ls)) (bad (state_after next (next state l) ls) line) →
-          line_of (if b then Some 0 else option_map suc long) ≡ or_here (line_of (if b then Some 0 else option_map suc short)) (suc (suc (length ls))) (bad (state_after next (next state l) ls) line)
+      go : (b : Bool) (long short : Option ℕ) → number_of_line long ≡ or_here (number_of_line short) (suc (length ls)) (bad (state_after next (next state l) ls) line) →
+          number_of_line (if b then Some 0 else option_map suc long) ≡ or_here (number_of_line (if b then Some 0 else option_map suc short)) (suc (suc (length ls))) (bad (state_after next (next state l) ls) line)
       go true long short same = refl
-      go false long short same = ap (option_map suc) same ∙ later (line_of short) (suc (length ls)) (bad (state_after next (next state l) ls) line)
+      go false long short same = ap (option_map suc) same ∙ later (number_of_line short) (suc (length ls)) (bad (state_after next (next state l) ls) line)
+
+-- one more element under a function that maps each
+pub map_more : {A B : Type 0} (f : A → B) (xs : List A) (n : ℕ) (x : A) → n < length xs → x ≡ get_or xs n x → map f (take (n + 1) xs) ≡ map f (take n xs) ++ f x ∷ []
+map_more f xs n x lt is = ap (map f) (take_more xs n x lt ∙ ap (λ y. take n xs ++ y ∷ []) (sym is)) ∙ map-append f (take n xs) (x ∷ [])

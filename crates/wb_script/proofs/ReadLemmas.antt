@@ -1,30 +1,34 @@
 -- What the checks of lines tell of the tree.
-use Rattle.std.proofs.Common.{◌≡◌, refl, ap, subst, ◌∙◌, ℕ, suc, ◌≤◌, List, [], ◌∷◌, Bool, true, false, not, ◌&&◌, ◌||◌, length, map, Option, Some, None, IsTrue, nat_le, arith}
-use Rattle.std.proofs.lemmas.Bool.Decides.{nat_tests}
+use Rattle.std.proofs.Common.{◌≡◌, refl, sym, ap, subst, ◌∙◌, ℕ, suc, List, [], ◌∷◌, Bool, true, false, not, ◌&&◌, ◌||◌, map, take, Option, Some, None}
 use Rattle.std.proofs.lemmas.List.Folds.{list_all-append}
 use Rattle.std.specs.Prelude.{codes, slice_get, if◌then◌else◌}
 use Rattle.std.specs.List.{list_all}
 use Rattle.std.specs.Option.{option_map}
 use Rattle.std.specs.Str.{bytes_eq}
 use Rattle.wb_model.specs.declared.script_lines.Key.TheVariants as key
+use Rattle.wb_model.specs.declared.script_lines.ItemKind.{ItemKind}
+use Rattle.wb_model.specs.declared.script_lines.ItemKind.TheVariants as item
 use Rattle.wb_model.specs.declared.script_lines.Operand.TheVariants.{Name}
 use Rattle.wb_model.specs.declared.script_lines.Form.{Form}
 use Rattle.wb_model.specs.declared.script_lines.Form.TheVariants.{Skip, Unknown, Line}
 use Rattle.wb_model.specs.declared.script.Parameter.{Parameter}
-use Rattle.wb_model.specs.declared.script.Script.{Script}
+use Rattle.wb_model.specs.declared.fault.ScriptFault.{ScriptFault}
+use Rattle.wb_model.specs.declared.fault.ScriptFault.TheVariants.{UnknownName, DoubleName, WrongKind, MayLeave, NoMain, TooMany}
 use Rattle.wb_model.specs.Forms.{role_of_form, renamed}
-use Rattle.wb_model.specs.Kinds.{is_nothing, is_right_line, gives_main_parameters, returns_in_trap, has_wrong_kind}
-use Rattle.wb_model.specs.Names.{Text, Known, Item, nothing_known, known_after, names_of, items_by, items_of, parameters_in}
+use Rattle.wb_model.specs.Kinds.{is_nothing, is_right_line, gives_main_parameters, returns_in_trap, returns_outside, has_wrong_kind}
+use Rattle.wb_model.specs.Names.{Text, Known, Item, nothing_known, known_after, names_of, first_declaration_of, is_same_kind, signatures_among, count_among, items_by, items_of, parameters_in}
 use Rattle.wb_model.specs.Passes.{first_bad, first_where}
-use Rattle.wb_model.specs.Resolved.{resolved, resolved_line}
-use Rattle.wb_model.specs.Scripts.{main_of, line_of, first_wrong}
-use Rattle.wb_model.specs.Sound.{is_procedure, is_entry, is_script, is_literal_text, declared_in, signatures_of}
+use Rattle.wb_model.specs.Resolved.{resolved, resolved_line, kind_meant, item_behind, item_at, item_meant}
+use Rattle.wb_model.specs.Scripts.{main_of, procedure_meant, number_of_line, first_wrong, IsNamed, IsLinesFault}
+use Rattle.wb_model.specs.Sound.{is_entry}
 use Rattle.wb_script.specs.Building.{counts_of}
+use Rattle.wb_script.specs.Checks.{AreChecked, AreNamed, IsFirstFault}
 use Rattle.wb_script.specs.Typed.{AreTyped}
-use Rattle.wb_script.proofs.FitLemmas.{both_hold, parameters_of}
+use Rattle.wb_script.specs.declared.checks.Checked.{Checked}
+use Rattle.wb_script.proofs.FitLemmas.{both_hold, signature_here}
 use Rattle.wb_script.proofs.Steps.{good_first}
 use Rattle.wb_script.proofs.TypedLemmas.{both}
-use Rattle.wb_script.proofs.ResolvedLemmas.{counts-resolved, none_wrong}
+use Rattle.wb_script.proofs.ResolvedLemmas.{procedures-resolved, none_wrong}
 
 role-renamed : {N M : Type 0} (f : N → M) (form : Form N) → role_of_form (renamed f form) ≡ role_of_form form
 role-renamed f Skip = refl
@@ -36,7 +40,7 @@ roles-renamed f [] = refl
 roles-renamed f (form ∷ forms) = ap (λ r. r ∷ map role_of_form (map (renamed f) forms)) (role-renamed f form) ∙ ap (λ l. role_of_form form ∷ l) (roles-renamed f forms)
 
 -- no line, no index
-pub no_line : (found : Option ℕ) → line_of found ≡ None → found ≡ None
+pub no_line : (found : Option ℕ) → number_of_line found ≡ None → found ≡ None
 no_line None is = refl
 no_line (Some index) is = let clash : ⊥ = cc in absurd clash
 
@@ -44,22 +48,42 @@ no_line (Some index) is = let clash : ⊥ = cc in absurd clash
 abbrev takes_nothing : (Text → Bool) → Item → Bool
 takes_nothing p item = not (p item.name) || is_nothing item.parameters
 
-entry_found : (p : Text → Bool) (items : List Item) (i : ℕ) → first_where p (names_of items) ≡ Some i → list_all (takes_nothing p) items ≡ true → is_entry (slice_get (parameters_of items) i) ≡ true
-entry_found p [] i is nothing = let clash : ⊥ = cc in absurd clash
-entry_found p (item ∷ items) i is nothing = go (p item.name) (first_where p (names_of items)) (λ j. entry_found p items j) refl is nothing
+named_nothing : (p : Text → Bool) (items : List Item) (i : ℕ) → first_where p (names_of items) ≡ Some i → list_all (takes_nothing p) items ≡ true → (named : Item) × (slice_get items i ≡ Some named) × (is_nothing named.parameters ≡ true)
+named_nothing p [] i is nothing = let clash : ⊥ = cc in absurd clash
+named_nothing p (one ∷ items) i is nothing = go (p one.name) (first_where p (names_of items)) (λ j. named_nothing p items j) refl is nothing
   where
-    taken : (ps : List Parameter) → is_nothing ps ≡ true → is_entry (Some ps) ≡ true
-    taken [] e = refl
-    taken (q ∷ qs) e = let clash : ⊥ = cc in absurd clash
-
-    go : (b : Bool) (o : Option ℕ) → ((j : ℕ) → first_where p (names_of items) ≡ Some j → list_all (takes_nothing p) items ≡ true → is_entry (slice_get (parameters_of items) j) ≡ true) → first_where p (names_of items) ≡ o → (if b then Some 0 else option_map suc o) ≡ Some i → ((not b || is_nothing item.parameters) && list_all (takes_nothing p) items) ≡ true → is_entry (slice_get (parameters_of (item ∷ items)) i) ≡ true
+    go : (b : Bool) (o : Option ℕ) → ((j : ℕ) → first_where p (names_of items) ≡ Some j → list_all (takes_nothing p) items ≡ true → (named : Item) × (slice_get items j ≡ Some named) × (is_nothing named.parameters ≡ true)) →
+        first_where p (names_of items) ≡ o → (if b then Some 0 else option_map suc o) ≡ Some i → ((not b || is_nothing one.parameters) && list_all (takes_nothing p) items) ≡ true →
+        (named : Item) × (slice_get (one ∷ items) i ≡ Some named) × (is_nothing named.parameters ≡ true)
     go true o more later e all =
         let same : 0 ≡ i = cc in
-        subst (λ n. is_entry (slice_get (parameters_of (item ∷ items)) n) ≡ true) same (taken item.parameters (both (is_nothing item.parameters) (list_all (takes_nothing p) items) all).0)
+        (one, subst (λ n. slice_get (one ∷ items) n ≡ Some one) same refl, (both (is_nothing one.parameters) (list_all (takes_nothing p) items) all).0)
     go false None more later e all = let clash : ⊥ = cc in absurd clash
     go false (Some j) more later e all =
         let same : suc j ≡ i = cc in
-        subst (λ n. is_entry (slice_get (parameters_of (item ∷ items)) n) ≡ true) same (more j later all)
+        let (named, at, nothing) = more j later all in
+        (named, subst (λ n. slice_get (one ∷ items) n ≡ Some named) same at, nothing)
+
+taken : (ps : List Parameter) → is_nothing ps ≡ true → is_entry (Some ps) ≡ true
+taken [] e = refl
+taken (q ∷ qs) e = let clash : ⊥ = cc in absurd clash
+
+entry_found : (items : List Item) (name : Text) (main : ℕ) → procedure_meant (item_meant items name) ≡ Some main → list_all (takes_nothing (λ n. bytes_eq n name)) items ≡ true → is_entry (slice_get (signatures_among item.Procedure items) main) ≡ true
+entry_found items name main is all = found (first_declaration_of (names_of items) name) refl is
+  where
+    by_kind : (index : ℕ) (named : Item) (kind : ItemKind) → slice_get items index ≡ Some named → is_nothing named.parameters ≡ true → named.kind ≡ kind → procedure_meant (kind_meant kind (count_among kind (take index items))) ≡ Some main →
+        is_entry (slice_get (signatures_among item.Procedure items) main) ≡ true
+    by_kind index named item.Operation at nothing e is = let clash : ⊥ = cc in absurd clash
+    by_kind index named item.Procedure at nothing e is =
+        let same : count_among item.Procedure (take index items) ≡ main = cc in
+        subst (λ n. is_entry (slice_get (signatures_among item.Procedure items) n) ≡ true) same
+        (ap is_entry (signature_here item.Procedure items index named at (ap (λ k. is_same_kind k item.Procedure) e)) ∙ taken named.parameters nothing)
+
+    found : (place : Option ℕ) → first_declaration_of (names_of items) name ≡ place → procedure_meant (item_at items place) ≡ Some main → is_entry (slice_get (signatures_among item.Procedure items) main) ≡ true
+    found None e is = let clash : ⊥ = cc in absurd clash
+    found (Some index) e is =
+        let (named, at, nothing) = named_nothing (λ n. bytes_eq n name) items index e all in
+        by_kind index named named.kind at nothing refl (ap (λ o. procedure_meant (item_behind (take index items) o)) (sym at) ∙ is)
 
 abbrev is_main : Text → Bool
 is_main name = bytes_eq name (codes "main")
@@ -69,30 +93,44 @@ given_nothing true true e = refl
 given_nothing true false e = let clash : ⊥ = cc in absurd clash
 given_nothing false nothing e = refl
 
-line_entry : (form : Form Text) → gives_main_parameters form ≡ false → list_all (takes_nothing is_main) (items_by (role_of_form form) form) ≡ true
+line_entry : (form : Form Text) → gives_main_parameters form ≡ false → list_all (takes_nothing is_main) (items_by form) ≡ true
 line_entry Skip none = refl
 line_entry Unknown none = refl
 line_entry (Line key.Proc (Name n ∷ os)) none = given_nothing (is_main n) (is_nothing (parameters_in (Line key.Proc (Name n ∷ os)))) none
 line_entry (Line key.Proc []) none = refl
 line_entry (Line key.Proc (_ ∷ os)) none = refl
+line_entry (Line key.Op (Name n ∷ os)) none = given_nothing (is_main n) (is_nothing (parameters_in (Line key.Op (Name n ∷ os)))) none
+line_entry (Line key.Op []) none = refl
+line_entry (Line key.Op (_ ∷ os)) none = refl
 line_entry (Line _ operands) none = refl
 
 lines_entry : (items : List Item) (forms : List (Form Text)) (known : Known) → first_bad known_after (has_wrong_kind items) known forms ≡ None → list_all (takes_nothing is_main) (items_of forms) ≡ true
 lines_entry items [] known right = refl
 lines_entry items (form ∷ forms) known right =
     let (here, later) = good_first (has_wrong_kind items known form) (first_bad known_after (has_wrong_kind items) (known_after known form) forms) right in
-    let (fine, main, trapped) = none_wrong (is_right_line items (resolved_line (names_of items) known form)) (gives_main_parameters form) (returns_in_trap known form) here in
-    list_all-append (takes_nothing is_main) (items_by (role_of_form form) form) (items_of forms) ∙ both_hold _ _ (line_entry form main) (lines_entry items forms (known_after known form) later)
+    let (fine, main, trapped, outside) = none_wrong (is_right_line items (resolved_line items known form)) (gives_main_parameters form) (returns_in_trap known form) (returns_outside known form) here in
+    list_all-append (takes_nothing is_main) (items_by form) (items_of forms) ∙ both_hold _ _ (line_entry form main) (lines_entry items forms (known_after known form) later)
 
 -- `main` is one of the procedures, and takes nothing
 pub main_entry : (forms : List (Form Text)) (main : ℕ) → AreTyped forms → main_of forms ≡ Some main → first_wrong forms ≡ None → is_entry (slice_get (counts_of (resolved forms)).procedures main) ≡ true
 main_entry forms main typed is right =
-    ap (λ (ps : List (List Parameter)). is_entry (slice_get ps main)) (counts-resolved forms typed)
-    ∙ entry_found is_main (items_of forms) main is (lines_entry (items_of forms) forms nothing_known right)
+    ap (λ (ps : List (List Parameter)). is_entry (slice_get ps main)) (procedures-resolved forms typed)
+    ∙ entry_found (items_of forms) (codes "main") main is (lines_entry (items_of forms) forms nothing_known right)
 
--- a tree that keeps what a script has to keep
-pub sound_tree : (script : Script) → script.classes ≡ [] → script.operations ≡ [] → length script.procedures ≤ 256 → is_entry (slice_get (signatures_of script.procedures) script.main) ≡ true →
-    IsTrue (list_all is_literal_text script.literals) → IsTrue (list_all (is_procedure (declared_in script)) script.procedures) → IsTrue (is_script script)
-sound_tree script no_class no_operation few main quotable procedures =
-    let at_most : nat_le (length script.procedures) 256 ≡ true = grind (arith, nat_tests) in
-    rw (no_class, no_operation) (both_hold _ _ (both_hold _ _ at_most main) (both_hold _ _ procedures quotable))
+-- What the checks of lines found is so of the lines.
+pub all_named : (forms : List (Form Text)) (checked : Checked) → AreChecked (items_of forms) forms checked → AreNamed checked.first → IsNamed forms
+all_named forms checked found named = record {
+  known = no_line _ (sym found.unknown_name ∙ named.known);
+  once = no_line _ (sym found.double_name ∙ named.once);
+  right = no_line _ (sym found.wrong_kind ∙ named.right);
+  quiet = no_line _ (sym found.may_leave ∙ named.quiet);
+}
+
+pub lines_fault : (forms : List (Form Text)) (checked : Checked) (fault : ScriptFault) → AreChecked (items_of forms) forms checked → IsFirstFault (items_of forms) checked.first fault → IsLinesFault forms fault
+lines_fault forms checked (UnknownName n) found is = sym found.unknown_name ∙ is
+lines_fault forms checked (DoubleName n) found is = (no_line _ (sym found.unknown_name ∙ is.0), sym found.double_name ∙ is.1)
+lines_fault forms checked (WrongKind n) found is = (no_line _ (sym found.unknown_name ∙ is.0), no_line _ (sym found.double_name ∙ is.1), sym found.wrong_kind ∙ is.2)
+lines_fault forms checked (MayLeave n) found is = (no_line _ (sym found.unknown_name ∙ is.0), no_line _ (sym found.double_name ∙ is.1), no_line _ (sym found.wrong_kind ∙ is.2), sym found.may_leave ∙ is.3)
+lines_fault forms checked NoMain found is = (all_named forms checked found is.0, is.1)
+lines_fault forms checked (TooMany n) found is = (all_named forms checked found is.0, is.1, sym found.too_many ∙ is.2)
+lines_fault forms checked _ found is = absurd is

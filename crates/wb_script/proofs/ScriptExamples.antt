@@ -14,7 +14,7 @@ use Rattle.wb_model.specs.Lines.{lines_of}
 use Rattle.wb_model.specs.Names.{Text, first_refused, passes_limit, literals_of}
 use Rattle.wb_model.specs.Resolved.{resolved}
 use Rattle.wb_model.specs.Scripts.{AreLines, main_of, first_unknown, first_double, first_wrong}
-use Rattle.wb_model.specs.Trees.{counted_from, joined}
+use Rattle.wb_model.specs.Trees.{counted_from, lines_joined}
 
 abbrev forms_in : List ℕ → List (Form Text)
 forms_in bytes = forms_of (lines_of bytes)
@@ -171,7 +171,7 @@ returns_in_traps = refl
 
 -- As many blocks may be open as may be, and as many parameters.
 abbrev nested : ℕ → List ℕ
-nested depth = codes "proc main\n" ++ (joined (replicate depth (codes "repeat 1\n")) ++ joined (replicate depth (codes "end\n"))) ++ codes "end"
+nested depth = codes "proc main\n" ++ (lines_joined (replicate depth (codes "repeat 1\n")) ++ lines_joined (replicate depth (codes "end\n"))) ++ codes "end"
 
 deepest_block : past_limit (nested 16) ≡ None
 unfolding keys
@@ -181,7 +181,7 @@ one_block_deeper : past_limit (nested 17) ≡ Some 17
 unfolding keys
 one_block_deeper = refl
 
-blocks_beside_one_another : past_limit (codes "proc main\n" ++ joined (replicate 17 (codes "repeat 1\nend\n")) ++ codes "end") ≡ None
+blocks_beside_one_another : past_limit (codes "proc main\n" ++ lines_joined (replicate 17 (codes "repeat 1\nend\n")) ++ codes "end") ≡ None
 unfolding keys
 blocks_beside_one_another = refl
 

@@ -60,7 +60,7 @@ fault_of_lines bytes (TooMany n) text (grammar, fault) = (record { text = text; 
 fault_of_lines bytes TooLong text (grammar, fault) = absurd fault
 fault_of_lines bytes (NotAscii n) text (grammar, fault) = absurd fault
 fault_of_lines bytes (WrongKind n) text (grammar, fault) = (record { text = text; grammar = grammar }, fault)
-fault_of_lines bytes (MayLeave n) text (grammar, fault) = absurd fault
+fault_of_lines bytes (MayLeave n) text (grammar, fault) = (record { text = text; grammar = grammar }, fault)
 fault_of_lines bytes NoMemory text (grammar, fault) = absurd fault
 
 -- no more lines than bytes

@@ -122,6 +122,7 @@ kind_typed word.Number text operand short is = mapped (λ o. is_word_of o word.N
 kind_typed word.Size text operand short is = size_typed (number_spelled text) operand is
 kind_typed word.Literal text operand short is = mapped (λ o. is_word_of o word.Literal ≡ true) Literal (literal_spelled text) operand (λ t e. literal_sound text t short e) is
 kind_typed word.Parameter text operand short is = parameter_typed (parameter_name text) (parameter_kind text) operand (λ k e. kind_sound (drop (length text - 4) text) k e) is
+kind_typed word.NewPointer text operand short is = mapped (λ o. is_word_of o word.NewPointer ≡ true) (λ n. Parameter n (model.TheVariants.OfPointer None)) (declared_name text) operand (λ n e. refl) is
 kind_typed (word.Keyword k) text operand short is = subst (λ o. is_word_of o (word.Keyword k) ≡ true) (given (bytes_eq text (text_of_keyword k)) Keyword operand is).1 refl
 
 -- a word of one of some kinds

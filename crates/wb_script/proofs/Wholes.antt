@@ -1,6 +1,6 @@
 -- The lines of a statement, with those of what stands inside it, and what a closed block is.
 use Rattle.std.proofs.Common.{◌≡◌, refl, sym, ap, subst, ◌∙◌, ℕ, List, [], ◌∷◌, ◌++◌, map, Some, Bool, true, false, ◌&&◌, IsTrue, append_assoc}
-use Rattle.std.specs.Prelude.{◌||◌, slice_get}
+use Rattle.std.specs.Prelude.{◌||◌, nat_lt, slice_get}
 use Rattle.wb_model.specs.declared.script.Condition.{Condition}
 use Rattle.wb_model.specs.declared.script.Condition.TheVariants.{IsNull, NotNull, Equal, Less}
 use Rattle.wb_model.specs.declared.script_lines.Key.{Key}
@@ -10,6 +10,7 @@ use Rattle.wb_model.specs.declared.script_lines.Form.TheVariants.{Line}
 use Rattle.wb_model.specs.declared.script.Local.{Local}
 use Rattle.wb_model.specs.declared.script.Argument.{Argument}
 use Rattle.wb_model.specs.declared.script.Holder.TheVariants as H
+use Rattle.wb_model.specs.declared.script.Pointer.{Pointer}
 use Rattle.wb_model.specs.declared.script.Pointer.TheVariants.{Held}
 use Rattle.wb_model.specs.declared.script.Refusal.TheVariants.{GivesNull, Leaves}
 use Rattle.wb_model.specs.declared.script_lines.Key.TheVariants as key
@@ -18,12 +19,12 @@ use Rattle.wb_model.specs.declared.script.Numbered.{Numbered}
 use Rattle.wb_model.specs.declared.script.Statement.{Statement}
 use Rattle.wb_model.specs.declared.script.Statement.TheOpen.{Statement-F}
 use Rattle.wb_model.specs.declared.script.Statement.TheFolds.{map-Statement}
-use Rattle.wb_model.specs.declared.script.Statement.TheViews.{out-Statement, outs-If, outs-IfElse, outs-Repeat, outs-Trap, outs-Call, outs-CallTo, If, IfElse, Repeat, Trap}
-use Rattle.wb_model.specs.declared.script.Statement.TheVariants.{Call, CallTo, rolls-If, rolls-IfElse, rolls-Repeat, rolls-Trap}
+use Rattle.wb_model.specs.declared.script.Statement.TheViews.{out-Statement, outs-If, outs-IfElse, outs-Repeat, outs-Trap, outs-Call, outs-CallTo, outs-PushOperation, If, IfElse, Repeat, Trap}
+use Rattle.wb_model.specs.declared.script.Statement.TheVariants.{Call, CallTo, PushOperation, rolls-If, rolls-IfElse, rolls-Repeat, rolls-Trap}
 use Rattle.wb_model.specs.declared.script.Statement.TheFolds.{fold-Numbered, fold_out-Numbered, fold_out-Statement, fold-roll-Statement}
-use Rattle.wb_model.specs.Sound.{Declared, is_condition, is_number, is_variable, is_pointer_local, is_call, is_statement, is_simple, is_nested, are_within}
+use Rattle.wb_model.specs.Sound.{Declared, is_condition, is_number, is_variable, is_pointer, is_pointer_local, is_call, is_statement, is_simple, is_nested, are_within}
 use Rattle.wb_model.specs.Kinds.{is_trap}
-use Rattle.wb_model.specs.Trees.{Marked, joined, layer_lines, numbered_layer, numbered_lines, lines_of_statement, statement_lines, statement_line, condition_line, end_line, else_line, line_or_unknown, and_operand, all_spelled, argument_operand, pointer_operand, procedure_operand}
+use Rattle.wb_model.specs.Trees.{Marked, lines_joined, layer_lines, numbered_layer, numbered_lines, lines_of_statement, statement_lines, statement_line, condition_line, end_line, else_line, line_or_unknown, and_operand, all_spelled, argument_operand, pointer_operand, procedure_operand, operation_operand}
 use Rattle.wb_script.specs.declared.tree.blocks.Head.TheVariants as head
 use Rattle.wb_script.specs.Building.{IsWhole, condition_key, head_form, head_lines}
 use Rattle.wb_script.specs.Stated.{IsOneLine}
@@ -34,7 +35,7 @@ lines_of_numbered = fold-Numbered (ℕ → List Marked) (List Marked) layer_line
 same_lines : (s : Numbered) → lines_of_numbered s ≡ numbered_lines s
 same_lines s = fold_out-Numbered (ℕ → List Marked) (List Marked) layer_lines numbered_layer s
 
-joined-map : (ss : List Numbered) → joined (map lines_of_numbered ss) ≡ statement_lines ss
+joined-map : (ss : List Numbered) → lines_joined (map lines_of_numbered ss) ≡ statement_lines ss
 joined-map [] = refl
 joined-map (s ∷ ss) = ap (λ l. lines_of_numbered s ++ l) (joined-map ss) ∙ ap (λ l. l ++ statement_lines ss) (same_lines s)
 
@@ -48,7 +49,7 @@ if_else_lines : (c : Condition) (first other : List Numbered) (n : ℕ) → line
 if_else_lines c first other n =
     ap (λ s. lines_of_statement s n) (sym (rolls-IfElse c first other))
     ∙ ap (λ f. f n) (fold-roll-Statement (ℕ → List Marked) (List Marked) layer_lines numbered_layer (Statement-F.IfElse c first other))
-    ∙ ap (λ l. (Some n, condition_line c) ∷ (l ++ else_line ∷ (joined (map lines_of_numbered other) ++ end_line ∷ []))) (joined-map first)
+    ∙ ap (λ l. (Some n, condition_line c) ∷ (l ++ else_line ∷ (lines_joined (map lines_of_numbered other) ++ end_line ∷ []))) (joined-map first)
     ∙ ap (λ l. (Some n, condition_line c) ∷ (statement_lines first ++ else_line ∷ (l ++ end_line ∷ []))) (joined-map other)
     ∙ ap (λ l. (Some n, condition_line c) ∷ l) (sym (append_assoc (statement_lines first) (else_line ∷ []) (statement_lines other ++ end_line ∷ [])))
 
@@ -160,6 +161,7 @@ simple_plain literals locals trapped _ is = is
 nested_simple : (declared : Declared) (locals : List Local) (trapped : Bool) (inside : Bool → List Numbered → Bool) (layer : Statement-F Statement Numbered) → IsTrue (is_simple declared.literals locals trapped layer) → IsTrue (is_nested declared locals trapped inside layer)
 nested_simple declared locals trapped inside (Statement-F.Call p arguments) is = let clash : ⊥ = cc in absurd clash
 nested_simple declared locals trapped inside (Statement-F.CallTo x p arguments) is = let clash : ⊥ = cc in absurd clash
+nested_simple declared locals trapped inside (Statement-F.PushOperation p n) is = let clash : ⊥ = cc in absurd clash
 nested_simple declared locals trapped inside (Statement-F.If c first) is = let clash : ⊥ = cc in absurd clash
 nested_simple declared locals trapped inside (Statement-F.IfElse c first other) is = let clash : ⊥ = cc in absurd clash
 nested_simple declared locals trapped inside (Statement-F.Repeat v body) is = let clash : ⊥ = cc in absurd clash
@@ -188,4 +190,13 @@ call_to_line declared locals trapped operand operands x index arguments first po
       ∙ ap (λ o. (Some n, line_or_unknown key.CallTo (and_operand (pointer_operand (Held (H.Local x))) o)) ∷ []) is
       ∙ ap (λ o. (Some n, line_or_unknown key.CallTo (and_operand o (Some operands))) ∷ []) first;
   sound = λ inside. subst (λ l. IsTrue (is_nested declared locals trapped inside l)) (sym (outs-CallTo x index arguments)) (both (is_pointer_local (slice_get locals x)) (is_call declared.signatures locals index arguments) pointer sound);
+}
+
+pub push_operation_line : (declared : Declared) (locals : List Local) (trapped : Bool) (operand named : Operand Meant) (p : Pointer) (index : ℕ) → pointer_operand p ≡ Some operand → IsTrue (is_pointer locals p) → operation_operand index ≡ Some named → IsTrue (nat_lt index declared.operations) → IsOneLine declared locals trapped key.PushOp (operand ∷ named ∷ []) (PushOperation p index)
+push_operation_line declared locals trapped operand named p index first pointer second there = record {
+  lines = λ n.
+      one_line (PushOperation p index) n (subst (λ l. IsTrue (is_flat l)) (sym (outs-PushOperation p index)) refl) ∙ ap (λ l. (Some n, statement_line l) ∷ []) (outs-PushOperation p index)
+      ∙ ap (λ o. (Some n, line_or_unknown key.PushOp (and_operand o (and_operand (operation_operand index) (Some [])))) ∷ []) first
+      ∙ ap (λ o. (Some n, line_or_unknown key.PushOp (and_operand (Some operand) (and_operand o (Some [])))) ∷ []) second;
+  sound = λ inside. subst (λ l. IsTrue (is_nested declared locals trapped inside l)) (sym (outs-PushOperation p index)) (both (is_pointer locals p) (nat_lt index declared.operations) pointer there);
 }

@@ -1,13 +1,15 @@
 -- What a tree in the making stands for, and which lines can be added to it.
-use Rattle.std.specs.Prelude.{◌≡◌, ℕ, zero, suc, List, [], ◌∷◌, ◌++◌, Bool, true, false, not, ◌&&◌, ◌||◌, ◌<◌, ◌≤◌, nat_eq, nat_lt, nat_le, Option, Some, None, IsTrue, MatchOption, fold, length, map}
-use Rattle.std.specs.List.{list_all, list_any, flat_map}
+use Rattle.std.specs.Prelude.{◌≡◌, ℕ, zero, suc, ◌+◌, List, [], ◌∷◌, ◌++◌, Bool, true, false, not, ◌&&◌, ◌||◌, nat_eq, nat_lt, nat_le, Option, Some, None, IsTrue, MatchOption, fold, length, map}
+use Rattle.std.specs.List.{list_any, flat_map}
 use Rattle.wb_model.specs.declared.limits.TheConstants.{LARGEST_BUFFER, MOST_LOCALS, MOST_PARAMETERS, MOST_PROCEDURES, DEEPEST_BLOCK}
+use Rattle.wb_model.specs.declared.script_lines.ItemKind.{ItemKind}
+use Rattle.wb_model.specs.declared.script_lines.ItemKind.TheVariants as item
 use Rattle.wb_model.specs.declared.script_lines.Key.{Key}
 use Rattle.wb_model.specs.declared.script_lines.Key.TheVariants as key
 use Rattle.wb_model.specs.declared.script_lines.Meant.{Meant}
 use Rattle.wb_model.specs.declared.script_lines.Meant.TheVariants as meant
 use Rattle.wb_model.specs.declared.script_lines.Operand.{Operand}
-use Rattle.wb_model.specs.declared.script_lines.Operand.TheVariants.{Name, Size, Parameter}
+use Rattle.wb_model.specs.declared.script_lines.Operand.TheVariants.{Name, Size}
 use Rattle.wb_model.specs.declared.script_lines.Form.TheVariants.{Line}
 use Rattle.wb_model.specs.declared.script_lines.Role.{Role}
 use Rattle.wb_model.specs.declared.script_lines.Role.TheVariants.{Procedure, Declaration, Loop, If, Else}
@@ -16,31 +18,26 @@ use Rattle.wb_model.specs.declared.script.Condition.TheVariants.{IsNull, NotNull
 use Rattle.wb_model.specs.declared.script.Parameter as kinds
 use Rattle.wb_model.specs.declared.script.Local.{Local}
 use Rattle.wb_model.specs.declared.script.Local.TheVariants.{OfPointer, OfNumber, OfBuffer, OfView}
-use Rattle.wb_model.specs.declared.script.Procedure as model
 use Rattle.wb_model.specs.declared.script.Numbered.{Numbered}
 use Rattle.wb_model.specs.declared.script.Statement.{Statement}
 use Rattle.wb_model.specs.declared.script.Statement.TheViews.{out-Statement}
 use Rattle.wb_model.specs.Forms.{role_of_form}
 use Rattle.wb_model.specs.Keys.{role_of}
 use Rattle.wb_model.specs.Kinds.{ends_body, is_trap}
-use Rattle.wb_model.specs.Names.{with_one, parameters_in, blocks_after}
+use Rattle.wb_model.specs.Names.{with_one, item_begun, parameters_in, blocks_after}
 use Rattle.wb_model.specs.Passes.{first_bad, state_after}
-use Rattle.wb_model.specs.Sound.{Declared, is_local, is_parameter, is_condition, is_number, is_variable, is_nested, are_within, is_procedure, local_of_parameter, locals_of, signatures_of}
-use Rattle.wb_model.specs.Trees.{Indexed, Marked, mark, counted, lines_of_statement, line, number_operand, variable_operand, condition_line, head_line, local_line, local_lines, statement_lines, else_line, end_line, body_lines, procedure_head, procedures_lines}
+use Rattle.wb_model.specs.Sound.{Declared, is_condition, is_number, is_variable, is_nested, are_within, local_of_parameter}
+use Rattle.wb_model.specs.Trees.{Indexed, Marked, lines_of_statement, line, number_operand, variable_operand, condition_line, statement_lines, else_line, end_line}
 use Rattle.wb_script.specs.declared.checks.nesting.Open.{Open}
 use Rattle.wb_script.specs.declared.checks.nesting.Open.TheVariants.{Declarations, Statements, Branch, Block}
-use Rattle.wb_script.specs.declared.tree.Building.{Building}
 use Rattle.wb_script.specs.declared.tree.blocks.Head.{Head}
 use Rattle.wb_script.specs.declared.tree.blocks.Head.TheVariants as head
 use Rattle.wb_script.specs.declared.tree.blocks.OpenBlock.{OpenBlock}
 use Rattle.wb_script.specs.declared.tree.blocks.Nest.{Nest}
 use Rattle.wb_script.specs.declared.tree.blocks.Around.{Around}
 use Rattle.wb_script.specs.declared.tree.blocks.Around.TheVariants as around
-use Rattle.wb_script.specs.declared.tree.procedures.OpenProcedure.{OpenProcedure}
-use Rattle.wb_script.specs.declared.tree.procedures.Left.{Left}
-use Rattle.wb_script.specs.declared.tree.procedures.Left.TheVariants.{Inside, Done}
 use Rattle.wb_script.specs.Fitting.{operands_fit}
-use Rattle.wb_script.specs.Machine.{step, after_line}
+use Rattle.wb_script.specs.Machine.{step}
 
 -- the local that a line of a key declares
 abbrev pub local_of : Key → List (Operand Meant) → Option Local
@@ -54,19 +51,24 @@ abbrev pub local_in : Indexed → Option Local
 local_in (Line key operands) = local_of key operands
 local_in _ = None
 
--- the procedures so far, each by its parameters; the locals of the body that stands open or was the last, its parameters first;
--- and the keys of the blocks that stand open in it, the innermost last
+-- the procedures so far, each by its parameters, and how many operations; the locals of the body that stands open or was the
+-- last, its parameters first; and the keys of the blocks that stand open in it, the innermost last
 pub record Counts : Type 0 where
   pub procedures : List (List kinds.Parameter)
+  pub operations : ℕ
   pub locals : List Local
   pub blocks : List Key
 
 abbrev pub nothing_counted : Counts
-nothing_counted = record { procedures = []; locals = []; blocks = [] }
+nothing_counted = record { procedures = []; operations = 0; locals = []; blocks = [] }
 
-abbrev pub procedures_after : Role → Indexed → List (List kinds.Parameter) → List (List kinds.Parameter)
-procedures_after Procedure line procedures = procedures ++ parameters_in line ∷ []
+abbrev pub procedures_after : Option ItemKind → Indexed → List (List kinds.Parameter) → List (List kinds.Parameter)
+procedures_after (Some item.Procedure) line procedures = procedures ++ parameters_in line ∷ []
 procedures_after _ line procedures = procedures
+
+abbrev pub operations_after : Option ItemKind → ℕ → ℕ
+operations_after (Some item.Operation) operations = operations + 1
+operations_after _ operations = operations
 
 abbrev pub locals_after : Role → Indexed → List Local → List Local
 locals_after Procedure line locals = map local_of_parameter (parameters_in line)
@@ -75,7 +77,8 @@ locals_after _ line locals = locals
 
 abbrev pub counts_with : Role → Indexed → Counts → Counts
 counts_with role line counts = record {
-  procedures = procedures_after role line counts.procedures;
+  procedures = procedures_after (item_begun line) line counts.procedures;
+  operations = operations_after (item_begun line) counts.operations;
   locals = locals_after role line counts.locals;
   blocks = blocks_after role line counts.blocks;
 }
@@ -93,10 +96,22 @@ abbrev pub is_small : List (Operand Meant) → Bool
 is_small (name ∷ Size max ∷ []) = nat_le max LARGEST_BUFFER
 is_small _ = true
 
--- a declaration is the next of its space, and neither it nor a block is one more than there may be
+-- the index of the next item of a kind
+abbrev pub next_index : Option ItemKind → Counts → ℕ
+next_index (Some item.Operation) counts = counts.operations
+next_index _ counts = length counts.procedures
+
+-- what one of a kind may take: an operation its one pointer
+abbrev pub takes_its : Option ItemKind → List kinds.Parameter → Bool
+takes_its (Some item.Operation) (kinds.TheVariants.OfPointer None ∷ []) = true
+takes_its (Some item.Operation) _ = false
+takes_its _ parameters = true
+
+-- a declaration is the next of its kind, and neither it nor a block is one more than there may be
 abbrev pub is_due : Role → Counts → Indexed → List (Operand Meant) → Bool
 is_due Procedure counts line operands =
-    declares (length counts.procedures) operands && (nat_lt (length counts.procedures) MOST_PROCEDURES && nat_le (length (parameters_in line)) MOST_PARAMETERS)
+    declares (next_index (item_begun line) counts) operands
+    && (nat_lt (length counts.procedures + counts.operations) MOST_PROCEDURES && (nat_le (length (parameters_in line)) MOST_PARAMETERS && takes_its (item_begun line) (parameters_in line)))
 is_due Declaration counts line operands = declares (length counts.locals) operands && (nat_lt (length counts.locals) MOST_LOCALS && is_small operands)
 is_due Loop counts line operands = nat_lt (length counts.blocks) DEEPEST_BLOCK
 is_due If counts line operands = nat_lt (length counts.blocks) DEEPEST_BLOCK
@@ -237,153 +252,3 @@ pub record BecomesElse (nest next : Nest) : Type 0 where
 -- what an `else` leaves; none where no `if` without one is the innermost block
 abbrev pub TurnsToElse : Nest → Option Nest → Type 0
 TurnsToElse nest next = MatchOption next (step (nest_places nest) Else ≡ None) (BecomesElse nest)
-
--- a procedure that is open
-abbrev pub open_head : ℕ → OpenProcedure → Marked
-open_head index p = (Some p.line, head_line index p.parameters)
-
-abbrev pub inside_lines : OpenProcedure → List Marked
-inside_lines p = local_lines (length p.parameters) p.locals ++ nest_lines p.nest
-
-abbrev pub counts_in : List (List kinds.Parameter) → OpenProcedure → Counts
-counts_in procedures p = record { procedures = procedures; locals = p.scope; blocks = keys_of_blocks p.nest.blocks }
-
-pub record IsSoundOpen (declared : Declared) (p : OpenProcedure) : Type 0 where
-  pub parameters : IsTrue (list_all is_parameter p.parameters)
-  pub few : length p.parameters ≤ MOST_PARAMETERS
-  pub scope : p.scope ≡ locals_of p.parameters p.locals
-  pub locals : IsTrue (list_all is_local p.scope)
-  pub most : length p.scope ≤ MOST_LOCALS
-  pub nest : AreOpen declared p.scope (suc DEEPEST_BLOCK) false p.nest.blocks p.nest.statements
-
--- a procedure takes one more local by this line: before its first statement, by its index, and below the limit
-pub record TakesLocal (p : OpenProcedure) (key : Key) (operands : List (Operand Meant)) (local : Local) : Type 0 where
-  pub outside : p.nest.blocks ≡ []
-  pub first : p.nest.statements ≡ []
-  pub line : local_line (length p.scope) local ≡ Line key operands
-  pub declared : local_of key operands ≡ Some local
-  pub sound : IsTrue (is_local local)
-  pub room : length p.scope < MOST_LOCALS
-
--- the next local, or none, where a line that fits has no place
-abbrev pub TakesWhereFit : OpenProcedure → Key → List (Operand Meant) → Option Local → Type 0
-TakesWhereFit p key operands result =
-    MatchOption result
-    ((declared : Declared) (procedures : List (List kinds.Parameter)) → IsTrue (fits declared (counts_in procedures p) (Line key operands)) → step (nest_places p.nest) Declaration ≡ None)
-    (TakesLocal p key operands)
-
--- what a line of an open procedure leaves: the procedure, open or done
-abbrev pub left_lines : Left → List Marked
-left_lines (Inside p) = inside_lines p
-left_lines (Done p) = body_lines (length p.parameters) p.body ++ end_line ∷ []
-
-abbrev pub left_head : ℕ → Left → Marked
-left_head index (Inside p) = open_head index p
-left_head index (Done p) = procedure_head index p
-
-abbrev pub left_places : Left → List Open
-left_places (Inside p) = nest_places p.nest
-left_places (Done p) = []
-
-abbrev pub left_parameters : Left → List kinds.Parameter
-left_parameters (Inside p) = p.parameters
-left_parameters (Done p) = p.parameters
-
-abbrev pub left_counts : List (List kinds.Parameter) → Left → Counts
-left_counts procedures (Inside p) = counts_in procedures p
-left_counts procedures (Done p) = record { procedures = procedures; locals = locals_of p.parameters p.body.locals; blocks = [] }
-
-abbrev pub IsSoundLeft : Declared → Left → Type 0
-IsSoundLeft declared (Inside p) = IsSoundOpen declared p
-IsSoundLeft declared (Done p) = IsTrue (is_procedure declared p)
-
--- an open procedure with one more line
-pub record Adds (declared : Declared) (number : ℕ) (line : Indexed) (p : OpenProcedure) (left : Left) : Type 0 where
-  pub lines : left_lines left ≡ inside_lines p ++ mark number line ∷ []
-  pub head : (index : ℕ) → left_head index left ≡ open_head index p
-  pub parameters : left_parameters left ≡ p.parameters
-  pub sound : IsSoundLeft declared left
-  pub counts : (procedures : List (List kinds.Parameter)) → left_counts procedures left ≡ counts_after (counts_in procedures p) line
-  pub places : step (nest_places p.nest) (role_of_form line) ≡ Some (left_places left)
-
--- the same, or nothing, where a line that fits has no place
-abbrev pub AddsWhereFit : Declared → ℕ → Indexed → OpenProcedure → Option Left → Type 0
-AddsWhereFit declared number line p next =
-    MatchOption next
-    ((procedures : List (List kinds.Parameter)) → IsTrue (fits declared (counts_in procedures p) line) → step (nest_places p.nest) (role_of_form line) ≡ None)
-    (Adds declared number line p)
-
--- a parameter as trees have them
-abbrev pub is_parameter_operand : Operand Meant → Bool
-is_parameter_operand (Parameter meant.Parameter kind) = is_parameter kind
-is_parameter_operand _ = false
-
--- what a line begins that declares the procedure with this index
-abbrev pub is_head_of : ℕ → List (Operand Meant) → Bool
-is_head_of index (Name (meant.Declared name) ∷ operands) =
-    nat_eq name index && (nat_lt index MOST_PROCEDURES && (nat_le (length operands) MOST_PARAMETERS && list_all is_parameter_operand operands))
-is_head_of index _ = false
-
--- the procedure that a line begins
-abbrev pub IsBegun : ℕ → Indexed → OpenProcedure → Type 0
-IsBegun number line p =
-    p ≡ record {
-      line = number;
-      parameters = parameters_in line;
-      locals = [];
-      scope = map local_of_parameter (parameters_in line);
-      nest = record { blocks = []; statements = [] };
-    }
-
-abbrev pub is_line : Indexed → Bool
-is_line (Line key operands) = true
-is_line _ = false
-
--- The tree so far.
-abbrev pub lines_where : List model.Procedure → Option OpenProcedure → List Marked
-lines_where procedures None = procedures_lines 0 procedures
-lines_where procedures (Some p) = procedures_lines 0 procedures ++ (open_head (length procedures) p ∷ inside_lines p)
-
-abbrev pub building_lines : Building → List Marked
-building_lines b = lines_where b.procedures.items b.open
-
-abbrev pub places_where : Option OpenProcedure → List Open
-places_where None = []
-places_where (Some p) = nest_places p.nest
-
-abbrev pub building_places : Building → List Open
-building_places b = places_where b.open
-
-abbrev pub locals_of_last : List model.Procedure → List Local
-locals_of_last [] = []
-locals_of_last (p ∷ []) = locals_of p.parameters p.body.locals
-locals_of_last (p ∷ q ∷ ps) = locals_of_last (q ∷ ps)
-
-abbrev pub counts_where : List model.Procedure → Option OpenProcedure → Counts
-counts_where procedures None = record { procedures = signatures_of procedures; locals = locals_of_last procedures; blocks = [] }
-counts_where procedures (Some p) = counts_in (signatures_of procedures ++ p.parameters ∷ []) p
-
-abbrev pub building_counts : Building → Counts
-building_counts b = counts_where b.procedures.items b.open
-
--- what stands so far keeps what a script's tree has to keep
-abbrev pub IsSoundWhere : Declared → List model.Procedure → Option OpenProcedure → Type 0
-IsSoundWhere declared procedures None = IsTrue (list_all (is_procedure declared) procedures) × (length procedures ≤ MOST_PROCEDURES)
-IsSoundWhere declared procedures (Some p) = IsTrue (list_all (is_procedure declared) procedures) × (length procedures < MOST_PROCEDURES) × IsSoundOpen declared p
-
-pub record IsSound (declared : Declared) (b : Building) : Type 0 where
-  pub stands : IsSoundWhere declared b.procedures.items b.open
-
--- the tree with one more line
-pub record Grows (declared : Declared) (number : ℕ) (line : Indexed) (b next : Building) : Type 0 where
-  pub lines : building_lines next ≡ building_lines b ++ counted number line
-  pub sound : IsSound declared next
-  pub counts : building_counts next ≡ counts_after (building_counts b) line
-  pub places : after_line (building_places b) (role_of_form line) ≡ Some (building_places next)
-
--- the same, or nothing, where a line that fits has no place
-abbrev pub GrowsWhereFit : Declared → ℕ → Indexed → Building → Option Building → Type 0
-GrowsWhereFit declared number line b next =
-    MatchOption next
-    (IsTrue (fits declared (building_counts b) line) → after_line (building_places b) (role_of_form line) ≡ None)
-    (Grows declared number line b)

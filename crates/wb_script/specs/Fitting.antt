@@ -25,7 +25,8 @@ is_local_there locals (meant.Buffer index) = is_buffer_local (slice_get locals i
 is_local_there locals (meant.View index) = is_view locals index
 is_local_there locals _ = true
 
--- what an operand names is there; a number has nine digits at most; a parameter has no class
+-- What an operand names is there, but for items of the script's own space; a number has nine digits at most; a parameter has no
+-- class.
 abbrev pub is_there : ℕ → List Local → Operand Meant → Bool
 is_there literals locals (Name meant) = is_local_there locals meant
 is_there literals locals (Number z) = is_number locals (Constant z)
@@ -71,7 +72,18 @@ abbrev pub call_fits : Declared → List Local → List (Operand Meant) → Bool
 call_fits declared locals (Name (meant.Procedure index) ∷ operands) = fit_signature declared.literals locals (slice_get declared.signatures index) operands
 call_fits declared locals _ = false
 
+-- an operation of the script
+abbrev pub is_operation_there : Declared → Operand Meant → Bool
+is_operation_there declared (Name (meant.Operation index)) = nat_lt index declared.operations
+is_operation_there declared _ = false
+
+-- a pointer, and an operation of the script
+abbrev pub item_fits : Declared → List Local → List (Operand Meant) → Bool
+item_fits declared locals (pointer ∷ operation ∷ []) = operand_fits declared.literals locals letter.Pointer pointer && is_operation_there declared operation
+item_fits declared locals _ = false
+
 abbrev pub operands_fit : Declared → List Local → Key → List (Operand Meant) → Bool
+operands_fit declared locals key.PushOp operands = item_fits declared locals operands
 operands_fit declared locals key.Set (target ∷ source ∷ []) = sides_fit declared.literals locals target source
 operands_fit declared locals key.Call operands = call_fits declared locals operands
 operands_fit declared locals key.CallTo (target ∷ operands) = operand_fits declared.literals locals letter.Pointer target && call_fits declared locals operands

@@ -4,7 +4,8 @@ use Rattle.std.specs.Borrow.{Bor}
 use Rattle.wb_model.specs.declared.script_lines.Form.{Form}
 use Rattle.wb_model.specs.declared.script_lines.Operand.{Operand}
 use Rattle.wb_model.specs.Forms.{renamed, renamed_operand}
-use Rattle.wb_model.specs.Names.{Text}
+use Rattle.wb_model.specs.declared.script_lines.ItemKind.TheVariants as kind
+use Rattle.wb_model.specs.Names.{Text, signatures_among, count_among}
 use Rattle.wb_model.specs.Names as model
 use Rattle.wb_model.specs.Sound.{Declared}
 use Rattle.wb_script.specs.declared.checks.items.Item.{Item}
@@ -28,11 +29,15 @@ abbrev pub lent_forms : List (Form (Bor Text)) → List (Form Text)
 lent_forms = map lent_form
 
 abbrev pub lent_item : Item → model.Item
-lent_item item = record { name = item.name.now; parameters = item.parameters }
+lent_item item = record { name = item.name.now; kind = item.kind; parameters = item.parameters }
 
 abbrev pub lent_items : List Item → List model.Item
 lent_items = map lent_item
 
 -- what the statements of a script with these items may name
 abbrev pub declared_by : ℕ → List Item → Declared
-declared_by literals items = record { literals = literals; signatures = map (λ item. item.parameters) items }
+declared_by literals items = record {
+  literals = literals;
+  signatures = signatures_among kind.Procedure (lent_items items);
+  operations = count_among kind.Operation (lent_items items);
+}

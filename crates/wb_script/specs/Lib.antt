@@ -1,4 +1,5 @@
 pub mod Building
+pub mod Growing
 pub mod Checks
 pub mod Fitting
 pub mod Lent

@@ -1,5 +1,5 @@
 -- The statement that a line of a body is, and what the first line of a block begins.
-use Rattle.std.specs.Prelude.{◌≡◌, ℕ, List, [], ◌∷◌, Bool, true, false, ◌&&◌, not, Option, Some, IsTrue, MatchOption, map}
+use Rattle.std.specs.Prelude.{◌≡◌, ℕ, List, [], ◌∷◌, Bool, true, false, ◌&&◌, not, Option, Some, nat_lt, IsTrue, MatchOption, map}
 use Rattle.std.specs.List.{list_any}
 use Rattle.wb_model.specs.declared.script_lines.Key.{Key}
 use Rattle.wb_model.specs.declared.script_lines.Key.TheVariants as key
@@ -25,14 +25,14 @@ use Rattle.wb_model.specs.declared.script.Refusal.TheVariants.{GivesNull, Leaves
 use Rattle.wb_model.specs.Keys.{role_of}
 use Rattle.wb_model.specs.Kinds.{is_trap}
 use Rattle.wb_model.specs.Sound.{Declared, is_pointer_local, is_pointer, is_number, is_statement, is_simple, is_nested, are_passed, is_call}
-use Rattle.wb_model.specs.Trees.{Spelled, all_spelled, argument_operand, pointer_operand, number_operand, procedure_operand, statement_line, lines_of_statement}
+use Rattle.wb_model.specs.Trees.{Spelled, all_spelled, argument_operand, pointer_operand, number_operand, procedure_operand, operation_operand, statement_line, lines_of_statement}
 use Rattle.std.specs.Prelude.{slice_get}
 use Rattle.wb_script.specs.declared.tree.scope.Scope.{Scope}
 use Rattle.wb_script.specs.declared.tree.blocks.Head.{Head}
 use Rattle.wb_script.specs.declared.tree.blocks.OpenBlock.{OpenBlock}
 use Rattle.wb_script.specs.declared.tree.calls.Called.{Called}
 use Rattle.wb_script.specs.Building.{head_form, head_key, keys_of_blocks, first_part, is_head, may_stand}
-use Rattle.wb_script.specs.Fitting.{letters_fit, operand_fits, arguments_fit, call_fits, operands_fit}
+use Rattle.wb_script.specs.Fitting.{letters_fit, operand_fits, arguments_fit, call_fits, is_operation_there, operands_fit}
 
 -- what a line spells that takes one operand of this letter
 abbrev pub IsOnlySpelled : {A : Type 0} → (A → Spelled) → (A → Bool) → Scope → Letter → List (Operand Meant) → Option A → Type 0
@@ -41,9 +41,9 @@ IsOnlySpelled operand_of is_sound scope letter operands result =
     (letters_fit scope.literals scope.locals.now (letter ∷ []) operands ≡ false)
     (λ a. (all_spelled (operand_of a ∷ []) ≡ Some operands) × IsTrue (is_sound a) × (letters_fit scope.literals scope.locals.now (letter ∷ []) operands ≡ true))
 
--- a scope, where no procedure is called
+-- a scope, where no procedure is called and no operation pushed
 abbrev pub alone_in : Scope → Declared
-alone_in scope = record { literals = scope.literals; signatures = [] }
+alone_in scope = record { literals = scope.literals; signatures = []; operations = 0 }
 
 -- The statement of a line: one that has this line and is sound, where the operands fit, and else none.
 abbrev pub IsStatementOf : Scope → Key → List (Operand Meant) → Option Statement → Type 0
@@ -86,13 +86,36 @@ abbrev pub is_plain_role : Role → Bool
 is_plain_role Plain = true
 is_plain_role _ = false
 
--- a line of a statement that is no block, calls nothing and doesn't end its body
+-- a line of a statement that is no block, names nothing of the script's own space and doesn't end its body
 abbrev pub is_lasting : Key → Bool
 is_lasting key.Call = false
 is_lasting key.CallTo = false
+is_lasting key.PushOp = false
 is_lasting key.Return = false
 is_lasting key.ReturnPointer = false
 is_lasting k = is_plain_role (role_of k)
+
+-- the lines of statements that take one pointer and nothing else
+abbrev pub takes_pointer : Key → Bool
+takes_pointer key.Free = true
+takes_pointer key.Null = true
+takes_pointer key.Push = true
+takes_pointer key.PopCheck = true
+takes_pointer key.LeaveIfNull = true
+takes_pointer _ = false
+
+-- the lines of statements that take one number and nothing else
+abbrev pub takes_number : Key → Bool
+takes_number key.Pop = true
+takes_number key.PopDestroy = true
+takes_number key.Leave = true
+takes_number key.LeaveIfError = true
+takes_number key.MarkEnd = true
+takes_number key.Check = true
+takes_number key.CheckAll = true
+takes_number key.FailNext = true
+takes_number key.FailEvery = true
+takes_number _ = false
 
 -- what the first line of a block begins
 pub record IsHead (scope : Scope) (key : Key) (operands : List (Operand Meant)) (head : Head) : Type 0 where
@@ -122,6 +145,13 @@ IsTarget scope operand result =
     MatchOption result
     (operand_fits scope.literals scope.locals.now letter.Pointer operand ≡ false)
     (λ local. (pointer_operand (Held (H.Local local)) ≡ Some operand) × IsTrue (is_pointer_local (slice_get scope.locals.now local)))
+
+-- the operation that an operand names
+abbrev pub IsOperationOf : Declared → Operand Meant → Option ℕ → Type 0
+IsOperationOf declared operand result =
+    MatchOption result
+    (is_operation_there declared operand ≡ false)
+    (λ index. (operation_operand index ≡ Some operand) × IsTrue (nat_lt index declared.operations))
 
 -- a statement with one line, sound in a TRAP or not
 pub record IsOneLine (declared : Declared) (locals : List Local) (trapped : Bool) (key : Key) (operands : List (Operand Meant)) (statement : Statement) : Type 0 where

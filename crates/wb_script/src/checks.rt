@@ -3,6 +3,7 @@
 pub(crate) mod items;
 pub(crate) mod kinds;
 pub(crate) mod known;
+pub(crate) mod leaving;
 pub(crate) mod limits;
 pub(crate) mod names;
 pub(crate) mod nesting;
@@ -10,16 +11,17 @@ pub(crate) mod resolved;
 
 ghost use Rattle.std.specs.Prelude.{◌≡◌, ◌+◌, ◌<◌, ◌≤◌, [], ◌∷◌, ◌++◌, List, length, IfOk, OnOk};
 ghost use Rattle.wb_model.specs.declared.script_lines.Form as model;
-ghost use Rattle.wb_model.specs.Kinds.{has_wrong_kind};
+ghost use Rattle.wb_model.specs.Kinds.{has_wrong_kind, may_leave};
 ghost use Rattle.wb_model.specs.Names as space;
-ghost use Rattle.wb_model.specs.Names.{Text, declares_again, names_of, passes_limit};
+ghost use Rattle.wb_model.specs.Names.{Text, declares_again, items_before, names_of, passes_limit};
 ghost use Rattle.wb_model.specs.Resolved.{uses_unknown, resolved_line};
 ghost use Rattle.wb_script.specs.Lent.{lent_form, lent_forms, lent_items};
-ghost use Rattle.wb_script.specs.Checks.{known_in, or_here, AreChecked};
+ghost use Rattle.wb_script.specs.Checks.{known_in, or_here, AreChecked, IsFew};
 
 use crate::checks::items::Item;
 use crate::checks::kinds::has_wrong_kind;
 use crate::checks::known::Known;
+use crate::checks::leaving::may_leave;
 use crate::checks::limits::passes_limit;
 use crate::checks::names::{declares_again, has_unknown};
 use crate::checks::resolved::resolved_line;
@@ -43,6 +45,7 @@ pub(crate) struct FirstLines {
     pub unknown_name: Option<u32>,
     pub double_name: Option<u32>,
     pub wrong_kind: Option<u32>,
+    pub may_leave: Option<u32>,
     pub too_many: Option<u32>,
 }
 
@@ -56,10 +59,12 @@ impl FirstLines {
         form: &Form<&[u8]>,
         line: &Form<Meant>,
     ) -> FirstLines
-        requires { line.now ≡ resolved_line (names_of (lent_items items.now)) (known_in known.now) (lent_form form.now) }
-        ensures unknown_name { result.unknown_name ≡ or_here self.unknown_name number (uses_unknown (names_of (lent_items items.now)) (known_in known.now) (lent_form form.now)) }
+        requires few { IsFew known.now }
+        requires line { line.now ≡ resolved_line (lent_items items.now) (known_in known.now) (lent_form form.now) }
+        ensures unknown_name { result.unknown_name ≡ or_here self.unknown_name number (uses_unknown (lent_items items.now) (known_in known.now) (lent_form form.now)) }
         ensures double_name { result.double_name ≡ or_here self.double_name number (declares_again (names_of (lent_items items.now)) (known_in known.now) (lent_form form.now)) }
         ensures wrong_kind { result.wrong_kind ≡ or_here self.wrong_kind number (has_wrong_kind (lent_items items.now) (known_in known.now) (lent_form form.now)) }
+        ensures may_leave { result.may_leave ≡ or_here self.may_leave number (may_leave (known_in known.now) (lent_form form.now)) }
         ensures too_many { result.too_many ≡ or_here self.too_many number (passes_limit (known_in known.now) (lent_form form.now)) }
     {
         let double = declares_again(items, known, form);
@@ -68,6 +73,7 @@ impl FirstLines {
             unknown_name: or_here(self.unknown_name, number, has_unknown(line)),
             double_name: or_here(self.double_name, number, double),
             wrong_kind: or_here(self.wrong_kind, number, wrong),
+            may_leave: or_here(self.may_leave, number, may_leave(known, form)),
             too_many: or_here(self.too_many, number, passes_limit(known, form)),
         }
     }
@@ -85,7 +91,7 @@ pub(crate) struct Checked<'a> {
 impl<'a> Checked<'a> {
     fn nothing(alloc: Global) -> Checked<'a>
         ensures checked { (items : List space.Item) → AreChecked items [] result }
-        ensures items { result.known.items ≤ length result.lines.items }
+        ensures items { items_before (known_in result.known) ≤ length result.lines.items }
         ensures lines { length result.lines.items ≡ 0 }
     {
         Checked {
@@ -95,6 +101,7 @@ impl<'a> Checked<'a> {
                 unknown_name: None,
                 double_name: None,
                 wrong_kind: None,
+                may_leave: None,
                 too_many: None,
             },
         }
@@ -108,9 +115,9 @@ impl<'a> Checked<'a> {
         form: &Form<&'a [u8]>,
     ) -> Result<(), AllocError>
         requires few { length self.now.lines.items < LONGEST_SCRIPT }
-        requires items { self.now.known.items ≤ length self.now.lines.items }
+        requires items { items_before (known_in self.now.known) ≤ length self.now.lines.items }
         ensures checked { OnOk result ((before : List (model.Form Text)) → AreChecked (lent_items items.now) before self.old → AreChecked (lent_items items.now) (before ++ lent_form form.now ∷ []) self.new) }
-        ensures items { OnOk result (self.new.known.items ≤ length self.new.lines.items) }
+        ensures items { OnOk result (items_before (known_in self.new.known) ≤ length self.new.lines.items) }
         ensures lines { OnOk result (length self.new.lines.items ≡ length self.old.lines.items + 1) }
     {
         let line = resolved_line(alloc, items, &self.known, form)?;

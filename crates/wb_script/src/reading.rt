@@ -8,17 +8,19 @@ ghost use Rattle.wb_model.specs.Scripts.{IsPlainText, IsScriptOf, IsFaultOf, IsT
 ghost use Rattle.wb_model.specs.Sound.{is_script, is_entry, is_literal_text};
 ghost use Rattle.wb_model.specs.Trees.{script_lines, counted_from};
 ghost use Rattle.wb_script.specs.Building.{AllFit, counts_of};
-ghost use Rattle.wb_script.specs.Lent.{declared_by, lent_texts, lent_forms};
+ghost use Rattle.wb_script.specs.Checks.{IsMain, IsFirstFault};
+ghost use Rattle.wb_script.specs.Lent.{declared_by, lent_texts, lent_forms, lent_items};
 ghost use Rattle.wb_script.specs.Reads.{roles_of, IsFormsFault};
 ghost use Rattle.wb_script.specs.Typed.{AreTyped};
 
-use crate::checks::checked_lines;
-use crate::checks::items::{Item, items_of, place_of_item};
+use crate::checks::items::{Item, items_of};
 use crate::checks::nesting::first_misfit;
+use crate::checks::resolved::item_meant;
+use crate::checks::{FirstLines, checked_lines};
 use crate::lines::bytes::{first_foreign_line, is_too_long};
 use crate::lines::forms::{forms, role};
 use crate::lines::pieces::lines;
-use crate::tree::procedures_of;
+use crate::tree::bodies_of;
 use std::alloc::{AllocError, Global};
 use wb_model::fault::ScriptFault;
 use wb_model::items::Items;
@@ -74,24 +76,51 @@ fn script_of(
 ) -> Result<Script, AllocError>
     requires grammar { IsGrammatical (map role_of_form lines.now) }
     requires fit { AllFit (declared_by (length literals.now) items.now) lines.now }
-    requires items { (counts_of lines.now).procedures ≡ (declared_by (length literals.now) items.now).signatures }
+    requires procedures { (counts_of lines.now).procedures ≡ (declared_by (length literals.now) items.now).signatures }
+    requires operations { (counts_of lines.now).operations ≡ (declared_by (length literals.now) items.now).operations }
     requires few { (length literals.now < 2 ^ 32) × (length lines.now ≤ LONGEST_SCRIPT) }
     requires quotable { IsTrue (list_all is_literal_text (lent_texts literals.now)) }
     requires main { is_entry (slice_get (counts_of lines.now).procedures main) ≡ true }
     ensures tree { IfOk result (λ s. script_lines s ≡ counted_from 1 lines.now) }
     ensures literals { IfOk result (λ s. s.literals ≡ lent_texts literals.now) }
     ensures main { IfOk result (λ s. s.main ≡ main) }
-    ensures others { IfOk result (λ s. (s.classes ≡ []) × (s.operations ≡ [])) }
+    ensures classes { IfOk result (λ s. s.classes ≡ []) }
     ensures sound { IfOk result (λ s. IsTrue (is_script s)) }
 {
-    let procedures = procedures_of(alloc, literals.len() as u32, items, lines)?;
+    let bodies = bodies_of(alloc, literals.len() as u32, items, lines)?;
     Ok(Script {
         classes: Items::new(alloc),
-        procedures: Items::from_vec(procedures),
-        operations: Items::new(alloc),
+        procedures: bodies.procedures,
+        operations: bodies.operations,
         literals: literals_of(alloc, literals)?,
         main: main as u16,
     })
+}
+
+/// The index of `main` among the procedures, or the first fault, by the first lines that the checks refuse.
+fn place_of_main(items: &[Item], first: FirstLines) -> Result<usize, ScriptFault>
+    ensures found { IfOk result (IsMain (lent_items items.now) first) }
+    ensures fault { IfErr result (IsFirstFault (lent_items items.now) first) }
+{
+    if let Some(line) = first.unknown_name {
+        return Err(ScriptFault::UnknownName { line });
+    }
+    if let Some(line) = first.double_name {
+        return Err(ScriptFault::DoubleName { line });
+    }
+    if let Some(line) = first.wrong_kind {
+        return Err(ScriptFault::WrongKind { line });
+    }
+    if let Some(line) = first.may_leave {
+        return Err(ScriptFault::MayLeave { line });
+    }
+    let Meant::Procedure(main) = item_meant(items, b"main") else {
+        return Err(ScriptFault::NoMain);
+    };
+    match first.too_many {
+        Some(line) => Err(ScriptFault::TooMany { line }),
+        None => Ok(main),
+    }
 }
 
 /// The script of lines that are grammatical, or the first fault of their names, kinds and limits.
@@ -105,24 +134,9 @@ fn checked(alloc: Global, forms: &[Form<&[u8]>]) -> Result<Result<Script, Script
 {
     let items = items_of(alloc, forms)?;
     let found = checked_lines(alloc, &items, forms)?;
-    match found.first.unknown_name {
-        Some(line) => return Ok(Err(ScriptFault::UnknownName { line })),
-        None => {}
-    }
-    match found.first.double_name {
-        Some(line) => return Ok(Err(ScriptFault::DoubleName { line })),
-        None => {}
-    }
-    match found.first.wrong_kind {
-        Some(line) => return Ok(Err(ScriptFault::WrongKind { line })),
-        None => {}
-    }
-    let Some(main) = place_of_item(&items, b"main") else {
-        return Ok(Err(ScriptFault::NoMain));
-    };
-    match found.first.too_many {
-        Some(line) => Ok(Err(ScriptFault::TooMany { line })),
-        None => {
+    match place_of_main(&items, found.first) {
+        Err(fault) => Ok(Err(fault)),
+        Ok(main) => {
             let script = script_of(alloc, &items, &found.lines, &found.known.literals, main)?;
             Ok(Ok(script))
         }

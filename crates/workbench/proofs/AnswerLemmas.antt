@@ -10,6 +10,7 @@ use Rattle.workbench.specs.declared.answer.TheConstants.{READ_OR_WRITE_FAULT, WA
 use Rattle.workbench.specs.declared.command.Command.{Command}
 use Rattle.workbench.specs.declared.command.Task.{Task}
 use Rattle.workbench.specs.declared.command.Task.TheVariants as T
+use Rattle.workbench.specs.declared.figures.Figures.{Figures}
 use Rattle.workbench.specs.Answer.{IsAnswer, IsAnyMessage, IsMessage, IsPartWritten, IsReported, IsReportWritten, IsSaid}
 use Rattle.workbench.specs.Report.{IsReport, IsTaskReport, no_memory}
 use Rattle.workbench.specs.RunText.{outcome_status}
@@ -25,28 +26,28 @@ outcome_status_le (Panicked panic) = lit≤ tt
 outcome_status_le NoCleanup = lit≤ tt
 outcome_status_le (Cut why) = lit≤ tt
 
-size_status_le : (script : Script) (budget : ℕ) (shape : Shape) (text : List ℕ) (status : ℕ) → IsSizeReport script budget shape text status → status ≤ 3
-size_status_le script budget shape text status (inl r) = omega (arith, r.1)
-size_status_le script budget shape text status (inr r) = omega (arith, r.1)
+size_status_le : (script : Script) (budget : ℕ) (shape : Shape) (text : List ℕ) (figures : Figures) (status : ℕ) → IsSizeReport script budget shape text figures status → status ≤ 3
+size_status_le script budget shape text figures status (inl r) = omega (arith, r.1)
+size_status_le script budget shape text figures status (inr r) = omega (arith, r.1)
 
-sweep_status_le : (script : Script) (budget : ℕ) (shape : Shape) (text : List ℕ) (status : ℕ) → IsSweepReport script budget shape text status → status ≤ 3
-sweep_status_le script budget shape text status (inl r) = omega (arith, r.1)
-sweep_status_le script budget shape text status (inr (inl r)) = omega (arith, r.1)
-sweep_status_le script budget shape text status (inr (inr r)) = omega (arith, r.1)
+sweep_status_le : (script : Script) (budget : ℕ) (shape : Shape) (text : List ℕ) (figures : Figures) (status : ℕ) → IsSweepReport script budget shape text figures status → status ≤ 3
+sweep_status_le script budget shape text figures status (inl r) = omega (arith, r.1)
+sweep_status_le script budget shape text figures status (inr (inl r)) = omega (arith, r.1)
+sweep_status_le script budget shape text figures status (inr (inr r)) = omega (arith, r.1)
 
-check_status_le : (script : Script) (budget : ℕ) (shape : Shape) (text : List ℕ) (status : ℕ) → IsCheckReport script budget shape text status → status ≤ 3
-check_status_le script budget shape text status (inl r) = sweep_status_le script budget shape r.second status r.swept
-check_status_le script budget shape text status (inr r) = omega (arith, r.1)
+check_status_le : (script : Script) (budget : ℕ) (shape : Shape) (text : List ℕ) (figures : Figures) (status : ℕ) → IsCheckReport script budget shape text figures status → status ≤ 3
+check_status_le script budget shape text figures status (inl r) = sweep_status_le script budget shape r.second r.sweep status r.swept
+check_status_le script budget shape text figures status (inr r) = omega (arith, r.1)
 
-task_status_le : (task : Task) (script : Script) (budget : ℕ) (shape : Shape) (text : List ℕ) (status : ℕ) → IsTaskReport task script budget shape text status → status ≤ 3
-task_status_le (T.Run rule) script budget shape text status r = subst (λ n. n ≤ 3) (sym r.1) (outcome_status_le (run script rule budget shape).outcome)
-task_status_le T.Size script budget shape text status r = size_status_le script budget shape text status r
-task_status_le T.Sweep script budget shape text status r = sweep_status_le script budget shape text status r
-task_status_le T.Check script budget shape text status r = check_status_le script budget shape text status r
+task_status_le : (task : Task) (script : Script) (budget : ℕ) (shape : Shape) (text : List ℕ) (figures : Figures) (status : ℕ) → IsTaskReport task script budget shape text figures status → status ≤ 3
+task_status_le (T.Run rule) script budget shape text figures status r = subst (λ n. n ≤ 3) (sym r.status_is) (outcome_status_le (run script rule budget shape).outcome)
+task_status_le T.Size script budget shape text figures status r = size_status_le script budget shape text figures status r
+task_status_le T.Sweep script budget shape text figures status r = sweep_status_le script budget shape text figures status r
+task_status_le T.Check script budget shape text figures status r = check_status_le script budget shape text figures status r
 
-report_status_le : (command : Command) (bytes text : List ℕ) (status : ℕ) → IsReport command bytes text status → status ≤ 3
-report_status_le command bytes text status (inl r) = task_status_le command.task r.script command.budget command.shape text status r.told
-report_status_le command bytes text status (inr r) = omega (arith, r.status_is)
+report_status_le : (command : Command) (bytes text : List ℕ) (figures : Figures) (status : ℕ) → IsReport command bytes text figures status → status ≤ 3
+report_status_le command bytes text figures status (inl r) = task_status_le command.task r.script command.budget command.shape text figures status r.told
+report_status_le command bytes text figures status (inr r) = omega (arith, r.status_is)
 
 -- ---- the answer, where a read and a write failed or did not
 
@@ -57,7 +58,7 @@ module _ (command : Command) (told held held' : Option (List ℕ)) where
   by_status true false text own status m s =
       (omega (arith, s.1, m.1), λ low. absurd (omega (arith, s.1, m.1, low)), λ four. absurd (omega (arith, s.1, m.1, four)))
   by_status false false text own status (inl r) s =
-      let small = report_status_le command r.bytes text own r.report in (
+      let small = report_status_le command r.bytes r.lines r.figures own r.report in (
         omega (arith, s.1, small),
         λ low. record { text = text; reported = subst (IsReported command told text) (sym s.1) r; written = s.0 },
         λ four. absurd (omega (arith, s.1, small, four)),

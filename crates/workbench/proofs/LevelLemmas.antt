@@ -4,7 +4,7 @@ use Rattle.std.specs.Prelude.{◌==◌}
 use Rattle.std.specs.Str.{bytes_eq}
 use Rattle.clap.specs.Simple.{filled}
 use Rattle.clap.specs.Walk.{Row, Rule, Text, arg_by_index, arg_by_long, arg_by_short}
-use Rattle.workbench.specs.CommandLine.{budget_option, fail_option, level, limit_option, min_option, run_level, step_option}
+use Rattle.workbench.specs.CommandLine.{budget_option, fail_option, json_flag, level, limit_option, min_option, run_level, step_option}
 use Rattle.workbench.specs.Passed.{IsIn, RowsPass}
 use Rattle.workbench.specs.WordByWord.{is_option, option_names}
 use Rattle.workbench.proofs.PassedRows.{are_single}
@@ -41,12 +41,14 @@ level_long called true name e =
     let budget = first_false (bytes_eq (codes "budget") name) _ fail.1 in
     let min = first_false (bytes_eq (codes "min") name) _ budget.1 in
     let step = first_false (bytes_eq (codes "step") name) _ min.1 in
-    rw (limit.0, fail.0, budget.0, min.0, step.0) refl
+    let json = first_false (bytes_eq (codes "json") name) _ step.1 in
+    rw (limit.0, fail.0, budget.0, min.0, step.0, json.0) refl
 level_long called false name e =
     let budget = first_false (bytes_eq (codes "budget") name) _ e in
     let min = first_false (bytes_eq (codes "min") name) _ budget.1 in
     let step = first_false (bytes_eq (codes "step") name) _ min.1 in
-    rw (budget.0, min.0, step.0) refl
+    let json = first_false (bytes_eq (codes "json") name) _ step.1 in
+    rw (budget.0, min.0, step.0, json.0) refl
 
 pub level_short : (called : Text) (takes_rule : Bool) (x : ℕ) → arg_by_short (level called takes_rule).rules x ≡ cond ((104 == x) || false) (Some help) None
 level_short called true x = refl
@@ -89,6 +91,9 @@ min_rule = filled min_option
 abbrev pub step_rule : Rule
 step_rule = filled step_option
 
+abbrev pub json_rule : Rule
+json_rule = filled json_flag
+
 -- no other argument has their names
 pub only_limit : IsOnly run_level.rules (codes "limit") limit_rule
 only_limit = only run_level.rules (codes "limit") limit_rule refl
@@ -104,3 +109,6 @@ only_min = only run_level.rules (codes "min") min_rule refl
 
 pub only_step : IsOnly run_level.rules (codes "step") step_rule
 only_step = only run_level.rules (codes "step") step_rule refl
+
+pub only_json : IsOnly run_level.rules (codes "json") json_rule
+only_json = only run_level.rules (codes "json") json_rule refl

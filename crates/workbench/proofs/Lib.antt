@@ -2,6 +2,7 @@ pub mod AnswerLemmas
 pub mod CommandLineLemmas
 pub mod FaultLemmas
 pub mod Hexadecimal
+pub mod JsonLemmas
 pub mod KnownBytesLemmas
 pub mod Folds
 pub mod LevelLemmas

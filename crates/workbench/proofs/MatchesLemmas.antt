@@ -1,7 +1,8 @@
 -- From what a parse found to what the words spell.
-use Rattle.std.proofs.Common.{◌≡◌, ◌∙◌, ◌<◌, ◌≤◌, ◌^◌, ◌%◌, ℕ, Bool, nat_eq, arith, true, false, eqb-true, refl, sym, ap, ap₂, subst, List, [], Option, Some, None, Result, Ok, codes, option_and_then, option_map}
+use Rattle.std.proofs.Common.{◌≡◌, ◌∙◌, ◌<◌, ◌≤◌, ◌^◌, ◌%◌, ◌||◌, ℕ, Bool, nat_eq, arith, true, false, eqb-true, refl, sym, ap, ap₂, subst, List, [], Option, Some, None, Result, Ok, codes, option_and_then, option_map}
 use Rattle.std.specs.Prelude.{Box, IfSome, IsSome, MatchOption, pos, unwrap_or}
 use Rattle.std.specs.Option.{option_map_or}
+use Rattle.std.specs.Str.{bytes_eq}
 use Rattle.std.specs.Box.{box_value}
 use Rattle.std.specs.Str.Parse.{ParsesUnsigned}
 use Rattle.clap.specs.Values.{Accepts, IsSignedIn, read_as, reading_of}
@@ -22,10 +23,10 @@ use Rattle.wb_model.specs.declared.limits.TheConstants.{CEILING, LARGEST_BUDGET,
 use Rattle.wb_model.specs.declared.heap.Shape.{Shape}
 use Rattle.workbench.specs.Command.{is_sixteenfold}
 use Rattle.workbench.specs.CommandLine.{command_line, run_level}
-use Rattle.workbench.specs.Spelled.{command_of, decimal, doubles, number_of, spell_both, spelled}
+use Rattle.workbench.specs.Spelled.{command_of, decimal, doubles, flag_of, number_of, spell_both, spelled}
 use Rattle.workbench.specs.Subcommands.{Subcommand, subcommand_named}
-use Rattle.workbench.proofs.CommandLineLemmas.{one_is_met}
-use Rattle.workbench.proofs.LevelLemmas.{budget_rule, fail_rule, level_wide, limit_rule, min_rule, only_budget, only_fail, only_limit, only_min, only_step, step_rule}
+use Rattle.workbench.proofs.CommandLineLemmas.{one_is_met, text_is}
+use Rattle.workbench.proofs.LevelLemmas.{budget_rule, fail_rule, json_rule, level_wide, limit_rule, min_rule, only_budget, only_fail, only_json, only_limit, only_min, only_step, step_rule}
 use Rattle.workbench.specs.Passed.{RowsPass}
 use Rattle.workbench.proofs.PassedValues.{IsOnly, PassedAs, first_passed}
 
@@ -139,6 +140,29 @@ module _ (E : Type 0) (G : List ℕ → Result ℕ E → Type 0) (parses : (u : 
 
   pub step_is : OptionRead (codes "step") SMALLEST_STEP LARGEST_STEP
   step_is f r passed = number_is run_level.rules (codes "step") step_rule SMALLEST_STEP LARGEST_STEP f r refl (omega arith) only_step passed
+
+-- what stands for the flag is `true` or `false`, where anything does
+pub json_is : (f : Found) (r : Bool) → RowsPass run_level.rules (rows_of f) → (one_text f (codes "json") ≡ None → r ≡ false)
+    → (one_text f (codes "json") ≡ Some (codes "true") → r ≡ true) → (one_text f (codes "json") ≡ Some (codes "false") → r ≡ false)
+    → r ≡ flag_of (codes "json") (rows_of f)
+json_is f r passed none set unset = go (first_of (codes "json") (rows_of f)) (first_passed run_level.rules (codes "json") json_rule (rows_of f) only_json passed)
+  where
+    told : (o : Option Text) (b : Bool) → one_of (codes "json") (rows_of f) ≡ o → option_map_or (bytes_eq (codes "true")) o false ≡ b
+        → (one_text f (codes "json") ≡ o → r ≡ b) → r ≡ flag_of (codes "json") (rows_of f)
+    told o b read means gives = gives (one_text-rows f (codes "json") ∙ read) ∙ sym means ∙ ap (λ x. option_map_or (bytes_eq (codes "true")) x false) (sym read)
+
+    given : (t : Text) → one_of (codes "json") (rows_of f) ≡ Some t → (bytes_eq t (codes "true") || bytes_eq t (codes "false")) ≡ true
+        → r ≡ flag_of (codes "json") (rows_of f)
+    given t read accepted = by (bytes_eq t (codes "true")) refl
+      where
+        by : (b : Bool) → bytes_eq t (codes "true") ≡ b → r ≡ flag_of (codes "json") (rows_of f)
+        by true is = told (Some (codes "true")) true (read ∙ ap (λ x. Some x) (text_is t (codes "true") is)) refl set
+        by false isnt = told (Some (codes "false")) false (read ∙ ap (λ x. Some x) (text_is t (codes "false") (rw isnt at accepted))) refl unset
+
+    go : (o : Option Text) → MatchOption o (one_of (codes "json") (rows_of f) ≡ None) (λ t. PassedAs json_rule t (one_of (codes "json") (rows_of f)))
+        → r ≡ flag_of (codes "json") (rows_of f)
+    go None absent = told None false absent refl none
+    go (Some t) p = given t p.as_read p.passed
 
 -- the number of an option, or the default, in its range
 pub record IsGivenOr (id : Text) (rows : List Row) (low high default n : ℕ) : Type 0 where

@@ -1,6 +1,10 @@
 -- The definitions of the report, computed on worked runs. Each text is written out by hand, line by line.
 use Rattle.std.proofs.Common.{◌≡◌, [], ◌∷◌, Some, None, pos, negsuc, codes, refl}
 use Rattle.std.specs.Fmt.{digits}
+use Rattle.std.specs.Prelude.{map}
+use Rattle.serde_json.proofs.OnLiterals.{serde_json_on_literals}
+use Rattle.serde_json.specs.Data.{array}
+use Rattle.serde_json.specs.View.{items_of}
 use Rattle.wb_model.specs.declared.fault.ScriptFault.TheVariants as F
 use Rattle.wb_model.specs.declared.heap.Answer.TheVariants.{Granted, Simulated, Refused}
 use Rattle.wb_model.specs.declared.heap.Panic.TheVariants.{User, Alloc, Workbench}
@@ -8,6 +12,9 @@ use Rattle.wb_model.specs.declared.run.Note.TheVariants.{Heap, Available, Compre
 use Rattle.wb_model.specs.declared.run.Outcome.TheVariants.{Ended, Panicked, NoCleanup, Cut}
 use Rattle.wb_model.specs.declared.run.RunResult.{RunResult}
 use Rattle.wb_model.specs.declared.run.Why.TheVariants.{Budget, Ceiling}
+use Rattle.workbench.specs.declared.figures.Failing.TheVariants.{At, Never}
+use Rattle.workbench.specs.Figures.{both_figures, no_figures, size_figures, sweep_figures}
+use Rattle.workbench.specs.JsonReport.{json_text, line_string, line_strings, report_object}
 use Rattle.workbench.specs.Report.{fault_line}
 use Rattle.workbench.specs.RunText.{run_text, run_status, outcome_text, outcome_status, note_line, attempt_line, leak_line}
 
@@ -121,3 +128,24 @@ no_main-line = refl
 too_many-line : fault_line (F.TooMany 1) ≡ codes "refused 9 line 1\n"
 unfolding digits note_line attempt_line leak_line
 too_many-line = refl
+
+-- ---- as JSON
+
+-- the lines of a text, the empty one too
+text-lines : line_strings (codes "print \"a\"\nprint \n\nsteps 2\n") ≡ array (items_of (map line_string (codes "print \"a\"" ∷ codes "print " ∷ [] ∷ codes "steps 2" ∷ [])))
+text-lines = refl
+
+-- the figures of a check whose sweep found nothing, beside no lines
+check-json : json_text [] (both_figures (size_figures 176 (record { number = 1; top = 144 } ∷ record { number = 2; top = 176 } ∷ [])) (sweep_figures 2 Never)) 0
+    ≡ codes "{\"attempts\":2,\"lines\":[],\"number\":\"none\",\"required\":176,\"rises\":[[1,144],[2,176]],\"status\":0,\"version\":1}\n"
+unfolding serde_json_on_literals digits report_object
+check-json = refl
+
+-- those of a sweep that found a number, and of a refused script or a cut
+sweep-json : json_text [] (sweep_figures 3 (At 0)) 1 ≡ codes "{\"attempts\":3,\"lines\":[],\"number\":0,\"required\":null,\"rises\":null,\"status\":1,\"version\":1}\n"
+unfolding serde_json_on_literals digits report_object
+sweep-json = refl
+
+plain-json : json_text [] no_figures 2 ≡ codes "{\"attempts\":null,\"lines\":[],\"number\":null,\"required\":null,\"rises\":null,\"status\":2,\"version\":1}\n"
+unfolding serde_json_on_literals digits report_object
+plain-json = refl

@@ -5,7 +5,7 @@ use Rattle.clap.specs.Faults.{defaults_fault, fault_of, flags_fault, walk_fault}
 use Rattle.clap.specs.Kinds.{Kinds}
 use Rattle.clap.specs.Takes.{flags_pass, takes, walk_passes}
 use Rattle.clap.specs.Walk.{Text, bundle_met, walked}
-use Rattle.clap.specs.declared.error.kind.ErrorKind.TheVariants.{ArgumentConflict, InvalidValue, UnknownArgument, ValueValidation}
+use Rattle.clap.specs.declared.error.kind.ErrorKind.TheVariants.{ArgumentConflict, InvalidValue, TooManyValues, UnknownArgument, ValueValidation}
 use Rattle.wb_model.specs.declared.heap.Rule.{Rule}
 use Rattle.wb_model.specs.declared.heap.Rule.TheVariants.{Limit, Number, Unlimited}
 use Rattle.workbench.specs.CommandLine.{command_line}
@@ -112,6 +112,18 @@ check-with-a-shape : Spell (codes "check" ∷ codes "--min=256" ∷ codes "--ste
 unfolding walked walk_passes walk_fault defaults_fault
 check-with-a-shape = record { taken = refl; faultless = refl; one_rule = refl; meaning = refl }
 
+json-alone : Spell (codes "check" ∷ codes "--json" ∷ []) (record (command_with Check 10000 4096 4096 None) { json = true })
+unfolding walked walk_passes walk_fault defaults_fault
+json-alone = record { taken = refl; faultless = refl; one_rule = refl; meaning = refl }
+
+json-behind-a-file : Spell (codes "run" ∷ codes "--limit=5" ∷ codes "a.oom" ∷ codes "--json" ∷ []) (record (run_with (Limit 5) 4096 4096 (Some (codes "a.oom"))) { json = true })
+unfolding walked walk_passes walk_fault defaults_fault
+json-behind-a-file = record { taken = refl; faultless = refl; one_rule = refl; meaning = refl }
+
+json-as-a-file : Spell (codes "size" ∷ codes "--" ∷ codes "--json" ∷ []) (command_with Size 10000 4096 4096 (Some (codes "--json")))
+unfolding walked walk_passes walk_fault defaults_fault
+json-as-a-file = record { taken = refl; faultless = refl; one_rule = refl; meaning = refl }
+
 -- ---- words that give both a limit and a number
 
 limit-and-number : Double (codes "run" ∷ codes "--limit" ∷ codes "5" ∷ codes "--fail" ∷ codes "5" ∷ [])
@@ -183,6 +195,14 @@ no-budget = record { refused = refl; fault = refl }
 past-the-largest-budget : Fail (codes "check" ∷ codes "--budget" ∷ codes "1000001" ∷ []) (ValueValidation ∷ [])
 unfolding walked walk_passes walk_fault defaults_fault flags_fault flags_pass bundle_met chars
 past-the-largest-budget = record { refused = refl; fault = refl }
+
+json-twice : Fail (codes "sweep" ∷ codes "--json" ∷ codes "--json" ∷ []) (ArgumentConflict ∷ [])
+unfolding walked walk_passes walk_fault defaults_fault flags_fault flags_pass bundle_met chars
+json-twice = record { refused = refl; fault = refl }
+
+json-with-a-value : Fail (codes "run" ∷ codes "--json=yes" ∷ []) (TooManyValues ∷ [])
+unfolding walked walk_passes walk_fault defaults_fault flags_fault flags_pass bundle_met chars
+json-with-a-value = record { refused = refl; fault = refl }
 
 limit-of-a-size : Fail (codes "size" ∷ codes "--limit" ∷ codes "5" ∷ []) (UnknownArgument ∷ [])
 unfolding walked walk_passes walk_fault defaults_fault flags_fault flags_pass bundle_met chars

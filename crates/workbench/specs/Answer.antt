@@ -5,6 +5,8 @@ use Rattle.workbench.specs.declared.answer.ReportFault.{ReportFault}
 use Rattle.workbench.specs.declared.answer.ReportFault.TheVariants.{Read}
 use Rattle.workbench.specs.declared.answer.TheConstants.{MOST_READ, READ_OR_WRITE_FAULT, WANT_OF_MEMORY}
 use Rattle.workbench.specs.declared.command.Command.{Command}
+use Rattle.workbench.specs.declared.figures.Figures.{Figures}
+use Rattle.workbench.specs.JsonReport.{laid_out}
 use Rattle.workbench.specs.Report.{IsReport, no_memory, read_fault}
 use Rattle.workbench.specs.Streams.{AppendsFirst, Tries}
 
@@ -13,11 +15,14 @@ pub record AreFirst (most : ℕ) (told : Option (List ℕ)) (bytes : List ℕ) :
   pub within : length bytes ≤ most
   pub first : IfSome told (λ all. bytes ≡ take most all)
 
--- the report of the command on the first bytes that the reader tells
+-- the report of the command on the first bytes that the reader tells, laid out as the command wants it
 pub record IsReported (command : Command) (told : Option (List ℕ)) (text : List ℕ) (status : ℕ) : Type 0 where
   pub bytes : List ℕ
   pub read : AreFirst MOST_READ told bytes
-  pub report : IsReport command bytes text status
+  pub lines : List ℕ
+  pub figures : Figures
+  pub report : IsReport command bytes lines figures status
+  pub text_is : text ≡ laid_out command.json lines figures status
 
 -- a read failed; the workbench's memory may have run out in its place
 abbrev pub is_read_fault : {A : Type 0} → Result A ReportFault → Bool

@@ -1,5 +1,5 @@
 -- What every command that words spell keeps.
-use Rattle.std.specs.Prelude.{Bool, true, ◌&&◌, ◌%◌, nat_eq, nat_le, not}
+use Rattle.std.specs.Prelude.{Bool, true, ◌&&◌, ◌%◌, nat_eq, nat_le}
 use Rattle.wb_model.specs.Space.{is_shape}
 use Rattle.wb_model.specs.declared.limits.TheConstants.{CEILING, LARGEST_BUDGET}
 use Rattle.wb_model.specs.declared.heap.Rule.TheVariants.{Limit, Number, Unlimited}
@@ -21,6 +21,6 @@ is_in_range Check = true
 abbrev pub is_sixteenfold : Shape → Bool
 is_sixteenfold shape = nat_eq (shape.min % 16) 0 && nat_eq (shape.step % 16) 0
 
--- the numbers of a command are in their ranges, and it asks for lines of text
+-- the numbers of a command are in their ranges
 abbrev pub is_answerable : Command → Bool
-is_answerable c = nat_le 1 c.budget && nat_le c.budget LARGEST_BUDGET && is_shape c.shape && not c.json && is_in_range c.task
+is_answerable c = nat_le 1 c.budget && nat_le c.budget LARGEST_BUDGET && is_shape c.shape && is_in_range c.task

@@ -2,6 +2,7 @@
 use Rattle.std.specs.Prelude.{true, ℕ, Bool, List, [], ◌∷◌, ◌++◌, Some, codes, fold, if◌then◌else◌, pos}
 use Rattle.clap.specs.Words.{App, Rule, Text, new_app, new_rule, with_rule, with_subcommand}
 use Rattle.clap.specs.Simple.{Shape, built_leaf}
+use Rattle.clap.specs.declared.builder.action.ArgAction.TheVariants.{SetTrue}
 use Rattle.clap.specs.declared.builder.value_parser.ValueParser.TheVariants.{Signed}
 use Rattle.wb_model.specs.declared.limits.TheConstants.{CEILING, LARGEST_BUDGET, LARGEST_MINIMUM, LARGEST_STEP, SMALLEST_STEP}
 use Rattle.workbench.specs.Subcommands.{Subcommand, subcommands}
@@ -30,18 +31,26 @@ min_option = number_option (codes "min") 0 LARGEST_MINIMUM
 abbrev pub step_option : Rule
 step_option = number_option (codes "step") SMALLEST_STEP LARGEST_STEP
 
+-- `--json`, which takes no value
+abbrev pub json_flag : Rule
+json_flag = record (new_rule (codes "json")) { long = Some (codes "json"); action = Some SetTrue }
+
 -- the options of a rule, for the subcommands that take one
 abbrev pub rule_options : Bool → List Rule
 rule_options takes_rule = if takes_rule then limit_option ∷ fail_option ∷ [] else []
 
+-- those that every subcommand has and that take a number
+abbrev pub number_options : List Rule
+number_options = budget_option ∷ min_option ∷ step_option ∷ []
+
 -- those of every subcommand
 abbrev pub shared_options : List Rule
-shared_options = budget_option ∷ min_option ∷ step_option ∷ []
+shared_options = number_options ++ json_flag ∷ []
 
 abbrev pub with_rules : App → List Rule → App
 with_rules = fold with_rule
 
--- `NAME [--limit L] [--fail N] [--budget B] [--min M] [--step G] [FILE]`, or the same without a rule
+-- `NAME [--limit L] [--fail N] [--budget B] [--min M] [--step G] [--json] [FILE]`, or the same without a rule
 abbrev pub subcommand_line : Text → Bool → App
 subcommand_line name takes_rule = with_rules (new_app name) (file_argument ∷ rule_options takes_rule ++ shared_options)
 

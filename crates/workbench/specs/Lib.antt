@@ -2,6 +2,8 @@ pub mod Answer
 pub mod Command
 pub mod CommandLine
 pub mod Fault
+pub mod Figures
+pub mod JsonReport
 pub mod Passed
 pub mod Program
 pub mod Report

@@ -1,16 +1,19 @@
--- Which report a command has: the text and the status that its task comes to on a script, the one-line answers, and why a
+-- Which report a command has: the text, the figures and the status that its task comes to on a script, the one-line answers, and why a
 -- script was refused.
 use Rattle.std.specs.Prelude.{◌≡◌, ◌≢◌, ℕ, List, ◌++◌, ◌⊎◌, codes}
 use Rattle.std.specs.Fmt.{decimal}
 use Rattle.wb_model.specs.declared.fault.ScriptFault.{ScriptFault}
 use Rattle.wb_model.specs.declared.fault.ScriptFault.TheVariants.{TooLong, NotAscii, Grammar, UnknownName, DoubleName, WrongKind, MayLeave, NoMain, TooMany, NoMemory}
 use Rattle.wb_model.specs.declared.heap.Shape.{Shape}
+use Rattle.wb_model.specs.declared.run.RunResult.{RunResult}
 use Rattle.wb_model.specs.declared.script.Script.{Script}
 use Rattle.wb_model.specs.Run.{run}
 use Rattle.wb_model.specs.Scripts.{IsScriptOf, IsFaultOf}
 use Rattle.workbench.specs.declared.command.Command.{Command}
 use Rattle.workbench.specs.declared.command.Task.{Task}
 use Rattle.workbench.specs.declared.command.Task.TheVariants as T
+use Rattle.workbench.specs.declared.figures.Figures.{Figures}
+use Rattle.workbench.specs.Figures.{no_figures, run_figures}
 use Rattle.workbench.specs.RunText.{line, run_text, run_status}
 use Rattle.workbench.specs.TwoNumbers.{IsSizeReport, IsSweepReport, IsCheckReport}
 
@@ -41,28 +44,34 @@ fault_line NoMemory = no_memory
 
 -- ---- which report a command has
 
+-- the text, the figures and the status of one run
+pub record IsRunReport (r : RunResult) (text : List ℕ) (figures : Figures) (status : ℕ) : Type 0 where
+  pub text_is : text ≡ run_text r
+  pub figures_are : figures ≡ run_figures r
+  pub status_is : status ≡ run_status r
+
 -- what a task comes to on a script
-abbrev pub IsTaskReport : Task → Script → ℕ → Shape → List ℕ → ℕ → Type 0
-IsTaskReport (T.Run rule) script budget shape text status =
-    (text ≡ run_text (run script rule budget shape)) × (status ≡ run_status (run script rule budget shape))
-IsTaskReport T.Size script budget shape text status = IsSizeReport script budget shape text status
-IsTaskReport T.Sweep script budget shape text status = IsSweepReport script budget shape text status
-IsTaskReport T.Check script budget shape text status = IsCheckReport script budget shape text status
+abbrev pub IsTaskReport : Task → Script → ℕ → Shape → List ℕ → Figures → ℕ → Type 0
+IsTaskReport (T.Run rule) script budget shape text figures status = IsRunReport (run script rule budget shape) text figures status
+IsTaskReport T.Size script budget shape text figures status = IsSizeReport script budget shape text figures status
+IsTaskReport T.Sweep script budget shape text figures status = IsSweepReport script budget shape text figures status
+IsTaskReport T.Check script budget shape text figures status = IsCheckReport script budget shape text figures status
 
 -- the bytes spell a script, and this is what the command's task comes to on it
-pub record IsReportOfScript (command : Command) (bytes text : List ℕ) (status : ℕ) : Type 0 where
+pub record IsReportOfScript (command : Command) (bytes text : List ℕ) (figures : Figures) (status : ℕ) : Type 0 where
   pub script : Script
   pub spelled : IsScriptOf bytes script
-  pub told : IsTaskReport command.task script command.budget command.shape text status
+  pub told : IsTaskReport command.task script command.budget command.shape text figures status
 
 -- the bytes have a fault, and this is its line
-pub record IsReportOfFault (bytes text : List ℕ) (status : ℕ) : Type 0 where
+pub record IsReportOfFault (bytes text : List ℕ) (figures : Figures) (status : ℕ) : Type 0 where
   pub fault : ScriptFault
   pub is_none_of_memory : fault ≢ NoMemory
   pub found : IsFaultOf bytes fault
   pub text_is : text ≡ fault_line fault
+  pub figures_are : figures ≡ no_figures
   pub status_is : status ≡ 2
 
--- Report: the text and the status of a command for the bytes that were read
-abbrev pub IsReport : Command → List ℕ → List ℕ → ℕ → Type 0
-IsReport command bytes text status = IsReportOfScript command bytes text status ⊎ IsReportOfFault bytes text status
+-- Report: the text, the figures and the status of a command for the bytes that were read
+abbrev pub IsReport : Command → List ℕ → List ℕ → Figures → ℕ → Type 0
+IsReport command bytes text figures status = IsReportOfScript command bytes text figures status ⊎ IsReportOfFault bytes text figures status

@@ -2,6 +2,7 @@
 -- looked at.
 use Rattle.std.specs.Prelude.{◌≡◌, ◌&&◌, ℕ, List, [], Bool, false, Option, Some, codes, is_some, option_map, option_and_then, unwrap_or}
 use Rattle.std.specs.Option.{option_map_or}
+use Rattle.std.specs.Str.{bytes_eq}
 use Rattle.std.specs.Str.Parse.{digits_value, without_leading_plus}
 use Rattle.clap.specs.Words.{Row, Text, fault_of, first_of, one_of, subcommand_of}
 use Rattle.wb_model.specs.declared.heap.Rule.{Rule}
@@ -42,6 +43,10 @@ shape_of rows = record {
 abbrev pub budget_of : List Row → ℕ
 budget_of rows = unwrap_or (number_of (codes "budget") rows) DEFAULT_BUDGET
 
+-- a flag was given
+abbrev pub flag_of : Text → List Row → Bool
+flag_of option rows = option_map_or (bytes_eq (codes "true")) (one_of option rows) false
+
 -- what a subcommand asks for, by its name and matches
 abbrev pub task_of : Text → List Row → Option Task
 task_of name rows = option_map (λ s. s.task (rule_of rows)) (subcommand_named name)
@@ -53,7 +58,7 @@ command_with rows task = record {
   file = first_of (codes "file") rows;
   budget = budget_of rows;
   shape = shape_of rows;
-  json = false;
+  json = flag_of (codes "json") rows;
 }
 
 -- the command of a subcommand's name and matches

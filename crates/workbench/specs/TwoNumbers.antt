@@ -1,5 +1,5 @@
--- What `size`, `sweep` and `check` print, and what that means of runs: how long the heap must be, which attempt each shorter
--- heap refuses first, and the least number of an attempt whose simulated failure leaks or panics.
+-- What `size`, `sweep` and `check` tell, as lines and as figures, and what that means of runs: how long the heap must be, which
+-- attempt each shorter heap refuses first, and the least number of an attempt whose simulated failure leaks or panics.
 use Rattle.std.specs.Prelude.{◌≡◌, ◌≢◌, ◌⊎◌, ℕ, List, [], ◌∷◌, ◌++◌, codes, length}
 use Rattle.std.specs.Fmt.{decimal}
 use Rattle.std.specs.Option.{option_map_or}
@@ -15,6 +15,9 @@ use Rattle.wb_model.specs.Run.{run}
 use Rattle.wb_model.specs.Sizes.{IsHeapLength}
 use Rattle.wb_model.specs.Sweeps.{run_at, AreAllFine, IsLeastBad, IsLeastCut}
 use Rattle.wb_sweep.specs.declared.found.Sweep.{Sweep}
+use Rattle.workbench.specs.declared.figures.Failing.TheVariants.{At, Never}
+use Rattle.workbench.specs.declared.figures.Figures.{Figures}
+use Rattle.workbench.specs.Figures.{both_figures, no_figures, size_figures, sweep_figures}
 use Rattle.workbench.specs.RunText.{line, run_text}
 
 -- ---- how long the heap must be
@@ -38,23 +41,25 @@ cut_at_line number Ceiling = line (codes "cut " ++ decimal number ++ codes " cei
 
 -- The length is told. It is the least at which the run meets no refusal of the heap, and for each smaller one the line of the
 -- table whose range holds it names the first attempt that the heap refuses (`IsHeapLength`). The run without a limit isn't cut.
-pub record IsSized (script : Script) (budget : ℕ) (shape : Shape) (text : List ℕ) : Type 0 where
+pub record IsSized (script : Script) (budget : ℕ) (shape : Shape) (text : List ℕ) (figures : Figures) : Type 0 where
   pub required : ℕ
   pub rises : List Rise
   pub uncut : (why : Why) → (run script Unlimited budget shape).outcome ≢ Cut why
   pub needed : IsHeapLength script budget shape required rises
   pub text_is : text ≡ size_text required rises
+  pub figures_are : figures ≡ size_figures required rises
 
 -- no length is told: the run without a limit is cut
-pub record IsUnsized (script : Script) (budget : ℕ) (shape : Shape) (text : List ℕ) : Type 0 where
+pub record IsUnsized (script : Script) (budget : ℕ) (shape : Shape) (text : List ℕ) (figures : Figures) : Type 0 where
   pub why : Why
   pub cut : (run script Unlimited budget shape).outcome ≡ Cut why
   pub text_is : text ≡ cut_at_line 0 why
+  pub figures_are : figures ≡ no_figures
 
 -- the report of `size`
-abbrev pub IsSizeReport : Script → ℕ → Shape → List ℕ → ℕ → Type 0
-IsSizeReport script budget shape text status =
-    (IsSized script budget shape text × (status ≡ 0)) ⊎ (IsUnsized script budget shape text × (status ≡ 3))
+abbrev pub IsSizeReport : Script → ℕ → Shape → List ℕ → Figures → ℕ → Type 0
+IsSizeReport script budget shape text figures status =
+    (IsSized script budget shape text figures × (status ≡ 0)) ⊎ (IsUnsized script budget shape text figures × (status ≡ 3))
 
 -- ---- which failing attempt shows a leak or a panic
 
@@ -77,41 +82,47 @@ sweep_text sweep = attempts_line sweep.attempts ++ option_map_or (λ found. foun
 
 -- A number is told, and the run in which its attempt fails. It is the least whose simulated failure leaks or panics; no
 -- smaller number's run is cut (`IsLeastBad`).
-pub record IsFailing (script : Script) (budget : ℕ) (shape : Shape) (text : List ℕ) : Type 0 where
+pub record IsFailing (script : Script) (budget : ℕ) (shape : Shape) (text : List ℕ) (figures : Figures) : Type 0 where
   pub number : ℕ
   pub result : RunResult
   pub least : IsLeastBad script budget shape number result
   pub text_is : text ≡ attempts_line (attempts_of script budget shape) ++ found_text number result
+  pub figures_are : figures ≡ sweep_figures (attempts_of script budget shape) (At number)
 
 -- no number's failure leaks or panics, of all numbers from 0 on, and no such run is cut
-pub record IsNeverFailing (script : Script) (budget : ℕ) (shape : Shape) (text : List ℕ) : Type 0 where
+pub record IsNeverFailing (script : Script) (budget : ℕ) (shape : Shape) (text : List ℕ) (figures : Figures) : Type 0 where
   pub fine : AreAllFine (run_at script budget shape)
   pub text_is : text ≡ attempts_line (attempts_of script budget shape) ++ none_line
+  pub figures_are : figures ≡ sweep_figures (attempts_of script budget shape) Never
 
 -- no answer is told: a number's run is cut, and no smaller number's run leaks, panics or is cut (`IsLeastCut`)
-pub record IsUnswept (script : Script) (budget : ℕ) (shape : Shape) (text : List ℕ) : Type 0 where
+pub record IsUnswept (script : Script) (budget : ℕ) (shape : Shape) (text : List ℕ) (figures : Figures) : Type 0 where
   pub number : ℕ
   pub why : Why
   pub least : IsLeastCut script budget shape number why
   pub text_is : text ≡ cut_at_line number why
+  pub figures_are : figures ≡ no_figures
 
 -- the report of `sweep`
-abbrev pub IsSweepReport : Script → ℕ → Shape → List ℕ → ℕ → Type 0
-IsSweepReport script budget shape text status =
-    (IsFailing script budget shape text × (status ≡ 1))
-    ⊎ ((IsNeverFailing script budget shape text × (status ≡ 0)) ⊎ (IsUnswept script budget shape text × (status ≡ 3)))
+abbrev pub IsSweepReport : Script → ℕ → Shape → List ℕ → Figures → ℕ → Type 0
+IsSweepReport script budget shape text figures status =
+    (IsFailing script budget shape text figures × (status ≡ 1))
+    ⊎ ((IsNeverFailing script budget shape text figures × (status ≡ 0)) ⊎ (IsUnswept script budget shape text figures × (status ≡ 3)))
 
 -- ---- both
 
 -- the length, and then the number or that there is none
-pub record IsBoth (script : Script) (budget : ℕ) (shape : Shape) (text : List ℕ) (status : ℕ) : Type 0 where
+pub record IsBoth (script : Script) (budget : ℕ) (shape : Shape) (text : List ℕ) (figures : Figures) (status : ℕ) : Type 0 where
   pub first : List ℕ
   pub second : List ℕ
-  pub sized : IsSized script budget shape first
-  pub swept : IsSweepReport script budget shape second status
+  pub size : Figures
+  pub sweep : Figures
+  pub sized : IsSized script budget shape first size
+  pub swept : IsSweepReport script budget shape second sweep status
   pub text_is : text ≡ first ++ second
+  pub figures_are : figures ≡ both_figures size sweep
 
 -- the report of `check`; where no length is told, nothing else is
-abbrev pub IsCheckReport : Script → ℕ → Shape → List ℕ → ℕ → Type 0
-IsCheckReport script budget shape text status =
-    IsBoth script budget shape text status ⊎ (IsUnsized script budget shape text × (status ≡ 3))
+abbrev pub IsCheckReport : Script → ℕ → Shape → List ℕ → Figures → ℕ → Type 0
+IsCheckReport script budget shape text figures status =
+    IsBoth script budget shape text figures status ⊎ (IsUnsized script budget shape text figures × (status ≡ 3))

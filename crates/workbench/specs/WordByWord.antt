@@ -24,7 +24,7 @@ is_flag _ = false
 
 -- the options that every subcommand has
 abbrev pub shared_names : List Text
-shared_names = codes "budget" ∷ codes "min" ∷ codes "step" ∷ []
+shared_names = codes "budget" ∷ codes "min" ∷ codes "step" ∷ codes "json" ∷ []
 
 -- the options of a subcommand, by whether it takes a rule
 abbrev pub option_names : Bool → List Text

@@ -7,14 +7,16 @@ ghost use Rattle.std.specs.Io.KnownBytes.{Appends};
 ghost use Rattle.workbench.specs.declared.answer.ReportFault.TheVariants.{Read, NoMemory};
 ghost use Rattle.workbench.specs.Answer.{AreFirst, IsAnswer, IsPartWritten, IsReported, IsReportWritten, IsWritten, is_read_fault};
 ghost use Rattle.workbench.specs.Command.{is_answerable};
+ghost use Rattle.workbench.specs.JsonReport.{laid_out};
 ghost use Rattle.workbench.specs.Report.{no_memory, read_fault};
 ghost use Rattle.workbench.specs.Streams.{AppendsFirst, TakesAtMost, Tries};
 
 use crate::command::Command;
+use crate::json_report::json_text;
 use crate::report::{Report, report_on};
 use crate::streams::{Sink, Source, StreamFault, read_some, write_some};
 use std::alloc::{AllocError, Global};
-use wb_model::memory;
+use wb_model::memory::NoMemory;
 
 /// The most that is read of a script, in bytes: one more than a script may have, so that a longer one shows.
 pub const MOST_READ: usize = 65_537;
@@ -50,16 +52,16 @@ impl From<AllocError> for ReportFault {
     }
 }
 
-impl From<memory::NoMemory> for ReportFault {
+impl From<NoMemory> for ReportFault {
     ghost from_gives = { λ _ fault. fault ≡ NoMemory };
 
-    fn from(_fault: memory::NoMemory) -> ReportFault {
+    fn from(_fault: NoMemory) -> ReportFault {
         ReportFault::NoMemory
     }
 }
 
 /// Answers a command whose numbers are in their ranges: reads the script, at most `MOST_READ` bytes of it,
-/// writes the report, and gives the exit status.
+/// writes the report, as lines or as a JSON object, and gives the exit status.
 ///
 /// Statuses 0 to 3 are those of a report, and the whole of it went out. At `WANT_OF_MEMORY` the line
 /// `no memory` went out alone. At `READ_OR_WRITE_FAULT` a read failed, an interrupted one too, and the line
@@ -102,7 +104,7 @@ fn read_and_say<R: Source, W: Sink>(
     ensures taken { TakesAtMost MOST_READ (R.remaining reader.old) (R.remaining reader.new) }
 {
     match reported(alloc, command, reader) {
-        Ok(report) => say(writer, report.text.as_slice(), report.status),
+        Ok(message) => say(writer, message.text.as_slice(), message.status),
         Err(ReportFault::NoMemory) => say(writer, b"no memory\n", WANT_OF_MEMORY),
         Err(ReportFault::Read) => say_read_fault(writer),
     }
@@ -125,12 +127,19 @@ fn say<W: Sink>(writer: &mut W, text: &[u8], status: u8) -> u8
     }
 }
 
-/// The report of the command on the first bytes that the reader gives.
+/// A text that is ready to be written, and the exit status that goes with it.
+#[derive(Debug, Drop)]
+struct Message {
+    text: Vec<u8>,
+    status: u8,
+}
+
+/// The report of the command on the first bytes that the reader gives, as the command wants it.
 fn reported<R: Source>(
     alloc: Global,
     command: &Command,
     reader: &mut R,
-) -> Result<Report, ReportFault>
+) -> Result<Message, ReportFault>
     requires { IsTrue (is_answerable command.now) }
     ensures report { IfOk result (λ r.
         IsReported command.now (R.remaining reader.old) r.text.items r.status) }
@@ -138,7 +147,22 @@ fn reported<R: Source>(
     ensures tried { Tries R.reads reader.old (is_read_fault result) reader.new }
 {
     let bytes = first_bytes(alloc, reader, MOST_READ)?;
-    Ok(report_on(alloc, command, bytes.as_slice())?)
+    let report = report_on(alloc, command, bytes.as_slice())?;
+    Ok(laid_out(alloc, command.json, report)?)
+}
+
+/// A report as its lines, or as JSON.
+fn laid_out(alloc: Global, json: bool, report: Report) -> Result<Message, NoMemory>
+    ensures text { IfOk result (λ m. m.text.items ≡ laid_out json report.text.items report.figures report.status) }
+    ensures status { IfOk result (λ m. m.status ≡ report.status) }
+{
+    let status = report.status;
+    let text = if json {
+        json_text(alloc, &report)?
+    } else {
+        report.text
+    };
+    Ok(Message { text, status })
 }
 
 /// The first bytes that the reader gives, up to its end or to the most that are wanted.

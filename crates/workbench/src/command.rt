@@ -33,7 +33,7 @@ pub struct Command {
     pub budget: u32,
     /// The heap's minimum length and step, in bytes, in the ranges that `Shape` states.
     pub shape: Shape,
-    /// The report is one JSON object, and not lines.
+    /// The report is written as one JSON object, and not as lines.
     pub json: bool,
 }
 

@@ -1,5 +1,5 @@
 //! How the words of a command line are read: `workbench run [--limit L | --fail N] [--budget B] [--min M]
-//! [--step G] [FILE]`, and the same without a limit or a number after `size`, `sweep` and `check`. Nothing is
+//! [--step G] [--json] [FILE]`, and the same without a limit or a number after `size`, `sweep` and `check`. Nothing is
 //! opened or run here.
 ghost use Rattle.std.specs.Prelude.{◌≡◌, ◌≤◌, All, IfErr, IfOk, IsSome, IsTrue, List, Some, OnErr, OnOk, codes, false, fold, map, pos, true};
 ghost use Rattle.std.specs.Str.{IsUtf8};
@@ -7,10 +7,10 @@ ghost use Rattle.clap.specs.Words.{Text, app_of, first_of, found_of, new_app, ro
 ghost use Rattle.clap.specs.declared.builder.command.Command.TheViews.{out-Command as fields_of};
 ghost use Rattle.wb_model.specs.Space.{is_shape};
 ghost use Rattle.workbench.specs.Command.{is_answerable, is_in_range, is_sixteenfold};
-ghost use Rattle.workbench.specs.CommandLine.{command_line, file_argument, line_of, option_rule, rule_options, run_level, shared_options, with_level, with_option, with_rules};
+ghost use Rattle.workbench.specs.CommandLine.{command_line, file_argument, json_flag, line_of, option_rule, rule_options, run_level, shared_options, with_level, with_option, with_rules};
 ghost use Rattle.workbench.specs.Fault.{IsAfterUsage, IsFaultOf};
 ghost use Rattle.workbench.specs.Passed.{RowsPass};
-ghost use Rattle.workbench.specs.Spelled.{IsSpelledBy, budget_of as spelled_budget, doubles, gives_both, rule_of as spelled_rule, shape_of as spelled_shape, task_of};
+ghost use Rattle.workbench.specs.Spelled.{IsSpelledBy, budget_of as spelled_budget, doubles, flag_of, gives_both, rule_of as spelled_rule, shape_of as spelled_shape, task_of};
 ghost use Rattle.workbench.specs.Subcommands.{subcommand_named};
 ghost use Rattle.workbench.specs.WordByWord.{AreRead};
 
@@ -20,7 +20,7 @@ use crate::command::{Command, CommandFault, Task};
 use crate::command_line::number_help::NumberHelp;
 use crate::file_name::FileName;
 use clap::builder::ValueParser;
-use clap::{Arg, ArgMatches, value_parser};
+use clap::{Arg, ArgAction, ArgMatches, value_parser};
 use std::alloc::{AllocError, Global};
 use std::convert::AsStr;
 use wb_model::heap::{Rule, Shape};
@@ -57,7 +57,7 @@ pub fn command<'a, S: AsStr>(alloc: Global, words: &'a [S]) -> Result<Command, C
         file: file_in(alloc, options)?,
         budget: budget_in(options),
         shape,
-        json: false,
+        json: json_in(options),
     })
 }
 
@@ -125,6 +125,14 @@ fn shape_in(options: &ArgMatches) -> Result<Shape, CommandFault>
     } else {
         Err(CommandFault::Shape)
     }
+}
+
+/// Whether they ask for the report as JSON.
+fn json_in(options: &ArgMatches) -> bool
+    requires { RowsPass run_level.rules (rows_of (found_of options.now)) }
+    ensures { result ≡ flag_of (codes "json") (rows_of (found_of options.now)) }
+{
+    options.get_flag("json")
 }
 
 /// The script's file, where they name one. The only error is that memory ran out.
@@ -266,7 +274,7 @@ fn with_shared_options<'a>(
     ensures added { IfOk result (λ more. app_of more ≡ with_rules (app_of line.entry) shared_options) }
     ensures own { IfOk result (λ more. (fields_of more).has_globals ≡ (fields_of line.entry).has_globals) }
 {
-    with_numbers(
+    let line = with_numbers(
         alloc,
         line,
         &[
@@ -292,7 +300,8 @@ fn with_shared_options<'a>(
                 help: help.step.as_str(),
             },
         ],
-    )
+    )?;
+    with_argument(line, json(alloc))
 }
 
 /// The subcommand with further options.
@@ -330,6 +339,17 @@ fn file<'a>(alloc: Global) -> Arg<'a>
     Arg::new(alloc, "file").value_name("FILE").help(
         "The script's file; without it the script is standard input",
     )
+}
+
+/// The flag that asks for the report as JSON.
+fn json<'a>(alloc: Global) -> Arg<'a>
+    ensures rule { rule_of result ≡ json_flag }
+    ensures own { result.global ≡ false }
+{
+    Arg::new(alloc, "json")
+        .long("json")
+        .action(ArgAction::SetTrue)
+        .help("Writes the report as one JSON object")
 }
 
 /// The command with one argument more.

@@ -1,30 +1,33 @@
-//! What a command comes to on the bytes that were read: the whole text, and the exit status. Nothing is read
-//! or written here. What its task comes to on a script stands in `tasks`.
+//! What a command comes to on the bytes that were read: the whole text, its figures, and the exit status. Nothing
+//! is read or written here. What its task comes to on a script stands in `tasks`.
 
 ghost use Rattle.std.specs.Prelude.{◌≡◌, ◌≢◌, ◌++◌, OnOk, IfOk, IsTrue};
 ghost use Rattle.workbench.specs.Command.{is_answerable};
+ghost use Rattle.workbench.specs.Figures.{no_figures};
 ghost use Rattle.workbench.specs.Report.{IsReport, fault_line, refused, refused_at};
 
 use crate::appended::appended;
 use crate::command::Command;
+use crate::figures::Figures;
 use crate::tasks::carried_out;
 use std::alloc::Global;
 use std::io::Write;
 use wb_model::fault::ScriptFault;
 use wb_model::memory::NoMemory;
 
-/// A text that is ready to be written, and the exit status that goes with it.
+/// A report as lines, the figures that it tells, and the exit status that goes with it.
 #[derive(Debug, Drop)]
 pub struct Report {
     pub text: Vec<u8>,
+    pub figures: Figures,
     pub status: u8,
 }
 
-/// The report of a command for the bytes of a script: the text of its run, or the one line that says why the
+/// The report of a command for the bytes of a script: what its task comes to, or the one line that says why the
 /// bytes are no script. The only error is that memory ran out.
 pub fn report_on(alloc: Global, command: &Command, bytes: &[u8]) -> Result<Report, NoMemory>
     requires { IsTrue (is_answerable command.now) }
-    ensures { IfOk result (λ r. IsReport command.now bytes.now r.text.items r.status) }
+    ensures { IfOk result (λ r. IsReport command.now bytes.now r.text.items r.figures r.status) }
 {
     match wb_script::read(alloc, bytes) {
         Ok(script) => carried_out(alloc, command, &script),
@@ -37,11 +40,16 @@ pub fn report_on(alloc: Global, command: &Command, bytes: &[u8]) -> Result<Repor
 fn refusal(alloc: Global, fault: ScriptFault) -> Result<Report, NoMemory>
     requires { fault ≢ ScriptFault.NoMemory }
     ensures text { IfOk result (λ r. r.text.items ≡ fault_line fault) }
+    ensures figures { IfOk result (λ r. r.figures ≡ no_figures) }
     ensures status { IfOk result (λ r. r.status ≡ 2) }
 {
     let mut text = Vec::new(alloc);
     put_fault(&mut text, fault)?;
-    Ok(Report { text, status: 2 })
+    Ok(Report {
+        text,
+        figures: Figures::none(),
+        status: 2,
+    })
 }
 
 fn put_fault(text: &mut Vec<u8>, fault: ScriptFault) -> Result<(), NoMemory>

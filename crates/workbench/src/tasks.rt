@@ -1,15 +1,17 @@
-//! What each task comes to on a script: the text, and the exit status. Nothing is read or written here.
+//! What each task comes to on a script: the text, its figures, and the exit status. Nothing is read or written here.
 
 ghost use Rattle.std.specs.Prelude.{◌≡◌, ◌≤◌, IfOk, IsTrue};
 ghost use Rattle.wb_model.specs.Run.{run};
 ghost use Rattle.wb_model.specs.Sound.{is_script};
 ghost use Rattle.wb_model.specs.Space.{is_shape};
 ghost use Rattle.workbench.specs.Command.{is_answerable};
-ghost use Rattle.workbench.specs.Report.{IsTaskReport};
-ghost use Rattle.workbench.specs.RunText.{outcome_status, run_text, run_status};
+ghost use Rattle.workbench.specs.Figures.{no_figures};
+ghost use Rattle.workbench.specs.Report.{IsRunReport, IsTaskReport};
+ghost use Rattle.workbench.specs.RunText.{outcome_status};
 ghost use Rattle.workbench.specs.TwoNumbers.{IsSizeReport, IsSweepReport, IsCheckReport};
 
 use crate::command::{Command, Task};
+use crate::figures::{Failing, Figures};
 use crate::numbers_text::{put_cut_at, put_sizing, put_sweep};
 use crate::report::Report;
 use crate::run_text::put_run;
@@ -37,7 +39,7 @@ pub fn carried_out(alloc: Global, command: &Command, script: &Script) -> Result<
     requires ranges { IsTrue (is_answerable command.now) }
     requires sound { IsTrue (is_script script.now) }
     ensures { IfOk result (λ r. IsTaskReport command.now.task script.now command.now.budget command.now.shape
-        r.text.items r.status) }
+        r.text.items r.figures r.status) }
 {
     let (budget, shape) = (command.budget, command.shape);
     match command.task {
@@ -60,8 +62,7 @@ fn ran(
     requires least { 1 ≤ budget }
     requires greatest { budget ≤ LARGEST_BUDGET }
     requires shape { IsTrue (is_shape shape) }
-    ensures text { IfOk result (λ r. r.text.items ≡ run_text (run script.now rule budget shape)) }
-    ensures status { IfOk result (λ r. r.status ≡ run_status (run script.now rule budget shape)) }
+    ensures { IfOk result (λ r. IsRunReport (run script.now rule budget shape) r.text.items r.figures r.status) }
 {
     match wb_machine::run(alloc, script, rule, budget, shape) {
         Ok(run) => {
@@ -69,6 +70,7 @@ fn ran(
             put_run(&mut text, &run)?;
             Ok(Report {
                 text,
+                figures: Figures::of_run(&run),
                 status: status_of(&run.outcome),
             })
         }
@@ -96,7 +98,7 @@ fn sized(alloc: Global, script: &Script, budget: u32, shape: Shape) -> Result<Re
     requires least { 1 ≤ budget }
     requires greatest { budget ≤ LARGEST_BUDGET }
     requires shape { IsTrue (is_shape shape) }
-    ensures { IfOk result (λ r. IsSizeReport script.now budget shape r.text.items r.status) }
+    ensures { IfOk result (λ r. IsSizeReport script.now budget shape r.text.items r.figures r.status) }
 {
     let mut text = Vec::new(alloc);
     match size(alloc, script, budget, shape) {
@@ -104,12 +106,13 @@ fn sized(alloc: Global, script: &Script, budget: u32, shape: Shape) -> Result<Re
             put_sizing(&mut text, &sizing)?;
             Ok(Report {
                 text,
+                figures: Figures::of_size(sizing),
                 status: NOTHING_FOUND,
             })
         }
         Err(SizeFault::Cut { number, why }) => {
             put_cut_at(&mut text, number, why)?;
-            Ok(Report { text, status: CUT })
+            Ok(cut(text))
         }
         // The command's shape is one that a heap may have.
         Err(SizeFault::BadShape) => unreachable!(),
@@ -123,25 +126,42 @@ fn swept(alloc: Global, script: &Script, budget: u32, shape: Shape) -> Result<Re
     requires least { 1 ≤ budget }
     requires greatest { budget ≤ LARGEST_BUDGET }
     requires shape { IsTrue (is_shape shape) }
-    ensures { IfOk result (λ r. IsSweepReport script.now budget shape r.text.items r.status) }
+    ensures { IfOk result (λ r. IsSweepReport script.now budget shape r.text.items r.figures r.status) }
 {
     let mut text = Vec::new(alloc);
     match sweep(alloc, script, budget, shape) {
         Ok(told) => {
             put_sweep(&mut text, &told)?;
-            let status = match told.found {
-                Some(_) => FOUND,
-                None => NOTHING_FOUND,
+            let (number, status) = match &told.found {
+                Some(found) => (Failing::At(found.number), FOUND),
+                None => (Failing::Never, NOTHING_FOUND),
             };
-            Ok(Report { text, status })
+            Ok(Report {
+                text,
+                figures: Figures::of_sweep(told.attempts, number),
+                status,
+            })
         }
         Err(SweepFault::Cut { number, why }) => {
             put_cut_at(&mut text, number, why)?;
-            Ok(Report { text, status: CUT })
+            Ok(cut(text))
         }
         // The command's shape is one that a heap may have.
         Err(SweepFault::BadShape) => unreachable!(),
         Err(SweepFault::NoMemory) => Err(NoMemory),
+    }
+}
+
+/// The report of a run that was cut, whose line is the text.
+fn cut(text: Vec<u8>) -> Report
+    ensures text { result.text ≡ text }
+    ensures figures { result.figures ≡ no_figures }
+    ensures status { result.status ≡ 3 }
+{
+    Report {
+        text,
+        figures: Figures::none(),
+        status: CUT,
     }
 }
 
@@ -151,7 +171,7 @@ fn checked(alloc: Global, script: &Script, budget: u32, shape: Shape) -> Result<
     requires least { 1 ≤ budget }
     requires greatest { budget ≤ LARGEST_BUDGET }
     requires shape { IsTrue (is_shape shape) }
-    ensures { IfOk result (λ r. IsCheckReport script.now budget shape r.text.items r.status) }
+    ensures { IfOk result (λ r. IsCheckReport script.now budget shape r.text.items r.figures r.status) }
 {
     let mut report = sized(alloc, script, budget, shape)?;
     if report.status == CUT {
@@ -159,6 +179,7 @@ fn checked(alloc: Global, script: &Script, budget: u32, shape: Shape) -> Result<
     }
     let sweep = swept(alloc, script, budget, shape)?;
     report.text.extend_from_slice(sweep.text.as_slice())?;
+    report.figures = Figures::of_both(report.figures, sweep.figures);
     report.status = sweep.status;
     Ok(report)
 }

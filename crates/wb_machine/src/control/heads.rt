@@ -2,27 +2,30 @@
 
 ghost use Rattle.std.specs.Prelude.{◌≡◌, ◌+◌, ◌^◌, ◌<◌, [], ℕ, List, IsTrue, OnOk};
 ghost use Rattle.std.specs.List.{list_all};
-ghost use Rattle.wb_model.specs.Sound.{is_script, is_condition, is_local, are_passed};
-ghost use Rattle.wb_model.specs.Statements.{procedure_at};
+ghost use Rattle.wb_model.specs.Sound.{is_script, is_condition, is_local, is_pointer};
 ghost use Rattle.wb_model.specs.declared.heap.Rule.{Rule};
 ghost use Rattle.wb_model.specs.declared.script.Script.{Script};
 ghost use Rattle.wb_model.specs.declared.script.Local.{Local};
-ghost use Rattle.wb_model.specs.declared.script.Parameter.{Parameter};
+ghost use Rattle.wb_model.specs.declared.script.Body.{Body};
 ghost use Rattle.wb_model.specs.declared.script.Statement.TheOpen.{Statement-F};
 ghost use Rattle.wb_model.specs.declared.script.Statement.TheViews.{out-Statement};
 ghost use Rattle.wb_machine.specs.declared.pieces.Ending.TheVariants.{GoesOn};
-ghost use Rattle.wb_machine.specs.RunState.{RunState};
-ghost use Rattle.wb_machine.specs.Flow.{call_of, where_of, AreOwn, IsOwn, AreSound, FitsStep, rest_from, rest_of_statement};
-ghost use Rattle.wb_machine.specs.Owed.{MayAttempt, KeepsSteps};
+ghost use Rattle.wb_machine.specs.Bodies.{IsBody};
+ghost use Rattle.wb_machine.specs.LocalValues.{values_handed};
+ghost use Rattle.wb_machine.specs.Flow.{where_of, afterwards, AreOwn, IsOwn, AreSound, FitsStep, rest_from, rest_of_statement, rest_of_body};
+ghost use Rattle.wb_machine.specs.Owed.{HasStack, MayAttempt, KeepsSteps, IsQuiet};
 
+use crate::arguments::Handed;
+use crate::bodies::{Lines, construct_at, lines_of};
 use crate::control::{Control, procedure_at};
-use crate::operands::number_within;
-use crate::pieces::{Ending, Piece, Standing};
+use crate::locals::NULL;
+use crate::operands::{not_negative, number_within};
+use crate::pieces::{After, Ending, Piece, Standing};
 use crate::state::State;
-use wb_model::heap::Panic;
+use wb_model::heap::{Panic, Ptr};
 use wb_model::limits::{MOST_FRAMES, MOST_TURNS};
 use wb_model::memory::NoMemory;
-use wb_model::script::{Argument, Body, Condition, Number, Numbered, Script, Statement};
+use wb_model::script::{Condition, Number, Numbered, Pointer, Script, Statement};
 
 impl<'a> Control<'a> {
     /// The part of an `if` that its condition chooses.
@@ -69,52 +72,120 @@ impl<'a> Control<'a> {
         Ok(())
     }
 
-    /// The body of a TRAP.
-    fn begin_trap(&mut self, at: Standing, local: u8, body: &'a [Numbered]) -> Result<(), NoMemory>
+    /// The body of a TRAP, over the items that stand at its entry.
+    fn begin_trap(
+        &mut self,
+        at: Standing,
+        local: u8,
+        body: &'a [Numbered],
+        state: &State,
+    ) -> Result<(), NoMemory>
         requires { self.old.ending ≡ GoesOn }
-        ensures kept { OnOk result ((script : Script) (r : Rule) (budget : ℕ) (h : RunState) →
-            rest_from script budget r self.new.ending self.new.pieces.items h
-            ≡ rest_of_statement script budget r (where_of at) (Statement-F.Trap local body.now) self.old.pieces.items h) }
+        ensures kept { OnOk result ((script : Script) (r : Rule) (budget : ℕ) →
+            rest_from script budget r self.new.ending self.new.pieces.items state.now
+            ≡ rest_of_statement script budget r (where_of at) (Statement-F.Trap local body.now) self.old.pieces.items state.now) }
         ensures sound { OnOk result ((script : Script) → AreOwn script body.now → AreSound script self.old.pieces.items → AreSound script self.new.pieces.items) }
         ensures ending { OnOk result (self.new.ending ≡ GoesOn) }
         ensures line { self.new.line ≡ self.old.line }
     {
-        self.push(Piece::Trap(at, local))?;
-        let inside = Standing { floor: 0, ..at };
+        let entry = state.items();
+        self.push(Piece::Trap(at, local, entry))?;
+        let inside = Standing { floor: entry, ..at };
         self.push(Piece::Code(inside, body))?;
         Ok(())
     }
 
-    /// A call: its body in a frame of its own, and then the caller's frame again. One frame too many is refused.
-    fn begin_call(
+    /// The destruction of the newest items. As many must stand above the entry of the innermost TRAP, which is asked before the
+    /// first is destroyed.
+    fn begin_pop(&mut self, at: Standing, count: Number, state: &State) -> Result<(), NoMemory>
+        requires { self.old.ending ≡ GoesOn }
+        ensures kept { OnOk result ((script : Script) (r : Rule) (budget : ℕ) →
+            rest_from script budget r self.new.ending self.new.pieces.items state.now
+            ≡ rest_of_statement script budget r (where_of at) (Statement-F.PopDestroy count) self.old.pieces.items state.now) }
+        ensures sound { OnOk result ((script : Script) → AreSound script self.old.pieces.items → AreSound script self.new.pieces.items) }
+        ensures line { self.new.line ≡ self.old.line }
+    {
+        let Some(count) = not_negative(state.number(count)) else {
+            self.ending = Ending::Panics(Panic::NUMBER_OUT_OF_RANGE);
+            return Ok(());
+        };
+        if u64::from(at.floor) + u64::from(count) <= u64::from(state.items()) {
+            self.push(Piece::Items(at, count))?;
+        } else {
+            self.ending = Ending::Panics(Panic::POP_BELOW_TRAP);
+        }
+        Ok(())
+    }
+
+    /// The body that makes an object. WORKBENCH 1 or 2 where the pointer names none.
+    fn begin_construct(
+        &mut self,
+        script: &'a Script,
+        at: Standing,
+        object: Pointer,
+        state: &mut State,
+    ) -> Result<(), NoMemory>
+        requires script { IsTrue (is_script script.now) }
+        requires going { self.old.ending ≡ GoesOn }
+        ensures kept { OnOk result ((r : Rule) (budget : ℕ) (locals : List Local) → IsTrue (is_pointer locals object) →
+            rest_from script.now budget r self.new.ending self.new.pieces.items state.new
+            ≡ rest_of_statement script.now budget r (where_of at) (Statement-F.Construct object) self.old.pieces.items state.old) }
+        ensures sound { OnOk result (AreSound script.now self.old.pieces.items → AreSound script.now self.new.pieces.items) }
+        ensures quiet { IsQuiet state.old state.new }
+        ensures line { self.new.line ≡ self.old.line }
+    {
+        let this = state.pointer(object);
+        match state.class(this) {
+            Ok(class) => {
+                let body = construct_at(script, class);
+                self.begin_body(
+                    at,
+                    this,
+                    Handed::Arguments(&[]),
+                    body,
+                    After::Nothing,
+                    state,
+                )
+            }
+            Err(panic) => {
+                self.ending = Ending::Panics(panic);
+                Ok(())
+            }
+        }
+    }
+
+    /// A body begins in a frame of its own, of an object or of none, and then its caller's frame stands again. One frame too
+    /// many is refused.
+    pub fn begin_body(
         &mut self,
         at: Standing,
-        body: &'a Body,
-        arguments: &[Argument],
-        target: Option<u8>,
+        this: Ptr,
+        handed: Handed,
+        body: Lines<'a>,
+        after: After,
         state: &mut State,
     ) -> Result<(), NoMemory>
         requires going { self.old.ending ≡ GoesOn }
-        requires locals { IsTrue (list_all is_local body.now.locals) }
-        ensures kept { OnOk result ((script : Script) (r : Rule) (budget : ℕ) (index : ℕ) (locals : List Local) (parameters : List Parameter) →
-            body.now ≡ procedure_at script index → IsTrue (are_passed locals parameters arguments.now) →
+        requires locals { IsTrue (list_all is_local body.locals.now) }
+        ensures kept { OnOk result ((script : Script) (r : Rule) (budget : ℕ) (b : Body) → IsBody body.entry b →
             rest_from script budget r self.new.ending self.new.pieces.items state.new
-            ≡ rest_of_statement script budget r (where_of at) (call_of target index arguments.now) self.old.pieces.items state.old) }
-        ensures sound { OnOk result ((script : Script) → AreOwn script body.now.statements → AreSound script self.old.pieces.items → AreSound script self.new.pieces.items) }
-        ensures keeps { KeepsSteps state.old state.new }
+            ≡ rest_of_body script budget r (where_of at) this (values_handed state.old.locals handed.entry) b (afterwards after) self.old.pieces.items state.old) }
+        ensures sound { OnOk result ((script : Script) → AreOwn script body.entry.statements.now → AreSound script self.old.pieces.items → AreSound script self.new.pieces.items) }
+        ensures quiet { IsQuiet state.old state.new }
         ensures line { self.new.line ≡ self.old.line }
     {
         if at.depth >= MOST_FRAMES {
             self.ending = Ending::Panics(Panic::TOO_MANY_FRAMES);
             return Ok(());
         }
-        let caller = state.call(arguments, body.locals.as_slice())?;
-        self.push(Piece::Call(caller, target))?;
+        let caller = state.this();
+        let base = state.call(this, handed, body.locals)?;
+        self.push(Piece::Call(base, caller, after))?;
         let inside = Standing {
             depth: at.depth + 1,
             ..at
         };
-        self.push(Piece::Code(inside, body.statements.as_slice()))?;
+        self.push(Piece::Code(inside, body.statements))?;
         Ok(())
     }
 
@@ -132,6 +203,7 @@ impl<'a> Control<'a> {
         requires sound { AreSound script.now self.old.pieces.items }
         requires number { MayAttempt state.old }
         requires level { state.old.debug.heap.level + 1 < 2 ^ 32 }
+        requires stack { HasStack state.old }
         ensures kept { OnOk result ((r : Rule) (budget : ℕ) → FitsStep r state.old self.new.ending state.new →
             rest_from script.now budget r self.new.ending self.new.pieces.items state.new
             ≡ rest_of_statement script.now budget r (where_of at) (out-Statement statement.now) self.old.pieces.items state.old) }
@@ -149,17 +221,22 @@ impl<'a> Control<'a> {
             Statement::Repeat(count, body) => {
                 self.begin_repeat(at, *count, body.as_slice(), state)
             }
-            Statement::Trap(local, body) => self.begin_trap(at, *local, body.as_slice()),
+            Statement::Trap(local, body) => self.begin_trap(at, *local, body.as_slice(), state),
+            Statement::PopDestroy(count) => self.begin_pop(at, *count, state),
+            Statement::Construct(object) => self.begin_construct(script, at, *object, state),
+            Statement::Delete(object) => self.begin_delete(at, state.pointer(*object)),
             Statement::Call(index, arguments) => {
-                let body = procedure_at(script, *index);
-                self.begin_call(at, body, arguments.as_slice(), None, state)
+                let body = lines_of(procedure_at(script, *index));
+                let handed = Handed::Arguments(arguments.as_slice());
+                self.begin_body(at, NULL, handed, body, After::Nothing, state)
             }
             Statement::CallTo(target, index, arguments) => {
-                let body = procedure_at(script, *index);
-                self.begin_call(at, body, arguments.as_slice(), Some(*target), state)
+                let body = lines_of(procedure_at(script, *index));
+                let handed = Handed::Arguments(arguments.as_slice());
+                self.begin_body(at, NULL, handed, body, After::Gives(*target), state)
             }
             _ => {
-                self.ending = state.carry_out(script, statement)?;
+                self.ending = state.carry_out(script, at.floor, statement)?;
                 Ok(())
             }
         }

@@ -1,20 +1,24 @@
 //! What becomes of pieces that are done, and of how the piece above them ended.
 
-ghost use Rattle.std.specs.Prelude.{◌≡◌, ◌<◌, ◌≤◌, ◌⊎◌, ◌++◌, ◌∷◌, [], ℕ, List, true, false, take, drop, vec_len, IsTrue};
-ghost use Rattle.wb_model.specs.Statements.{Where};
-ghost use Rattle.wb_model.specs.Rest.{catching, calling, main_catching};
+ghost use Rattle.std.specs.Prelude.{◌≡◌, ◌+◌, ◌-◌, ◌<◌, ◌≤◌, ◌⊎◌, ◌++◌, ◌∷◌, [], ℕ, List, true, false, length, take, drop, vec_len, IsTrue, OnOk};
+ghost use Rattle.wb_model.specs.Statements.{destroy_items};
+ghost use Rattle.wb_model.specs.Rest.{doing, catching, caught, calling, main_catching, main_caught};
 ghost use Rattle.wb_model.specs.declared.heap.Rule.{Rule};
 ghost use Rattle.wb_model.specs.declared.script.Script.{Script};
 ghost use Rattle.wb_machine.specs.declared.pieces.Piece.{Piece};
 ghost use Rattle.wb_machine.specs.declared.pieces.Ending.TheVariants.{GoesOn};
-ghost use Rattle.wb_machine.specs.RunState.{RunState};
-ghost use Rattle.wb_machine.specs.Flow.{in_main_frame, frame_with, afterwards, pending_of, callers_under, pending_in, needs_step, is_stop, is_over, AreSound, IsReady, rest_from, rest_under};
-ghost use Rattle.wb_machine.specs.Owed.{IsSameButLocals};
+ghost use Rattle.wb_machine.specs.RunState.{Values, RunState};
+ghost use Rattle.wb_machine.specs.Flow.{where_of, in_main_frame, frame_with, afterwards, pending_of, callers_under, pending_in, needs_step, weight, weight_of, is_stop, is_over, IsSoundPiece, AreSound, IsReady, rest_from, rest_under};
+ghost use Rattle.wb_machine.specs.Bodies.{followed_carried};
+ghost use Rattle.wb_machine.specs.Owed.{CarriesOut, IsQuiet};
 
 use crate::control::Control;
 use crate::locals::{NULL, Slot};
-use crate::pieces::{Ending, Piece, needs_step};
+use crate::pieces::{After, Ending, IN_MAIN, Piece, Standing, needs_step};
 use crate::state::State;
+use std::alloc::AllocError;
+use wb_model::heap::{Panic, Ptr};
+use wb_model::memory::NoMemory;
 
 impl<'a> Control<'a> {
     /// Whether the piece on top takes how the one above it ended: the run isn't stopped, and no step is to come.
@@ -30,103 +34,187 @@ impl<'a> Control<'a> {
         }
     }
 
-    /// A TRAP's local gets the code of how its body ended, 0 for a plain end. No body returns out of one.
-    fn fall_trap(&mut self, local: u8, state: &mut State)
+    /// The items above the `entry` first ones are to be destroyed, and a piece stands under that.
+    fn destroy_to(
+        &mut self,
+        at: Standing,
+        entry: u32,
+        then: Piece<'a>,
+        state: &State,
+    ) -> Result<(), AllocError>
+        ensures pieces { OnOk result ((callers : Values) → pending_in callers self.new.pieces.items
+            ≡ doing (where_of at) (destroy_items (length state.now.items - entry)) ∷ pending_of callers then.entry ∷ pending_in (callers_under callers then.entry) self.old.pieces.items) }
+        ensures weight { OnOk result (weight_of self.new.pieces.items ≡ weight_of self.old.pieces.items + weight then.entry + 1) }
+        ensures sound { OnOk result ((script : Script) → IsSoundPiece script then.entry → AreSound script self.old.pieces.items → AreSound script self.new.pieces.items) }
+        ensures ending { OnOk result (self.new.ending ≡ self.old.ending) }
+        ensures line { self.new.line ≡ self.old.line }
+    {
+        let left = state.items().saturating_sub(entry);
+        self.push(then)?;
+        self.push(Piece::Items(at, left))?;
+        Ok(())
+    }
+
+    /// A TRAP's local gets 0 where its body ended plainly; the items of its entry must be those that stand now. Where it was
+    /// left, the items above those of its entry are to be destroyed, and then the local gets the code. No body returns out
+    /// of one.
+    fn fall_trap(
+        &mut self,
+        at: Standing,
+        local: u8,
+        entry: u32,
+        state: &mut State,
+    ) -> Result<(), AllocError>
         requires { is_stop self.old.ending ≡ false }
-        ensures kept { (script : Script) (r : Rule) (budget : ℕ) (at : Where) → state.old.steps ≤ budget →
-            rest_from script budget r self.new.ending self.old.pieces.items state.new
-            ≡ rest_under script budget r self.old.ending (catching at local 0 ∷ pending_in state.old.callers self.old.pieces.items) state.old }
-        ensures ending { is_stop self.new.ending ≡ false }
-        ensures pieces { self.new.pieces.items ≡ self.old.pieces.items }
-        ensures locals { IsSameButLocals state.old state.new }
+        ensures kept { OnOk result ((script : Script) (r : Rule) (budget : ℕ) → state.old.steps ≤ budget →
+            rest_from script budget r self.new.ending self.new.pieces.items state.new
+            ≡ rest_under script budget r self.old.ending (catching (where_of at) local entry ∷ pending_in state.old.callers self.old.pieces.items) state.old) }
+        ensures lighter { OnOk result (weight_of self.new.pieces.items < weight_of self.old.pieces.items + 3) }
+        ensures sound { OnOk result ((script : Script) → AreSound script self.old.pieces.items → AreSound script self.new.pieces.items) }
+        ensures quiet { IsQuiet state.old state.new }
         ensures line { self.new.line ≡ self.old.line }
     {
         match self.ending {
-            Ending::GoesOn => state.set(local, Slot::Number(0)),
+            Ending::GoesOn if state.items() == entry => state.set(local, Slot::Number(0)),
+            Ending::GoesOn => self.ending = Ending::Panics(Panic::ITEMS_LEFT),
             Ending::Leaves(code) => {
-                state.set(local, Slot::Number(code));
                 self.ending = Ending::GoesOn;
+                self.destroy_to(at, entry, Piece::Caught(local, code), state)?;
             }
             Ending::Returns(_) => {}
             Ending::Panics(_) | Ending::Cut(_) | Ending::NoCleanup => unreachable!(),
         }
+        Ok(())
     }
 
-    /// `main` ends plainly where its body returned. A leave goes on.
-    fn fall_main(&mut self)
-        requires { is_stop self.old.ending ≡ false }
-        ensures kept { (script : Script) (r : Rule) (budget : ℕ) (h : RunState) → h.steps ≤ budget →
-            rest_from script budget r self.new.ending self.old.pieces.items h
-            ≡ rest_under script budget r self.old.ending (main_catching in_main_frame ∷ pending_in h.callers self.old.pieces.items) h }
-        ensures ending { is_stop self.new.ending ≡ false }
-        ensures pieces { self.new.pieces.items ≡ self.old.pieces.items }
-        ensures line { self.new.line ≡ self.old.line }
-    {
-        if let Ending::Returns(_) = self.ending {
-            self.ending = Ending::GoesOn;
-        }
-    }
-
-    /// A call's body has ended: the caller's frame, which begins at `caller`, is the innermost again. Its target gets the
-    /// result, null where the body ran out. A leave goes on.
-    fn fall_call(&mut self, caller: usize, target: Option<u8>, state: &mut State)
+    /// A TRAP's local gets the code of a leave, once the items are destroyed.
+    fn fall_caught(&mut self, local: u8, code: i32, state: &mut State)
         requires { is_stop self.old.ending ≡ false }
         ensures kept { (script : Script) (r : Rule) (budget : ℕ) →
             rest_from script budget r self.new.ending self.old.pieces.items state.new
-            ≡ rest_under script budget r self.old.ending (calling (frame_with (drop caller state.old.callers)) (afterwards target) ∷ pending_in (take caller state.old.callers) self.old.pieces.items) state.old }
-        ensures ending { is_stop self.new.ending ≡ false }
+            ≡ rest_under script budget r self.old.ending (caught local code ∷ pending_in state.old.callers self.old.pieces.items) state.old }
         ensures pieces { self.new.pieces.items ≡ self.old.pieces.items }
-        ensures locals { IsSameButLocals state.old state.new }
+        ensures quiet { IsQuiet state.old state.new }
         ensures line { self.new.line ≡ self.old.line }
     {
-        state.end_call(caller);
+        if let Ending::GoesOn = self.ending {
+            state.set(local, Slot::Number(code));
+        }
+    }
+
+    /// `main` ends plainly where its body returned; no item may stand then. Where it was left, all items are to be destroyed,
+    /// and then the leave goes on.
+    fn fall_main(&mut self, state: &State) -> Result<(), AllocError>
+        requires { is_stop self.old.ending ≡ false }
+        ensures kept { OnOk result ((script : Script) (r : Rule) (budget : ℕ) → state.now.steps ≤ budget →
+            rest_from script budget r self.new.ending self.new.pieces.items state.now
+            ≡ rest_under script budget r self.old.ending (main_catching in_main_frame ∷ pending_in state.now.callers self.old.pieces.items) state.now) }
+        ensures lighter { OnOk result (weight_of self.new.pieces.items < weight_of self.old.pieces.items + 3) }
+        ensures sound { OnOk result ((script : Script) → AreSound script self.old.pieces.items → AreSound script self.new.pieces.items) }
+        ensures line { self.new.line ≡ self.old.line }
+    {
+        match self.ending {
+            Ending::Leaves(code) => {
+                self.ending = Ending::GoesOn;
+                self.destroy_to(IN_MAIN, 0, Piece::MainCaught(code), state)?;
+            }
+            _ if state.items() == 0 => self.ending = Ending::GoesOn,
+            _ => self.ending = Ending::Panics(Panic::ITEMS_LEFT),
+        }
+        Ok(())
+    }
+
+    /// `main` is left with a code, once the items are destroyed.
+    fn fall_main_caught(&mut self, code: i32)
+        requires { is_stop self.old.ending ≡ false }
+        ensures kept { (script : Script) (r : Rule) (budget : ℕ) (h : RunState) →
+            rest_from script budget r self.new.ending self.old.pieces.items h
+            ≡ rest_under script budget r self.old.ending (main_caught code ∷ pending_in h.callers self.old.pieces.items) h }
+        ensures pieces { self.new.pieces.items ≡ self.old.pieces.items }
+        ensures line { self.new.line ≡ self.old.line }
+    {
+        if let Ending::GoesOn = self.ending {
+            self.ending = Ending::Leaves(code);
+        }
+    }
+
+    /// A body has ended: the caller's frame, which begins at `base` and runs a body of `this`, is the innermost again. Then
+    /// comes what follows; a body that ran out gives null. A leave goes on.
+    fn fall_call(&mut self, base: usize, this: Ptr, after: After, state: &mut State)
+        requires { is_stop self.old.ending ≡ false }
+        ensures kept { (script : Script) (r : Rule) (budget : ℕ) →
+            rest_from script budget r self.new.ending self.old.pieces.items state.new
+            ≡ rest_under script budget r self.old.ending (calling (frame_with this (drop base state.old.callers)) (afterwards after) ∷ pending_in (take base state.old.callers) self.old.pieces.items) state.old }
+        ensures pieces { self.new.pieces.items ≡ self.old.pieces.items }
+        ensures quiet { IsQuiet state.old state.new }
+        ensures line { self.new.line ≡ self.old.line }
+    {
+        state.end_call(this, base);
         let result = match self.ending {
             Ending::GoesOn => NULL,
             Ending::Returns(ptr) => ptr,
             Ending::Leaves(_) => return,
             Ending::Panics(_) | Ending::Cut(_) | Ending::NoCleanup => unreachable!(),
         };
-        self.ending = Ending::GoesOn;
-        if let Some(local) = target {
-            state.set(local, Slot::Pointer(result));
-        }
+        self.ending = follow(after, result, state);
     }
 
     /// A piece without a step takes how the one above it ended.
-    fn fall(&mut self, piece: Piece<'a>, state: &mut State)
+    fn fall(&mut self, piece: Piece<'a>, state: &mut State) -> Result<(), AllocError>
         requires stop { is_stop self.old.ending ≡ false }
         requires done { self.old.ending ≡ GoesOn → needs_step piece ≡ false }
-        ensures kept { (script : Script) (r : Rule) (budget : ℕ) → state.old.steps ≤ budget →
-            rest_from script budget r self.new.ending self.old.pieces.items state.new
-            ≡ rest_under script budget r self.old.ending (pending_of state.old.callers piece.entry ∷ pending_in (callers_under state.old.callers piece.entry) self.old.pieces.items) state.old }
-        ensures ending { is_stop self.new.ending ≡ false }
-        ensures pieces { self.new.pieces.items ≡ self.old.pieces.items }
-        ensures locals { IsSameButLocals state.old state.new }
+        ensures kept { OnOk result ((script : Script) (r : Rule) (budget : ℕ) → state.old.steps ≤ budget →
+            rest_from script budget r self.new.ending self.new.pieces.items state.new
+            ≡ rest_under script budget r self.old.ending (pending_of state.old.callers piece.entry ∷ pending_in (callers_under state.old.callers piece.entry) self.old.pieces.items) state.old) }
+        ensures lighter { OnOk result (weight_of self.new.pieces.items < weight_of self.old.pieces.items + weight piece.entry) }
+        ensures sound { OnOk result ((script : Script) → AreSound script self.old.pieces.items → AreSound script self.new.pieces.items) }
+        ensures quiet { IsQuiet state.old state.new }
         ensures line { self.new.line ≡ self.old.line }
     {
         match piece {
             Piece::Code(..) => {}
             Piece::Turns(..) => {}
-            Piece::Trap(_, local) => self.fall_trap(local, state),
-            Piece::MainTrap => self.fall_main(),
-            Piece::Call(caller, target) => self.fall_call(caller, target, state),
+            Piece::Items(..) => {}
+            Piece::Object(..) => {}
+            Piece::Trap(at, local, entry) => self.fall_trap(at, local, entry, state)?,
+            Piece::Caught(local, code) => self.fall_caught(local, code, state),
+            Piece::MainTrap => self.fall_main(state)?,
+            Piece::MainCaught(code) => self.fall_main_caught(code),
+            Piece::Call(base, this, after) => self.fall_call(base, this, after, state),
         }
+        Ok(())
     }
 
     /// Lets each piece without a step take how the one above it ended, until a step is to come or the run is over.
-    pub fn settle(&mut self, state: &mut State)
-        ensures kept { (script : Script) (r : Rule) (budget : ℕ) → state.old.steps ≤ budget →
-            rest_from script budget r self.new.ending self.new.pieces.items state.new ≡ rest_from script budget r self.old.ending self.old.pieces.items state.old }
-        ensures stop { is_stop self.new.ending ≡ is_stop self.old.ending }
-        ensures locals { IsSameButLocals state.old state.new }
+    pub fn settle(&mut self, state: &mut State) -> Result<(), NoMemory>
+        ensures kept { OnOk result ((script : Script) (r : Rule) (budget : ℕ) → state.old.steps ≤ budget →
+            rest_from script budget r self.new.ending self.new.pieces.items state.new ≡ rest_from script budget r self.old.ending self.old.pieces.items state.old) }
+        ensures stop { OnOk result (is_stop self.old.ending ≡ true → is_stop self.new.ending ≡ true) }
+        ensures quiet { IsQuiet state.old state.new }
         ensures line { self.new.line ≡ self.old.line }
-        ensures sound { (script : Script) → AreSound script self.old.pieces.items → AreSound script self.new.pieces.items }
-        ensures settled { (is_over self.new.ending self.new.pieces.items ≡ true) ⊎ IsReady self.new.ending self.new.pieces.items }
+        ensures sound { OnOk result ((script : Script) → AreSound script self.old.pieces.items → AreSound script self.new.pieces.items) }
+        ensures settled { OnOk result ((is_over self.new.ending self.new.pieces.items ≡ true) ⊎ IsReady self.new.ending self.new.pieces.items) }
     {
         while self.is_done() {
             if let Some(piece) = self.pieces.pop() {
-                self.fall(piece, state);
+                self.fall(piece, state)?;
             }
         }
+        Ok(())
+    }
+}
+
+/// What follows the end of a body that gave a result, in its caller's frame.
+fn follow(after: After, given: Ptr, state: &mut State) -> Ending
+    ensures followed { CarriesOut state.old (followed_carried state.old after given) result state.new }
+    ensures quiet { IsQuiet state.old state.new }
+{
+    match after {
+        After::Nothing => Ending::GoesOn,
+        After::Gives(local) => {
+            state.set(local, Slot::Pointer(given));
+            Ending::GoesOn
+        }
+        After::Releases(object) => state.release(object),
     }
 }

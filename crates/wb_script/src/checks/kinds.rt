@@ -3,17 +3,17 @@
 ghost use Rattle.std.specs.Prelude.{◌≡◌, length, not};
 ghost use Rattle.std.specs.List.{flat_map, list_any};
 ghost use Rattle.wb_model.specs.Keys.{letters_for};
-ghost use Rattle.wb_model.specs.Kinds.{sort_of, is_right, are_right, is_pointer_sort, sides_agree, is_given, are_given, is_call, arguments_agree, is_right_line, is_nothing, gives_main_parameters, is_trap, ends_body, returns_in_trap, has_wrong_kind};
-ghost use Rattle.wb_model.specs.Names.{kind_passed, names_of};
+ghost use Rattle.wb_model.specs.Kinds.{sort_of, is_right, are_right, is_pointer_sort, sides_agree, is_given, are_given, call_agrees, arguments_agree, is_right_line, is_nothing, gives_main_parameters, is_trap, ends_body, returns_in_trap, is_procedure_kind, returns_pointer, returns_outside, has_wrong_kind};
+ghost use Rattle.wb_model.specs.Names.{kind_passed};
 ghost use Rattle.wb_model.specs.Resolved.{resolved_line};
 ghost use Rattle.wb_script.specs.Checks.{known_in};
 ghost use Rattle.wb_script.specs.Lent.{lent_form, lent_items, lent_operands};
 
-use crate::checks::items::Item;
+use crate::checks::items::{Item, signature_at};
 use crate::checks::known::Known;
 use crate::lines::keys::{Letters, takes};
 use wb_model::script::Parameter;
-use wb_model::script_lines::{Form, Key, Letter, Meant, Operand, Sort};
+use wb_model::script_lines::{Form, ItemKind, Key, Letter, Meant, Operand, Sort};
 
 fn sort_of(operand: &Operand<Meant>) -> Sort
     ensures { result ≡ sort_of operand.now }
@@ -25,6 +25,7 @@ fn sort_of(operand: &Operand<Meant>) -> Sort
         Operand::Name(Meant::Buffer(_)) => Sort::Buffer,
         Operand::Name(Meant::View(_)) => Sort::View,
         Operand::Name(Meant::Procedure(_)) => Sort::Procedure,
+        Operand::Name(Meant::Operation(_)) => Sort::Operation,
         Operand::Name(Meant::Literal(_) | Meant::Parameter | Meant::Nothing) => Sort::Nothing,
         Operand::Number(_) => Sort::Number,
         Operand::Size(_) => Sort::Size,
@@ -101,14 +102,16 @@ fn are_given(parameters: &[Parameter], operands: &[Operand<Meant>]) -> bool
 }
 
 /// Whether a procedure stands there with what it takes.
-fn is_call(items: &[Item], operands: &[Operand<Meant>]) -> bool
-    ensures { result ≡ is_call (lent_items items.now) operands.now }
+fn call_agrees(items: &[Item], operands: &[Operand<Meant>]) -> bool
+    ensures { result ≡ call_agrees (lent_items items.now) operands.now }
 {
     match operands {
-        [Operand::Name(Meant::Procedure(index)), arguments @ ..] => match items.get(*index) {
-            Some(item) => are_given(item.parameters.as_slice(), arguments),
-            None => false,
-        },
+        [Operand::Name(Meant::Procedure(index)), arguments @ ..] => {
+            match signature_at(items, *index) {
+                Some(parameters) => are_given(parameters, arguments),
+                None => false,
+            }
+        }
         _ => true,
     }
 }
@@ -118,9 +121,9 @@ fn arguments_agree(items: &[Item], key: Key, operands: &[Operand<Meant>]) -> boo
     ensures { result ≡ arguments_agree (lent_items items.now) key operands.now }
 {
     match key {
-        Key::Call => is_call(items, operands),
+        Key::Call => call_agrees(items, operands),
         Key::CallTo => match operands {
-            [_, call @ ..] => is_call(items, call),
+            [_, call @ ..] => call_agrees(items, call),
             [] => true,
         },
         _ => true,
@@ -141,7 +144,7 @@ pub(crate) fn is_right_line(items: &[Item], line: &Form<Meant>) -> bool
     }
 }
 
-/// Whether a line gives `main` parameters.
+/// Whether a line gives `main` parameters, or makes an operation of it.
 fn gives_main_parameters(form: &Form<&[u8]>) -> bool
     ensures { result ≡ gives_main_parameters (lent_form form.now) }
 {
@@ -197,6 +200,28 @@ fn returns_in_trap(known: &Known, form: &Form<&[u8]>) -> bool
     }
 }
 
+fn returns_pointer(key: Key) -> bool
+    ensures { result ≡ returns_pointer key }
+{
+    matches!(key, Key::ReturnPointer)
+}
+
+fn is_procedure_kind(kind: ItemKind) -> bool
+    ensures { result ≡ is_procedure_kind kind }
+{
+    matches!(kind, ItemKind::Procedure)
+}
+
+/// Whether a line is a `return` with a pointer outside of a procedure.
+fn returns_outside(known: &Known, form: &Form<&[u8]>) -> bool
+    ensures { result ≡ returns_outside (known_in known.now) (lent_form form.now) }
+{
+    match form {
+        Form::Line(key, _) => returns_pointer(*key) && !is_procedure_kind(known.body),
+        _ => false,
+    }
+}
+
 /// Whether a line has an operand of another sort than it takes, or has no place where it stands.
 pub(crate) fn has_wrong_kind(
     items: &[Item],
@@ -204,8 +229,11 @@ pub(crate) fn has_wrong_kind(
     form: &Form<&[u8]>,
     line: &Form<Meant>,
 ) -> bool
-    requires { line.now ≡ resolved_line (names_of (lent_items items.now)) (known_in known.now) (lent_form form.now) }
+    requires { line.now ≡ resolved_line (lent_items items.now) (known_in known.now) (lent_form form.now) }
     ensures { result ≡ has_wrong_kind (lent_items items.now) (known_in known.now) (lent_form form.now) }
 {
-    !is_right_line(items, line) || gives_main_parameters(form) || returns_in_trap(known, form)
+    !is_right_line(items, line)
+        || gives_main_parameters(form)
+        || returns_in_trap(known, form)
+        || returns_outside(known, form)
 }

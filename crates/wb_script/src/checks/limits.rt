@@ -3,7 +3,7 @@
 ghost use Rattle.std.specs.Prelude.{◌≡◌, length};
 ghost use Rattle.std.specs.List.{flat_map, list_any};
 ghost use Rattle.wb_model.specs.Names.{has_more_parameters, kind_passed, has_long_name, is_large, is_long, is_one_more, passes_limit};
-ghost use Rattle.wb_script.specs.Checks.{known_in};
+ghost use Rattle.wb_script.specs.Checks.{known_in, IsFew};
 ghost use Rattle.wb_script.specs.Lent.{lent_operand, lent_operands, lent_form};
 
 use crate::checks::known::Known;
@@ -84,10 +84,11 @@ fn has_more_parameters(form: &Form<&[u8]>) -> bool
 
 /// Whether a line of this role declares or begins one more than there may be.
 fn is_one_more(role: Role, known: &Known) -> bool
+    requires { IsFew known.now }
     ensures { result ≡ is_one_more role (known_in known.now) }
 {
     match role {
-        Role::Procedure => known.items >= MOST_PROCEDURES as usize,
+        Role::Procedure => known.items_before() >= MOST_PROCEDURES as usize,
         Role::Declaration => known.locals.len() >= MOST_LOCALS as usize,
         Role::Loop | Role::If => known.blocks.len() >= DEEPEST_BLOCK as usize,
         _ => false,
@@ -96,6 +97,7 @@ fn is_one_more(role: Role, known: &Known) -> bool
 
 /// Whether a line passes a limit.
 pub(crate) fn passes_limit(known: &Known, form: &Form<&[u8]>) -> bool
+    requires { IsFew known.now }
     ensures { result ≡ passes_limit (known_in known.now) (lent_form form.now) }
 {
     has_long_name(form)

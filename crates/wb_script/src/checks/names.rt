@@ -4,7 +4,7 @@ ghost use Rattle.std.specs.Prelude.{◌≡◌};
 ghost use Rattle.std.specs.List.{flat_map, list_any};
 ghost use Rattle.wb_model.specs.Names.{first_declaration_of, is_among, is_item_before, has_double, name_passed, names_of, parameter_names, stands_declared, declares_again};
 ghost use Rattle.wb_model.specs.Resolved.{means_nothing, has_unknown};
-ghost use Rattle.wb_script.specs.Checks.{known_in};
+ghost use Rattle.wb_script.specs.Checks.{known_in, IsFew};
 ghost use Rattle.wb_script.specs.Lent.{lent_texts, lent_operands, lent_form, lent_items};
 
 use crate::checks::items::{Item, place_of_item};
@@ -36,10 +36,11 @@ fn is_item_before(items: &[Item], before: usize, name: &[u8]) -> bool
 
 /// Whether a name stands declared in the space of a line of this role.
 fn stands_declared(items: &[Item], known: &Known, role: Role, name: &[u8]) -> bool
+    requires { IsFew known.now }
     ensures { result ≡ stands_declared (names_of (lent_items items.now)) (known_in known.now) role name.now }
 {
     match role {
-        Role::Procedure => is_item_before(items, known.items, name),
+        Role::Procedure => is_item_before(items, known.items_before(), name),
         Role::Declaration => place_of(&known.locals, name).is_some(),
         _ => false,
     }
@@ -91,6 +92,7 @@ fn has_double_parameter(form: &Form<&[u8]>) -> bool
 
 /// Whether a line declares a name which stands declared in its space, or two parameters with one name.
 pub(crate) fn declares_again(items: &[Item], known: &Known, form: &Form<&[u8]>) -> bool
+    requires { IsFew known.now }
     ensures { result ≡ declares_again (names_of (lent_items items.now)) (known_in known.now) (lent_form form.now) }
 {
     let again = match first_name(form) {

@@ -1,19 +1,19 @@
 //! A line of a script with what its names and literals stand for.
 
-ghost use Rattle.std.specs.Prelude.{◌≡◌, length, IfOk};
-ghost use Rattle.wb_model.specs.Keys.{letters_for, role_of};
-ghost use Rattle.wb_model.specs.Names.{first_declaration_of, names_of};
-ghost use Rattle.wb_model.specs.Resolved.{local_meant, meant_at, item_meant, name_meant, resolved_operand, resolved_operands, resolved_line};
+ghost use Rattle.std.specs.Prelude.{◌≡◌, length, IfOk, Some};
+ghost use Rattle.wb_model.specs.Keys.{letters_for};
+ghost use Rattle.wb_model.specs.Names.{first_declaration_of, names_before};
+ghost use Rattle.wb_model.specs.Resolved.{local_meant, meant_at, kind_meant, item_at, item_meant, name_meant, resolved_operand, resolved_operands, resolved_line};
 ghost use Rattle.wb_script.specs.Lent.{lent_operand, lent_operands, lent_form, lent_items};
 ghost use Rattle.wb_script.specs.Checks.{known_in};
 
-use crate::checks::items::{Item, place_of_item};
+use crate::checks::items::{Item, count_among, place_of_item};
 use crate::checks::known::Known;
 use crate::checks::names::place_of;
-use crate::lines::keys::{Letters, role_of};
+use crate::lines::keys::Letters;
 use std::alloc::{AllocError, Global};
 use wb_model::items::Items;
-use wb_model::script_lines::{Form, Key, Kind, Letter, Meant, Operand, Role};
+use wb_model::script_lines::{Form, ItemKind, Key, Kind, Letter, Meant, Operand};
 
 fn local_meant(index: usize, kind: Option<Kind>) -> Meant
     ensures { result ≡ local_meant index kind }
@@ -37,25 +37,53 @@ fn used_meant(known: &Known, name: &[u8]) -> Meant
     }
 }
 
-/// What a name stands for that is used in the script's own space.
-fn item_meant(items: &[Item], name: &[u8]) -> Meant
-    ensures { result ≡ item_meant (first_declaration_of (names_of (lent_items items.now)) name.now) }
+/// One of a kind, by its index among these.
+fn kind_meant(kind: ItemKind, index: usize) -> Meant
+    ensures { result ≡ kind_meant kind index }
 {
-    match place_of_item(items, name) {
-        Some(index) => Meant::Procedure(index),
+    match kind {
+        ItemKind::Procedure => Meant::Procedure(index),
+        ItemKind::Operation => Meant::Operation(index),
+    }
+}
+
+/// The item with an index, by its index among those of its kind.
+fn item_at(items: &[Item], index: usize) -> Meant
+    ensures { result ≡ item_at (lent_items items.now) (Some index) }
+{
+    match items.get(index) {
+        Some(item) => kind_meant(item.kind, count_among(item.kind, &items[..index])),
         None => Meant::Nothing,
     }
 }
 
-fn name_meant(items: &[Item], known: &Known, role: Role, letter: Letter, name: &[u8]) -> Meant
-    ensures { result ≡ name_meant (names_of (lent_items items.now)) (known_in known.now) role letter name.now }
+/// What a name stands for in the script's own space.
+pub(crate) fn item_meant(items: &[Item], name: &[u8]) -> Meant
+    ensures { result ≡ item_meant (lent_items items.now) name.now }
+{
+    match place_of_item(items, name) {
+        Some(index) => item_at(items, index),
+        None => Meant::Nothing,
+    }
+}
+
+/// How many of its kind stand before what a line of a key declares.
+fn names_before(key: Key, known: &Known) -> usize
+    ensures { result ≡ names_before key (known_in known.now) }
+{
+    match key {
+        Key::Proc => known.procedures,
+        Key::Op => known.operations,
+        _ => known.locals.len(),
+    }
+}
+
+fn name_meant(items: &[Item], known: &Known, key: Key, letter: Letter, name: &[u8]) -> Meant
+    ensures { result ≡ name_meant (lent_items items.now) (known_in known.now) key letter name.now }
 {
     match letter {
-        Letter::Declared => match role {
-            Role::Procedure => Meant::Declared(known.items),
-            _ => Meant::Declared(known.locals.len()),
-        },
-        Letter::Procedure => item_meant(items, name),
+        Letter::Declared => Meant::Declared(names_before(key, known)),
+        Letter::Procedure | Letter::Operation => item_meant(items, name),
         _ => used_meant(known, name),
     }
 }
@@ -63,14 +91,14 @@ fn name_meant(items: &[Item], known: &Known, role: Role, letter: Letter, name: &
 fn resolved_operand(
     items: &[Item],
     known: &Known,
-    role: Role,
+    key: Key,
     letter: Letter,
     operand: &Operand<&[u8]>,
 ) -> Operand<Meant>
-    ensures { result ≡ resolved_operand (names_of (lent_items items.now)) (known_in known.now) role letter (lent_operand operand.now) }
+    ensures { result ≡ resolved_operand (lent_items items.now) (known_in known.now) key letter (lent_operand operand.now) }
 {
     match operand {
-        Operand::Name(name) => Operand::Name(name_meant(items, known, role, letter, name)),
+        Operand::Name(name) => Operand::Name(name_meant(items, known, key, letter, name)),
         Operand::Number(number) => Operand::Number(*number),
         Operand::Size(size) => Operand::Size(*size),
         Operand::Literal(_) => Operand::Literal(Meant::Literal(known.literals.len())),
@@ -86,7 +114,7 @@ fn resolved_operands(
     key: Key,
     operands: &[Operand<&[u8]>],
 ) -> Result<Vec<Operand<Meant>>, AllocError>
-    ensures { IfOk result (λ found. found.items ≡ resolved_operands (names_of (lent_items items.now)) (known_in known.now) (role_of key) (letters_for key (length operands.now)) (lent_operands operands.now)) }
+    ensures { IfOk result (λ found. found.items ≡ resolved_operands (lent_items items.now) (known_in known.now) key (letters_for key (length operands.now)) (lent_operands operands.now)) }
 {
     let letters = Letters::of(key);
     let mut found = Vec::new(alloc);
@@ -94,7 +122,7 @@ fn resolved_operands(
         let Some(letter) = letters.at(index) else {
             return Ok(found);
         };
-        found.push(resolved_operand(items, known, role_of(key), letter, operand))?;
+        found.push(resolved_operand(items, known, key, letter, operand))?;
     }
     Ok(found)
 }
@@ -106,7 +134,7 @@ pub(crate) fn resolved_line(
     known: &Known,
     form: &Form<&[u8]>,
 ) -> Result<Form<Meant>, AllocError>
-    ensures { IfOk result (λ line. line ≡ resolved_line (names_of (lent_items items.now)) (known_in known.now) (lent_form form.now)) }
+    ensures { IfOk result (λ line. line ≡ resolved_line (lent_items items.now) (known_in known.now) (lent_form form.now)) }
 {
     match form {
         Form::Skip => Ok(Form::Skip),

@@ -15,6 +15,7 @@ use crate::lines::words::{
 };
 use std::alloc::{AllocError, Global};
 use wb_model::items::Items;
+use wb_model::script::Parameter;
 use wb_model::script_lines::{Form, Key, Keyword, Letter, Operand, Role, WordKind};
 
 /// A number that isn't negative.
@@ -52,6 +53,10 @@ fn operand_as<'a>(kind: WordKind, word: &'a [u8]) -> Option<Operand<&'a [u8]>>
         WordKind::Parameter => Some(Operand::Parameter(
             parameter_name(word)?,
             parameter_kind(word)?,
+        )),
+        WordKind::NewPointer => Some(Operand::Parameter(
+            declared_name(word)?,
+            Parameter::OfPointer(None),
         )),
         WordKind::Keyword(keyword) => keyword_as(keyword, word),
     }

@@ -6,8 +6,9 @@ ghost use Rattle.wb_model.specs.Keys.{text_of, letters_of, rest_of, letters_with
 use wb_model::script_lines::{Key, Keyword, Letter, Role, Sort, WordKind};
 
 /// Every key; a line is of the first that fits.
-pub(crate) const ALL: [Key; 55] = [
+pub(crate) const ALL: [Key; 61] = [
     Key::Proc,
+    Key::Op,
     Key::Ptr,
     Key::Int,
     Key::Buf,
@@ -23,6 +24,11 @@ pub(crate) const ALL: [Key; 55] = [
     Key::Set,
     Key::Null,
     Key::Add,
+    Key::Push,
+    Key::PushOp,
+    Key::Pop,
+    Key::PopDestroy,
+    Key::PopCheck,
     Key::Leave,
     Key::LeaveIfError,
     Key::LeaveIfNull,
@@ -70,6 +76,7 @@ pub(crate) fn text_of(key: Key) -> &'static [u8]
 {
     match key {
         Key::Proc => b"proc",
+        Key::Op => b"op",
         Key::Ptr => b"ptr",
         Key::Int => b"int",
         Key::Buf => b"buf",
@@ -85,6 +92,11 @@ pub(crate) fn text_of(key: Key) -> &'static [u8]
         Key::Set => b"set",
         Key::Null => b"null",
         Key::Add => b"add",
+        Key::Push => b"push",
+        Key::PushOp => b"pushop",
+        Key::Pop => b"pop",
+        Key::PopDestroy => b"popdestroy",
+        Key::PopCheck => b"popcheck",
         Key::Leave => b"leave",
         Key::LeaveIfError => b"leaveiferror",
         Key::LeaveIfNull => b"leaveifnull",
@@ -129,6 +141,7 @@ pub(crate) fn letters_of(key: Key) -> &'static [Letter]
 {
     match key {
         Key::Proc | Key::Ptr | Key::Int | Key::View => &[Letter::Declared],
+        Key::Op => &[Letter::Declared, Letter::ItsPointer],
         Key::Buf => &[Letter::Declared, Letter::Size],
         Key::Alloc | Key::AllocL => &[Letter::Pointer, Letter::Value],
         Key::HNew | Key::HNewL => &[Letter::Pointer, Letter::Value],
@@ -144,6 +157,9 @@ pub(crate) fn letters_of(key: Key) -> &'static [Letter]
         Key::Load => &[Letter::Variable, Letter::Pointer, Letter::Value],
         Key::Set => &[Letter::Target, Letter::Source],
         Key::Add => &[Letter::Variable, Letter::Value],
+        Key::Push | Key::PopCheck => &[Letter::Pointer],
+        Key::PushOp => &[Letter::Pointer, Letter::Operation],
+        Key::Pop | Key::PopDestroy => &[Letter::Value],
         Key::MarkEnd | Key::Check | Key::CheckAll => &[Letter::Value],
         Key::FailNext | Key::FailEvery => &[Letter::Value],
         Key::Copy | Key::Append => &[Letter::Writable, Letter::Readable],
@@ -230,10 +246,12 @@ pub(crate) fn role_of(key: Key) -> Role
     ensures { result ≡ role_of key }
 {
     match key {
-        Key::Proc => Role::Procedure,
+        Key::Proc | Key::Op => Role::Procedure,
         Key::Ptr | Key::Int | Key::Buf | Key::View => Role::Declaration,
         Key::Alloc | Key::Realloc | Key::Free | Key::AllocLen => Role::Plain,
         Key::Store | Key::Load | Key::Set | Key::Null | Key::Add => Role::Plain,
+        Key::Push | Key::Pop | Key::PopDestroy | Key::PopCheck => Role::Plain,
+        Key::PushOp => Role::Plain,
         Key::Mark | Key::MarkEnd | Key::Check | Key::CheckAll => Role::Plain,
         Key::FailNext | Key::FailEvery | Key::FailNone => Role::Plain,
         Key::HNew | Key::HRealloc | Key::Copy | Key::Append => Role::Plain,
@@ -263,8 +281,9 @@ pub(crate) fn word_kinds(letter: Letter) -> &'static [WordKind]
         Letter::Size => &[WordKind::Size],
         Letter::Readable => &[WordKind::Name, WordKind::Literal],
         Letter::Printed => &[WordKind::Number, WordKind::Name, WordKind::Literal],
-        Letter::Procedure => &[WordKind::Name],
+        Letter::Procedure | Letter::Operation => &[WordKind::Name],
         Letter::Parameter => &[WordKind::Parameter],
+        Letter::ItsPointer => &[WordKind::NewPointer],
         Letter::Argument => &[WordKind::Number, WordKind::Name],
         Letter::Keyword(Keyword::Null) => &[WordKind::Keyword(Keyword::Null)],
         Letter::Keyword(Keyword::Some) => &[WordKind::Keyword(Keyword::Some)],
@@ -301,7 +320,8 @@ pub(crate) fn takes(letter: Letter, sort: Sort) -> bool
                 | Sort::Literal
         ),
         Letter::Procedure => matches!(sort, Sort::Procedure),
-        Letter::Parameter => matches!(sort, Sort::Parameter),
+        Letter::Operation => matches!(sort, Sort::Operation),
+        Letter::Parameter | Letter::ItsPointer => matches!(sort, Sort::Parameter),
         Letter::Argument => matches!(sort, Sort::Number | Sort::Variable | Sort::Pointer),
         Letter::Keyword(_) => matches!(sort, Sort::Keyword),
     }

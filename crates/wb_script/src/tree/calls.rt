@@ -9,7 +9,7 @@ ghost use Rattle.wb_script.specs.Fitting.{argument_fits};
 ghost use Rattle.wb_script.specs.Lent.{declared_by};
 ghost use Rattle.wb_script.specs.Stated.{ArePassed, IsCalled, IsNestedOf, IsTarget};
 
-use crate::checks::items::Item;
+use crate::checks::items::{Item, signature_at};
 use crate::tree::scope::Scope;
 use std::alloc::{AllocError, Global};
 use wb_model::items::Items;
@@ -72,16 +72,14 @@ fn call_in(
     ensures { IfOk result (IsCalled (declared_by here.entry.literals items.now) here.entry.locals.now operands.now) }
 {
     match operands.split_first() {
-        Some((Operand::Name(Meant::Procedure(index)), given)) => match items.get(*index) {
-            Some(item) => {
-                match arguments(alloc, here, item.parameters.as_slice(), given)? {
-                    Some(arguments) => Ok(Some(Called {
-                        procedure: *index as u16,
-                        arguments,
-                    })),
-                    None => Ok(None),
-                }
-            }
+        Some((Operand::Name(Meant::Procedure(index)), given)) => match signature_at(items, *index) {
+            Some(parameters) => match arguments(alloc, here, parameters, given)? {
+                Some(arguments) => Ok(Some(Called {
+                    procedure: *index as u16,
+                    arguments,
+                })),
+                None => Ok(None),
+            },
             None => Ok(None),
         },
         _ => Ok(None),

@@ -1,21 +1,54 @@
 //! The statement of a line that begins no block.
 
-ghost use Rattle.std.specs.Prelude.{◌≡◌, ◌≤◌, length, IfOk};
+ghost use Rattle.std.specs.Prelude.{◌≡◌, ◌≤◌, ℕ, length, IfOk};
+ghost use Rattle.wb_model.specs.declared.script_lines.Key.TheVariants as key;
 ghost use Rattle.wb_model.specs.declared.script_lines.Role.TheVariants.{Plain};
 ghost use Rattle.wb_model.specs.declared.limits.TheConstants.{LONGEST_SCRIPT};
 ghost use Rattle.wb_model.specs.Keys.{role_of};
 ghost use Rattle.wb_script.specs.Building.{keys_of_blocks};
 ghost use Rattle.wb_script.specs.Lent.{declared_by};
-ghost use Rattle.wb_script.specs.Stated.{IsStatedWhereFit};
+ghost use Rattle.wb_script.specs.Stated.{IsNestedOf, IsOperationOf, IsStatedWhereFit};
 
-use crate::checks::items::Item;
+use crate::checks::items::{Item, count_among};
 use crate::tree::blocks::OpenBlock;
 use crate::tree::calls::{call, call_to};
 use crate::tree::scope::Scope;
 use crate::tree::statements::{return_nothing, return_pointer, statement_of};
 use std::alloc::{AllocError, Global};
 use wb_model::script::Statement;
-use wb_model::script_lines::{Key, Meant, Operand};
+use wb_model::script_lines::{ItemKind, Key, Meant, Operand};
+
+/// The operation that an operand names.
+fn operation(items: &[Item], operand: &Operand<Meant>) -> Option<u16>
+    requires { length items.now ≤ LONGEST_SCRIPT }
+    ensures { (literals : ℕ) → IsOperationOf (declared_by literals items.now) operand.now result }
+{
+    match operand {
+        Operand::Name(Meant::Operation(index)) => {
+            if *index < count_among(ItemKind::Operation, items) {
+                Some(*index as u16)
+            } else {
+                None
+            }
+        }
+        _ => None,
+    }
+}
+
+/// A `pushop` of a pointer, with an operation by its name; none where the operands don't fit.
+fn push_operation(items: &[Item], here: Scope, operands: &[Operand<Meant>]) -> Option<Statement>
+    requires { length items.now ≤ LONGEST_SCRIPT }
+    ensures { IsNestedOf (declared_by here.entry.literals items.now) here.entry.locals.now key.PushOp operands.now result }
+{
+    match operands {
+        [pointer, named] => {
+            let pointer = here.pointer(pointer)?;
+            let index = operation(items, named)?;
+            Some(Statement::PushOperation(pointer, index))
+        }
+        _ => None,
+    }
+}
 
 /// The statement of a line that begins no block; none where its operands don't fit.
 pub(crate) fn plain_statement(
@@ -33,6 +66,7 @@ pub(crate) fn plain_statement(
     match key {
         Key::Call => call(alloc, items, here, operands),
         Key::CallTo => call_to(alloc, items, here, operands),
+        Key::PushOp => Ok(push_operation(items, here, operands)),
         Key::Return => Ok(return_nothing(here, blocks, operands)),
         Key::ReturnPointer => Ok(return_pointer(here, blocks, operands)),
         _ => Ok(statement_of(here, key, operands)),

@@ -6,7 +6,7 @@ ghost use Rattle.wb_model.specs.declared.script_lines.Letter.TheVariants as lett
 ghost use Rattle.wb_model.specs.Sound.{is_pointer, is_number};
 ghost use Rattle.wb_model.specs.Trees.{pointer_operand, number_operand};
 ghost use Rattle.wb_script.specs.Fitting.{letters_fit};
-ghost use Rattle.wb_script.specs.Stated.{IsStatementOf, IsOnlySpelled, IsPairSpelled, IsTripleSpelled, IsReturnOf, is_lasting, alloc_key, realloc_key, new_text_key};
+ghost use Rattle.wb_script.specs.Stated.{IsStatementOf, IsOnlySpelled, IsPairSpelled, IsTripleSpelled, IsReturnOf, is_lasting, alloc_key, realloc_key, new_text_key, takes_pointer, takes_number};
 
 use crate::tree::blocks::{OpenBlock, has_trap};
 use crate::tree::scope::Scope;
@@ -163,6 +163,42 @@ fn add(here: Scope, operands: &[Operand<Meant>]) -> Option<Statement>
     }
 }
 
+/// The statement of a line that takes one pointer.
+fn of_pointer(here: Scope, key: Key, operands: &[Operand<Meant>]) -> Option<Statement>
+    requires { IsTrue (takes_pointer key) }
+    ensures { IsStatementOf here.entry key operands.now result }
+{
+    let pointer = one_pointer(here, operands)?;
+    match key {
+        Key::Free => Some(Statement::Free(pointer)),
+        Key::Null => Some(Statement::SetNull(pointer)),
+        Key::Push => Some(Statement::Push(pointer)),
+        Key::PopCheck => Some(Statement::PopCheck(pointer)),
+        Key::LeaveIfNull => Some(Statement::LeaveIfNull(pointer)),
+        _ => None,
+    }
+}
+
+/// The statement of a line that takes one number.
+fn of_number(here: Scope, key: Key, operands: &[Operand<Meant>]) -> Option<Statement>
+    requires { IsTrue (takes_number key) }
+    ensures { IsStatementOf here.entry key operands.now result }
+{
+    let number = one_number(here, operands)?;
+    match key {
+        Key::Pop => Some(Statement::Pop(number)),
+        Key::PopDestroy => Some(Statement::PopDestroy(number)),
+        Key::Leave => Some(Statement::Leave(number)),
+        Key::LeaveIfError => Some(Statement::LeaveIfError(number)),
+        Key::MarkEnd => Some(Statement::MarkEnd(number)),
+        Key::Check => Some(Statement::Check(number)),
+        Key::CheckAll => Some(Statement::CheckAll(number)),
+        Key::FailNext => Some(Statement::FailNext(number)),
+        Key::FailEvery => Some(Statement::FailEvery(number)),
+        _ => None,
+    }
+}
+
 /// The statement of a line; none where its operands don't fit.
 pub(crate) fn statement_of(here: Scope, key: Key, operands: &[Operand<Meant>]) -> Option<Statement>
     requires { IsTrue (is_lasting key) }
@@ -173,22 +209,21 @@ pub(crate) fn statement_of(here: Scope, key: Key, operands: &[Operand<Meant>]) -
         Key::AllocL => alloc(here, operands, Refusal::Leaves),
         Key::Realloc => realloc(here, operands, Refusal::GivesNull),
         Key::ReallocL => realloc(here, operands, Refusal::Leaves),
-        Key::Free => Some(Statement::Free(one_pointer(here, operands)?)),
         Key::AllocLen => alloc_len(here, operands),
         Key::Store => store(here, operands),
         Key::Load => load(here, operands),
         Key::Set => set(here, operands),
-        Key::Null => Some(Statement::SetNull(one_pointer(here, operands)?)),
         Key::Add => add(here, operands),
-        Key::Leave => Some(Statement::Leave(one_number(here, operands)?)),
-        Key::LeaveIfError => Some(Statement::LeaveIfError(one_number(here, operands)?)),
-        Key::LeaveIfNull => Some(Statement::LeaveIfNull(one_pointer(here, operands)?)),
+        Key::Free | Key::Null | Key::Push | Key::PopCheck | Key::LeaveIfNull => {
+            of_pointer(here, key, operands)
+        }
+        Key::Pop | Key::PopDestroy | Key::Leave | Key::LeaveIfError => {
+            of_number(here, key, operands)
+        }
+        Key::MarkEnd | Key::Check | Key::CheckAll | Key::FailNext | Key::FailEvery => {
+            of_number(here, key, operands)
+        }
         Key::Mark => alone(here, Statement::Mark, operands),
-        Key::MarkEnd => Some(Statement::MarkEnd(one_number(here, operands)?)),
-        Key::Check => Some(Statement::Check(one_number(here, operands)?)),
-        Key::CheckAll => Some(Statement::CheckAll(one_number(here, operands)?)),
-        Key::FailNext => Some(Statement::FailNext(one_number(here, operands)?)),
-        Key::FailEvery => Some(Statement::FailEvery(one_number(here, operands)?)),
         Key::FailNone => alone(here, Statement::FailNone, operands),
         Key::HNew => new_text(here, operands, Refusal::GivesNull),
         Key::HNewL => new_text(here, operands, Refusal::Leaves),

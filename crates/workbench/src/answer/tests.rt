@@ -1,9 +1,10 @@
 //! Answers over readers and writers in memory, some of which fail. The scripts' texts are worked by hand. Those of the
-//! two numbers stand in `numbers`.
+//! two numbers stand in `numbers`, and JSON in `json`.
 
 ghost use Rattle.std.specs.Prelude.{IsTrue};
 ghost use Rattle.workbench.specs.Command.{is_answerable, is_in_range};
 
+mod json;
 mod numbers;
 
 use super::*;

@@ -246,6 +246,18 @@ fn refuses_files_and_shapes_after_each_subcommand(rt: HostRuntime) -> Result<(),
             &["workbench", name, "--step=0"],
             "0 is not in 16..=1048576",
         )?;
+        refuses(
+            &rt,
+            rt.alloc(),
+            &["workbench", name, "--json=true"],
+            "unexpected value 'true' for '--json'",
+        )?;
+        refuses(
+            &rt,
+            rt.alloc(),
+            &["workbench", name, "--json", "a.oom", "--json"],
+            "'--json' cannot be used multiple times",
+        )?;
     }
     Ok(())
 }

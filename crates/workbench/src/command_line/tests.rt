@@ -117,6 +117,27 @@ fn takes_a_shape_after_each_subcommand(rt: HostRuntime) -> Result<(), Fail> {
     Ok(())
 }
 
+/// Whether the words ask for JSON.
+fn asks_for_json(alloc: Global, words: &[&str]) -> Result<bool, Fail> {
+    Ok(command(alloc, words)?.json)
+}
+
+#[test]
+fn takes_json_after_each_subcommand(rt: HostRuntime) -> Result<(), Fail> {
+    let alloc = rt.alloc();
+    for (name, _) in SUBCOMMANDS {
+        let alone = ["workbench", name, "--json"];
+        assert!(rt; asks_for_json(alloc, &alone)?);
+        let before_a_file = ["workbench", name, "--budget=7", "--json", "a.oom"];
+        assert!(rt; asks_for_json(alloc, &before_a_file)?);
+        let behind_a_file = ["workbench", name, "a.oom", "--min", "32", "--json"];
+        assert!(rt; asks_for_json(alloc, &behind_a_file)?);
+        let a_file = ["workbench", name, "--", "--json"];
+        assert!(rt; !asks_for_json(alloc, &a_file)?);
+    }
+    Ok(())
+}
+
 /// The words name this file.
 fn takes_file(rt: &impl Abort, alloc: Global, words: &[&str], file: &str) -> Result<(), Fail> {
     let command = command(alloc, words)?;

@@ -206,6 +206,7 @@ Options:
       --budget <B>  The greatest number of steps of a run, from 1 to 1000000 [default: 10000]
       --min <M>     The heap's minimum length in bytes, a multiple of 16 from 0 to 1048576 [default: 4096]
       --step <G>    The step by which the heap grows in bytes, a multiple of 16 from 16 to 1048576 [default: 4096]
+      --json        Writes the report as one JSON object
   -h, --help        Print help
 ";
 
@@ -220,6 +221,7 @@ Options:
       --budget <B>  The greatest number of steps of a run, from 1 to 1000000 [default: 10000]
       --min <M>     The heap's minimum length in bytes, a multiple of 16 from 0 to 1048576 [default: 4096]
       --step <G>    The step by which the heap grows in bytes, a multiple of 16 from 16 to 1048576 [default: 4096]
+      --json        Writes the report as one JSON object
   -h, --help        Print help
 ";
 
@@ -234,6 +236,7 @@ Options:
       --budget <B>  The greatest number of steps of a run, from 1 to 1000000 [default: 10000]
       --min <M>     The heap's minimum length in bytes, a multiple of 16 from 0 to 1048576 [default: 4096]
       --step <G>    The step by which the heap grows in bytes, a multiple of 16 from 16 to 1048576 [default: 4096]
+      --json        Writes the report as one JSON object
   -h, --help        Print help
 ";
 
@@ -248,6 +251,7 @@ Options:
       --budget <B>  The greatest number of steps of a run, from 1 to 1000000 [default: 10000]
       --min <M>     The heap's minimum length in bytes, a multiple of 16 from 0 to 1048576 [default: 4096]
       --step <G>    The step by which the heap grows in bytes, a multiple of 16 from 16 to 1048576 [default: 4096]
+      --json        Writes the report as one JSON object
   -h, --help        Print help
 ";
 

@@ -1,4 +1,7 @@
-use Rattle.wb_script.specs.Lent.{lent_items}
+use Rattle.std.proofs.Common.{◌∙◌, ◌+◌, ap, sym, subst, take}
+use Rattle.wb_script.specs.Checks.{AreChecked}
+use Rattle.wb_script.specs.Lent.{lent_form, lent_forms, lent_items}
+use Rattle.wb_script.proofs.Passes.{map_more}
 use Rattle.wb_script.proofs.checks.checked_lines.Goals as goal
 
 pub loop-form-init : goal.loop-form-init
@@ -7,3 +10,13 @@ loop-form-init c = record {
   items = c.nothing-checked.ensures.items;
   lines = c.nothing-checked.ensures.lines;
 }
+
+pub loop-form-preserved : goal.loop-form-preserved
+loop-form-preserved c =
+    let before = take c.loop-form.form-index c.args.forms.now in
+    let longer = map_more lent_form c.args.forms.now c.loop-form.form-index c.form-item.result c.loop-form-test.true c.form-item.is in
+    record {
+      checked = subst (λ l. AreChecked (lent_items c.args.items.now) l c.add_line.new.self) (sym longer) (c.in_ok-add_line.ensures.checked (lent_forms before) c.loop-form.invariant.checked);
+      items = c.in_ok-add_line.ensures.items;
+      lines = c.in_ok-add_line.ensures.lines ∙ ap (λ n. n + 1) c.loop-form.invariant.lines;
+    }

@@ -1,11 +1,12 @@
 use Rattle.std.proofs.Common.{◌≡◌, ◌≤◌, length, take}
 use Rattle.wb_script.specs.Lent.{lent_items, lent_forms}
-use Rattle.wb_script.specs.Checks.{AreChecked}
+use Rattle.wb_model.specs.Names.{items_before}
+use Rattle.wb_script.specs.Checks.{known_in, AreChecked}
 use Rattle.wb_script.proofs.checks.checked_lines.Given as goal
 
 abbrev pub invariant-loop-form : goal.invariant-loop-form
 invariant-loop-form l = record {
   checked : AreChecked (lent_items l.items) (lent_forms (take l.form-index l.forms)) l.checked;
-  items : l.checked.known.items ≤ length l.checked.lines.items;
+  items : items_before (known_in l.checked.known) ≤ length l.checked.lines.items;
   lines : length l.checked.lines.items ≡ l.form-index;
 }

@@ -1,4 +1,4 @@
-use Rattle.std.proofs.Common.{rules, ◌≡◌, ◌∙◌, Some, ap, false, inr, map, subst, sym}
+use Rattle.std.proofs.Common.{rules, ◌≡◌, ◌∙◌, Some, ap, inr, map, subst, sym}
 use Rattle.std.specs.Prelude.{option_map}
 use Rattle.clap.specs.Words.{app_of, fault_of, found_of, is_simple_and_free, rows_of, takes, HasKind}
 use Rattle.clap.proofs.TakesLemmas.{passed_up}
@@ -65,6 +65,16 @@ budget_in-requires g c =
     (rw c.unwrap.ensures at c.subcommand.ensures.name) (rw c.unwrap.ensures at c.subcommand.ensures.rows) in
     met.passed
 
+pub json_in-requires : goal.json_in-requires
+json_in-requires g c =
+    let words = map g.S.AsStr.text c.args.words.now in
+    let line : app_of c.in_ok-parser.field-0 ≡ command_line = search rules in
+    let parse = c.in_ok-matches in
+    let rows = rows_of (found_of c.unwrap.result.1.now) in
+    let met = is_parsed words parse.matches (meets_parse words _ parse.matches line parse.ensures.kinds parse.ensures.matches) c.unwrap.result.0.now rows
+    (rw c.unwrap.ensures at c.subcommand.ensures.name) (rw c.unwrap.ensures at c.subcommand.ensures.rows) in
+    met.passed
+
 pub returns-in_err-task-clause-fault : goal.returns-in_err-task-clause-fault
 returns-in_err-task-clause-fault g c =
     let words = map g.S.AsStr.text c.args.words.now in
@@ -104,8 +114,8 @@ returns-clause-spelled g c =
     let met = is_parsed words parse.matches (meets_parse words _ parse.matches line parse.ensures.kinds parse.ensures.matches) c.unwrap.result.0.now rows
     (rw c.unwrap.ensures at c.subcommand.ensures.name) (rw c.unwrap.ensures at c.subcommand.ensures.rows) in
     let task = c.in_ok-task.task in
-    let command : ◌≡◌ {A = Command} (command_with rows task) (record { task = task; file = c.in_ok-file_in.field-0; budget = c.budget_in.result; shape = c.in_ok-shape.shape; json = false }) =
-    λ i. record { task = task; file = sym c.in_ok-file_in.ensures i; budget = sym c.budget_in.ensures.is i; shape = sym c.in_ok-shape.ensures.ok i; json = false } in
+    let command : ◌≡◌ {A = Command} (command_with rows task) (record { task = task; file = c.in_ok-file_in.field-0; budget = c.budget_in.result; shape = c.in_ok-shape.shape; json = c.json_in.result }) =
+    λ i. record { task = task; file = sym c.in_ok-file_in.ensures i; budget = sym c.budget_in.ensures.is i; shape = sym c.in_ok-shape.ensures.ok i; json = sym c.json_in.ensures i } in
     record {
       faultless = met.faultless;
       one_rule = met.doubled ∙ c.in_ok-task.ensures.alone;

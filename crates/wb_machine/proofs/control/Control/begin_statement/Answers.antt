@@ -1,19 +1,22 @@
-use Rattle.std.proofs.Common.{◌≡◌, List, [], refl, ap, ◌∙◌, sym, subst}
+use Rattle.std.proofs.Common.{◌≡◌, List, [], map, refl, ap, ◌∙◌, sym, subst}
 use Rattle.std.specs.List.{list_all}
 use Rattle.wb_model.specs.declared.script.Body.{Body}
 use Rattle.wb_model.specs.declared.script.Numbered.{Numbered}
 use Rattle.wb_model.specs.Sound.{is_local}
 use Rattle.wb_model.specs.declared.script.Statement.TheOpen.{Statement-F}
-use Rattle.wb_model.specs.Statements.{Layer}
+use Rattle.wb_model.specs.State.{null}
+use Rattle.wb_model.specs.declared.script.Argument.{Argument}
+use Rattle.wb_model.specs.Statements.{Layer, procedure_at}
 use Rattle.wb_model.specs.Meaning.{meaning_of}
 use Rattle.wb_model.specs.Run.{result_of}
-use Rattle.wb_model.specs.Rest.{resume}
+use Rattle.wb_model.specs.Rest.{nothing_more, gives_to, resume}
 use Rattle.wb_machine.proofs.Steps.{rest_known}
 use Rattle.wb_machine.specs.RunState.{Values}
 use Rattle.wb_model.specs.declared.script.Statement.TheViews.{out-Statement, outs-If, outs-IfElse, outs-Repeat, outs-Trap, outs-Call, outs-CallTo}
-use Rattle.wb_machine.specs.Flow.{where_of, pending_in, AreOwn, rest_of_statement}
+use Rattle.wb_machine.specs.Flow.{where_of, pending_in, AreOwn, rest_of_statement, rest_of_body}
+use Rattle.wb_machine.specs.LocalValues.{passed}
 use Rattle.wb_machine.proofs.Outcomes.{on_ok_then}
-use Rattle.wb_machine.proofs.Heads.{if_as_choice}
+use Rattle.wb_machine.proofs.Heads.{if_as_choice, call_as_body, call_to_as_body}
 use Rattle.wb_machine.proofs.Scripts.{own_if, own_if_condition, own_choice, own_turns, own_trapped, own_none, own_call, own_call_to, procedure_locals, procedure_statements}
 use Rattle.wb_machine.proofs.control.Control.begin_statement.Goals as goal
 
@@ -67,46 +70,85 @@ returns-in_ok-self-in_default c =
       kept = λ r budget f.
           rest_known script budget r c.in_ok-self-in_default.field-0 pieces (pending_in c.args.state.now.callers pieces) c.carry_out.new.self
           (ap (λ (callers : Values). pending_in callers pieces) c.in_ok-self-in_default.ensures.keeps.callers)
-          ∙ ap result_of (c.in_ok-self-in_default.ensures.kept r f (meaning_of script budget) (where_of c.args.at) (resume script budget (pending_in c.args.state.now.callers pieces)));
+          ∙ ap result_of (c.in_ok-self-in_default.ensures.kept r f (meaning_of script budget) (where_of c.args.at) refl (resume script budget (pending_in c.args.state.now.callers pieces)));
       sound = c.requires.sound;
       keeps = record { steps = c.in_ok-self-in_default.ensures.keeps.steps; stays = c.in_ok-self-in_default.ensures.keeps.stays };
       line = refl;
     }
 
-pub procedure_at-body-requires : goal.procedure_at-body-requires
-procedure_at-body-requires c =
+pub returns-in-PopDestroy-clause-sound : goal.returns-in-PopDestroy-clause-sound
+returns-in-PopDestroy-clause-sound c = on_ok_then c.begin_pop.result c.begin_pop.ensures.sound (λ sound. sound c.args.script.now c.requires.sound)
+
+-- the body that a call names is there
+pub procedure_at-requires : goal.procedure_at-requires
+procedure_at-requires c =
     (own_call c.args.script.now (out-Statement c.args.statement.now) c.requires.own c.in-Call.index c.in-Call.arguments
     (ap out-Statement c.in-Call.is ∙ outs-Call c.in-Call.index c.in-Call.arguments)).1
 
-pub begin_call-requires-clause-locals : goal.begin_call-requires-clause-locals
-begin_call-requires-clause-locals c =
+pub begin_body-requires-clause-locals : goal.begin_body-requires-clause-locals
+begin_body-requires-clause-locals c =
     let script = c.args.script.now in
     let called = own_call script (out-Statement c.args.statement.now) c.requires.own c.in-Call.index c.in-Call.arguments (ap out-Statement c.in-Call.is ∙ outs-Call c.in-Call.index c.in-Call.arguments) in
-    ap (λ (b : Body). list_all is_local b.locals) c.procedure_at-body.ensures ∙ procedure_locals script c.requires.script c.in-Call.index called.1
+    ap (list_all is_local) (c.lines_of-body.ensures.locals ∙ ap (λ (b : Body). b.locals) c.procedure_at.ensures) ∙ procedure_locals script c.requires.script c.in-Call.index called.1
+
+pub returns-in-Call-clause-kept : goal.returns-in-Call-clause-kept
+returns-in-Call-clause-kept c =
+    on_ok_then c.begin_body.result c.begin_body.ensures.kept (λ kept r budget f.
+    let script = c.args.script.now in
+    let h = c.args.state.now in
+    let old = c.args.self.now.pieces.items in
+    let at = where_of c.args.at in
+    let layer = out-Statement c.args.statement.now in
+    let is : layer ≡ Statement-F.Call c.in-Call.index c.in-Call.arguments = ap out-Statement c.in-Call.is ∙ outs-Call c.in-Call.index c.in-Call.arguments in
+    let called = own_call script layer c.requires.own c.in-Call.index c.in-Call.arguments is in
+    kept script r budget (procedure_at script c.in-Call.index)
+    (record { locals = c.lines_of-body.ensures.locals ∙ ap (λ (b : Body). b.locals) c.procedure_at.ensures; statements = c.lines_of-body.ensures.statements ∙ ap (λ (b : Body). b.statements) c.procedure_at.ensures })
+    ∙ ap (λ (arguments : List Argument). rest_of_body script budget r at null (map (passed h.locals) arguments) (procedure_at script c.in-Call.index) nothing_more old h) c.as_slice-in-Call.ensures
+    ∙ call_as_body script budget r at c.in-Call.index c.in-Call.arguments c.requires.own.locals called.0 old h called.2
+    ∙ ap (λ (l : Layer). rest_of_statement script budget r at l old h) (sym is))
 
 pub returns-in-Call-clause-sound : goal.returns-in-Call-clause-sound
 returns-in-Call-clause-sound c =
     let script = c.args.script.now in
     let called = own_call script (out-Statement c.args.statement.now) c.requires.own c.in-Call.index c.in-Call.arguments (ap out-Statement c.in-Call.is ∙ outs-Call c.in-Call.index c.in-Call.arguments) in
-    on_ok_then c.begin_call.result c.begin_call.ensures.sound (λ sound.
-    sound script (subst (λ (b : Body). AreOwn script b.statements) (sym c.procedure_at-body.ensures) (procedure_statements script c.requires.script c.in-Call.index called.1)) c.requires.sound)
+    on_ok_then c.begin_body.result c.begin_body.ensures.sound (λ sound.
+    sound script (subst (AreOwn script) (sym (c.lines_of-body.ensures.statements ∙ ap (λ (b : Body). b.statements) c.procedure_at.ensures)) (procedure_statements script c.requires.script c.in-Call.index called.1))
+    c.requires.sound)
 
-pub procedure_at-body-requires-in-CallTo : goal.procedure_at-body-requires-in-CallTo
-procedure_at-body-requires-in-CallTo c =
+pub procedure_at-requires-in-CallTo : goal.procedure_at-requires-in-CallTo
+procedure_at-requires-in-CallTo c =
     (own_call_to c.args.script.now (out-Statement c.args.statement.now) c.requires.own c.in-CallTo.target c.in-CallTo.index c.in-CallTo.arguments
     (ap out-Statement c.in-CallTo.is ∙ outs-CallTo c.in-CallTo.target c.in-CallTo.index c.in-CallTo.arguments)).1
 
-pub begin_call-requires-in-CallTo-clause-locals : goal.begin_call-requires-in-CallTo-clause-locals
-begin_call-requires-in-CallTo-clause-locals c =
+pub begin_body-requires-in-CallTo-clause-locals : goal.begin_body-requires-in-CallTo-clause-locals
+begin_body-requires-in-CallTo-clause-locals c =
     let script = c.args.script.now in
     let called = own_call_to script (out-Statement c.args.statement.now) c.requires.own c.in-CallTo.target c.in-CallTo.index c.in-CallTo.arguments
     (ap out-Statement c.in-CallTo.is ∙ outs-CallTo c.in-CallTo.target c.in-CallTo.index c.in-CallTo.arguments) in
-    ap (λ (b : Body). list_all is_local b.locals) c.procedure_at-body-in-CallTo.ensures ∙ procedure_locals script c.requires.script c.in-CallTo.index called.1
+    ap (list_all is_local) (c.lines_of-body-in-CallTo.ensures.locals ∙ ap (λ (b : Body). b.locals) c.procedure_at-in-CallTo.ensures) ∙ procedure_locals script c.requires.script c.in-CallTo.index called.1
+
+pub returns-in-CallTo-clause-kept : goal.returns-in-CallTo-clause-kept
+returns-in-CallTo-clause-kept c =
+    on_ok_then c.begin_body-in-CallTo.result c.begin_body-in-CallTo.ensures.kept (λ kept r budget f.
+    let script = c.args.script.now in
+    let h = c.args.state.now in
+    let old = c.args.self.now.pieces.items in
+    let at = where_of c.args.at in
+    let x = c.in-CallTo.target in
+    let layer = out-Statement c.args.statement.now in
+    let is : layer ≡ Statement-F.CallTo x c.in-CallTo.index c.in-CallTo.arguments = ap out-Statement c.in-CallTo.is ∙ outs-CallTo x c.in-CallTo.index c.in-CallTo.arguments in
+    let called = own_call_to script layer c.requires.own x c.in-CallTo.index c.in-CallTo.arguments is in
+    kept script r budget (procedure_at script c.in-CallTo.index)
+    (record { locals = c.lines_of-body-in-CallTo.ensures.locals ∙ ap (λ (b : Body). b.locals) c.procedure_at-in-CallTo.ensures; statements = c.lines_of-body-in-CallTo.ensures.statements ∙ ap (λ (b : Body). b.statements) c.procedure_at-in-CallTo.ensures })
+    ∙ ap (λ (arguments : List Argument). rest_of_body script budget r at null (map (passed h.locals) arguments) (procedure_at script c.in-CallTo.index) (gives_to x) old h) c.as_slice-in-CallTo.ensures
+    ∙ call_to_as_body script budget r at x c.in-CallTo.index c.in-CallTo.arguments c.requires.own.locals called.0 old h called.2
+    ∙ ap (λ (l : Layer). rest_of_statement script budget r at l old h) (sym is))
 
 pub returns-in-CallTo-clause-sound : goal.returns-in-CallTo-clause-sound
 returns-in-CallTo-clause-sound c =
     let script = c.args.script.now in
     let called = own_call_to script (out-Statement c.args.statement.now) c.requires.own c.in-CallTo.target c.in-CallTo.index c.in-CallTo.arguments
     (ap out-Statement c.in-CallTo.is ∙ outs-CallTo c.in-CallTo.target c.in-CallTo.index c.in-CallTo.arguments) in
-    on_ok_then c.begin_call-in-CallTo.result c.begin_call-in-CallTo.ensures.sound (λ sound.
-    sound script (subst (λ (b : Body). AreOwn script b.statements) (sym c.procedure_at-body-in-CallTo.ensures) (procedure_statements script c.requires.script c.in-CallTo.index called.1)) c.requires.sound)
+    on_ok_then c.begin_body-in-CallTo.result c.begin_body-in-CallTo.ensures.sound (λ sound.
+    sound script (subst (AreOwn script) (sym (c.lines_of-body-in-CallTo.ensures.statements ∙ ap (λ (b : Body). b.statements) c.procedure_at-in-CallTo.ensures)) (procedure_statements script c.requires.script c.in-CallTo.index called.1))
+    c.requires.sound)

@@ -1,15 +1,30 @@
-use Rattle.std.proofs.Common.{◌∷◌, ap, ◌∙◌, sym}
-use Rattle.wb_model.specs.Rest.{main_catching}
-use Rattle.wb_machine.specs.Flow.{in_main_frame, pending_in, rest_under}
-use Rattle.wb_machine.proofs.Falls.{main_returns, main_stays}
+use Rattle.std.proofs.Common.{◌∷◌, ◌-◌, length, ap, ◌∙◌, sym, arith, rules, w32, FitsSigned}
+use Rattle.std.proofs.lemmas.Int.{to_z-of_z}
+use Rattle.wb_model.specs.Statements.{destroy_items}
+use Rattle.wb_model.specs.Rest.{doing, main_catching, main_caught}
+use Rattle.wb_machine.specs.Flow.{in_main_frame, pending_in, rest_from, rest_under}
+use Rattle.wb_machine.proofs.Falls.{main_ends, main_items_left, main_left}
 use Rattle.wb_machine.proofs.control.Control.fall_main.Goals as goal
 
-pub returns-in-Returns-clause-kept : goal.returns-in-Returns-clause-kept
-returns-in-Returns-clause-kept c script r budget h within =
+pub returns-in_ok-destroy_to-in-Leaves-clause-kept : goal.returns-in_ok-destroy_to-in-Leaves-clause-kept
+returns-in_ok-destroy_to-in-Leaves-clause-kept c script r budget within =
     let pieces = c.args.self.now.pieces.items in
-    main_returns script budget r pieces c.in-Returns.field-0 h
-    ∙ sym (ap (λ e. rest_under script budget r e (main_catching in_main_frame ∷ pending_in h.callers pieces) h) c.in-Returns.is)
+    let new = c.destroy_to.new.self.pieces.items in
+    let h = c.args.state.now in
+    let fits : FitsSigned w32 c.in-Leaves.code = search rules in
+    let done = c.in_ok-destroy_to-in-Leaves.ensures in
+    ap (λ e. rest_from script budget r e new h) done.ending
+    ∙ main_left script budget r pieces c.in-Leaves.code _ new h (omega arith)
+    (done.pieces h.callers ∙ ap (λ z. doing in_main_frame (destroy_items (length h.items - 0)) ∷ main_caught z ∷ pending_in h.callers pieces) (to_z-of_z w32 c.in-Leaves.code fits))
+    ∙ sym (ap (λ e. rest_under script budget r e (main_catching in_main_frame ∷ pending_in h.callers pieces) h) c.in-Leaves.is)
+
+pub returns-in_ok-destroy_to-in-Leaves-clause-sound : goal.returns-in_ok-destroy_to-in-Leaves-clause-sound
+returns-in_ok-destroy_to-in-Leaves-clause-sound c script = c.in_ok-destroy_to-in-Leaves.ensures.sound script tt
 
 pub returns-in_default-clause-kept : goal.returns-in_default-clause-kept
-returns-in_default-clause-kept c script r budget h within =
-    main_stays script budget r c.args.self.now.pieces.items c.args.self.now.ending h c.requires within c.in_default.not-Returns
+returns-in_default-clause-kept c script r budget within =
+    main_ends script budget r c.args.self.now.pieces.items c.args.self.now.ending c.args.state.now c.requires c.in_default.not-Leaves (omega (arith, c.items.ensures.items, c.if-items-eq0.true))
+
+pub returns-in_default-2-clause-kept : goal.returns-in_default-2-clause-kept
+returns-in_default-2-clause-kept c script r budget within =
+    main_items_left script budget r c.args.self.now.pieces.items c.args.self.now.ending c.args.state.now c.requires c.in_default-2.not-Leaves (λ e. c.if-items-eq0.false (c.items.ensures.items ∙ e))

@@ -1,9 +1,9 @@
 use Rattle.std.proofs.Common.{◌≡◌, ◌∷◌, ◌++◌, [], List, ap, ◌∙◌, sym, subst}
 use Rattle.std.specs.Prelude.{option_to_list}
 use Rattle.wb_model.specs.declared.script.Numbered.{Numbered}
-use Rattle.wb_model.specs.Statements.{all, turns}
+use Rattle.wb_model.specs.Statements.{all, turns, destroy_items, destroy_object}
 use Rattle.wb_model.specs.Rest.{doing}
-use Rattle.wb_machine.specs.declared.pieces.Piece.TheVariants.{Code, Turns}
+use Rattle.wb_machine.specs.declared.pieces.Piece.TheVariants.{Code, Turns, Items, Object}
 use Rattle.wb_machine.specs.Flow.{where_of, AreOwn, rest_from, rest_of_piece}
 use Rattle.wb_machine.proofs.Outcomes.{on_ok_then, split_first}
 use Rattle.wb_machine.proofs.Steps.{pending_pushed, rest_on_top}
@@ -61,3 +61,43 @@ returns-in-Some-Turns-clause-sound c =
     let top : old ≡ below ++ Turns arm.at arm.left arm.body ∷ [] = c.pop.ensures.items ∙ ap (λ o. below ++ option_to_list o) arm.is ∙ ap (λ p. below ++ p ∷ []) arm.field-0-is in
     on_ok_then c.step_turns.result c.step_turns.ensures.sound (λ sound.
     sound script (sound_top script below old (Turns arm.at arm.left arm.body) top c.requires.sound) (sound_below script below old (Turns arm.at arm.left arm.body) top c.requires.sound))
+
+pub returns-in-Some-Items-clause-kept : goal.returns-in-Some-Items-clause-kept
+returns-in-Some-Items-clause-kept c =
+    on_ok_then c.step_items.result c.step_items.ensures.kept (λ kept r budget within f.
+    let script = c.args.script.now in
+    let arm = c.in-Some-Items in
+    let below = c.pop.new.self.items in
+    let old = c.args.self.now.pieces.items in
+    let h = c.args.state.now in
+    let top : old ≡ below ++ Items arm.at arm.left ∷ [] = c.pop.ensures.items ∙ ap (λ o. below ++ option_to_list o) arm.is ∙ ap (λ p. below ++ p ∷ []) arm.field-0-is in
+    kept r budget within
+    ∙ sym (ap (λ e. rest_from script budget r e old h) c.requires.ready.0 ∙ rest_on_top script budget r old below (doing (where_of arm.at) (destroy_items arm.left)) h (pending_pushed h.callers below old (Items arm.at arm.left) top)))
+
+pub returns-in-Some-Items-clause-sound : goal.returns-in-Some-Items-clause-sound
+returns-in-Some-Items-clause-sound c =
+    let arm = c.in-Some-Items in
+    let below = c.pop.new.self.items in
+    let old = c.args.self.now.pieces.items in
+    let top : old ≡ below ++ Items arm.at arm.left ∷ [] = c.pop.ensures.items ∙ ap (λ o. below ++ option_to_list o) arm.is ∙ ap (λ p. below ++ p ∷ []) arm.field-0-is in
+    on_ok_then c.step_items.result c.step_items.ensures.sound (λ sound. sound (sound_below c.args.script.now below old (Items arm.at arm.left) top c.requires.sound))
+
+pub returns-in-Some-Object-clause-kept : goal.returns-in-Some-Object-clause-kept
+returns-in-Some-Object-clause-kept c =
+    on_ok_then c.step_object.result c.step_object.ensures.kept (λ kept r budget within f.
+    let script = c.args.script.now in
+    let arm = c.in-Some-Object in
+    let below = c.pop.new.self.items in
+    let old = c.args.self.now.pieces.items in
+    let h = c.args.state.now in
+    let top : old ≡ below ++ Object arm.at arm.ptr ∷ [] = c.pop.ensures.items ∙ ap (λ o. below ++ option_to_list o) arm.is ∙ ap (λ p. below ++ p ∷ []) arm.field-0-is in
+    kept r budget within
+    ∙ sym (ap (λ e. rest_from script budget r e old h) c.requires.ready.0 ∙ rest_on_top script budget r old below (doing (where_of arm.at) (destroy_object arm.ptr)) h (pending_pushed h.callers below old (Object arm.at arm.ptr) top)))
+
+pub returns-in-Some-Object-clause-sound : goal.returns-in-Some-Object-clause-sound
+returns-in-Some-Object-clause-sound c =
+    let arm = c.in-Some-Object in
+    let below = c.pop.new.self.items in
+    let old = c.args.self.now.pieces.items in
+    let top : old ≡ below ++ Object arm.at arm.ptr ∷ [] = c.pop.ensures.items ∙ ap (λ o. below ++ option_to_list o) arm.is ∙ ap (λ p. below ++ p ∷ []) arm.field-0-is in
+    on_ok_then c.step_object.result c.step_object.ensures.sound (λ sound. sound (sound_below c.args.script.now below old (Object arm.at arm.ptr) top c.requires.sound))

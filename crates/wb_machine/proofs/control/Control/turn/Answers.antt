@@ -1,4 +1,4 @@
-use Rattle.std.proofs.Common.{◌≡◌, ◌≤◌, ap, ◌∙◌, sym, subst, arith, false}
+use Rattle.std.proofs.Common.{◌≡◌, ◌≤◌, refl, ap, ◌∙◌, sym, subst, arith, Bool, true, false}
 use Rattle.std.proofs.Common.{ℕ}
 use Rattle.wb_model.specs.declared.heap.Rule.{Rule}
 use Rattle.wb_model.specs.declared.run.RunResult.{RunResult}
@@ -16,7 +16,7 @@ pub returns-clause-sound : goal.returns-clause-sound
 returns-clause-sound c =
     let script = c.args.script.now in
     let P : Control → Type 0 = λ x. AreSound script x.pieces.items in
-    c.settle.ensures.sound script (elim c.if-not-begun.branch [
+    c.in_ok-settle.ensures.sound script (elim c.if-not-begun.branch [
       | then-not-begun+in_ok-begin w ↦ subst P (sym w.self-is) w.in_ok-begin.ensures.sound
       | else-not-begun+then-steps-budget+in_ok-step w ↦ subst P (sym w.self-is) w.in_ok-step.ensures.sound
       | else-not-begun+else-steps-budget w ↦ subst P (sym w.self-is) (subst (AreSound script) (sym w.cut.ensures.pieces) c.requires.sound)
@@ -36,6 +36,11 @@ moved_on script budget r own made mid st g told e d f go =
 steps_are : (g st : RunState) (budget : ℕ) → g ≡ st → st.steps ≤ budget → g.steps ≤ budget
 steps_are g st budget e le = subst (λ (x : RunState). x.steps ≤ budget) (sym e) le
 
+-- what a stop would stop
+not_stopped : (was now : Bool) → (was ≡ true → now ≡ true) → now ≡ false → was ≡ false
+not_stopped false now stays going = refl
+not_stopped true now stays going = let x = sym (stays refl) ∙ going in cc
+
 pub returns-clause-kept : goal.returns-clause-kept
 returns-clause-kept c r f =
     let script = c.args.script.now in
@@ -46,8 +51,8 @@ returns-clause-kept c r f =
     let mid = c.if-not-begun.self in
     let g = c.if-not-begun.state in
     let goes : is_over c.settle.new.self.ending c.settle.new.self.pieces.items ≡ false → is_stop mid.ending ≡ false =
-    λ e. sym c.settle.ensures.stop ∙ going_on c.settle.new.self.ending c.settle.new.self.pieces.items e in
-    let fits : Fits r own (is_stop mid.ending) g.debug.attempts = fits-before r own _ _ g.debug.attempts c.settle.new.state.debug.attempts goes (omega (arith, ap (λ (x : RunState). x.debug.attempts) c.settle.ensures.locals)) f in
+    λ e. not_stopped (is_stop mid.ending) (is_stop c.settle.new.self.ending) c.in_ok-settle.ensures.stop (going_on c.settle.new.self.ending c.settle.new.self.pieces.items e) in
+    let fits : Fits r own (is_stop mid.ending) g.debug.attempts = fits-before r own _ _ g.debug.attempts c.settle.new.state.debug.attempts goes (omega (arith, c.in_ok-settle.ensures.quiet.attempts)) f in
     let steps : g.steps ≤ budget = elim c.if-not-begun.branch [
       | then-not-begun+in_ok-begin w ↦ steps_are g w.begin.new.state budget w.state-is (omega (arith, w.in_ok-begin.ensures.steps))
       | else-not-begun+then-steps-budget+in_ok-step w ↦ steps_are g w.step.new.state budget w.state-is (omega (arith, w.in_ok-step.ensures.steps, w.if-steps-budget.true, w.steps.ensures))
@@ -69,4 +74,4 @@ returns-clause-kept c r f =
           w.cut.ensures.kept script r budget h (omega (arith, w.if-steps-budget.false, w.steps.ensures, c.requires.within))
           ∙ sym (ap (λ b. rest_at script budget r b old.ending old.pieces.items h) w.if-not-begun.false))
     ] in
-    c.settle.ensures.kept script r budget steps ∙ same
+    c.in_ok-settle.ensures.kept script r budget steps ∙ same

@@ -23,6 +23,7 @@ invariant_of-result c =
         level = omega (arith, ap (λ x. x.debug.heap.level) start);
         first = λ e. is_first;
         settled = λ e. cc;
+        stack = λ e going. cc;
         pieces = subst (AreSound script) (sym c.new-2.ensures.pieces) tt;
         no_line = λ e. c.new-2.ensures.line;
         leaks = λ e goes. cc;

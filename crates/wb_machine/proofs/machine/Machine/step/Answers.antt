@@ -28,6 +28,7 @@ invariant_of-self-2 c =
         level = turn.level;
         first = λ e. cc;
         settled = λ e. turn.settled;
+        stack = λ e going. turn.stack going;
         pieces = turn.sound;
         no_line = λ e. cc;
         leaks = λ e goes. c.in_ok-list_leaks.ensures.told (ap is_stop c.ending.ensures ∙ goes);

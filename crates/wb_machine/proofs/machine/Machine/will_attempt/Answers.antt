@@ -5,7 +5,7 @@ use Rattle.wb_machine.specs.RunState.{state_of}
 use Rattle.wb_machine.specs.Flow.{pending_in, progress_of}
 use Rattle.wb_machine.specs.Asks.{asks_next}
 use Rattle.wb_machine.specs.Seen.{Seen}
-use Rattle.wb_machine.proofs.Asked.{settled_cut}
+use Rattle.wb_machine.proofs.AskedPieces.{settled_cut}
 use Rattle.wb_machine.proofs.machine.Machine.will_attempt.Goals as goal
 
 pub returns-else-steps-self : goal.returns-else-steps-self

@@ -5,7 +5,7 @@ use Rattle.wb_machine.proofs.TextInvariant.{text_of_base, text_small}
 use Rattle.wb_machine.proofs.state.State.base_length.Goals as goal
 
 pub length-requires-in-Some : goal.length-requires-in-Some
-length-requires-in-Some c = text_of_base (run_state c.self.inside) c.args.self.now c.args.base c.in-Cell.ptr c.self.view_is c.self.invariant c.in-Cell.is c.requires.base
+length-requires-in-Some c = text_of_base (run_state c.self.inside) c.args.self.now c.args.base c.in-Cell.ptr c.self.view_is c.self.invariant.texts c.in-Cell.is c.requires.base
 
 pub returns-in-Literal-clause-length : goal.returns-in-Literal-clause-length
 returns-in-Literal-clause-length c =
@@ -13,5 +13,5 @@ returns-in-Literal-clause-length c =
 
 pub returns-in-Some-clause-most : goal.returns-in-Some-clause-most
 returns-in-Some-clause-most c =
-    let is = text_of_base (run_state c.self.inside) c.args.self.now c.args.base c.in-Cell.ptr c.self.view_is c.self.invariant c.in-Cell.is c.requires.base in
+    let is = text_of_base (run_state c.self.inside) c.args.self.now c.args.base c.in-Cell.ptr c.self.view_is c.self.invariant.texts c.in-Cell.is c.requires.base in
     omega (arith, c.length-in-Some.ensures, text_small c.in-Cell.ptr c.self.inside.heap c.in-Some.field-0 is c.in-Some.ensures.live.within c.in-Some.ensures.payload)

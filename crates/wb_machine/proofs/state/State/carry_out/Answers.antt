@@ -1,14 +1,17 @@
 use Rattle.std.proofs.Common.{ap, ◌∙◌, subst, length, rules, w32, FitsSigned}
 use Rattle.std.proofs.lemmas.Int.{to_z-of_z}
 use Rattle.wb_model.specs.declared.script.Statement.TheOpen.{Statement-F}
-use Rattle.wb_model.specs.declared.script.Statement.TheViews.{out-Statement, outs-Alloc, outs-Realloc, outs-Free, outs-AllocLen, outs-Store, outs-Load, outs-Set, outs-SetNumber, outs-SetNull, outs-Add, outs-Leave, outs-LeaveIfError, outs-LeaveIfNull, outs-Return, outs-ReturnPointer, outs-Mark, outs-MarkEnd, outs-Check, outs-CheckAll, outs-FailNext, outs-FailEvery, outs-FailNone, outs-NewText, outs-ReallocText, outs-Copy, outs-Append, outs-Insert, outs-DeleteText, outs-SetLength, outs-Left, outs-Right, outs-Mid, outs-GetLength, outs-GetMaximum, outs-PrintText, outs-PrintNumber, outs-NoteHeap, outs-NoteAvailable, outs-NoteCompress}
+use Rattle.wb_model.specs.declared.script.Statement.TheViews.{out-Statement, outs-Alloc, outs-Realloc, outs-Free, outs-AllocLen, outs-Store, outs-Load, outs-Set, outs-SetNumber, outs-SetNull, outs-Add, outs-Leave, outs-LeaveIfError, outs-LeaveIfNull, outs-Return, outs-ReturnPointer, outs-Mark, outs-MarkEnd, outs-Check, outs-CheckAll, outs-FailNext, outs-FailEvery, outs-FailNone, outs-NewText, outs-ReallocText, outs-Copy, outs-Append, outs-Insert, outs-DeleteText, outs-SetLength, outs-Left, outs-Right, outs-Mid, outs-GetLength, outs-GetMaximum, outs-PrintText, outs-PrintNumber, outs-NoteHeap, outs-NoteAvailable, outs-NoteCompress, outs-Push, outs-PushOperation, outs-Pop, outs-PopCheck}
 use Rattle.wb_machine.specs.Carried.{pointer_read, number_read, store_carried}
+use Rattle.wb_machine.specs.RunState.{RunState}
+use Rattle.wb_machine.specs.CarriedCleanup.{IsStackThere}
 use Rattle.wb_machine.specs.Owed.{CarriesOut}
 use Rattle.wb_machine.proofs.Outcomes.{if_ok_then}
 use Rattle.wb_machine.proofs.KeptTextCells.{new_text_kept, realloc_text_kept}
 use Rattle.wb_machine.proofs.KeptTexts.{copy_kept, append_kept, insert_kept, delete_kept, length_set_kept, carried_as}
 use Rattle.wb_machine.proofs.KeptViews.{left_kept, right_kept, mid_kept, length_kept, max_kept, print_kept}
-use Rattle.wb_machine.proofs.Kept.{carried_out}
+use Rattle.wb_machine.proofs.Kept.{carried_out, carried_over}
+use Rattle.wb_machine.proofs.KeptCleanup.{pop_check_kept, pop_kept, push_kept, push_operation_kept}
 use Rattle.wb_machine.proofs.KeptCells.{alloc_kept, free_kept}
 use Rattle.wb_machine.proofs.KeptReallocations.{realloc_kept}
 use Rattle.wb_machine.proofs.KeptWords.{store_kept, load_kept, usable_kept}
@@ -267,3 +270,33 @@ returns-in-ReturnPointer-clause-kept c =
     let script = c.args.script.now in
     carried_out script c.requires.statement (Statement-F.ReturnPointer c.in-ReturnPointer.pointer) (ap out-Statement c.in-ReturnPointer.is ∙ outs-ReturnPointer c.in-ReturnPointer.pointer) c.end_body_with.ensures
     (return_pointer_kept script (length script.literals) c.requires.statement.locals c.requires.statement.trapped c.args.self.now c.in-ReturnPointer.pointer)
+
+pub returns-in-Pop-clause-kept : goal.returns-in-Pop-clause-kept
+returns-in-Pop-clause-kept c =
+    let script = c.args.script.now in
+    carried_over script c.requires.statement (Statement-F.Pop c.in-Pop.count) (ap out-Statement c.in-Pop.is ∙ outs-Pop c.in-Pop.count) c.pop.ensures
+    (pop_kept script (length script.literals) c.requires.statement.locals c.args.self.now c.args.floor c.in-Pop.count)
+
+pub returns-in-PopCheck-clause-kept : goal.returns-in-PopCheck-clause-kept
+returns-in-PopCheck-clause-kept c =
+    let script = c.args.script.now in
+    carried_over script c.requires.statement (Statement-F.PopCheck c.in-PopCheck.pointer) (ap out-Statement c.in-PopCheck.is ∙ outs-PopCheck c.in-PopCheck.pointer) c.pop_check.ensures
+    (pop_check_kept script (length script.literals) c.requires.statement.locals c.args.self.now c.args.floor c.in-PopCheck.pointer)
+
+pub returns-in-Push-clause-kept : goal.returns-in-Push-clause-kept
+returns-in-Push-clause-kept c =
+    let script = c.args.script.now in
+    let h = c.args.self.now in
+    if_ok_then c.push.result _ _ c.push.ensures.carried (λ ending made.
+    carried_out script c.requires.statement (Statement-F.Push c.in-Push.pointer) (ap out-Statement c.in-Push.is ∙ outs-Push c.in-Push.pointer) made
+    (push_kept script (length script.literals) c.requires.statement.locals h c.in-Push.pointer _ c.push.ensures.there (subst (λ (x : RunState). IsStackThere x) made.becomes c.push.ensures.stands)))
+
+pub returns-in-PushOperation-clause-kept : goal.returns-in-PushOperation-clause-kept
+returns-in-PushOperation-clause-kept c =
+    let script = c.args.script.now in
+    let h = c.args.self.now in
+    let p = c.in-PushOperation.pointer in
+    let operation = c.in-PushOperation.operation in
+    if_ok_then c.push_operation.result _ _ c.push_operation.ensures.carried (λ ending made.
+    carried_out script c.requires.statement (Statement-F.PushOperation p operation) (ap out-Statement c.in-PushOperation.is ∙ outs-PushOperation p operation) made
+    (push_operation_kept script (length script.literals) c.requires.statement.locals c.requires.statement.trapped h p operation _ c.push_operation.ensures.there (subst (λ (x : RunState). IsStackThere x) made.becomes c.push_operation.ensures.stands)))

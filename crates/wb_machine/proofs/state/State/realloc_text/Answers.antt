@@ -6,4 +6,4 @@ use Rattle.wb_machine.proofs.state.State.realloc_text.Goals as goal
 pub length-requires : goal.length-requires
 length-requires c =
     let fine = none_is c.refusal.result c.in_default.not-Some in
-    text_of_base (run_state c.self.inside) c.args.self.now _ c.pointer-ptr.result c.self.view_is c.self.invariant refl (sym c.refusal.ensures ∙ fine)
+    text_of_base (run_state c.self.inside) c.args.self.now _ c.pointer-ptr.result c.self.view_is c.self.invariant.texts refl (sym c.refusal.ensures ∙ fine)

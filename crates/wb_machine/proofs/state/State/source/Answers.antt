@@ -9,6 +9,6 @@ pub returns-in-Cell-clause-source : goal.returns-in-Cell-clause-source
 returns-in-Cell-clause-source c =
     let p = c.in-Cell.ptr in
     record {
-      readable = subst (λ (x : RunState). IsTextAt p x.debug) c.self.view_is (text_of_base (run_state c.self.inside) c.args.self.now c.args.view.base p c.self.view_is c.self.invariant c.in-Cell.is c.requires.base);
+      readable = subst (λ (x : RunState). IsTextAt p x.debug) c.self.view_is (text_of_base (run_state c.self.inside) c.args.self.now c.args.view.base p c.self.view_is c.self.invariant.texts c.in-Cell.is c.requires.base);
       ends = c.requires.ends;
     }

@@ -13,4 +13,5 @@ returns-clause-checked c = λ before checked.
     c.with-self.ensures.unknown_name
     c.with-self.ensures.double_name
     c.with-self.ensures.wrong_kind
+    c.with-self.ensures.may_leave
     c.with-self.ensures.too_many

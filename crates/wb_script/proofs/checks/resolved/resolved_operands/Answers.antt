@@ -1,6 +1,5 @@
 use Rattle.std.proofs.Common.{◌++◌, ◌+◌, ◌∷◌, [], List, length, drop, sym, ap, ◌∙◌, append-nil, append_assoc}
-use Rattle.wb_model.specs.Keys.{letters_with, role_of}
-use Rattle.wb_model.specs.Names.{names_of}
+use Rattle.wb_model.specs.Keys.{letters_with}
 use Rattle.wb_model.specs.Resolved.{resolved_operands}
 use Rattle.wb_model.specs.declared.script_lines.Meant.{Meant}
 use Rattle.wb_model.specs.declared.script_lines.Operand.{Operand}
@@ -12,23 +11,23 @@ use Rattle.wb_script.proofs.checks.resolved.resolved_operands.Goals as goal
 pub returns-in_default : goal.returns-in_default
 returns-in_default c =
     let operands = c.args.operands.now in
-    let items = names_of (lent_items c.args.items.now) in
+    let items = lent_items c.args.items.now in
     let known = known_in c.args.known.now in
     let letters = letters_with c.of-letters.result.fixed.now c.of-letters.result.rest (length operands) in
-    let past = resolved_past lent_operand items known (role_of c.args.key) letters operands c.loop-index.index (c.at.ensures (length operands) c.loop-index-test.true ∙ c.in_default.is) in
+    let past = resolved_past lent_operand items known c.args.key letters operands c.loop-index.index (c.at.ensures (length operands) c.loop-index-test.true ∙ c.in_default.is) in
     let found = c.loop-index.found.items in
     sym (ap (λ (l : List (Operand Meant)). found ++ l) past ∙ append-nil found)
-    ∙ c.loop-index.invariant ∙ ap (λ l. resolved_operands items known (role_of c.args.key) l (lent_operands operands)) (c.of-letters.ensures (length operands))
+    ∙ c.loop-index.invariant ∙ ap (λ l. resolved_operands items known c.args.key l (lent_operands operands)) (c.of-letters.ensures (length operands))
 
 pub loop-index-preserved : goal.loop-index-preserved
 loop-index-preserved c =
     let operands = c.args.operands.now in
-    let items = names_of (lent_items c.args.items.now) in
+    let items = lent_items c.args.items.now in
     let known = known_in c.args.known.now in
     let letters = letters_with c.of-letters.result.fixed.now c.of-letters.result.rest (length operands) in
     let found = c.loop-index.found.items in
-    let later = resolved_operands items known (role_of c.args.key) (drop (c.loop-index.index + 1) letters) (lent_operands (drop (c.loop-index.index + 1) operands)) in
-    let here = resolved_here lent_operand items known (role_of c.args.key) letters operands c.loop-index.index _ c.in-Some.letter c.role_of.result c.resolved_operand.result c.loop-index-test.true (c.at.ensures (length operands) c.loop-index-test.true ∙ c.in-Some.is) c.role_of.ensures c.resolved_operand.ensures in
+    let later = resolved_operands items known c.args.key (drop (c.loop-index.index + 1) letters) (lent_operands (drop (c.loop-index.index + 1) operands)) in
+    let here = resolved_here lent_operand items known c.args.key letters operands c.loop-index.index _ c.in-Some.letter c.resolved_operand.result c.loop-index-test.true (c.at.ensures (length operands) c.loop-index-test.true ∙ c.in-Some.is) c.resolved_operand.ensures in
     ap (λ f. f ++ later) c.in_ok-push.ensures.items
     ∙ append_assoc found (c.resolved_operand.result ∷ []) later
     ∙ sym (ap (λ (l : List (Operand Meant)). found ++ l) here)
@@ -37,10 +36,10 @@ loop-index-preserved c =
 pub returns : goal.returns
 returns c =
     let operands = c.args.operands.now in
-    let items = names_of (lent_items c.args.items.now) in
+    let items = lent_items c.args.items.now in
     let known = known_in c.args.known.now in
     let letters = letters_with c.of-letters.result.fixed.now c.of-letters.result.rest (length operands) in
-    let past = resolved_short lent_operand items known (role_of c.args.key) letters operands c.loop-index.index c.loop-index-test.false in
+    let past = resolved_short lent_operand items known c.args.key letters operands c.loop-index.index c.loop-index-test.false in
     let found = c.loop-index.found.items in
     sym (ap (λ (l : List (Operand Meant)). found ++ l) past ∙ append-nil found)
-    ∙ c.loop-index.invariant ∙ ap (λ l. resolved_operands items known (role_of c.args.key) l (lent_operands operands)) (c.of-letters.ensures (length operands))
+    ∙ c.loop-index.invariant ∙ ap (λ l. resolved_operands items known c.args.key l (lent_operands operands)) (c.of-letters.ensures (length operands))

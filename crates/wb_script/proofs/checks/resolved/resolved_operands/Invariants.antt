@@ -1,6 +1,5 @@
 use Rattle.std.proofs.Common.{◌≡◌, ◌++◌, drop, length}
-use Rattle.wb_model.specs.Keys.{letters_with, role_of}
-use Rattle.wb_model.specs.Names.{names_of}
+use Rattle.wb_model.specs.Keys.{letters_with}
 use Rattle.wb_model.specs.Resolved.{resolved_operands}
 use Rattle.wb_script.specs.Lent.{lent_items, lent_operands}
 use Rattle.wb_script.specs.Checks.{known_in}
@@ -8,5 +7,5 @@ use Rattle.wb_script.proofs.checks.resolved.resolved_operands.Given as goal
 
 abbrev pub invariant-loop-index : goal.invariant-loop-index
 invariant-loop-index l =
-    l.found.items ++ resolved_operands (names_of (lent_items l.items)) (known_in l.known) (role_of l.key) (drop l.index (letters_with l.letters.fixed.now l.letters.rest (length l.operands))) (lent_operands (drop l.index l.operands))
-    ≡ resolved_operands (names_of (lent_items l.items)) (known_in l.known) (role_of l.key) (letters_with l.letters.fixed.now l.letters.rest (length l.operands)) (lent_operands l.operands)
+    l.found.items ++ resolved_operands (lent_items l.items) (known_in l.known) l.key (drop l.index (letters_with l.letters.fixed.now l.letters.rest (length l.operands))) (lent_operands (drop l.index l.operands))
+    ≡ resolved_operands (lent_items l.items) (known_in l.known) l.key (letters_with l.letters.fixed.now l.letters.rest (length l.operands)) (lent_operands l.operands)

@@ -1,0 +1,47 @@
+use Rattle.std.proofs.Common.{◌-◌, ap, ◌∙◌, sym, arith}
+use Rattle.wb_model.specs.declared.heap.TheConstants.Panic.{POP_BELOW_TRAP}
+use Rattle.wb_model.specs.Statements.{newest, destroyed_item}
+use Rattle.wb_model.specs.Meaning.{meaning_of}
+use Rattle.wb_machine.specs.declared.pieces.Ending.TheVariants.{Panics}
+use Rattle.wb_machine.specs.declared.pieces.Piece.TheVariants.{Items}
+use Rattle.wb_machine.specs.RunState.{RunState, state_of}
+use Rattle.wb_machine.specs.Bodies.{without_newest}
+use Rattle.wb_machine.specs.Flow.{where_of, rest_from, rest_after}
+use Rattle.wb_machine.proofs.Outcomes.{on_ok_then}
+use Rattle.wb_machine.proofs.Steps.{pending_pushed, rest_destroyed, rest_undestroyed}
+use Rattle.wb_machine.proofs.Scripts.{sound_pushed}
+use Rattle.wb_machine.proofs.control.Control.step_items.Goals as goal
+
+pub returns-in-Some-clause-kept : goal.returns-in-Some-clause-kept
+returns-in-Some-clause-kept c =
+    on_ok_then c.begin_item.result c.begin_item.ensures.kept (λ kept r budget within.
+    let script = c.args.script.now in
+    let h = c.args.state.now in
+    let at = where_of c.args.at in
+    let n = c.args.left - 1 in
+    let old = c.args.self.now.pieces.items in
+    let mid = c.push.new.self.pieces.items in
+    let taken = c.take_newest.ensures.taken ∙ ap without_newest c.tick.ensures in
+    rest_destroyed script budget r at c.args.left n c.in-Some.item old mid c.begin_item.new.self.pieces.items c.begin_item.new.self.ending h c.begin_item.new.state
+    (pending_pushed h.callers old mid (Items c.args.at n) c.in_ok-push.ensures.pieces) (omega (arith, c.requires.left)) within
+    (sym (ap (λ (x : RunState). newest x.items) c.tick.ensures) ∙ sym c.take_newest.ensures.item ∙ c.in-Some.is)
+    (kept r budget ∙ ap (λ (x : RunState). rest_after script budget r (destroyed_item script (meaning_of script budget) at c.in-Some.item (state_of script x)) mid x) taken))
+
+pub returns-in-Some-clause-sound : goal.returns-in-Some-clause-sound
+returns-in-Some-clause-sound c =
+    on_ok_then c.begin_item.result c.begin_item.ensures.sound (λ sound below.
+    sound (sound_pushed c.args.script.now c.args.self.now.pieces.items c.push.new.self.pieces.items (Items c.args.at (c.args.left - 1)) c.in_ok-push.ensures.pieces below tt))
+
+pub returns-in-None-clause-kept : goal.returns-in-None-clause-kept
+returns-in-None-clause-kept c r budget within =
+    let script = c.args.script.now in
+    let h = c.args.state.now in
+    let old = c.args.self.now.pieces.items in
+    let new = c.push.new.self.pieces.items in
+    let none = sym (ap (λ (x : RunState). newest x.items) c.tick.ensures) ∙ sym c.take_newest.ensures.item ∙ c.in-None.is in
+    ap (λ (x : RunState). rest_from script budget r (Panics POP_BELOW_TRAP) new x) (c.take_newest.ensures.taken ∙ ap without_newest c.tick.ensures)
+    ∙ rest_undestroyed script budget r (where_of c.args.at) c.args.left (c.args.left - 1) old new h (omega (arith, c.requires.left)) within none
+
+pub returns-in-None-clause-sound : goal.returns-in-None-clause-sound
+returns-in-None-clause-sound c below =
+    sound_pushed c.args.script.now c.args.self.now.pieces.items c.push.new.self.pieces.items (Items c.args.at (c.args.left - 1)) c.in_ok-push.ensures.pieces below tt

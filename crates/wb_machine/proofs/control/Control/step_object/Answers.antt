@@ -1,0 +1,44 @@
+use Rattle.std.proofs.Common.{[], ap, ◌∙◌, sym, subst}
+use Rattle.std.specs.Prelude.{unwrap_or}
+use Rattle.wb_model.specs.Rest.{releases}
+use Rattle.wb_model.specs.Statements.{class_at, no_body}
+use Rattle.wb_machine.specs.declared.pieces.Ending.TheVariants.{Panics}
+use Rattle.wb_machine.specs.RunState.{RunState}
+use Rattle.wb_machine.specs.Bodies.{class_read}
+use Rattle.wb_machine.specs.Carried.{stepped}
+use Rattle.wb_machine.specs.Flow.{where_of, AreOwn, rest_from, rest_of_body}
+use Rattle.wb_machine.proofs.Outcomes.{on_ok_then}
+use Rattle.wb_machine.proofs.Heads.{destroy_as_body, destroy_refused}
+use Rattle.wb_machine.proofs.Steps.{rest_unmade}
+use Rattle.wb_machine.proofs.Scripts.{destroy_own}
+use Rattle.wb_machine.proofs.control.Control.step_object.Goals as goal
+
+pub returns-in-Ok-clause-kept : goal.returns-in-Ok-clause-kept
+returns-in-Ok-clause-kept c =
+    on_ok_then c.begin_body.result c.begin_body.ensures.kept (λ kept r budget within.
+    let script = c.args.script.now in
+    let h = c.args.state.now in
+    let at = where_of c.args.at in
+    let p = c.args.ptr in
+    let old = c.args.self.now.pieces.items in
+    let body = unwrap_or (class_at script c.in-Ok.class).destroy no_body in
+    rest_unmade script budget r at p old c.begin_body.new.self.pieces.items c.begin_body.new.self.ending h c.begin_body.new.state within
+    (kept script r budget body (record { locals = c.destroy_at-body.ensures.locals; statements = c.destroy_at-body.ensures.statements })
+    ∙ ap (λ (x : RunState). rest_of_body script budget r at p [] body (releases p) old x) c.tick.ensures
+    ∙ destroy_as_body script budget r at p c.in-Ok.class old (stepped h) (sym c.in-Ok.is ∙ c.class.ensures ∙ ap (λ (x : RunState). class_read x p) c.tick.ensures)))
+
+pub returns-in-Ok-clause-sound : goal.returns-in-Ok-clause-sound
+returns-in-Ok-clause-sound c =
+    let script = c.args.script.now in
+    on_ok_then c.begin_body.result c.begin_body.ensures.sound (λ sound below.
+    sound script (subst (AreOwn script) (sym c.destroy_at-body.ensures.statements) (destroy_own script c.requires.script c.in-Ok.class).0) below)
+
+pub returns-in-Err-clause-kept : goal.returns-in-Err-clause-kept
+returns-in-Err-clause-kept c r budget within =
+    let script = c.args.script.now in
+    let h = c.args.state.now in
+    let at = where_of c.args.at in
+    let old = c.args.self.now.pieces.items in
+    rest_unmade script budget r at c.args.ptr old old (Panics c.in-Err.panic) h c.tick.new.self within
+    (ap (λ (x : RunState). rest_from script budget r (Panics c.in-Err.panic) old x) c.tick.ensures
+    ∙ destroy_refused script budget r at c.args.ptr c.in-Err.panic old (stepped h) (sym c.in-Err.is ∙ c.class.ensures ∙ ap (λ (x : RunState). class_read x c.args.ptr) c.tick.ensures))

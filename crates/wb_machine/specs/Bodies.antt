@@ -1,0 +1,37 @@
+-- The bodies of a script as a machine is lent them, and the classes of objects.
+use Rattle.std.specs.Prelude.{◌≡◌, ℕ, ◌-◌, List, length, take, Option, Some, None, Result, Ok, Err}
+use Rattle.wb_model.specs.declared.heap.TheConstants.Panic.{NULL_OR_STALE, WRONG_KIND}
+use Rattle.wb_model.specs.declared.heap.Panic.{Panic}
+use Rattle.wb_model.specs.declared.heap.Ptr.{Ptr}
+use Rattle.wb_model.specs.declared.script.Body.{Body}
+use Rattle.wb_model.specs.Row.{Cell, cell_at}
+use Rattle.wb_model.specs.Statements.{class_of}
+use Rattle.wb_machine.specs.declared.bodies.Lines.{Lines}
+use Rattle.wb_machine.specs.declared.pieces.After.{After}
+use Rattle.wb_machine.specs.declared.pieces.After.TheVariants.{Nothing, Gives, Releases}
+use Rattle.wb_model.specs.State.{pointer}
+use Rattle.wb_machine.specs.RunState.{RunState}
+use Rattle.wb_machine.specs.Carried.{Carried, gone_on, stored, free_carried}
+
+-- lent are the locals and the statements of a body
+pub record IsBody (lines : Lines) (body : Body) : Type 0 where
+  pub locals : lines.locals.now ≡ body.locals
+  pub statements : lines.statements.now ≡ body.statements
+
+-- the class of an object, or what refuses its pointer
+abbrev pub class_of_cell : Option (Cell (List ℕ)) → Result ℕ Panic
+class_of_cell None = Err NULL_OR_STALE
+class_of_cell (Some c) = elim (class_of c.head.kind) [ None ↦ Err WRONG_KIND | Some class ↦ Ok class ]
+
+abbrev pub class_read : RunState → Ptr → Result ℕ Panic
+class_read h p = class_of_cell (cell_at p h.debug.heap.row)
+
+-- what follows the end of a body that gave a result, in its caller's frame
+abbrev pub followed_carried : RunState → After → Ptr → Carried
+followed_carried h Nothing result = gone_on h
+followed_carried h (Gives x) result = gone_on (stored h x (pointer result))
+followed_carried h (Releases p) result = free_carried h p
+
+-- the newest item is taken off
+abbrev pub without_newest : RunState → RunState
+without_newest h = record h { items = take (length h.items - 1) h.items }

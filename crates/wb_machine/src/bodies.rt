@@ -1,0 +1,74 @@
+//! The bodies of a script. One that it doesn't have stands for a body without a line.
+
+ghost use Rattle.wb_model.specs.Statements.{class_at, no_body, operation_at};
+ghost use Rattle.std.specs.Prelude.{unwrap_or};
+ghost use Rattle.wb_machine.specs.Bodies.{IsBody};
+
+use wb_model::script::{Body, Class, Local, Numbered, Script};
+
+/// What a body declares, and what it does.
+#[derive(Clone, Copy)]
+pub struct Lines<'a> {
+    pub locals: &'a [Local],
+    pub statements: &'a [Numbered],
+}
+
+/// A body without a line.
+fn no_lines<'a>() -> Lines<'a>
+    ensures { IsBody result no_body }
+{
+    Lines {
+        locals: &[],
+        statements: &[],
+    }
+}
+
+/// The lines of a body.
+pub fn lines_of(body: &Body) -> Lines
+    ensures { IsBody result body.now }
+{
+    Lines {
+        locals: body.locals.as_slice(),
+        statements: body.statements.as_slice(),
+    }
+}
+
+/// The body of an operation.
+pub fn operation_at(script: &Script, index: u16) -> Lines
+    ensures { IsBody result (operation_at script.now index) }
+{
+    match script.operations.get(index as usize) {
+        Some(operation) => lines_of(&operation.body),
+        None => no_lines(),
+    }
+}
+
+/// The body that makes an object of a class.
+pub fn construct_at(script: &Script, class: u16) -> Lines
+    ensures { IsBody result (unwrap_or (class_at script.now class).construct no_body) }
+{
+    match script.classes.get(class as usize) {
+        Some(
+            Class {
+                construct: Some(body),
+                ..
+            },
+        ) => lines_of(body),
+        _ => no_lines(),
+    }
+}
+
+/// The body that destroys an object of a class.
+pub fn destroy_at(script: &Script, class: u16) -> Lines
+    ensures { IsBody result (unwrap_or (class_at script.now class).destroy no_body) }
+{
+    match script.classes.get(class as usize) {
+        Some(
+            Class {
+                destroy: Some(body),
+                ..
+            },
+        ) => lines_of(body),
+        _ => no_lines(),
+    }
+}

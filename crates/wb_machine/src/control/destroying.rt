@@ -1,0 +1,145 @@
+//! Steps that destroy items of the cleanup stack and objects, and the bodies that run for them.
+
+ghost use Rattle.std.specs.Prelude.{◌≡◌, ◌+◌, ◌^◌, ◌<◌, ◌∷◌, [], ℕ, IsTrue, OnOk};
+ghost use Rattle.std.specs.List.{list_all};
+ghost use Rattle.wb_model.specs.Sound.{is_script, is_local};
+ghost use Rattle.wb_model.specs.Statements.{destroy_items, destroy_object, destroyed_item, destroyed_object, is_null};
+ghost use Rattle.wb_model.specs.Meaning.{meaning_of};
+ghost use Rattle.wb_model.specs.Rest.{doing};
+ghost use Rattle.wb_model.specs.declared.heap.Rule.{Rule};
+ghost use Rattle.wb_model.specs.declared.script.Body.{Body};
+ghost use Rattle.wb_model.specs.declared.script.Script.{Script};
+ghost use Rattle.wb_machine.specs.declared.pieces.Ending.TheVariants.{GoesOn};
+ghost use Rattle.wb_machine.specs.Bodies.{IsBody};
+ghost use Rattle.wb_machine.specs.LocalValues.{values_handed};
+ghost use Rattle.wb_machine.specs.RunState.{Values, RunState, state_of};
+ghost use Rattle.wb_machine.specs.Flow.{where_of, afterwards, frame_with, pending_in, AreOwn, AreSound, rest_from, rest_after, rest_of_piece, rest_of_body};
+ghost use Rattle.wb_machine.specs.Owed.{IsQuiet, Stays};
+
+use crate::arguments::Handed;
+use crate::bodies::{destroy_at, operation_at};
+use crate::control::Control;
+use crate::locals::NULL;
+use crate::pieces::{After, Ending, Piece, Standing};
+use crate::state::State;
+use wb_model::heap::{Item, Panic, Ptr};
+use wb_model::memory::NoMemory;
+use wb_model::script::Script;
+
+impl<'a> Control<'a> {
+    /// The destruction of an object; null is nothing.
+    pub fn begin_delete(&mut self, at: Standing, ptr: Ptr) -> Result<(), NoMemory>
+        requires { self.old.ending ≡ GoesOn }
+        ensures kept { OnOk result ((script : Script) (r : Rule) (budget : ℕ) (h : RunState) →
+            rest_from script budget r self.new.ending self.new.pieces.items h
+            ≡ rest_after script budget r (destroyed_object (is_null ptr) (meaning_of script budget) (where_of at) ptr (state_of script h)) self.old.pieces.items h) }
+        ensures sound { OnOk result ((script : Script) → AreSound script self.old.pieces.items → AreSound script self.new.pieces.items) }
+        ensures line { self.new.line ≡ self.old.line }
+    {
+        if ptr.number != 0 {
+            self.push(Piece::Object(at, ptr))?;
+        }
+        Ok(())
+    }
+
+    /// The destruction of an item that was taken off.
+    fn begin_item(
+        &mut self,
+        script: &'a Script,
+        at: Standing,
+        item: Item,
+        state: &mut State,
+    ) -> Result<(), NoMemory>
+        requires script { IsTrue (is_script script.now) }
+        requires going { self.old.ending ≡ GoesOn }
+        ensures kept { OnOk result ((r : Rule) (budget : ℕ) →
+            rest_from script.now budget r self.new.ending self.new.pieces.items state.new
+            ≡ rest_after script.now budget r (destroyed_item script.now (meaning_of script.now budget) (where_of at) item (state_of script.now state.old)) self.old.pieces.items state.old) }
+        ensures sound { OnOk result (AreSound script.now self.old.pieces.items → AreSound script.now self.new.pieces.items) }
+        ensures quiet { IsQuiet state.old state.new }
+        ensures line { self.new.line ≡ self.old.line }
+    {
+        match item {
+            Item::Free(ptr) => {
+                self.ending = state.release(ptr);
+                Ok(())
+            }
+            Item::Delete(ptr) => self.begin_delete(at, ptr),
+            Item::Call(ptr, operation) => {
+                let body = operation_at(script, operation);
+                self.begin_body(at, NULL, Handed::Item(ptr), body, After::Nothing, state)
+            }
+        }
+    }
+
+    /// A step of the destruction of items: the newest is taken off and destroyed.
+    pub fn step_items(
+        &mut self,
+        script: &'a Script,
+        at: Standing,
+        left: u32,
+        state: &mut State,
+    ) -> Result<(), NoMemory>
+        requires script { IsTrue (is_script script.now) }
+        requires going { self.old.ending ≡ GoesOn }
+        requires left { 0 < left }
+        requires steps { state.old.steps + 1 < 2 ^ 32 }
+        ensures kept { OnOk result ((r : Rule) (budget : ℕ) → state.old.steps < budget →
+            rest_from script.now budget r self.new.ending self.new.pieces.items state.new
+            ≡ rest_of_piece script.now budget r (doing (where_of at) (destroy_items left)) self.old.pieces.items state.old) }
+        ensures sound { OnOk result (AreSound script.now self.old.pieces.items → AreSound script.now self.new.pieces.items) }
+        ensures stays { Stays state.old state.new }
+        ensures steps { OnOk result (state.new.steps ≡ state.old.steps + 1) }
+        ensures line { self.new.line ≡ self.old.line }
+    {
+        state.tick();
+        self.push(Piece::Items(at, left - 1))?;
+        match state.take_newest() {
+            Some(item) => self.begin_item(script, at, item, state),
+            None => {
+                self.ending = Ending::Panics(Panic::POP_BELOW_TRAP);
+                Ok(())
+            }
+        }
+    }
+
+    /// The body that a class destroys an object by begins, and then the object is released. WORKBENCH 1 or 2 where the
+    /// pointer names none.
+    pub fn step_object(
+        &mut self,
+        script: &'a Script,
+        at: Standing,
+        ptr: Ptr,
+        state: &mut State,
+    ) -> Result<(), NoMemory>
+        requires script { IsTrue (is_script script.now) }
+        requires going { self.old.ending ≡ GoesOn }
+        requires steps { state.old.steps + 1 < 2 ^ 32 }
+        ensures kept { OnOk result ((r : Rule) (budget : ℕ) → state.old.steps < budget →
+            rest_from script.now budget r self.new.ending self.new.pieces.items state.new
+            ≡ rest_of_piece script.now budget r (doing (where_of at) (destroy_object ptr)) self.old.pieces.items state.old) }
+        ensures sound { OnOk result (AreSound script.now self.old.pieces.items → AreSound script.now self.new.pieces.items) }
+        ensures stays { Stays state.old state.new }
+        ensures steps { OnOk result (state.new.steps ≡ state.old.steps + 1) }
+        ensures line { self.new.line ≡ self.old.line }
+    {
+        state.tick();
+        match state.class(ptr) {
+            Ok(class) => {
+                let body = destroy_at(script, class);
+                self.begin_body(
+                    at,
+                    ptr,
+                    Handed::Arguments(&[]),
+                    body,
+                    After::Releases(ptr),
+                    state,
+                )
+            }
+            Err(panic) => {
+                self.ending = Ending::Panics(panic);
+                Ok(())
+            }
+        }
+    }
+}

@@ -1,0 +1,173 @@
+-- What lines say of a script, read from the last to the first.
+use Rattle.std.proofs.Common.{◌≡◌, refl, ap, ℕ, List, [], ◌∷◌, ◌++◌, Option, Some, None, map}
+use Rattle.std.specs.List.{flat_map}
+use Rattle.std.specs.Prelude.{unwrap_or}
+use Rattle.wb_model.specs.declared.script_lines.ItemKind.{ItemKind}
+use Rattle.wb_model.specs.declared.script_lines.ItemKind.TheVariants as item
+use Rattle.wb_model.specs.declared.script_lines.Key.TheVariants as key
+use Rattle.wb_model.specs.declared.script_lines.Meant.{Meant}
+use Rattle.wb_model.specs.declared.script_lines.Meant.TheVariants as meant
+use Rattle.wb_model.specs.declared.script_lines.Operand.{Operand}
+use Rattle.wb_model.specs.declared.script_lines.Operand.TheVariants.{Name, Number, Size}
+use Rattle.wb_model.specs.declared.script_lines.Form.TheVariants.{Line}
+use Rattle.wb_model.specs.declared.script.Body.{Body}
+use Rattle.wb_model.specs.declared.script.Parameter.{Parameter}
+use Rattle.wb_model.specs.declared.script.Condition.{Condition}
+use Rattle.wb_model.specs.declared.script.Condition.TheVariants.{IsNull, NotNull, Equal, Less}
+use Rattle.wb_model.specs.declared.script.Local.{Local}
+use Rattle.wb_model.specs.declared.script.Local.TheVariants.{OfPointer, OfNumber, OfBuffer, OfView}
+use Rattle.wb_model.specs.declared.script.Number.TheVariants.{Constant, Variable}
+use Rattle.wb_model.specs.declared.script.Refusal.TheVariants.{GivesNull, Leaves}
+use Rattle.wb_model.specs.declared.script.Numbered.{Numbered}
+use Rattle.wb_model.specs.declared.script.Statement.{Statement}
+use Rattle.wb_model.specs.declared.script.Statement.TheOpen.{Statement-F}
+use Rattle.wb_model.specs.declared.script.Statement.TheViews.{roll-Statement}
+use Rattle.wb_model.specs.Names.{kind_passed}
+use Rattle.wb_model.specs.Trees.{Indexed, Marked, line}
+use Rattle.wb_script.proofs.OperandLaws.{pointer_in, variable_in, number_in, writable_in, view_in, text_in, argument_in, local_in, procedure_in, operation_in}
+
+-- the statements of a block that were read, and those behind its `else`
+pub record Level : Type 0 where
+  pub here : List Numbered
+  pub other : Option (List Numbered)
+
+abbrev pub no_statements : Level
+no_statements = record { here = []; other = None }
+
+-- a procedure or an operation as its lines tell it, with the index that its first line has
+pub record Told : Type 0 where
+  pub kind : ItemKind
+  pub index : ℕ
+  pub line : ℕ
+  pub parameters : List Parameter
+  pub body : Body
+
+-- What lines say, read from the last to the first: an `end` opens a block, and the block's head closes it.
+pub record Part : Type 0 where
+  pub locals : List Local
+  pub inner : Level
+  pub outer : List Level
+  pub items : List Told
+
+abbrev pub nothing : Part
+nothing = record { locals = []; inner = no_statements; outer = []; items = [] }
+
+-- a `set`, by what its target is
+abbrev pub set_in : Operand Meant → Operand Meant → Statement-F Statement Numbered
+set_in (Name (meant.Number i)) source = Statement-F.SetNumber i (number_in source)
+set_in target source = Statement-F.Set (pointer_in target) (pointer_in source)
+
+abbrev pub print_in : Operand Meant → Statement-F Statement Numbered
+print_in (Number z) = Statement-F.PrintNumber (Constant z)
+print_in (Name (meant.Number i)) = Statement-F.PrintNumber (Variable i)
+print_in operand = Statement-F.PrintText (text_in operand)
+
+abbrev pub statement_in : Indexed → Statement-F Statement Numbered
+statement_in (Line key.Alloc (a ∷ b ∷ [])) = Statement-F.Alloc (pointer_in a) (number_in b) GivesNull
+statement_in (Line key.AllocL (a ∷ b ∷ [])) = Statement-F.Alloc (pointer_in a) (number_in b) Leaves
+statement_in (Line key.Realloc (a ∷ b ∷ c ∷ [])) = Statement-F.Realloc (pointer_in a) (pointer_in b) (number_in c) GivesNull
+statement_in (Line key.ReallocL (a ∷ b ∷ c ∷ [])) = Statement-F.Realloc (pointer_in a) (pointer_in b) (number_in c) Leaves
+statement_in (Line key.Leave (a ∷ [])) = Statement-F.Leave (number_in a)
+statement_in (Line key.LeaveIfError (a ∷ [])) = Statement-F.LeaveIfError (number_in a)
+statement_in (Line key.LeaveIfNull (a ∷ [])) = Statement-F.LeaveIfNull (pointer_in a)
+statement_in (Line key.Call (a ∷ operands)) = Statement-F.Call (procedure_in a) (map argument_in operands)
+statement_in (Line key.CallTo (a ∷ b ∷ operands)) = Statement-F.CallTo (local_in a) (procedure_in b) (map argument_in operands)
+statement_in (Line key.PushOp (a ∷ b ∷ [])) = Statement-F.PushOperation (pointer_in a) (operation_in b)
+statement_in (Line key.ReturnPointer (a ∷ [])) = Statement-F.ReturnPointer (pointer_in a)
+statement_in (Line key.HNewL (a ∷ b ∷ [])) = Statement-F.NewText (pointer_in a) (number_in b) Leaves
+statement_in (Line key.Free (a ∷ [])) = Statement-F.Free (pointer_in a)
+statement_in (Line key.AllocLen (a ∷ b ∷ [])) = Statement-F.AllocLen (variable_in a) (pointer_in b)
+statement_in (Line key.Store (a ∷ b ∷ c ∷ [])) = Statement-F.Store (pointer_in a) (number_in b) (number_in c)
+statement_in (Line key.Load (a ∷ b ∷ c ∷ [])) = Statement-F.Load (variable_in a) (pointer_in b) (number_in c)
+statement_in (Line key.Null (a ∷ [])) = Statement-F.SetNull (pointer_in a)
+statement_in (Line key.Add (a ∷ b ∷ [])) = Statement-F.Add (variable_in a) (number_in b)
+statement_in (Line key.Push (a ∷ [])) = Statement-F.Push (pointer_in a)
+statement_in (Line key.Pop (a ∷ [])) = Statement-F.Pop (number_in a)
+statement_in (Line key.PopDestroy (a ∷ [])) = Statement-F.PopDestroy (number_in a)
+statement_in (Line key.PopCheck (a ∷ [])) = Statement-F.PopCheck (pointer_in a)
+statement_in (Line key.Mark []) = Statement-F.Mark
+statement_in (Line key.MarkEnd (a ∷ [])) = Statement-F.MarkEnd (number_in a)
+statement_in (Line key.Check (a ∷ [])) = Statement-F.Check (number_in a)
+statement_in (Line key.CheckAll (a ∷ [])) = Statement-F.CheckAll (number_in a)
+statement_in (Line key.FailNext (a ∷ [])) = Statement-F.FailNext (number_in a)
+statement_in (Line key.FailEvery (a ∷ [])) = Statement-F.FailEvery (number_in a)
+statement_in (Line key.FailNone []) = Statement-F.FailNone
+statement_in (Line key.Heap []) = Statement-F.NoteHeap
+statement_in (Line key.Available []) = Statement-F.NoteAvailable
+statement_in (Line key.Compress []) = Statement-F.NoteCompress
+statement_in (Line key.HNew (a ∷ b ∷ [])) = Statement-F.NewText (pointer_in a) (number_in b) GivesNull
+statement_in (Line key.HRealloc (a ∷ b ∷ c ∷ [])) = Statement-F.ReallocText (pointer_in a) (pointer_in b) (number_in c)
+statement_in (Line key.Copy (a ∷ b ∷ [])) = Statement-F.Copy (writable_in a) (text_in b)
+statement_in (Line key.Append (a ∷ b ∷ [])) = Statement-F.Append (writable_in a) (text_in b)
+statement_in (Line key.Insert (a ∷ b ∷ c ∷ [])) = Statement-F.Insert (writable_in a) (number_in b) (text_in c)
+statement_in (Line key.DelText (a ∷ b ∷ c ∷ [])) = Statement-F.DeleteText (writable_in a) (number_in b) (number_in c)
+statement_in (Line key.SetLength (a ∷ b ∷ [])) = Statement-F.SetLength (writable_in a) (number_in b)
+statement_in (Line key.Left (a ∷ b ∷ c ∷ [])) = Statement-F.Left (view_in a) (text_in b) (number_in c)
+statement_in (Line key.Right (a ∷ b ∷ c ∷ [])) = Statement-F.Right (view_in a) (text_in b) (number_in c)
+statement_in (Line key.Mid (a ∷ b ∷ c ∷ e ∷ [])) = Statement-F.Mid (view_in a) (text_in b) (number_in c) (number_in e)
+statement_in (Line key.GetLen (a ∷ b ∷ [])) = Statement-F.GetLength (variable_in a) (text_in b)
+statement_in (Line key.GetMax (a ∷ b ∷ [])) = Statement-F.GetMaximum (variable_in a) (writable_in b)
+statement_in (Line key.Set (a ∷ b ∷ [])) = set_in a b
+statement_in (Line key.Print (a ∷ [])) = print_in a
+statement_in _ = Statement-F.Return
+
+-- an `if`, by whether an `else` was read
+abbrev pub choice_with : Condition → List Numbered → Option (List Numbered) → Statement-F Statement Numbered
+choice_with condition here None = Statement-F.If condition here
+choice_with condition here (Some behind) = Statement-F.IfElse condition here behind
+
+abbrev pub choice : Condition → Level → Statement-F Statement Numbered
+choice condition level = choice_with condition level.here level.other
+
+-- the part with one more statement before the others
+abbrev pub with_statement : ℕ → Statement-F Statement Numbered → Part → Part
+with_statement number s part = record part { inner = record part.inner { here = record { line = number; statement = roll-Statement s } ∷ part.inner.here } }
+
+-- a new block inside the others, and out of the innermost again
+abbrev pub opened : Part → Part
+opened part = record part { inner = no_statements; outer = part.inner ∷ part.outer }
+
+abbrev pub left : List Level → Part → Part
+left [] part = record part { inner = no_statements }
+left (level ∷ outer) part = record part { inner = level; outer = outer }
+
+abbrev pub closed : Part → Part
+closed part = left part.outer part
+
+abbrev pub index_in : List (Operand Meant) → ℕ
+index_in (Name (meant.Declared index) ∷ operands) = index
+index_in _ = 0
+
+-- the body that was read, by its first line
+abbrev pub begun : ItemKind → ℕ → List (Operand Meant) → Part → Part
+begun kind number operands part = record {
+  locals = [];
+  inner = (closed part).inner;
+  outer = (closed part).outer;
+  items = record { kind = kind; index = index_in operands; line = number; parameters = flat_map kind_passed operands; body = record { locals = part.locals; statements = part.inner.here } } ∷ part.items;
+}
+
+abbrev pub with_line : ℕ → Indexed → Part → Part
+with_line number (Line key.Proc operands) part = begun item.Procedure number operands part
+with_line number (Line key.Op operands) part = begun item.Operation number operands part
+with_line number (Line key.Ptr operands) part = record part { locals = OfPointer None ∷ part.locals }
+with_line number (Line key.Int operands) part = record part { locals = OfNumber ∷ part.locals }
+with_line number (Line key.Buf (name ∷ Size max ∷ [])) part = record part { locals = OfBuffer max ∷ part.locals }
+with_line number (Line key.View operands) part = record part { locals = OfView ∷ part.locals }
+with_line number (Line key.End operands) part = opened part
+with_line number (Line key.Else operands) part = record part { inner = record { here = []; other = Some part.inner.here } }
+with_line number (Line key.IfNull (word ∷ a ∷ [])) part = with_statement number (choice (IsNull (pointer_in a)) part.inner) (closed part)
+with_line number (Line key.IfSome (word ∷ a ∷ [])) part = with_statement number (choice (NotNull (pointer_in a)) part.inner) (closed part)
+with_line number (Line key.IfEqual (word ∷ a ∷ b ∷ [])) part = with_statement number (choice (Equal (number_in a) (number_in b)) part.inner) (closed part)
+with_line number (Line key.IfLess (word ∷ a ∷ b ∷ [])) part = with_statement number (choice (Less (number_in a) (number_in b)) part.inner) (closed part)
+with_line number (Line key.Repeat (a ∷ [])) part = with_statement number (Statement-F.Repeat (number_in a) part.inner.here) (closed part)
+with_line number (Line key.Trap (a ∷ [])) part = with_statement number (Statement-F.Trap (variable_in a) part.inner.here) (closed part)
+with_line number line part = with_statement number (statement_in line) part
+
+abbrev pub with_lines : List Marked → Part → Part
+with_lines [] part = part
+with_lines (line ∷ lines) part = with_line (unwrap_or line.0 0) line.1 (with_lines lines part)
+
+pub with_lines-append : (lines more : List Marked) (part : Part) → with_lines (lines ++ more) part ≡ with_lines lines (with_lines more part)
+with_lines-append [] more part = refl
+with_lines-append (line ∷ lines) more part = ap (with_line (unwrap_or line.0 0) line.1) (with_lines-append lines more part)

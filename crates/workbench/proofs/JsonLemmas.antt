@@ -1,0 +1,50 @@
+-- A JSON report has no fractions, and its lines are found one after another.
+use Rattle.std.proofs.Common.{◌≡◌, ℕ, Bool, true, false, refl, sym, ap, ◌∙◌, List, [], ◌∷◌, Option, Some, None, map}
+use Rattle.std.specs.Prelude.{◌==◌}
+use Rattle.serde_json.specs.Data.{Data}
+use Rattle.serde_json.specs.View.{items_of}
+use Rattle.serde_json.specs.Written.{has_float, items_have_float}
+use Rattle.wb_model.specs.declared.size.Rise.{Rise}
+use Rattle.wb_model.specs.Lines.{ends_line, lines_of, onto_first, pieces_from, quoted_after}
+use Rattle.workbench.specs.declared.figures.Failing.{Failing}
+use Rattle.workbench.specs.declared.figures.Failing.TheVariants.{At, Never}
+use Rattle.workbench.specs.declared.figures.Figures.{Figures}
+use Rattle.workbench.specs.JsonReport.{count_or_null, failing_number, line_string, line_strings, report_object, rise_pair, rise_pairs}
+
+-- ---- no fractions
+
+each_has_none : {A : Type 0} (told : A → Data) → ((a : A) → has_float (told a) ≡ false) → (all : List A) → items_have_float (items_of (map told all)) ≡ false
+each_has_none told none [] = refl
+each_has_none told none (a ∷ all) = rw (none a) (each_has_none told none all)
+
+count_has_none : (n : Option ℕ) → has_float (count_or_null n) ≡ false
+count_has_none None = refl
+count_has_none (Some n) = refl
+
+number_has_none : (number : Option Failing) → has_float (failing_number number) ≡ false
+number_has_none None = refl
+number_has_none (Some Never) = refl
+number_has_none (Some (At n)) = refl
+
+lines_have_none : (text : List ℕ) → has_float (line_strings text) ≡ false
+lines_have_none text = each_has_none line_string (λ line. refl) (lines_of text)
+
+rises_have_none : (rises : Option (List Rise)) → has_float (rise_pairs rises) ≡ false
+rises_have_none None = refl
+rises_have_none (Some rises) = each_has_none rise_pair (λ rise. refl) rises
+
+pub report_has_none : (text : List ℕ) (figures : Figures) (status : ℕ) → has_float (report_object text figures status) ≡ false
+unfolding report_object
+report_has_none text figures status = rw (count_has_none figures.attempts, lines_have_none text, number_has_none figures.number, count_has_none figures.required, rises_have_none figures.rises) refl
+
+-- ---- lines
+
+-- a line feed ends a line whether quotes are open or not
+pub unquoted : (quoted : Bool) (bytes : List ℕ) → pieces_from ends_line quoted bytes ≡ lines_of bytes
+unquoted quoted [] = refl
+unquoted quoted (byte ∷ bytes) = go (byte == 10) refl (unquoted (quoted_after quoted byte) bytes ∙ sym (unquoted (quoted_after false byte) bytes))
+  where
+    go : (b : Bool) → (byte == 10) ≡ b → pieces_from ends_line (quoted_after quoted byte) bytes ≡ pieces_from ends_line (quoted_after false byte) bytes
+        → pieces_from ends_line quoted (byte ∷ bytes) ≡ lines_of (byte ∷ bytes)
+    go true is same = rw (is, pieces_from) refl
+    go false isnt same = rw (isnt, pieces_from) (ap (onto_first byte) same)

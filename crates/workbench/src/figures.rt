@@ -1,0 +1,88 @@
+//! What a report tells as values, beside its lines. A JSON report has them under keys of their own.
+
+ghost use Rattle.std.specs.Prelude.{◌≡◌};
+ghost use Rattle.workbench.specs.Figures.{both_figures, no_figures, run_figures, size_figures, sweep_figures};
+
+use wb_model::run::RunResult;
+use wb_size::{Rises, Sizing};
+
+/// Which number a sweep that was finished tells.
+#[derive(Clone, Copy, Debug, PartialEq, Eq)]
+pub enum Failing {
+    /// No number's run leaks or panics.
+    Never,
+    /// The least number whose run does.
+    At(u32),
+}
+
+/// The values of a report, each where its task tells it.
+#[derive(Debug, Drop)]
+pub struct Figures {
+    /// How many attempts the run made; for a sweep that was finished, the run without failure.
+    pub attempts: Option<u64>,
+    /// What the sweep found.
+    pub number: Option<Failing>,
+    /// The length that the heap must have, in bytes.
+    pub required: Option<u64>,
+    /// The attempt that each shorter heap refuses first.
+    pub rises: Option<Rises>,
+}
+
+impl Figures {
+    /// Those of a refused script, and of a cut.
+    pub fn none() -> Figures
+        ensures { result ≡ no_figures }
+    {
+        Figures {
+            attempts: None,
+            number: None,
+            required: None,
+            rises: None,
+        }
+    }
+
+    /// Those of one run, a cut one too.
+    pub fn of_run(run: &RunResult) -> Figures
+        ensures { result ≡ run_figures run.now }
+    {
+        Figures {
+            attempts: Some(run.trace.len() as u64),
+            ..Figures::none()
+        }
+    }
+
+    /// Those of a size.
+    pub fn of_size(sizing: Sizing) -> Figures
+        ensures { result ≡ size_figures sizing.required sizing.rises }
+    {
+        Figures {
+            attempts: None,
+            number: None,
+            required: Some(u64::from(sizing.required)),
+            rises: Some(sizing.rises),
+        }
+    }
+
+    /// Those of a sweep that was finished.
+    pub fn of_sweep(attempts: u32, number: Failing) -> Figures
+        ensures { result ≡ sweep_figures attempts number }
+    {
+        Figures {
+            attempts: Some(u64::from(attempts)),
+            number: Some(number),
+            ..Figures::none()
+        }
+    }
+
+    /// Those of a size, and of the sweep that was made behind it.
+    pub fn of_both(size: Figures, sweep: Figures) -> Figures
+        ensures { result ≡ both_figures size sweep }
+    {
+        Figures {
+            attempts: sweep.attempts,
+            number: sweep.number,
+            required: size.required,
+            rises: size.rises,
+        }
+    }
+}

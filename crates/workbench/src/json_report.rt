@@ -1,0 +1,119 @@
+//! The report as one JSON object. Which report it is stands elsewhere.
+
+ghost use Rattle.std.specs.Prelude.{◌≡◌, ◌≢◌, ◌∷◌, ◌<◌, [], length, IfOk, map};
+ghost use Rattle.serde_json.specs.View.{view};
+ghost use Rattle.wb_model.specs.Lines.{lines_of};
+ghost use Rattle.workbench.specs.JsonReport.{count_or_null, failing_number, json_text, line_strings, report_object, rise_pair, rise_pairs};
+
+use crate::figures::Failing;
+use crate::report::Report;
+use serde_json::{Map, Value, json, put};
+use std::alloc::{AllocError, Global};
+use wb_model::memory::NoMemory;
+use wb_model::size::Rise;
+use wb_size::Rises;
+
+/// The version of the form that a JSON report has.
+const VERSION: u32 = 1;
+
+/// The report as a JSON object without blanks, and a line feed. The only error is that memory ran out.
+#[tactic(auto, using(crate::proofs::JsonLemmas::report_has_none))]
+pub fn json_text(alloc: Global, report: &Report) -> Result<Vec<u8>, NoMemory>
+    ensures { IfOk result (λ text. text.items
+        ≡ json_text report.now.text.items report.now.figures report.now.status) }
+{
+    let mut text = report_object(alloc, report)?.to_vec(alloc)?;
+    text.extend_from_slice(b"\n")?;
+    Ok(text)
+}
+
+/// The object. Its keys come in the order of their letters.
+#[tactic(auto, unfolding(crate::specs::JsonReport::report_object))]
+fn report_object(alloc: Global, report: &Report) -> Result<Value, AllocError>
+    ensures { IfOk result (λ object. view object
+        ≡ report_object report.now.text.items report.now.figures report.now.status) }
+{
+    let attempts = count_or_null(report.figures.attempts);
+    let lines = line_strings(alloc, report.text.as_slice())?;
+    let number = failing_number(alloc, report.figures.number)?;
+    let required = count_or_null(report.figures.required);
+    let rises = rise_pairs(alloc, &report.figures.rises)?;
+    let mut members = Map::new(alloc);
+    put(&mut members, alloc, "attempts", attempts)?;
+    put(&mut members, alloc, "lines", lines)?;
+    put(&mut members, alloc, "number", number)?;
+    put(&mut members, alloc, "required", required)?;
+    put(&mut members, alloc, "rises", rises)?;
+    put(&mut members, alloc, "status", Value::from(report.status))?;
+    put(&mut members, alloc, "version", Value::from(VERSION))?;
+    Ok(Value::Object(members))
+}
+
+/// A number, or `null` where none is told.
+fn count_or_null(count: Option<u64>) -> Value
+    ensures { view result ≡ count_or_null count }
+{
+    match count {
+        Some(count) => Value::from(count),
+        None => Value::Null,
+    }
+}
+
+/// The lines of a text, each as a string.
+fn line_strings(alloc: Global, text: &[u8]) -> Result<Value, AllocError>
+    ensures { IfOk result (λ strings. view strings ≡ line_strings text.now) }
+{
+    let mut strings = Vec::new(alloc);
+    let mut rest = text;
+    while !rest.is_empty() {
+        let (line, after) = first_line(rest);
+        strings.push(Value::String(String::from_utf8_lossy(alloc, line)?))?;
+        rest = after;
+    }
+    Ok(Value::Array(strings))
+}
+
+/// The first line without its line feed, and the bytes behind that.
+fn first_line<'a>(bytes: &'a [u8]) -> (&'a [u8], &'a [u8])
+    requires { bytes.now ≢ [] }
+    ensures lines { lines_of bytes.now ≡ result.0.now ∷ lines_of result.1.now }
+    ensures shorter { length result.1.now < length bytes.now }
+{
+    for (index, byte) in bytes.iter().enumerate() {
+        if *byte == b'\n' {
+            return (&bytes[..index], &bytes[index + 1..]);
+        }
+    }
+    (bytes, &bytes[bytes.len()..])
+}
+
+/// The number that a sweep tells, or `null` where none was finished.
+fn failing_number(alloc: Global, number: Option<Failing>) -> Result<Value, AllocError>
+    ensures { IfOk result (λ value. view value ≡ failing_number number) }
+{
+    match number {
+        Some(Failing::At(number)) => Ok(Value::from(number)),
+        Some(Failing::Never) => Value::try_from_str(alloc, "none"),
+        None => Ok(Value::Null),
+    }
+}
+
+/// The table of rises, or `null` where none is told.
+fn rise_pairs(alloc: Global, rises: &Option<Rises>) -> Result<Value, AllocError>
+    ensures { IfOk result (λ pairs. view pairs ≡ rise_pairs rises.now) }
+{
+    match rises {
+        Some(rises) => Ok(Value::Array(all_pairs(alloc, rises.as_slice())?)),
+        None => Ok(Value::Null),
+    }
+}
+
+fn all_pairs(alloc: Global, rises: &[Rise]) -> Result<Vec<Value>, AllocError>
+    ensures { IfOk result (λ pairs. map view pairs.items ≡ map rise_pair rises.now) }
+{
+    let mut pairs = Vec::new(alloc);
+    for rise in rises {
+        pairs.push(json!(in alloc; [rise.number, rise.top])?)?;
+    }
+    Ok(pairs)
+}
