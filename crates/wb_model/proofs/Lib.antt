@@ -18,7 +18,6 @@ pub mod ThroughoutLemmas
 pub mod Payloads
 pub mod Rows
 pub mod Settings
-pub mod SoundLemmas
 pub mod Spellings
 pub mod ResumeLemmas
 pub mod WorkedCases
