@@ -18,7 +18,7 @@ const SHAPE: Shape = Shape {
 
 /// A heap, and the number of its next attempt.
 #[derive(Drop)]
-pub struct Filled {
+pub(crate) struct Filled {
     heap: Heap,
     next: u32,
     ghost numbered: { 1 ≤ next },
@@ -27,7 +27,7 @@ pub struct Filled {
 
 impl Filled {
     /// Live cells, listed in order of place.
-    pub fn new(alloc: Global, count: u32, cells: &mut Vec<Ptr>) -> Result<Filled, AllocError> {
+    pub(crate) fn new(alloc: Global, count: u32, cells: &mut Vec<Ptr>) -> Result<Filled, AllocError> {
         let Ok(heap) = Heap::new(alloc, CEILING, SHAPE) else {
             return Err(AllocError);
         };
@@ -54,14 +54,14 @@ impl Filled {
     }
 
     /// Frees every second cell, from the last one down.
-    pub fn free_every_second(&mut self, cells: &[Ptr]) {
+    pub(crate) fn free_every_second(&mut self, cells: &[Ptr]) {
         for pair in (0..cells.len() / 2).rev() {
             self.release(cells[2 * pair]);
         }
     }
 
     /// Fills the holes again.
-    pub fn fill(&mut self, cells: &mut [Ptr]) -> Result<(), AllocError> {
+    pub(crate) fn fill(&mut self, cells: &mut [Ptr]) -> Result<(), AllocError> {
         for pair in 0..cells.len() / 2 {
             cells[2 * pair] = self.grant()?;
         }
@@ -69,7 +69,7 @@ impl Filled {
     }
 
     /// Stores a word in each cell.
-    pub fn store(&mut self, cells: &[Ptr], word: u32) {
+    pub(crate) fn store(&mut self, cells: &[Ptr], word: u32) {
         for cell in cells {
             self.store_in(*cell, word);
         }
@@ -84,7 +84,7 @@ impl Filled {
     }
 
     /// Looks up each cell, and answers how many are live.
-    pub fn look_up(&self, cells: &[Ptr]) -> usize {
+    pub(crate) fn look_up(&self, cells: &[Ptr]) -> usize {
         cells
             .iter()
             .filter(|cell| self.heap.header(**cell).is_some())
@@ -92,7 +92,7 @@ impl Filled {
     }
 
     /// How many cells are live, and their bytes.
-    pub fn live(&self) -> (u32, u32) {
+    pub(crate) fn live(&self) -> (u32, u32) {
         self.heap.alloc_size()
     }
 }

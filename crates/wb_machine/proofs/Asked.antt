@@ -1,6 +1,6 @@
 -- Which statements ask for an attempt.
 use Rattle.std.proofs.Common.{◌≡◌, ℕ, ℤ, ◌+◌, ◌*◌, ◌≤◌, length-append, Bool, true, false, cond, List, [], ◌∷◌, ◌++◌, refl, ap, ◌∙◌, sym, arith, Option, Some, None, option_map, length}
-use Rattle.std.specs.Prelude.{nat_eq, nat_lt, nat_le, ◌&&◌}
+use Rattle.std.specs.Prelude.{not, nat_eq, nat_lt, nat_le, ◌&&◌}
 use Rattle.std.proofs.lemmas.Bool.{eq-eqb, eqb-true, lt-ltb}
 use Rattle.wb_model.specs.declared.limits.TheConstants.{LARGEST_REQUEST, MOST_UNITS}
 use Rattle.wb_model.specs.declared.heap.TheConstants.Panic.{BAD_CELL, WRONG_KIND, NULL_OR_STALE, NUMBER_OUT_OF_RANGE, SHORTER_THAN_TEXT}
@@ -9,9 +9,8 @@ use Rattle.wb_model.specs.declared.heap.Item.{Item}
 use Rattle.wb_model.specs.declared.heap.Item.TheVariants as I
 use Rattle.wb_model.specs.declared.heap.Kind.{Kind}
 use Rattle.wb_model.specs.declared.heap.Kind.TheVariants.{Raw, Object, Text, Cleanup}
+use Rattle.wb_model.specs.declared.heap.Panic.{Panic}
 use Rattle.wb_model.specs.declared.heap.Ptr.{Ptr}
-use Rattle.wb_model.specs.declared.script.Local.{Local}
-use Rattle.wb_model.specs.declared.script.Numbered.{Numbered}
 use Rattle.wb_model.specs.declared.script.Pointer.{Pointer}
 use Rattle.wb_model.specs.declared.script.Refusal.{Refusal}
 use Rattle.wb_model.specs.declared.script.Refusal.TheVariants.{GivesNull}
@@ -19,11 +18,10 @@ use Rattle.wb_model.specs.declared.script.Script.{Script}
 use Rattle.wb_model.specs.declared.script.Statement.TheOpen.{Statement-F}
 use Rattle.wb_model.specs.Row.{Cell, cell_at}
 use Rattle.wb_model.specs.Spelling.{read_as}
-use Rattle.wb_model.specs.Sound.{Declared, is_nested, is_pointer, is_number}
 use Rattle.wb_model.specs.State.{Content, units, State, leaves, Process, ends, with_some, require}
 use Rattle.wb_model.specs.Operands.{within, number_of, units_of, with_cell, with_pointer}
 use Rattle.wb_model.specs.Attempts.{after_growth, attempt, allocate, grow_if, push, reallocate, reallocate_longer}
-use Rattle.wb_model.specs.Statements.{Layer, Where, is_null, is_raw, alloc_raw, realloc_of, realloc_raw, realloc_text, given_to, statement}
+use Rattle.wb_model.specs.Statements.{Layer, Where, is_null, is_raw, alloc_raw, realloc_of, realloc_raw, realloc_text, new_object, given_to, statement}
 use Rattle.wb_model.specs.declared.heap.Header.{Header}
 use Rattle.wb_model.specs.Debug.{Debug}
 use Rattle.wb_model.specs.TextCells.{IsTextAt, text_in}
@@ -34,8 +32,10 @@ use Rattle.wb_machine.specs.declared.pieces.Piece.TheVariants.{Object}
 use Rattle.wb_machine.specs.RunState.{RunState, field_count, read_cell, state_of}
 use Rattle.wb_machine.specs.Carried.{pointer_read, number_read}
 use Rattle.wb_machine.specs.TextOperands.{is_text, text_refusal}
-use Rattle.wb_machine.specs.Asks.{asks_at, is_some, is_longer, cell_asks, realloc_asks, text_asks, realloc_text_asks, growth_asks, push_asks, statement_asks}
-use Rattle.wb_machine.proofs.Kept.{and_left, and_right, number_is, pointer_is}
+use Rattle.wb_machine.specs.Asks.{asks_at, is_some, is_longer, cell_asks, realloc_asks, text_asks, realloc_text_asks, growth_asks, push_asks, carried_asks, statement_asks}
+use Rattle.wb_machine.specs.PointerOperands.{operands_refused}
+use Rattle.wb_machine.proofs.Refused.{statement_refused}
+use Rattle.wb_machine.proofs.Kept.{number_is, pointer_is, fine_first, fine_rest}
 use Rattle.wb_machine.proofs.Later.{later_asks}
 use Rattle.wb_machine.proofs.NothingAsked.{nothing_asked}
 use Rattle.wb_machine.proofs.Rows.{read_cell_at}
@@ -190,33 +190,45 @@ module _ (script : Script) (h : RunState) where
       by false true room fills = let no : false ≡ true = sym room ∙ last_slot (length h.items) h.slots fills in cc
       by false false room fills = refl
 
-  pub statement_asked : (budget : ℕ) (declared : Declared) (locals : List Local) (held : Bool) (inside : Bool → List Numbered → Bool) (at : Where) (layer : Layer) →
-      h.steps ≤ budget → is_nested declared locals held inside layer ≡ true → asked (statement script (meaning_of script budget) at layer st) ≡ statement_asks h layer
-  unfolding statement
-  statement_asked budget declared locals held inside at (Statement-F.Alloc p v x) within_budget ok =
-      ap asked (pointer_is script locals h p (λ _. with_some (within LARGEST_REQUEST (number_of st v)) NUMBER_OUT_OF_RANGE st (λ n. alloc_raw p x n st)) (and_left (is_pointer locals p) (is_number locals v) ok))
+  -- where no operand is refused
+  carried_asked : (budget : ℕ) (at : Where) (layer : Layer) → h.steps ≤ budget → operands_refused h layer ≡ None →
+      asked (statement script (meaning_of script budget) at layer st) ≡ carried_asks script h layer
+  unfolding statement new_object allocate attempt
+  carried_asked budget at (Statement-F.Alloc p v x) within_budget ok =
+      ap asked (pointer_is script h p (λ _. with_some (within LARGEST_REQUEST (number_of st v)) NUMBER_OUT_OF_RANGE st (λ n. alloc_raw p x n st)) (fine_first h p [] ok))
       ∙ ap (λ z. asked (with_some (within LARGEST_REQUEST z) NUMBER_OUT_OF_RANGE st (λ n. alloc_raw p x n st))) (number_is script h v)
       ∙ alloc_asked p x (within LARGEST_REQUEST (number_read h v))
-  statement_asked budget declared locals held inside at (Statement-F.Realloc p q v x) within_budget ok =
-      let rest = and_right (is_pointer locals p) (is_pointer locals q && is_number locals v) ok in
-      ap asked (pointer_is script locals h p (λ _. with_pointer st q (λ old. realloc_of (is_null old) p x old (number_of st v) st)) (and_left (is_pointer locals p) (is_pointer locals q && is_number locals v) ok)
-      ∙ pointer_is script locals h q (λ old. realloc_of (is_null old) p x old (number_of st v) st) (and_left (is_pointer locals q) (is_number locals v) rest))
-      ∙ ap (λ z. asked (realloc_of (is_null (pointer_read h q)) p x (pointer_read h q) z st)) (number_is script h v)
-      ∙ realloc_asked p x (pointer_read h q) (number_read h v)
-  statement_asked budget declared locals held inside at (Statement-F.NewText p v x) within_budget ok =
-      ap asked (pointer_is script locals h p (λ _. with_some (within MOST_UNITS (number_of st v)) NUMBER_OUT_OF_RANGE st (λ n. allocate (4 + 2 * n) Text (units []) st (given_to p x))) (and_left (is_pointer locals p) (is_number locals v) ok))
+  carried_asked budget at (Statement-F.Realloc p q v x) within_budget ok =
+      ap asked (pointer_is script h p (λ _. with_pointer st q (λ old. realloc_of (is_null old) p x old (number_of st v) st)) (fine_first h p (q ∷ []) ok)
+      ∙ pointer_is script h q (λ old. realloc_of (is_null old) p x old (number_of st v) st) (fine_first h q [] (fine_rest h p (q ∷ []) ok)))
+      ∙ ap (λ z. asked (realloc_of (is_null (pointer_read script h q)) p x (pointer_read script h q) z st)) (number_is script h v)
+      ∙ realloc_asked p x (pointer_read script h q) (number_read h v)
+  carried_asked budget at (Statement-F.NewText p v x) within_budget ok =
+      ap asked (pointer_is script h p (λ _. with_some (within MOST_UNITS (number_of st v)) NUMBER_OUT_OF_RANGE st (λ n. allocate (4 + 2 * n) Text (units []) st (given_to p x))) (fine_first h p [] ok))
       ∙ ap (λ z. asked (with_some (within MOST_UNITS z) NUMBER_OUT_OF_RANGE st (λ n. allocate (4 + 2 * n) Text (units []) st (given_to p x)))) (number_is script h v)
       ∙ new_text_asked p x (within MOST_UNITS (number_read h v))
-  statement_asked budget declared locals held inside at (Statement-F.ReallocText p q v) within_budget ok =
-      let rest = and_right (is_pointer locals p) (is_pointer locals q && is_number locals v) ok in
+  carried_asked budget at (Statement-F.ReallocText p q v) within_budget ok =
       let from : Ptr → ℤ → Process = λ old z. with_cell st old (λ c. with_some (units_of c.head.kind c.content) WRONG_KIND st (λ us. with_some (within MOST_UNITS z) NUMBER_OUT_OF_RANGE st (λ n. realloc_text p c us n st))) in
-      ap asked (pointer_is script locals h p (λ _. with_pointer st q (λ old. from old (number_of st v))) (and_left (is_pointer locals p) (is_pointer locals q && is_number locals v) ok)
-      ∙ pointer_is script locals h q (λ old. from old (number_of st v)) (and_left (is_pointer locals q) (is_number locals v) rest))
-      ∙ ap (λ z. asked (from (pointer_read h q) z)) (number_is script h v)
-      ∙ realloc_text_asked p (pointer_read h q) (within MOST_UNITS (number_read h v))
-  statement_asked budget declared locals held inside at (Statement-F.Push p) within_budget ok =
-      ap asked (pointer_is script locals h p (λ q. push (I.Free q) st) ok) ∙ push_asked (I.Free (pointer_read h p))
-  statement_asked budget declared locals held inside at (Statement-F.PushOperation p operation) within_budget ok =
-      ap asked (pointer_is script locals h p (λ q. push (I.Call q operation) st) (and_left (is_pointer locals p) (nat_lt operation declared.operations) ok)) ∙ push_asked (I.Call (pointer_read h p) operation)
-  statement_asked budget declared locals held inside at layer within_budget ok =
-      later_asks h.steps (statement script (meaning_of script budget) at layer st) (nothing_asked script budget declared locals held inside at layer st within_budget ok refl)
+      ap asked (pointer_is script h p (λ _. with_pointer st q (λ old. from old (number_of st v))) (fine_first h p (q ∷ []) ok)
+      ∙ pointer_is script h q (λ old. from old (number_of st v)) (fine_first h q [] (fine_rest h p (q ∷ []) ok)))
+      ∙ ap (λ z. asked (from (pointer_read script h q) z)) (number_is script h v)
+      ∙ realloc_text_asked p (pointer_read script h q) (within MOST_UNITS (number_read h v))
+  carried_asked budget at (Statement-F.New p class x) within_budget ok =
+      ap asked (pointer_is script h p (λ _. new_object script p class x st) (fine_first h p [] ok)) ∙ eq-eqb h.steps h.steps refl
+  carried_asked budget at (Statement-F.Push p) within_budget ok =
+      ap asked (pointer_is script h p (λ q. push (I.Free q) st) (fine_first h p [] ok)) ∙ push_asked (I.Free (pointer_read script h p))
+  carried_asked budget at (Statement-F.PushObject p) within_budget ok =
+      ap asked (pointer_is script h p (λ q. push (I.Delete q) st) (fine_first h p [] ok)) ∙ push_asked (I.Delete (pointer_read script h p))
+  carried_asked budget at (Statement-F.PushOperation p operation) within_budget ok =
+      ap asked (pointer_is script h p (λ q. push (I.Call q operation) st) (fine_first h p [] ok)) ∙ push_asked (I.Call (pointer_read script h p) operation)
+  carried_asked budget at layer within_budget ok =
+      later_asks h.steps (statement script (meaning_of script budget) at layer st) (nothing_asked script budget at layer st within_budget refl)
+
+  -- one that is refused for an operand asks for nothing
+  pub statement_asked : (budget : ℕ) (at : Where) (layer : Layer) → h.steps ≤ budget →
+      asked (statement script (meaning_of script budget) at layer st) ≡ statement_asks script h layer
+  statement_asked budget at layer within_budget = by (operands_refused h layer) refl
+    where
+      by : (o : Option Panic) → operands_refused h layer ≡ o → asked (statement script (meaning_of script budget) at layer st) ≡ (not (is_some o) && carried_asks script h layer)
+      by (Some panic) e = ap asked (statement_refused script h (meaning_of script budget) at layer panic e)
+      by None e = carried_asked budget at layer within_budget e

@@ -7,7 +7,6 @@ use Rattle.wb_model.specs.declared.heap.Ptr.{Ptr}
 use Rattle.wb_model.specs.declared.script.Numbered.{Numbered}
 use Rattle.wb_model.specs.declared.script.Script.{Script}
 use Rattle.wb_model.specs.declared.script.Statement.TheViews.{out-Statement}
-use Rattle.wb_model.specs.Sound.{declared_in, are_within}
 use Rattle.wb_model.specs.State.{State, goes_on, Process, and_then}
 use Rattle.wb_model.specs.Statements.{all, turns, destroy_items, destroy_object, Meaning, statement}
 use Rattle.wb_model.specs.Meaning.{begun, begun_if, meaning_of}
@@ -57,7 +56,7 @@ module _ (script : Script) (budget : ℕ) where
 
   pub code_asks : (pieces below : List Piece) (standing : Standing) (s : Numbered) (ss : List Numbered) (h : RunState) →
       pending_in h.callers pieces ≡ doing (where_of standing) (all (s ∷ ss)) ∷ pending_in h.callers below → h.steps < budget → IsOwn script (out-Statement s.statement) →
-      held_asks GoesOn pieces h ≡ statement_asks h (out-Statement s.statement)
+      held_asks GoesOn pieces h ≡ statement_asks script h (out-Statement s.statement)
   code_asks pieces below standing s ss h is less own =
       let at = where_of standing in
       let layer = out-Statement s.statement in
@@ -70,7 +69,7 @@ module _ (script : Script) (budget : ℕ) where
       ∙ asked_then script budget (h.steps + 1) (statement script meant at layer next) rest
       (statement-alike L {ns = []} script meant meant at layer next (onward_all script budget (h.steps + 1)) ((omega arith, omega (arith, less)), tt)).1
       (λ w st least most. later_higher script budget (h.steps + 1) st.steps (rest w st) least (resume_later script budget (doing at (all ss) ∷ pending_in h.callers below) w st most))
-      ∙ statement_asked script (stepped h) budget (declared_in script) own.locals own.trapped (are_within (declared_in script) own.locals own.depth) at layer (omega (arith, less)) own.sound
+      ∙ statement_asked script (stepped h) budget at layer (omega (arith, less))
 
   pub turns_ask : (pieces below : List Piece) (standing : Standing) (n : ℕ) (body : List Numbered) (h : RunState) →
       pending_in h.callers pieces ≡ doing (where_of standing) (turns (suc n) body) ∷ pending_in h.callers below → h.steps < budget → held_asks GoesOn pieces h ≡ false
@@ -164,7 +163,7 @@ module _ (script : Script) (budget : ℕ) where
 
   -- what a statement asks that may not be there
   abbrev pub asked_of : RunState → Option Numbered → Bool
-  asked_of h (Some s) = statement_asks h (out-Statement s.statement)
+  asked_of h (Some s) = statement_asks script h (out-Statement s.statement)
   asked_of h None = false
 
   -- a step is to come: the piece on top asks as its first statement does

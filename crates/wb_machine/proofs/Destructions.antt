@@ -1,6 +1,6 @@
 -- The turns that destroy items and objects, and what these come to.
 use Rattle.std.proofs.Common.{◌≡◌, ℕ, suc, ◌≤◌, List, [], ◌∷◌, refl, ap, ◌∙◌, sym, Option, Some, None, Result, Ok, Err}
-use Rattle.std.specs.Prelude.{unwrap_or, option_map}
+use Rattle.std.specs.Prelude.{unwrap_or, option_map, ok_or}
 use Rattle.wb_model.specs.declared.heap.TheConstants.Panic.{NULL_OR_STALE, WRONG_KIND, POP_BELOW_TRAP}
 use Rattle.wb_model.specs.declared.heap.Kind.{Kind}
 use Rattle.wb_model.specs.declared.heap.Kind.TheVariants.{Raw, Object, Text, Cleanup}
@@ -11,12 +11,14 @@ use Rattle.wb_model.specs.declared.script.Script.{Script}
 use Rattle.wb_model.specs.Row.{Cell, cell_at}
 use Rattle.wb_model.specs.State.{State, goes_on, Process, stops, panics, and_then, on_plain_end, then_do, with_some}
 use Rattle.wb_model.specs.Operands.{with_cell}
-use Rattle.wb_model.specs.Statements.{destroy_items, destroy_object, Where, newest, drop_newest, destroyed_item, with_class, class_of, class_at, no_body, in_frame, plain, release}
+use Rattle.wb_model.specs.Statements.{destroy_items, destroy_object, Where, newest, drop_newest, destroyed_item, with_class, class_of, in_frame, plain, release}
+use Rattle.wb_model.specs.Bodies.{class_at, no_body}
 use Rattle.wb_model.specs.Meaning.{begun, piece, meaning_of}
 use Rattle.wb_model.specs.Rest.{Pending, doing, resumed, resume}
 use Rattle.wb_model.proofs.MeaningLemmas.{meaning_of-unfolds}
 use Rattle.wb_model.proofs.ResumeLemmas.{and_then-assoc, begun-and_then}
-use Rattle.wb_machine.specs.Bodies.{class_of_cell, class_read}
+use Rattle.wb_objects.specs.Objects.{class_of_cell}
+use Rattle.wb_machine.specs.Bodies.{class_read}
 use Rattle.wb_machine.specs.RunState.{RunState, read_cell, state_of}
 use Rattle.wb_machine.proofs.Rows.{read_cell_at}
 
@@ -66,7 +68,7 @@ module _ (script : Script) (h : RunState) (p : Ptr) (go : ℕ → Process) where
   class_in None = refl
   class_in (Some c) = by c.head.kind
     where
-      by : (kind : Kind) → with_some (class_of kind) WRONG_KIND (state_of script h) go ≡ classed (elim (class_of kind) [ None ↦ Err WRONG_KIND | Some class ↦ Ok class ])
+      by : (kind : Kind) → with_some (class_of kind) WRONG_KIND (state_of script h) go ≡ classed (ok_or (class_of kind) WRONG_KIND)
       by (Object class) = refl
       by Raw = refl
       by Text = refl

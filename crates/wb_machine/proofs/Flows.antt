@@ -107,24 +107,39 @@ attempted r script h t after read go k o lines reads answer limit =
     ∙ ap (λ p. flow r (and_then p k) (with_debug h (made_by h.debug t after o).debug)) (as_followed script h t after go o)
 
 -- the cell that a grant inserts
-reads_alloc : (script : Script) (heap : Heap (List ℕ)) (t : Request) (kind : Kind) (fresh : Content) → read_as (field_count script) kind (zero_words t.length) ≡ fresh →
-    ReadsAs script (after_alloc heap t kind (zero_words t.length)) (after_alloc (read_heap script heap) t kind fresh)
-reads_alloc script heap t kind fresh is = record { heap = λ n a. row n a; given = λ n a. same n a }
+reads_alloc : (script : Script) (heap : Heap (List ℕ)) (t : Request) (kind : Kind) (ws : List ℕ) (fresh : Content) → read_as (field_count script) kind ws ≡ fresh →
+    ReadsAs script (after_alloc heap t kind ws) (after_alloc (read_heap script heap) t kind fresh)
+reads_alloc script heap t kind ws fresh is = record { heap = λ n a. row n a; given = λ n a. same n a }
   where
-    row : (n : ℕ) (a : Answer) → read_heap script (after_alloc heap t kind (zero_words t.length) n a).heap ≡ (after_alloc (read_heap script heap) t kind fresh n a).heap
+    row : (n : ℕ) (a : Answer) → read_heap script (after_alloc heap t kind ws n a).heap ≡ (after_alloc (read_heap script heap) t kind fresh n a).heap
     row n Granted =
         ap (λ (cells : List (Cell Content)). record (attempt_counted (read_heap script heap)) { row = cells })
-        (read_inserted script (new_cell heap n t kind (zero_words t.length)) heap.row
+        (read_inserted script (new_cell heap n t kind ws) heap.row
         ∙ ap (λ content. inserted (new_cell (read_heap script heap) n t kind content) (read_row script heap.row)) is)
     row n Simulated = refl
     row n Refused = refl
 
-    same : (n : ℕ) (a : Answer) → (after_alloc heap t kind (zero_words t.length) n a).given ≡ (after_alloc (read_heap script heap) t kind fresh n a).given
+    same : (n : ℕ) (a : Answer) → (after_alloc heap t kind ws n a).given ≡ (after_alloc (read_heap script heap) t kind fresh n a).given
     same n Granted = refl
     same n Simulated = refl
     same n Refused = refl
 
--- an allocation comes to what follows its answer
+-- an allocation of a cell that is to have these words comes to what follows its answer
+pub allocated_with : (r : Rule) (script : Script) (h : RunState) (bytes : ℕ) (kind : Kind) (ws : List ℕ) (fresh : Content) (go : Option Ptr → State → Process) (k : Way → State → Process) (o : Option Answer) →
+    HasLines h → read_as (field_count script) kind ws ≡ fresh → answer_to r (number_of_next h.debug) (alloc_request h.debug.heap bytes) ≡ o →
+    limit_under r ≡ limit_under h.debug.rule →
+    let made = made_by h.debug (alloc_request h.debug.heap bytes) (after_alloc h.debug.heap (alloc_request h.debug.heap bytes) kind ws) o in
+    flow r (and_then (allocate bytes kind fresh (state_of script h) go) k) h
+    ≡ flow r (and_then (followed made.gave go (state_of script (with_debug h made.debug))) k) (with_debug h made.debug)
+unfolding allocate
+allocated_with r script h bytes kind ws fresh go k o lines is answer limit =
+    let t = alloc_request h.debug.heap bytes in
+    let st = state_of script h in
+    let same : alloc_request st.heap bytes ≡ t = ap (λ hs. record t { place = place_of hs (cell_length bytes) }) (headers_read script h.debug.heap.row) in
+    ap (λ (t : Request). flow r (and_then (attempt t (after_alloc st.heap t kind fresh) st st go) k) h) same
+    ∙ attempted r script h t (after_alloc h.debug.heap t kind ws) (after_alloc st.heap t kind fresh) go k o lines (reads_alloc script h.debug.heap t kind ws fresh is) answer limit
+
+-- of one whose words are zeros
 pub allocated : (r : Rule) (script : Script) (h : RunState) (bytes : ℕ) (kind : Kind) (fresh : Content) (go : Option Ptr → State → Process) (k : Way → State → Process) (o : Option Answer) →
     HasLines h → read_as (field_count script) kind (zero_words (cell_length bytes)) ≡ fresh → answer_to r (number_of_next h.debug) (alloc_request h.debug.heap bytes) ≡ o →
     limit_under r ≡ limit_under h.debug.rule →
@@ -132,13 +147,7 @@ pub allocated : (r : Rule) (script : Script) (h : RunState) (bytes : ℕ) (kind 
     let made = made_by h.debug t (after_alloc h.debug.heap t kind (zero_words t.length)) o in
     flow r (and_then (allocate bytes kind fresh (state_of script h) go) k) h
     ≡ flow r (and_then (followed made.gave go (state_of script (with_debug h made.debug))) k) (with_debug h made.debug)
-unfolding allocate
-allocated r script h bytes kind fresh go k o lines is answer limit =
-    let t = alloc_request h.debug.heap bytes in
-    let st = state_of script h in
-    let same : alloc_request st.heap bytes ≡ t = ap (λ hs. record t { place = place_of hs (cell_length bytes) }) (headers_read script h.debug.heap.row) in
-    ap (λ (t : Request). flow r (and_then (attempt t (after_alloc st.heap t kind fresh) st st go) k) h) same
-    ∙ attempted r script h t (after_alloc h.debug.heap t kind (zero_words t.length)) (after_alloc st.heap t kind fresh) go k o lines (reads_alloc script h.debug.heap t kind fresh is) answer limit
+allocated r script h bytes kind fresh go k o lines is answer limit = allocated_with r script h bytes kind (zero_words (cell_length bytes)) fresh go k o lines is answer limit
 
 -- the words of a cell of another length read as what the content becomes
 abbrev pub ReadsResized : Script → Kind → ℕ → List ℕ → Type 0

@@ -11,20 +11,16 @@ use Rattle.wb_model.specs.declared.heap.Ptr.{Ptr}
 use Rattle.wb_model.specs.declared.heap.Rule.{Rule}
 use Rattle.wb_model.specs.declared.script.Script.{Script}
 use Rattle.wb_model.specs.declared.script.Argument.{Argument}
-use Rattle.wb_model.specs.declared.script.Argument.TheVariants.{Passed, Given}
 use Rattle.wb_model.specs.declared.script.Body.{Body}
-use Rattle.wb_model.specs.declared.script.Local.{Local}
-use Rattle.wb_model.specs.declared.script.Parameter.{Parameter}
-use Rattle.wb_model.specs.declared.script.Parameter.TheVariants.{OfPointer, OfNumber}
 use Rattle.wb_model.specs.declared.script.Number.{Number}
 use Rattle.wb_model.specs.declared.script.Pointer.{Pointer}
 use Rattle.wb_model.specs.declared.script.Numbered.{Numbered}
 use Rattle.wb_model.specs.declared.script.Condition.{Condition}
 use Rattle.wb_model.specs.declared.script.Statement.TheOpen.{Statement-F}
-use Rattle.wb_model.specs.Sound.{is_condition, is_pointer, is_number, are_passed}
-use Rattle.wb_model.specs.State.{Value, null, initial, pointer, number, Process, goes_on, and_then, on_plain_end, with_some, require}
-use Rattle.wb_model.specs.Operands.{within, not_negative, number_of}
-use Rattle.wb_model.specs.Statements.{all, turns, destroy_items, destroy_object, Where, statement, choice, trapped, in_frame, plain, procedure_at, operation_at, class_at, no_body, with_arguments, with_class, is_null, release, destroyed_item, destroyed_object}
+use Rattle.wb_model.specs.State.{null, initial, pointer, number, Process, goes_on, and_then, on_plain_end, with_some, require}
+use Rattle.wb_model.specs.Operands.{within, not_negative}
+use Rattle.wb_model.specs.Statements.{all, turns, destroy_items, destroy_object, Where, Layer, statement, choice, trapped, in_frame, plain, with_class, is_null, release, destroyed_item, destroyed_object}
+use Rattle.wb_model.specs.Bodies.{procedure_at, operation_at, class_at, no_body}
 use Rattle.wb_model.specs.Meaning.{meaning_of}
 use Rattle.wb_model.specs.Run.{result_of}
 use Rattle.wb_model.specs.Rest.{Pending, Afterwards, nothing_more, gives_to, releases, doing, catching, calling, after_frame, resumed, resume}
@@ -36,37 +32,24 @@ use Rattle.wb_machine.specs.Carried.{pointer_read, number_read, condition_read, 
 use Rattle.wb_machine.specs.Bodies.{class_read}
 use Rattle.wb_machine.specs.LocalValues.{passed}
 use Rattle.wb_machine.specs.Flow.{frame_with, pending_in, flow, rest_from, rest_after, rest_of_statement, rest_of_body}
-use Rattle.wb_machine.proofs.Kept.{and_left, and_right, number_is, pointer_is}
+use Rattle.wb_machine.specs.PointerOperands.{first_refusal, of_condition, of_arguments, operands_refused}
+use Rattle.wb_machine.proofs.PointerOperands.{one_asked, passed_by}
+use Rattle.wb_machine.proofs.Refused.{arguments_are, statement_refused}
+use Rattle.wb_machine.proofs.Kept.{number_is}
 use Rattle.wb_machine.proofs.KeptLeaves.{condition_is}
 use Rattle.wb_machine.proofs.Destructions.{object_destroyed, class_ok, class_refused}
 use Rattle.wb_machine.proofs.Steps.{rest_flow, rest_known, rest_on_top}
 
--- arguments are what the caller's locals hold
-arguments_are : (script : Script) (locals : List Local) (h : RunState) (arguments : List Argument) (parameters : List Parameter) (go : List Value → Process) → are_passed locals parameters arguments ≡ true →
-    with_arguments (state_of script h) arguments go ≡ go (map (passed h.locals) arguments)
-unfolding with_arguments
-arguments_are script locals h [] [] go ok = refl
-arguments_are script locals h [] (q ∷ qs) go ok = cc
-arguments_are script locals h (a ∷ arguments) [] go ok = cc
-arguments_are script locals h (Passed p ∷ arguments) (OfPointer class ∷ qs) go ok =
-    pointer_is script locals h p (λ q. with_arguments (state_of script h) arguments (λ vs. go (pointer q ∷ vs))) (and_left (is_pointer locals p) (are_passed locals qs arguments) ok)
-    ∙ arguments_are script locals h arguments qs (λ vs. go (pointer (pointer_read h p) ∷ vs)) (and_right (is_pointer locals p) (are_passed locals qs arguments) ok)
-arguments_are script locals h (Passed p ∷ arguments) (OfNumber ∷ qs) go ok = cc
-arguments_are script locals h (Given v ∷ arguments) (OfPointer class ∷ qs) go ok = cc
-arguments_are script locals h (Given v ∷ arguments) (OfNumber ∷ qs) go ok =
-    arguments_are script locals h arguments qs (λ vs. go (number (number_of (state_of script h) v) ∷ vs)) (and_right (is_number locals v) (are_passed locals qs arguments) ok)
-    ∙ ap (λ z. go (number z ∷ map (passed h.locals) arguments)) (number_is script h v)
-
 module _ (script : Script) (budget : ℕ) (r : Rule) (at : Where) where
-  pub chosen_rest : (locals : List Local) (c : Condition) (first other part : List Numbered) (old new : List Piece) (h : RunState) →
-      pending_in h.callers new ≡ doing at (all part) ∷ pending_in h.callers old → part ≡ choice (condition_read h c) first other → is_condition locals c ≡ true →
+  pub chosen_rest : (c : Condition) (first other part : List Numbered) (old new : List Piece) (h : RunState) →
+      pending_in h.callers new ≡ doing at (all part) ∷ pending_in h.callers old → part ≡ choice (condition_read script h c) first other → first_refusal h (of_condition c) ≡ None →
       rest_from script budget r GoesOn new h ≡ rest_of_statement script budget r at (Statement-F.IfElse c first other) old h
   unfolding resume resumed on_plain_end statement
-  chosen_rest locals c first other part old new h is chosen ok =
+  chosen_rest c first other part old new h is chosen ok =
       rest_on_top script budget r new old (doing at (all part)) h is
       ∙ ap (λ (ss : List Numbered). result_of (flow r (resume script budget (doing at (all ss) ∷ pending_in h.callers old) goes_on (state_of script h)) h)) chosen
       ∙ sym (ap (λ x. result_of (flow r (and_then x (resume script budget (pending_in h.callers old))) h))
-      (condition_is script locals h c (λ b. meaning_of script budget at (all (choice b first other)) (state_of script h)) ok))
+      (condition_is script h c (λ b. meaning_of script budget at (all (choice b first other)) (state_of script h)) ok))
 
   -- an `if` without an `else` has nothing to do where its condition doesn't hold
   pub if_as_choice : (c : Condition) (first : List Numbered) (old : List Piece) (h : RunState) →
@@ -176,35 +159,35 @@ module _ (script : Script) (budget : ℕ) (r : Rule) (at : Where) where
       (λ way last. then_go way (record last { frame = st.frame })))) rest) h)) (le-ltb at.depth MOST_FRAMES deep))
 
   -- what a call means, once its arguments are known
-  pub call_as_body : (index : ℕ) (arguments : List Argument) (locals : List Local) (parameters : List Parameter) (old : List Piece) (h : RunState) → are_passed locals parameters arguments ≡ true →
-      rest_of_body script budget r at null (map (passed h.locals) arguments) (procedure_at script index) nothing_more old h ≡ rest_of_statement script budget r at (Statement-F.Call index arguments) old h
+  pub call_as_body : (index : ℕ) (arguments : List Argument) (old : List Piece) (h : RunState) → first_refusal h (of_arguments arguments) ≡ None →
+      rest_of_body script budget r at null (map (passed script h) arguments) (procedure_at script index) nothing_more old h ≡ rest_of_statement script budget r at (Statement-F.Call index arguments) old h
   unfolding statement
-  call_as_body index arguments locals parameters old h ok =
-      sym (ap (λ p. rest_after script budget r p old h) (arguments_are script locals h arguments parameters _ ok))
+  call_as_body index arguments old h ok =
+      sym (ap (λ p. rest_after script budget r p old h) (arguments_are script h arguments _ ok))
 
-  pub call_to_as_body : (x index : ℕ) (arguments : List Argument) (locals : List Local) (parameters : List Parameter) (old : List Piece) (h : RunState) → are_passed locals parameters arguments ≡ true →
-      rest_of_body script budget r at null (map (passed h.locals) arguments) (procedure_at script index) (gives_to x) old h ≡ rest_of_statement script budget r at (Statement-F.CallTo x index arguments) old h
+  pub call_to_as_body : (x index : ℕ) (arguments : List Argument) (old : List Piece) (h : RunState) → first_refusal h (of_arguments arguments) ≡ None →
+      rest_of_body script budget r at null (map (passed script h) arguments) (procedure_at script index) (gives_to x) old h ≡ rest_of_statement script budget r at (Statement-F.CallTo x index arguments) old h
   unfolding statement
-  call_to_as_body x index arguments locals parameters old h ok =
-      sym (ap (λ p. rest_after script budget r p old h) (arguments_are script locals h arguments parameters _ ok))
+  call_to_as_body x index arguments old h ok =
+      sym (ap (λ p. rest_after script budget r p old h) (arguments_are script h arguments _ ok))
 
   -- the body that makes an object, once its class is known, or what refuses its pointer
-  construct_asked : (locals : List Local) (p : Pointer) (old : List Piece) (h : RunState) → is_pointer locals p ≡ true →
-      rest_after script budget r (with_class (state_of script h) (pointer_read h p) (λ class. in_frame (meaning_of script budget) at (pointer_read h p) [] (unwrap_or (class_at script class).construct no_body) (state_of script h) (plain (after_frame nothing_more)))) old h
+  construct_asked : (p : Pointer) (old : List Piece) (h : RunState) → first_refusal h (p ∷ []) ≡ None →
+      rest_after script budget r (with_class (state_of script h) (pointer_read script h p) (λ class. in_frame (meaning_of script budget) at (pointer_read script h p) [] (unwrap_or (class_at script class).construct no_body) (state_of script h) (plain (after_frame nothing_more)))) old h
       ≡ rest_of_statement script budget r at (Statement-F.Construct p) old h
   unfolding statement
-  construct_asked locals p old h ok = sym (ap (λ y. rest_after script budget r y old h) (pointer_is script locals h p _ ok))
+  construct_asked p old h ok = sym (ap (λ y. rest_after script budget r y old h) (passed_by (state_of script h) _ (one_asked script h p _) ok))
 
-  pub construct_as_body : (locals : List Local) (p : Pointer) (class : ℕ) (old : List Piece) (h : RunState) → is_pointer locals p ≡ true → Ok class ≡ class_read h (pointer_read h p) →
-      rest_of_body script budget r at (pointer_read h p) [] (unwrap_or (class_at script class).construct no_body) nothing_more old h ≡ rest_of_statement script budget r at (Statement-F.Construct p) old h
-  construct_as_body locals p class old h ok is =
-      sym (ap (λ y. rest_after script budget r y old h) (class_ok script h (pointer_read h p) _ class is)) ∙ construct_asked locals p old h ok
+  pub construct_as_body : (p : Pointer) (class : ℕ) (old : List Piece) (h : RunState) → first_refusal h (p ∷ []) ≡ None → Ok class ≡ class_read h (pointer_read script h p) →
+      rest_of_body script budget r at (pointer_read script h p) [] (unwrap_or (class_at script class).construct no_body) nothing_more old h ≡ rest_of_statement script budget r at (Statement-F.Construct p) old h
+  construct_as_body p class old h ok is =
+      sym (ap (λ y. rest_after script budget r y old h) (class_ok script h (pointer_read script h p) _ class is)) ∙ construct_asked p old h ok
 
-  pub construct_refused : (locals : List Local) (p : Pointer) (panic : Panic) (old : List Piece) (h : RunState) → is_pointer locals p ≡ true → Err panic ≡ class_read h (pointer_read h p) →
+  pub construct_refused : (p : Pointer) (panic : Panic) (old : List Piece) (h : RunState) → first_refusal h (p ∷ []) ≡ None → Err panic ≡ class_read h (pointer_read script h p) →
       rest_from script budget r (Panics panic) old h ≡ rest_of_statement script budget r at (Statement-F.Construct p) old h
-  construct_refused locals p panic old h ok is =
+  construct_refused p panic old h ok is =
       rest_flow script budget r (Panics panic) old h
-      ∙ sym (ap (λ y. rest_after script budget r y old h) (class_refused script h (pointer_read h p) _ panic is)) ∙ construct_asked locals p old h ok
+      ∙ sym (ap (λ y. rest_after script budget r y old h) (class_refused script h (pointer_read script h p) _ panic is)) ∙ construct_asked p old h ok
 
   -- the body that destroys one
   pub destroy_as_body : (p : Ptr) (class : ℕ) (old : List Piece) (h : RunState) → Ok class ≡ class_read h p →
@@ -217,12 +200,20 @@ module _ (script : Script) (budget : ℕ) (r : Rule) (at : Where) where
   destroy_refused p panic old h is =
       rest_flow script budget r (Panics panic) old h ∙ sym (ap (λ y. rest_after script budget r y old h) (class_refused script h p _ panic is))
 
+  -- a statement that is refused for an operand
+  pub refused_rest : (layer : Layer) (panic : Panic) (old : List Piece) (h : RunState) → operands_refused h layer ≡ Some panic →
+      rest_from script budget r (Panics panic) old h ≡ rest_of_statement script budget r at layer old h
+  unfolding and_then
+  refused_rest layer panic old h is =
+      rest_flow script budget r (Panics panic) old h
+      ∙ sym (ap (λ y. rest_after script budget r y old h) (statement_refused script h (meaning_of script budget) at layer panic is))
+
   -- the destruction of an object by its pointer
-  pub delete_asked : (locals : List Local) (p : Pointer) (old : List Piece) (h : RunState) → is_pointer locals p ≡ true →
-      rest_after script budget r (destroyed_object (is_null (pointer_read h p)) (meaning_of script budget) at (pointer_read h p) (state_of script h)) old h
+  pub delete_asked : (p : Pointer) (old : List Piece) (h : RunState) → first_refusal h (p ∷ []) ≡ None →
+      rest_after script budget r (destroyed_object (is_null (pointer_read script h p)) (meaning_of script budget) at (pointer_read script h p) (state_of script h)) old h
       ≡ rest_of_statement script budget r at (Statement-F.Delete p) old h
   unfolding statement
-  delete_asked locals p old h ok = sym (ap (λ y. rest_after script budget r y old h) (pointer_is script locals h p _ ok))
+  delete_asked p old h ok = sym (ap (λ y. rest_after script budget r y old h) (passed_by (state_of script h) _ (one_asked script h p _) ok))
 
   -- of null it is nothing
   pub null_deleted : (p : Ptr) (old : List Piece) (h : RunState) → is_null p ≡ true →

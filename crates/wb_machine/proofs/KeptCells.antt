@@ -1,5 +1,5 @@
 -- Statements that allocate and release cells come to what they mean.
-use Rattle.std.proofs.Common.{◌≡◌, ℕ, Bool, true, false, List, refl, ap, ◌∙◌, sym, arith, cond, Option, Some, None}
+use Rattle.std.proofs.Common.{◌≡◌, ℕ, Bool, true, false, List, refl, ap, ◌∙◌, sym, arith, cond, Option, Some, None, []}
 use Rattle.std.specs.Prelude.{option_map}
 use Rattle.wb_model.specs.declared.limits.TheConstants.{LARGEST_REQUEST}
 use Rattle.wb_model.specs.declared.heap.TheConstants.Panic.{BAD_CELL, NUMBER_OUT_OF_RANGE}
@@ -10,7 +10,6 @@ use Rattle.wb_model.specs.declared.heap.Answer.{Answer}
 use Rattle.wb_model.specs.declared.heap.Gave.{Gave}
 use Rattle.wb_model.specs.declared.heap.Gave.TheVariants.{Granted, Denied, Ceiling}
 use Rattle.wb_model.specs.declared.script.Script.{Script}
-use Rattle.wb_model.specs.declared.script.Local.{Local}
 use Rattle.wb_model.specs.declared.script.Holder.TheVariants as H
 use Rattle.wb_model.specs.declared.script.Pointer.{Pointer}
 use Rattle.wb_model.specs.declared.script.Pointer.TheVariants as P
@@ -18,7 +17,6 @@ use Rattle.wb_model.specs.declared.script.Number.{Number}
 use Rattle.wb_model.specs.declared.script.Refusal.{Refusal}
 use Rattle.wb_model.specs.declared.script.Refusal.TheVariants.{GivesNull, Leaves}
 use Rattle.wb_model.specs.declared.script.Statement.TheOpen.{Statement-F}
-use Rattle.wb_model.specs.Sound.{is_statement, is_pointer, is_number}
 use Rattle.wb_model.specs.Row.{Cell, cell_at, without}
 use Rattle.wb_model.specs.Rules.{Request, answer_to}
 use Rattle.wb_model.specs.Heap.{is_cleanup, AfterAnswer, alloc_request, after_alloc}
@@ -30,11 +28,12 @@ use Rattle.wb_model.specs.Debug.{Debug, Made, number_of_next, made_by, answer_in
 use Rattle.wb_model.specs.Rest.{Fits}
 use Rattle.wb_machine.specs.RunState.{RunState, field_count, read_cell, state_of, with_debug}
 use Rattle.wb_machine.specs.Flow.{flow, ended_by, is_stop, FitsStep}
+use Rattle.wb_machine.specs.PointerOperands.{operands_refused}
 use Rattle.wb_machine.specs.Carried.{Carried, gone_on, panicked, released_found, pointer_read, number_read, given_carried, made_carried, alloc_within, alloc_carried, free_carried}
 use Rattle.wb_machine.proofs.Rows.{read_without, read_cell_at, read_fresh}
 use Rattle.wb_machine.proofs.Flows.{followed, allocated}
 use Rattle.wb_machine.proofs.Fitting.{fits-limit, fits-answer, fits-ended}
-use Rattle.wb_machine.proofs.Kept.{Means, ComesTo, and_left, number_is, pointer_is, stored_is}
+use Rattle.wb_machine.proofs.Kept.{Means, ComesTo, number_is, pointer_is, stored_is, fine_first}
 
 -- no answer was given
 abbrev pub is_ceiling : Gave → Bool
@@ -43,13 +42,13 @@ is_ceiling Denied = false
 is_ceiling Ceiling = true
 
 -- a target gets what an attempt gave
-pub given_kept : (r : Rule) (script : Script) (locals : List Local) (h : RunState) (p : Pointer) (x : Refusal) (gave : Gave) → is_pointer locals p ≡ true →
+pub given_kept : (r : Rule) (script : Script) (h : RunState) (p : Pointer) (x : Refusal) (gave : Gave) →
     ComesTo r script h (followed gave (given_to p x) (state_of script h)) (given_carried h p x gave)
 unfolding flow given_to and_then
-given_kept r script locals h p x (Granted q) ok k = sym (stored_is script locals h p q r (k goes_on) ok)
-given_kept r script locals h p GivesNull Denied ok k = sym (stored_is script locals h p _ r (k goes_on) ok)
-given_kept r script locals h p Leaves Denied ok k = refl
-given_kept r script locals h p x Ceiling ok k = refl
+given_kept r script h p x (Granted q) k = sym (stored_is script h p q r (k goes_on))
+given_kept r script h p GivesNull Denied k = sym (stored_is script h p _ r (k goes_on))
+given_kept r script h p Leaves Denied k = refl
+given_kept r script h p x Ceiling k = refl
 
 -- a rule that fits what a target was given fits the attempt
 pub fits_made : (r own : Rule) (h : RunState) (p : Pointer) (x : Refusal) (made : Made) →
@@ -75,35 +74,34 @@ answered_alike r d t after None e f = ap (λ q. answer_to q (number_of_next d) t
 answered_alike r d t after (Some w) e f = fits-answer r d.rule _ _ (number_of_next d) t f (omega arith) (omega arith) ∙ e
 
 -- an allocation of a number of bytes
-alloc_made_kept : (r : Rule) (script : Script) (locals : List Local) (h : RunState) (p : Pointer) (x : Refusal) (bytes : ℕ) → is_pointer locals p ≡ true →
+alloc_made_kept : (r : Rule) (script : Script) (h : RunState) (p : Pointer) (x : Refusal) (bytes : ℕ) →
     FitsStep r h (alloc_within h p x (Some bytes)).ending (alloc_within h p x (Some bytes)).state →
     ComesTo r script h (alloc_raw p x bytes (state_of script h)) (alloc_within h p x (Some bytes))
 unfolding alloc_raw
-alloc_made_kept r script locals h p x bytes ok f k =
+alloc_made_kept r script h p x bytes f k =
     let t = alloc_request h.debug.heap bytes in
     let made : Made = alloc_made h.debug bytes Raw in
     let fits : Fits r h.debug.rule (is_ceiling made.gave) made.debug.attempts = fits_made r h.debug.rule h p x made f.1 in
     sym (allocated r script h bytes Raw (fresh_words bytes) (given_to p x) k (answer_in h.debug t) f.0 (read_fresh (field_count script) bytes)
     (answered_alike r h.debug t (after_alloc h.debug.heap t Raw (zero_words t.length)) (answer_in h.debug t) refl fits)
     (fits-limit r h.debug.rule _ _ fits)
-    ∙ sym (given_kept r script locals (with_debug h made.debug) p x made.gave ok k))
+    ∙ sym (given_kept r script (with_debug h made.debug) p x made.gave k))
 
 -- or of a number that may be out of its range
-pub alloc_within_kept : (r : Rule) (script : Script) (locals : List Local) (h : RunState) (p : Pointer) (x : Refusal) (o : Option ℕ) → is_pointer locals p ≡ true →
+pub alloc_within_kept : (r : Rule) (script : Script) (h : RunState) (p : Pointer) (x : Refusal) (o : Option ℕ) →
     FitsStep r h (alloc_within h p x o).ending (alloc_within h p x o).state →
     ComesTo r script h (with_some o NUMBER_OUT_OF_RANGE (state_of script h) (λ bytes. alloc_raw p x bytes (state_of script h))) (alloc_within h p x o)
 unfolding with_some
-alloc_within_kept r script locals h p x None ok f k = refl
-alloc_within_kept r script locals h p x (Some bytes) ok f k = alloc_made_kept r script locals h p x bytes ok f k
+alloc_within_kept r script h p x None f k = refl
+alloc_within_kept r script h p x (Some bytes) f k = alloc_made_kept r script h p x bytes f k
 
-pub alloc_kept : (script : Script) (literals : ℕ) (locals : List Local) (h : RunState) (p : Pointer) (v : Number) (x : Refusal) →
-    is_statement literals locals (Statement-F.Alloc p v x) ≡ true → Means script h (Statement-F.Alloc p v x) (alloc_carried h p x (number_read h v))
+pub alloc_kept : (script : Script) (h : RunState) (p : Pointer) (v : Number) (x : Refusal) →
+    operands_refused h (Statement-F.Alloc p v x) ≡ None → Means script h (Statement-F.Alloc p v x) (alloc_carried h p x (number_read h v))
 unfolding statement
-alloc_kept script literals locals h p v x ok r f rec at k =
+alloc_kept script h p v x ok r f rec at k =
     let st = state_of script h in
-    let named = and_left (is_pointer locals p) (is_number locals v) ok in
-    alloc_within_kept r script locals h p x (within LARGEST_REQUEST (number_read h v)) named f k
-    ∙ sym (ap (λ y. flow r (and_then y k) h) (pointer_is script locals h p (λ _. with_some (within LARGEST_REQUEST (number_of st v)) NUMBER_OUT_OF_RANGE st (λ bytes. alloc_raw p x bytes st)) named)
+    alloc_within_kept r script h p x (within LARGEST_REQUEST (number_read h v)) f k
+    ∙ sym (ap (λ y. flow r (and_then y k) h) (pointer_is script h p (λ _. with_some (within LARGEST_REQUEST (number_of st v)) NUMBER_OUT_OF_RANGE st (λ bytes. alloc_raw p x bytes st)) (fine_first h p [] ok))
     ∙ ap (λ z. flow r (and_then (with_some (within LARGEST_REQUEST z) NUMBER_OUT_OF_RANGE st (λ bytes. alloc_raw p x bytes st)) k) h) (number_is script h v))
 
 -- the release of a pointer
@@ -135,9 +133,9 @@ release_kept r script h p k = by (is_null p)
     by false =
         found (cell_at p h.debug.heap.row) k ∙ ap (λ o. flow r (and_then (released (of_script o) p st) k) h) (sym (read_cell_at script p h.debug.heap.row))
 
-pub free_kept : (script : Script) (literals : ℕ) (locals : List Local) (h : RunState) (p : Pointer) →
-    is_statement literals locals (Statement-F.Free p) ≡ true → Means script h (Statement-F.Free p) (free_carried h (pointer_read h p))
+pub free_kept : (script : Script) (h : RunState) (p : Pointer) →
+    operands_refused h (Statement-F.Free p) ≡ None → Means script h (Statement-F.Free p) (free_carried h (pointer_read script h p))
 unfolding statement
-free_kept script literals locals h p ok r f rec at k =
-    release_kept r script h (pointer_read h p) k
-    ∙ ap (λ x. flow r (and_then x k) h) (sym (pointer_is script locals h p (λ q. release q (state_of script h)) ok))
+free_kept script h p ok r f rec at k =
+    release_kept r script h (pointer_read script h p) k
+    ∙ ap (λ x. flow r (and_then x k) h) (sym (pointer_is script h p (λ q. release q (state_of script h)) (fine_first h p [] ok)))

@@ -14,11 +14,9 @@ use Rattle.wb_model.specs.declared.heap.Kind.TheVariants as K
 use Rattle.wb_model.specs.declared.heap.Answer.{Answer}
 use Rattle.wb_model.specs.declared.heap.Gave.TheVariants as G
 use Rattle.wb_model.specs.declared.script.Script.{Script}
-use Rattle.wb_model.specs.declared.script.Local.{Local}
 use Rattle.wb_model.specs.declared.script.Pointer.{Pointer}
 use Rattle.wb_model.specs.declared.script.Number.{Number}
 use Rattle.wb_model.specs.declared.script.Statement.TheOpen.{Statement-F}
-use Rattle.wb_model.specs.Sound.{is_statement}
 use Rattle.wb_model.specs.Row.{Cell, cell_at, cell_length}
 use Rattle.wb_model.specs.CellRow.{resized_words, with_payload}
 use Rattle.wb_model.specs.Rules.{Request}
@@ -34,13 +32,14 @@ use Rattle.wb_model.proofs.TextCellsHeap.{found-changed}
 use Rattle.wb_cleanup.specs.Pushes.{remade}
 use Rattle.wb_cleanup.specs.Stacks.{refusal_of_top}
 use Rattle.wb_machine.specs.RunState.{RunState, read_cell, read_row, state_of, with_debug}
-use Rattle.wb_machine.specs.Flow.{is_carried, FitsStep, ended_by, flow, is_stop}
+use Rattle.wb_machine.specs.Flow.{FitsStep, ended_by, flow, is_stop}
+use Rattle.wb_machine.specs.PointerOperands.{operands_refused}
 use Rattle.wb_machine.specs.Carried.{Carried, left_with, number_read, pointer_read, unless_refused}
 use Rattle.wb_machine.specs.CarriedCleanup.{IsStackThere, growth_made, is_filled, pop_check_carried, pop_within, push_by, push_carried, with_item, without_newest}
 use Rattle.wb_machine.proofs.Rows.{read_cell_at, read_unread}
 use Rattle.wb_machine.proofs.Flows.{ReadsResized, followed_or, made_longer_or}
 use Rattle.wb_machine.proofs.Fitting.{fits-limit}
-use Rattle.wb_machine.proofs.Kept.{ComesTo, Means, MeansOver, number_is, pointer_is}
+use Rattle.wb_machine.proofs.Kept.{ComesTo, Means, MeansOver, number_is, pointer_is, fine_first}
 use Rattle.wb_machine.proofs.KeptCells.{answered_alike, is_ceiling}
 
 -- pops of a number of items
@@ -57,10 +56,10 @@ unfolding flow with_some
 pop_in r script h floor None k = refl
 pop_in r script h floor (Some n) k = pop_by r script h floor n (nat_le (floor + n) (length h.items)) k
 
-pub pop_kept : (script : Script) (literals : ℕ) (locals : List Local) (h : RunState) (floor : ℕ) (v : Number) → is_statement literals locals (Statement-F.Pop v) ≡ true →
+pub pop_kept : (script : Script) (h : RunState) (floor : ℕ) (v : Number) → operands_refused h (Statement-F.Pop v) ≡ None →
     MeansOver script floor h (Statement-F.Pop v) (pop_within h floor (not_negative (number_read h v)))
 unfolding statement
-pop_kept script literals locals h floor v ok r f rec at over k =
+pop_kept script h floor v ok r f rec at over k =
     let st = state_of script h in
     pop_in r script h floor (not_negative (number_read h v)) k
     ∙ ap (λ low. flow r (and_then (with_some (not_negative (number_read h v)) NUMBER_OUT_OF_RANGE st (λ n. require (nat_le (low + n) (length h.items)) POP_BELOW_TRAP st (λ st. done (drop_newest n st)))) k) h) (sym over)
@@ -92,17 +91,17 @@ unfolding flow require
 check_in r script h p true k = check_top r script h p (newest h.items) k
 check_in r script h p false k = refl
 
-pub pop_check_kept : (script : Script) (literals : ℕ) (locals : List Local) (h : RunState) (floor : ℕ) (p : Pointer) → is_statement literals locals (Statement-F.PopCheck p) ≡ true →
-    MeansOver script floor h (Statement-F.PopCheck p) (pop_check_carried h floor (pointer_read h p))
+pub pop_check_kept : (script : Script) (h : RunState) (floor : ℕ) (p : Pointer) → operands_refused h (Statement-F.PopCheck p) ≡ None →
+    MeansOver script floor h (Statement-F.PopCheck p) (pop_check_carried h floor (pointer_read script h p))
 unfolding statement
-pop_check_kept script literals locals h floor p ok r f rec at over k =
+pop_check_kept script h floor p ok r f rec at over k =
     let st = state_of script h in
-    check_in r script h (pointer_read h p) (nat_le (floor + 1) (length h.items)) k
+    check_in r script h (pointer_read script h p) (nat_le (floor + 1) (length h.items)) k
     ∙ ap (λ low. flow r (and_then (require (nat_le (low + 1) (length h.items)) POP_BELOW_TRAP st (λ st. with_some (newest st.items) POP_BELOW_TRAP st (λ item.
-    require (is_same_pointer (item_pointer item) (pointer_read h p)) ANOTHER_ITEM_ON_TOP st (λ st. done (drop_newest 1 st))))) k) h) (sym over)
+    require (is_same_pointer (item_pointer item) (pointer_read script h p)) ANOTHER_ITEM_ON_TOP st (λ st. done (drop_newest 1 st))))) k) h) (sym over)
     ∙ ap (λ x. flow r (and_then x k) h)
-    (sym (pointer_is script locals h p (λ q. require (has_above at st 1) POP_BELOW_TRAP st (λ st. with_some (newest st.items) POP_BELOW_TRAP st (λ item.
-    require (is_same_pointer (item_pointer item) q) ANOTHER_ITEM_ON_TOP st (λ st. done (drop_newest 1 st))))) ok))
+    (sym (pointer_is script h p (λ q. require (has_above at st 1) POP_BELOW_TRAP st (λ st. with_some (newest st.items) POP_BELOW_TRAP st (λ item.
+    require (is_same_pointer (item_pointer item) q) ANOTHER_ITEM_ON_TOP st (λ st. done (drop_newest 1 st))))) (fine_first h p [] ok)))
 
 -- the words of the stack's cell aren't read
 words_unread : (script : Script) (g : RunState) (d : Debug) (ws : List ℕ) → IsStackThere g → g.debug ≡ debug_changed d g.cleanup ws → read_row script (with_payload g.cleanup ws d.heap.row) ≡ read_row script d.heap.row
@@ -245,18 +244,18 @@ module _ (r : Rule) (script : Script) (h : RunState) (item : Item) (ws : List �
       by true b f now = fills b f now k
       by false b f now = refl
 
-pub push_kept : (script : Script) (literals : ℕ) (locals : List Local) (h : RunState) (p : Pointer) (ws : List ℕ) → IsStackThere h →
-    IsStackThere (push_carried h (I.Free (pointer_read h p)) ws).state → is_statement literals locals (Statement-F.Push p) ≡ true →
-    Means script h (Statement-F.Push p) (push_carried h (I.Free (pointer_read h p)) ws)
+pub push_kept : (script : Script) (h : RunState) (p : Pointer) (ws : List ℕ) → IsStackThere h →
+    IsStackThere (push_carried h (I.Free (pointer_read script h p)) ws).state → operands_refused h (Statement-F.Push p) ≡ None →
+    Means script h (Statement-F.Push p) (push_carried h (I.Free (pointer_read script h p)) ws)
 unfolding statement
-push_kept script literals locals h p ws at now ok r f rec at' k =
-    pushed r script h (I.Free (pointer_read h p)) ws at f now k
-    ∙ ap (λ x. flow r (and_then x k) h) (sym (pointer_is script locals h p (λ q. push (I.Free q) (state_of script h)) ok))
+push_kept script h p ws at now ok r f rec at' k =
+    pushed r script h (I.Free (pointer_read script h p)) ws at f now k
+    ∙ ap (λ x. flow r (and_then x k) h) (sym (pointer_is script h p (λ q. push (I.Free q) (state_of script h)) (fine_first h p [] ok)))
 
-pub push_operation_kept : (script : Script) (literals : ℕ) (locals : List Local) (trapped : Bool) (h : RunState) (p : Pointer) (operation : ℕ) (ws : List ℕ) → IsStackThere h →
-    IsStackThere (push_carried h (I.Call (pointer_read h p) operation) ws).state → is_carried literals locals trapped (Statement-F.PushOperation p operation) ≡ true →
-    Means script h (Statement-F.PushOperation p operation) (push_carried h (I.Call (pointer_read h p) operation) ws)
+pub push_operation_kept : (script : Script) (h : RunState) (p : Pointer) (operation : ℕ) (ws : List ℕ) → IsStackThere h →
+    IsStackThere (push_carried h (I.Call (pointer_read script h p) operation) ws).state → operands_refused h (Statement-F.PushOperation p operation) ≡ None →
+    Means script h (Statement-F.PushOperation p operation) (push_carried h (I.Call (pointer_read script h p) operation) ws)
 unfolding statement
-push_operation_kept script literals locals trapped h p operation ws at now ok r f rec at' k =
-    pushed r script h (I.Call (pointer_read h p) operation) ws at f now k
-    ∙ ap (λ x. flow r (and_then x k) h) (sym (pointer_is script locals h p (λ q. push (I.Call q operation) (state_of script h)) ok))
+push_operation_kept script h p operation ws at now ok r f rec at' k =
+    pushed r script h (I.Call (pointer_read script h p) operation) ws at f now k
+    ∙ ap (λ x. flow r (and_then x k) h) (sym (pointer_is script h p (λ q. push (I.Call q operation) (state_of script h)) (fine_first h p [] ok)))

@@ -1,12 +1,10 @@
 -- What is printed and noted comes to what it means.
-use Rattle.std.proofs.Common.{◌≡◌, ℕ, ◌-◌, List, [], ◌∷◌, ◌++◌, true, length, ap, ◌∙◌, sym}
+use Rattle.std.proofs.Common.{◌≡◌, ℕ, ◌-◌, [], ◌∷◌, ◌++◌, length, ap, ◌∙◌, sym, None}
 use Rattle.std.specs.Fmt.{signed_decimal}
 use Rattle.wb_model.specs.declared.run.Note.TheVariants.{Compress}
 use Rattle.wb_model.specs.declared.script.Script.{Script}
-use Rattle.wb_model.specs.declared.script.Local.{Local}
 use Rattle.wb_model.specs.declared.script.Number.{Number}
 use Rattle.wb_model.specs.declared.script.Statement.TheOpen.{Statement-F}
-use Rattle.wb_model.specs.Sound.{is_statement}
 use Rattle.wb_model.specs.Row.{headers, top_of, total_length}
 use Rattle.wb_model.specs.Space.{space_of, space_below, bound_below, compressed_to}
 use Rattle.wb_model.specs.State.{heap_note, available_note, compress_note, goes_on, and_then}
@@ -14,38 +12,39 @@ use Rattle.wb_model.specs.Statements.{statement, print_line}
 use Rattle.wb_model.specs.Account.{settled, noted}
 use Rattle.wb_machine.specs.RunState.{RunState, state_of, account_of}
 use Rattle.wb_machine.specs.Flow.{flow}
+use Rattle.wb_machine.specs.PointerOperands.{operands_refused}
 use Rattle.wb_machine.specs.Carried.{gone_on, number_read, line_printed, heap_noted, available_noted, compress_noted}
 use Rattle.wb_machine.proofs.Rows.{headers_read, length_read}
 use Rattle.wb_machine.proofs.Fitting.{fits-limit}
 use Rattle.wb_machine.proofs.Kept.{Means, number_is}
 
-pub number_kept : (script : Script) (literals : ℕ) (locals : List Local) (h : RunState) (v : Number) → is_statement literals locals (Statement-F.PrintNumber v) ≡ true →
+pub number_kept : (script : Script) (h : RunState) (v : Number) → operands_refused h (Statement-F.PrintNumber v) ≡ None →
     Means script h (Statement-F.PrintNumber v) (gone_on (line_printed h (signed_decimal (number_read h v))))
 unfolding statement flow
-number_kept script literals locals h v ok r f rec at k =
+number_kept script h v ok r f rec at k =
     sym (ap (λ z. flow r (and_then (print_line (signed_decimal z) (state_of script h)) k) h) (number_is script h v))
 
-pub heap_kept : (script : Script) (literals : ℕ) (locals : List Local) (h : RunState) → is_statement literals locals Statement-F.NoteHeap ≡ true →
+pub heap_kept : (script : Script) (h : RunState) → operands_refused h Statement-F.NoteHeap ≡ None →
     Means script h Statement-F.NoteHeap (gone_on (heap_noted h))
 unfolding statement flow and_then
-heap_kept script literals locals h ok r f rec at k =
+heap_kept script h ok r f rec at k =
     let row = h.debug.heap.row in
     ap (λ q. settled r (space_of r h.debug.shape) (k goes_on (state_of script h)) (noted (space_of r h.debug.shape) q (account_of h)))
     (sym (ap (λ n. heap_note n (total_length (headers (state_of script h).heap.row))) (length_read script row)
     ∙ ap (λ hs. heap_note (length row) (total_length hs)) (headers_read script row)))
 
-pub available_kept : (script : Script) (literals : ℕ) (locals : List Local) (h : RunState) → is_statement literals locals Statement-F.NoteAvailable ≡ true →
+pub available_kept : (script : Script) (h : RunState) → operands_refused h Statement-F.NoteAvailable ≡ None →
     Means script h Statement-F.NoteAvailable (gone_on (available_noted h))
 unfolding statement flow and_then
-available_kept script literals locals h ok r f rec at k =
+available_kept script h ok r f rec at k =
     ap (λ hs. settled r (space_of r h.debug.shape) (k goes_on (state_of script h)) (noted (space_of r h.debug.shape) (available_note hs) (account_of h)))
     (sym (headers_read script h.debug.heap.row))
 
 -- under a rule that fits, whose limit is that of the machine's own
-pub compress_kept : (script : Script) (literals : ℕ) (locals : List Local) (h : RunState) → is_statement literals locals Statement-F.NoteCompress ≡ true →
+pub compress_kept : (script : Script) (h : RunState) → operands_refused h Statement-F.NoteCompress ≡ None →
     Means script h Statement-F.NoteCompress (gone_on (compress_noted h))
 unfolding statement flow and_then
-compress_kept script literals locals h ok r f rec at k =
+compress_kept script h ok r f rec at k =
     let d = h.debug in
     ap (λ (length : ℕ). settled r (space_of r d.shape) (k goes_on (state_of script h))
     (record { trace = d.trace; notes = h.notes ++ Compress (d.committed - length) ∷ []; committed = length }))

@@ -1,44 +1,43 @@
 -- Statements that set locals come to what they mean.
-use Rattle.std.proofs.Common.{◌≡◌, ℕ, ℤ, ◌+ℤ◌, Bool, true, false, List, refl, ap, ◌∙◌, sym, cond}
+use Rattle.std.proofs.Common.{◌≡◌, ℕ, ℤ, ◌+ℤ◌, Bool, true, false, refl, ap, ◌∙◌, sym, cond, None, [], ◌∷◌}
 use Rattle.wb_model.specs.declared.heap.TheConstants.Panic.{NUMBER_OUT_OF_RANGE}
 use Rattle.wb_model.specs.declared.heap.Rule.{Rule}
 use Rattle.wb_model.specs.declared.script.Script.{Script}
-use Rattle.wb_model.specs.declared.script.Local.{Local}
 use Rattle.wb_model.specs.declared.script.Pointer.{Pointer}
 use Rattle.wb_model.specs.declared.script.Number.{Number}
 use Rattle.wb_model.specs.declared.script.Statement.TheOpen.{Statement-F}
-use Rattle.wb_model.specs.Sound.{is_statement, is_pointer}
 use Rattle.wb_model.specs.State.{number, State, goes_on, and_then, require, set_local, number_in, null}
 use Rattle.wb_model.specs.Operands.{set_pointer, with_pointer}
 use Rattle.wb_model.specs.Statements.{statement, done, in_range}
 use Rattle.wb_machine.specs.RunState.{RunState, state_of, value_in}
 use Rattle.wb_machine.specs.Flow.{flow}
+use Rattle.wb_machine.specs.PointerOperands.{operands_refused}
 use Rattle.wb_machine.specs.Carried.{gone_on, panicked, pointer_read, number_read, pointer_stored, stored, sum_stored, add_carried}
-use Rattle.wb_machine.proofs.Kept.{Means, ComesTo, and_left, and_right, number_is, pointer_is, stored_is}
+use Rattle.wb_machine.proofs.Kept.{Means, ComesTo, number_is, pointer_is, stored_is, fine_first, fine_rest}
 
-pub set_kept : (script : Script) (literals : ℕ) (locals : List Local) (h : RunState) (p q : Pointer) → is_statement literals locals (Statement-F.Set p q) ≡ true →
-    Means script h (Statement-F.Set p q) (gone_on (pointer_stored h p (pointer_read h q)))
+pub set_kept : (script : Script) (h : RunState) (p q : Pointer) → operands_refused h (Statement-F.Set p q) ≡ None →
+    Means script h (Statement-F.Set p q) (gone_on (pointer_stored h p (pointer_read script h q)))
 unfolding statement and_then
-set_kept script literals locals h p q ok r f rec at k =
+set_kept script h p q ok r f rec at k =
     let st = state_of script h in
-    let target = and_left (is_pointer locals p) (is_pointer locals q) ok in
-    let source = and_right (is_pointer locals p) (is_pointer locals q) ok in
-    sym (ap (λ x. flow r (and_then x k) h) (pointer_is script locals h p (λ _. with_pointer st q (λ to. done (set_pointer st p to))) target
-    ∙ pointer_is script locals h q (λ to. done (set_pointer st p to)) source)
-    ∙ stored_is script locals h p (pointer_read h q) r (k goes_on) target)
+    let target = fine_first h p (q ∷ []) ok in
+    let source = fine_first h q [] (fine_rest h p (q ∷ []) ok) in
+    sym (ap (λ x. flow r (and_then x k) h) (pointer_is script h p (λ _. with_pointer st q (λ to. done (set_pointer st p to))) target
+    ∙ pointer_is script h q (λ to. done (set_pointer st p to)) source)
+    ∙ stored_is script h p (pointer_read script h q) r (k goes_on))
 
-pub null_kept : (script : Script) (literals : ℕ) (locals : List Local) (h : RunState) (p : Pointer) → is_statement literals locals (Statement-F.SetNull p) ≡ true →
+pub null_kept : (script : Script) (h : RunState) (p : Pointer) → operands_refused h (Statement-F.SetNull p) ≡ None →
     Means script h (Statement-F.SetNull p) (gone_on (pointer_stored h p null))
 unfolding statement and_then
-null_kept script literals locals h p ok r f rec at k =
+null_kept script h p ok r f rec at k =
     let st = state_of script h in
-    sym (ap (λ x. flow r (and_then x k) h) (pointer_is script locals h p (λ _. done (set_pointer st p null)) ok)
-    ∙ stored_is script locals h p null r (k goes_on) ok)
+    sym (ap (λ x. flow r (and_then x k) h) (pointer_is script h p (λ _. done (set_pointer st p null)) (fine_first h p [] ok))
+    ∙ stored_is script h p null r (k goes_on))
 
-pub set_number_kept : (script : Script) (literals : ℕ) (locals : List Local) (h : RunState) (x : ℕ) (v : Number) → is_statement literals locals (Statement-F.SetNumber x v) ≡ true →
+pub set_number_kept : (script : Script) (h : RunState) (x : ℕ) (v : Number) → operands_refused h (Statement-F.SetNumber x v) ≡ None →
     Means script h (Statement-F.SetNumber x v) (gone_on (stored h x (number (number_read h v))))
 unfolding statement flow and_then
-set_number_kept script literals locals h x v ok r f rec at k =
+set_number_kept script h x v ok r f rec at k =
     let st = state_of script h in
     sym (ap (λ z. flow r (and_then (done (set_local st x (number z))) k) h) (number_is script h v))
 
@@ -56,10 +55,10 @@ sum_kept r script h x z k = by (in_range z) k
     by true = λ k. refl
     by false = λ k. refl
 
-pub add_kept : (script : Script) (literals : ℕ) (locals : List Local) (h : RunState) (x : ℕ) (v : Number) → is_statement literals locals (Statement-F.Add x v) ≡ true →
+pub add_kept : (script : Script) (h : RunState) (x : ℕ) (v : Number) → operands_refused h (Statement-F.Add x v) ≡ None →
     Means script h (Statement-F.Add x v) (add_carried h x (number_read h v))
 unfolding statement
-add_kept script literals locals h x v ok r f rec at k =
+add_kept script h x v ok r f rec at k =
     let st = state_of script h in
     sum_kept r script h x (number_in (value_in h.locals x) +ℤ number_read h v) k
     ∙ sym (ap (λ y. flow r (and_then (require (in_range (number_in (value_in h.locals x) +ℤ y)) NUMBER_OUT_OF_RANGE st (λ st. done (set_local st x (number (number_in (value_in h.locals x) +ℤ y))))) k) h)

@@ -1,6 +1,6 @@
 -- Statements that change texts come to what they mean.
 use Rattle.std.proofs.Common.{◌≡◌, ℕ, List, [], ◌∷◌, length, Bool, true, false, refl, ap, ◌∙◌, sym, subst, cond, Option, Some, None, Ok, Err}
-use Rattle.std.specs.Prelude.{◌&&◌, not}
+use Rattle.std.specs.Prelude.{not}
 use Rattle.wb_model.specs.declared.heap.TheConstants.Panic.{NUMBER_OUT_OF_RANGE}
 use Rattle.wb_model.specs.declared.heap.Kind.{Kind}
 use Rattle.wb_model.specs.declared.heap.Kind.TheVariants.{Raw, Object, Text, Cleanup}
@@ -8,14 +8,12 @@ use Rattle.wb_model.specs.declared.heap.Panic.{Panic}
 use Rattle.wb_model.specs.declared.heap.Ptr.{Ptr}
 use Rattle.wb_model.specs.declared.heap.Rule.{Rule}
 use Rattle.wb_model.specs.declared.script.Script.{Script}
-use Rattle.wb_model.specs.declared.script.Local.{Local}
 use Rattle.wb_model.specs.declared.script.Number.{Number}
 use Rattle.wb_model.specs.declared.script.Writable.{Writable}
 use Rattle.wb_model.specs.declared.script.Readable.{Readable}
 use Rattle.wb_model.specs.declared.script.Statement.TheOpen.{Statement-F}
 use Rattle.wb_model.specs.declared.text.Base.{Base}
 use Rattle.wb_model.specs.declared.text.Base.TheVariants as B
-use Rattle.wb_model.specs.Sound.{is_statement, is_writable, is_readable, is_number}
 use Rattle.wb_model.specs.Row.{Cell, is_at, cell_at, changed}
 use Rattle.wb_model.specs.CellRow.{content_or_nil, payload_of, with_payload}
 use Rattle.wb_model.specs.Spelling.{read_as}
@@ -30,11 +28,12 @@ use Rattle.wb_hbuf.specs.declared.sources.Edit.TheVariants.{Copy, Append}
 use Rattle.wb_hbuf.specs.Sources.{edit_text}
 use Rattle.wb_machine.specs.declared.pieces.Ending.{Ending}
 use Rattle.wb_machine.specs.RunState.{RunState, field_count, read_cell, read_row, state_of}
-use Rattle.wb_machine.specs.Flow.{is_carried, flow, ended_by, IsSameFlow, IsSimple, IsCarriedAnywhere, IsCarriedOut}
+use Rattle.wb_machine.specs.Flow.{flow, ended_by, IsSameFlow, IsCarriedAnywhere, IsCarriedOut}
+use Rattle.wb_machine.specs.PointerOperands.{operands_refused, first_refusal, of_writable, of_readable}
 use Rattle.wb_machine.specs.Carried.{number_read}
 use Rattle.wb_machine.specs.TextOperands.{base_named, base_refusal, base_text, base_max, is_writable_base, window_read, window_units}
 use Rattle.wb_machine.specs.CarriedTexts.{HasPanicked, IsWritten, UnlessRefused, WithNumber, IsEditedBy, IsInsertedBy, IsDeletedBy, IsLengthSet}
-use Rattle.wb_machine.proofs.Kept.{and_left, and_right, number_is}
+use Rattle.wb_machine.proofs.Kept.{number_is, fine_left, fine_right}
 use Rattle.wb_machine.proofs.ReadTexts.{through, source_named, readable_is, writable_is, named_writable, room_is, shown}
 use Rattle.wb_model.proofs.TextCellsHeap.{found-changed}
 use Rattle.wb_machine.proofs.TextInvariant.{found_text}
@@ -105,40 +104,40 @@ written_comes r script h (B.Cell p) (Ok us) ending g fine is ok k =
     ∙ ap (λ (cells : List (Cell Content)). flow r (and_then (ends goes_on (set_row (state_of script h) cells)) k) h) (read_text_changed script p ws us row found.0 found.1 found.2 reads)
 
 -- a copy, or what is appended, comes to what its process makes of the text
-edited_comes : (r : Rule) (script : Script) (literals : ℕ) (locals : List Local) (h : RunState) (d : Writable) (t : Readable) (change : Edit) (ending : Ending) (g : RunState) →
-    is_writable locals d ≡ true → is_readable literals locals t ≡ true →
-    IsEditedBy script.literals h (base_named h d) (window_read script.literals h t) change ending g →
+edited_comes : (r : Rule) (script : Script) (h : RunState) (d : Writable) (t : Readable) (change : Edit) (ending : Ending) (g : RunState) →
+    first_refusal h (of_writable d) ≡ None → first_refusal h (of_readable t) ≡ None →
+    IsEditedBy script.literals h (base_named script h d) (window_read script h t) change ending g →
     Comes r script h ending g (with_writable (state_of script h) d (λ to. with_readable (state_of script h) t (λ from.
     with_room (state_of script h) to (λ max old. with_units script.literals (state_of script h) from (λ us. write (edit_text change max old us) (state_of script h) to max)))))
-edited_comes r script literals locals h d t change ending g writable readable is =
+edited_comes r script h d t change ending g writable readable is =
     let st = state_of script h in
-    let to = base_named h d in
-    let v = window_read script.literals h t in
-    let s = source_named h t in
-    let ok = named_writable h d in
+    let to = base_named script h d in
+    let v = window_read script h t in
+    let s = source_named script h t in
+    let ok = named_writable script h d in
     let made : Process = write (edit_text change (base_max h to) (base_text script.literals h to) (window_units script.literals h v)) st to (base_max h to) in
     comes_as r script h ending g (through (base_refusal h to) st (through (base_refusal h v.base) st made)) _
-    (writable_is script locals h d (λ to. with_readable st t (λ from. with_room st to (λ max old. with_units script.literals st from (λ us. write (edit_text change max old us) st to max)))) writable
-    ∙ readable_is script literals locals h t (λ from. with_room st to (λ max old. with_units script.literals st from (λ us. write (edit_text change max old us) st to max))) readable
+    (writable_is script h d (λ to. with_readable st t (λ from. with_room st to (λ max old. with_units script.literals st from (λ us. write (edit_text change max old us) st to max)))) writable
+    ∙ readable_is script h t (λ from. with_room st to (λ max old. with_units script.literals st from (λ us. write (edit_text change max old us) st to max))) readable
     ∙ room_is script h to (λ max old. with_units script.literals st s (λ us. write (edit_text change max old us) st to max)) ok
     ∙ ap (through (base_refusal h to) st) ((shown script h t).units (λ us. write (edit_text change (base_max h to) (base_text script.literals h to) us) st to (base_max h to))))
     (through_comes r script h ending g (base_refusal h to) _ _ is (λ fine is.
     through_comes r script h ending g (base_refusal h v.base) made _ is (λ there is.
     written_comes r script h to _ ending g fine is ok)))
 
-pub copy_kept : (script : Script) (literals : ℕ) (locals : List Local) (h : RunState) (d : Writable) (t : Readable) (ending : Ending) (g : RunState) →
-    IsEditedBy script.literals h (base_named h d) (window_read script.literals h t) Copy ending g → is_statement literals locals (Statement-F.Copy d t) ≡ true →
+pub copy_kept : (script : Script) (h : RunState) (d : Writable) (t : Readable) (ending : Ending) (g : RunState) →
+    IsEditedBy script.literals h (base_named script h d) (window_read script h t) Copy ending g → operands_refused h (Statement-F.Copy d t) ≡ None →
     IsCarriedAnywhere script (Statement-F.Copy d t) h ending g
 unfolding statement
-copy_kept script literals locals h d t ending g is ok r f rec at =
-    edited_comes r script literals locals h d t Copy ending g (and_left (is_writable locals d) (is_readable literals locals t) ok) (and_right (is_writable locals d) (is_readable literals locals t) ok) is
+copy_kept script h d t ending g is ok r f rec at =
+    edited_comes r script h d t Copy ending g (fine_left h (of_writable d) (of_readable t) ok) (fine_right h (of_writable d) (of_readable t) ok) is
 
-pub append_kept : (script : Script) (literals : ℕ) (locals : List Local) (h : RunState) (d : Writable) (t : Readable) (ending : Ending) (g : RunState) →
-    IsEditedBy script.literals h (base_named h d) (window_read script.literals h t) Append ending g → is_statement literals locals (Statement-F.Append d t) ≡ true →
+pub append_kept : (script : Script) (h : RunState) (d : Writable) (t : Readable) (ending : Ending) (g : RunState) →
+    IsEditedBy script.literals h (base_named script h d) (window_read script h t) Append ending g → operands_refused h (Statement-F.Append d t) ≡ None →
     IsCarriedAnywhere script (Statement-F.Append d t) h ending g
 unfolding statement
-append_kept script literals locals h d t ending g is ok r f rec at =
-    edited_comes r script literals locals h d t Append ending g (and_left (is_writable locals d) (is_readable literals locals t) ok) (and_right (is_writable locals d) (is_readable literals locals t) ok) is
+append_kept script h d t ending g is ok r f rec at =
+    edited_comes r script h d t Append ending g (fine_left h (of_writable d) (of_readable t) ok) (fine_right h (of_writable d) (of_readable t) ok) is
 
 -- past the question whether a text is put into itself
 apart_comes : (r : Rule) (script : Script) (h : RunState) (ending : Ending) (g : RunState) (b : Bool) (p : State → Process) (X : Type 0) →
@@ -148,26 +147,25 @@ unfolding require
 apart_comes r script h ending g true p X is next = panicked_comes r script h NUMBER_OUT_OF_RANGE ending g is
 apart_comes r script h ending g false p X is next = next is
 
-pub insert_kept : (script : Script) (literals : ℕ) (locals : List Local) (h : RunState) (d : Writable) (z : Number) (t : Readable) (ending : Ending) (g : RunState) →
-    IsInsertedBy script.literals h (base_named h d) (window_read script.literals h t) (number_read h z) ending g → is_statement literals locals (Statement-F.Insert d z t) ≡ true →
+pub insert_kept : (script : Script) (h : RunState) (d : Writable) (z : Number) (t : Readable) (ending : Ending) (g : RunState) →
+    IsInsertedBy script.literals h (base_named script h d) (window_read script h t) (number_read h z) ending g → operands_refused h (Statement-F.Insert d z t) ≡ None →
     IsCarriedAnywhere script (Statement-F.Insert d z t) h ending g
 unfolding statement
-insert_kept script literals locals h d z t ending g is ok r f rec at =
+insert_kept script h d z t ending g is ok r f rec at =
     let st = state_of script h in
-    let to = base_named h d in
-    let v = window_read script.literals h t in
-    let s = source_named h t in
-    let rest = and_right (is_writable locals d) (is_number locals z && is_readable literals locals t) ok in
-    let writable = named_writable h d in
+    let to = base_named script h d in
+    let v = window_read script h t in
+    let s = source_named script h t in
+    let writable = named_writable script h d in
     let put : Base → List ℕ → ℕ → List ℕ → ℕ → Process = λ from us max old n.
     require (not (is_same_base to from)) NUMBER_OUT_OF_RANGE st (λ st. write (insert_text max old n us) st to max) in
     let made : Process = with_some (not_negative (number_read h z)) NUMBER_OUT_OF_RANGE st (put v.base (window_units script.literals h v) (base_max h to) (base_text script.literals h to)) in
     comes_as r script h ending g (through (base_refusal h to) st (through (base_refusal h v.base) st made)) _
-    (writable_is script locals h d (λ to. with_readable st t (λ from. with_room st to (λ max old. with_units script.literals st from (λ us.
+    (writable_is script h d (λ to. with_readable st t (λ from. with_room st to (λ max old. with_units script.literals st from (λ us.
     with_some (not_negative (number_of st z)) NUMBER_OUT_OF_RANGE st (λ n. require (not (is_same_base to (base_of from))) NUMBER_OUT_OF_RANGE st (λ st. write (insert_text max old n us) st to max))))))
-    (and_left (is_writable locals d) (is_number locals z && is_readable literals locals t) ok)
-    ∙ readable_is script literals locals h t (λ from. with_room st to (λ max old. with_units script.literals st from (λ us. with_some (not_negative (number_of st z)) NUMBER_OUT_OF_RANGE st (put (base_of from) us max old))))
-    (and_right (is_number locals z) (is_readable literals locals t) rest)
+    (fine_left h (of_writable d) (of_readable t) ok)
+    ∙ readable_is script h t (λ from. with_room st to (λ max old. with_units script.literals st from (λ us. with_some (not_negative (number_of st z)) NUMBER_OUT_OF_RANGE st (put (base_of from) us max old))))
+    (fine_right h (of_writable d) (of_readable t) ok)
     ∙ room_is script h to (λ max old. with_units script.literals st s (λ us. with_some (not_negative (number_of st z)) NUMBER_OUT_OF_RANGE st (put (base_of s) us max old))) writable
     ∙ ap (through (base_refusal h to) st) ((shown script h t).units (λ us. with_some (not_negative (number_of st z)) NUMBER_OUT_OF_RANGE st (put (base_of s) us (base_max h to) (base_text script.literals h to)))
     ∙ ap (λ y. through (base_refusal h v.base) st (with_some (not_negative y) NUMBER_OUT_OF_RANGE st (put (base_of s) (window_units script.literals h v) (base_max h to) (base_text script.literals h to)))) (number_is script h z)
@@ -185,19 +183,19 @@ text_alone literals h (B.Literal i) ok = cc
 text_alone literals h (B.Local i) ok = refl
 text_alone literals h (B.Cell p) ok = refl
 
-pub delete_kept : (script : Script) (literals : ℕ) (locals : List Local) (h : RunState) (d : Writable) (z y : Number) (ending : Ending) (g : RunState) →
-    IsDeletedBy h (base_named h d) (number_read h z) (number_read h y) ending g → is_statement literals locals (Statement-F.DeleteText d z y) ≡ true →
+pub delete_kept : (script : Script) (h : RunState) (d : Writable) (z y : Number) (ending : Ending) (g : RunState) →
+    IsDeletedBy h (base_named script h d) (number_read h z) (number_read h y) ending g → operands_refused h (Statement-F.DeleteText d z y) ≡ None →
     IsCarriedAnywhere script (Statement-F.DeleteText d z y) h ending g
 unfolding statement
-delete_kept script literals locals h d z y ending g is ok r f rec at =
+delete_kept script h d z y ending g is ok r f rec at =
     let st = state_of script h in
-    let to = base_named h d in
-    let writable = named_writable h d in
+    let to = base_named script h d in
+    let writable = named_writable script h d in
     let cut : ℕ → List ℕ → ℕ → ℕ → Process = λ max old n m. write (delete_text old n m) st to max in
     let made : Process = with_some (not_negative (number_read h z)) NUMBER_OUT_OF_RANGE st (λ n. with_some (not_negative (number_read h y)) NUMBER_OUT_OF_RANGE st (cut (base_max h to) (base_text [] h to) n)) in
     comes_as r script h ending g (through (base_refusal h to) st made) _
-    (writable_is script locals h d (λ to. with_room st to (λ max old. with_some (not_negative (number_of st z)) NUMBER_OUT_OF_RANGE st (λ n.
-    with_some (not_negative (number_of st y)) NUMBER_OUT_OF_RANGE st (λ m. write (delete_text old n m) st to max)))) (and_left (is_writable locals d) (is_number locals z && is_number locals y) ok)
+    (writable_is script h d (λ to. with_room st to (λ max old. with_some (not_negative (number_of st z)) NUMBER_OUT_OF_RANGE st (λ n.
+    with_some (not_negative (number_of st y)) NUMBER_OUT_OF_RANGE st (λ m. write (delete_text old n m) st to max)))) ok
     ∙ room_is script h to (λ max old. with_some (not_negative (number_of st z)) NUMBER_OUT_OF_RANGE st (λ n. with_some (not_negative (number_of st y)) NUMBER_OUT_OF_RANGE st (cut max old n))) writable
     ∙ ap (λ old. through (base_refusal h to) st (with_some (not_negative (number_of st z)) NUMBER_OUT_OF_RANGE st (λ n. with_some (not_negative (number_of st y)) NUMBER_OUT_OF_RANGE st (cut (base_max h to) old n))))
     (text_alone script.literals h to writable)
@@ -208,19 +206,19 @@ delete_kept script literals locals h d z y ending g is ok r f rec at =
     number_comes r script h ending g (not_negative (number_read h y)) _ _ is (λ m is.
     written_comes r script h to _ ending g fine is writable))))
 
-pub length_set_kept : (script : Script) (literals : ℕ) (locals : List Local) (h : RunState) (d : Writable) (z : Number) (ending : Ending) (g : RunState) →
-    IsLengthSet h (base_named h d) (number_read h z) ending g → is_statement literals locals (Statement-F.SetLength d z) ≡ true →
+pub length_set_kept : (script : Script) (h : RunState) (d : Writable) (z : Number) (ending : Ending) (g : RunState) →
+    IsLengthSet h (base_named script h d) (number_read h z) ending g → operands_refused h (Statement-F.SetLength d z) ≡ None →
     IsCarriedAnywhere script (Statement-F.SetLength d z) h ending g
 unfolding statement
-length_set_kept script literals locals h d z ending g is ok r f rec at =
+length_set_kept script h d z ending g is ok r f rec at =
     let st = state_of script h in
-    let to = base_named h d in
-    let writable = named_writable h d in
+    let to = base_named script h d in
+    let writable = named_writable script h d in
     let cut : ℕ → List ℕ → ℕ → Process = λ max old n. write (set_length_text max old n) st to max in
     let made : Process = with_some (not_negative (number_read h z)) NUMBER_OUT_OF_RANGE st (cut (base_max h to) (base_text [] h to)) in
     comes_as r script h ending g (through (base_refusal h to) st made) _
-    (writable_is script locals h d (λ to. with_room st to (λ max old. with_some (not_negative (number_of st z)) NUMBER_OUT_OF_RANGE st (λ n. write (set_length_text max old n) st to max)))
-    (and_left (is_writable locals d) (is_number locals z) ok)
+    (writable_is script h d (λ to. with_room st to (λ max old. with_some (not_negative (number_of st z)) NUMBER_OUT_OF_RANGE st (λ n. write (set_length_text max old n) st to max)))
+    ok
     ∙ room_is script h to (λ max old. with_some (not_negative (number_of st z)) NUMBER_OUT_OF_RANGE st (cut max old)) writable
     ∙ ap (λ old. through (base_refusal h to) st (with_some (not_negative (number_of st z)) NUMBER_OUT_OF_RANGE st (cut (base_max h to) old))) (text_alone script.literals h to writable)
     ∙ ap (λ x. through (base_refusal h to) st (with_some (not_negative x) NUMBER_OUT_OF_RANGE st (cut (base_max h to) (base_text [] h to)))) (number_is script h z))
@@ -229,7 +227,7 @@ length_set_kept script literals locals h d z ending g is ok r f rec at =
     written_comes r script h to _ ending g fine is writable)))
 
 -- what was carried out is what the statement makes
-pub carried_as : {floor : ℕ} (script : Script) (h g : RunState) (ending : Ending) (layer : Layer) (own : IsSimple script layer) (was : Layer) → layer ≡ was →
-    (is_carried (length script.literals) own.locals own.trapped was ≡ true → IsCarriedAnywhere script was h ending g) → IsCarriedOut script floor layer h ending g
-carried_as script h g ending layer own was is means r f rec at over =
-    subst (λ (l : Layer). IsCarriedAnywhere script l h ending g) (sym is) (means (sym (ap (is_carried (length script.literals) own.locals own.trapped) is) ∙ own.sound)) r f rec at
+pub carried_as : {floor : ℕ} (script : Script) (h g : RunState) (ending : Ending) (layer : Layer) → operands_refused h layer ≡ None → (was : Layer) → layer ≡ was →
+    (operands_refused h was ≡ None → IsCarriedAnywhere script was h ending g) → IsCarriedOut script floor layer h ending g
+carried_as script h g ending layer fine was is means r f rec at over =
+    subst (λ (l : Layer). IsCarriedAnywhere script l h ending g) (sym is) (means (sym (ap (operands_refused h) is) ∙ fine)) r f rec at

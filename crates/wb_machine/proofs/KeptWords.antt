@@ -1,6 +1,6 @@
 -- Statements on the words of cells come to what they mean.
-use Rattle.std.proofs.Common.{◌≡◌, ℕ, zero, suc, ℤ, pos, List, [], ◌∷◌, true, map, slice_set, w32, FitsSigned, refl, ap, ◌∙◌, sym, cond, Option, Some, None}
-use Rattle.std.specs.Prelude.{◌&&◌, option_map, slice_get, slice_index, unwrap_or}
+use Rattle.std.proofs.Common.{◌≡◌, ℕ, zero, suc, ℤ, pos, List, [], ◌∷◌, map, slice_set, w32, FitsSigned, refl, ap, ◌∙◌, sym, cond, Option, Some, None}
+use Rattle.std.specs.Prelude.{option_map, slice_get, slice_index, unwrap_or}
 use Rattle.std.specs.Int.{cast_unsigned}
 use Rattle.std.proofs.lemmas.List.{map-set}
 use Rattle.wb_model.specs.declared.heap.TheConstants.Panic.{NUMBER_OUT_OF_RANGE, NULL_OR_STALE, WRONG_KIND, BAD_CELL}
@@ -9,11 +9,9 @@ use Rattle.wb_model.specs.declared.heap.Kind.{Kind}
 use Rattle.wb_model.specs.declared.heap.Kind.TheVariants.{Raw, Object, Text, Cleanup}
 use Rattle.wb_model.specs.declared.heap.Rule.{Rule}
 use Rattle.wb_model.specs.declared.script.Script.{Script}
-use Rattle.wb_model.specs.declared.script.Local.{Local}
 use Rattle.wb_model.specs.declared.script.Pointer.{Pointer}
 use Rattle.wb_model.specs.declared.script.Number.{Number}
 use Rattle.wb_model.specs.declared.script.Statement.TheOpen.{Statement-F}
-use Rattle.wb_model.specs.Sound.{is_statement, is_pointer, is_variable, is_number}
 use Rattle.wb_model.specs.Row.{Cell, cell_at, changed, usable_of}
 use Rattle.wb_model.specs.CellRow.{content_or_nil, payload_of, with_payload}
 use Rattle.wb_model.specs.Spelling.{signed, read_as}
@@ -22,9 +20,10 @@ use Rattle.wb_model.specs.Operands.{number_of, set_row, raw_words_of, with_cell}
 use Rattle.wb_model.specs.Statements.{statement, done, is_raw, index_in, with_words}
 use Rattle.wb_machine.specs.RunState.{RunState, field_count, read_cell, read_row, state_of}
 use Rattle.wb_machine.specs.Flow.{flow}
+use Rattle.wb_machine.specs.PointerOperands.{operands_refused}
 use Rattle.wb_machine.specs.Carried.{panicked, pointer_read, number_read, word_stored, store_found, store_carried, word_loaded, load_found, load_carried, usable_found, usable_carried}
 use Rattle.wb_machine.proofs.Rows.{read_cell_at, read_changed, signed_word}
-use Rattle.wb_machine.proofs.Kept.{Means, ComesTo, and_left, and_right, number_is, pointer_is}
+use Rattle.wb_machine.proofs.Kept.{Means, ComesTo, number_is, pointer_is, fine_first}
 
 -- the process of a store, from the words of a cell on, from the cell on, and from the pointer on
 abbrev in_words : State → Ptr → ℕ → ℤ → ℤ → List ℤ → Process
@@ -72,19 +71,19 @@ found_kept r script h p x z (Some c) fits found k = by c.head.kind refl k
     by Text raw = λ k. refl
     by Cleanup raw = λ k. refl
 
-pub store_kept : (script : Script) (literals : ℕ) (locals : List Local) (h : RunState) (p : Pointer) (v w : Number) → FitsSigned w32 (number_read h w) →
-    is_statement literals locals (Statement-F.Store p v w) ≡ true →
-    Means script h (Statement-F.Store p v w) (store_carried h (pointer_read h p) (number_read h v) (number_read h w))
+pub store_kept : (script : Script) (h : RunState) (p : Pointer) (v w : Number) → FitsSigned w32 (number_read h w) →
+    operands_refused h (Statement-F.Store p v w) ≡ None →
+    Means script h (Statement-F.Store p v w) (store_carried h (pointer_read script h p) (number_read h v) (number_read h w))
 unfolding statement with_words with_cell
-store_kept script literals locals h p v w fits ok r f rec at k =
+store_kept script h p v w fits ok r f rec at k =
     let st = state_of script h in
-    let q = pointer_read h p in
+    let q = pointer_read script h p in
     let x = number_read h v in
     let z = number_read h w in
-    let named = and_left (is_pointer locals p) (is_number locals v && is_number locals w) ok in
+    let named = fine_first h p [] ok in
     found_kept r script h q x z (cell_at q h.debug.heap.row) fits refl k
     ∙ ap (λ o. flow r (and_then (in_cell st q x z o) k) h) (sym (read_cell_at script q h.debug.heap.row))
-    ∙ sym (ap (λ y. flow r (and_then y k) h) (pointer_is script locals h p (λ q. in_cell st q (number_of st v) (number_of st w) (cell_at q st.heap.row)) named)
+    ∙ sym (ap (λ y. flow r (and_then y k) h) (pointer_is script h p (λ q. in_cell st q (number_of st v) (number_of st w) (cell_at q st.heap.row)) named)
     ∙ ap (λ y. flow r (and_then (in_cell st q y (number_of st w) (cell_at q st.heap.row)) k) h) (number_is script h v)
     ∙ ap (λ y. flow r (and_then (in_cell st q x y (cell_at q st.heap.row)) k) h) (number_is script h w))
 
@@ -126,16 +125,16 @@ load_found_kept r script h x p i (Some c) found k = by c.head.kind refl k
     by Text raw = λ k. refl
     by Cleanup raw = λ k. refl
 
-pub load_kept : (script : Script) (literals : ℕ) (locals : List Local) (h : RunState) (x : ℕ) (p : Pointer) (v : Number) →
-    is_statement literals locals (Statement-F.Load x p v) ≡ true → Means script h (Statement-F.Load x p v) (load_carried h x (pointer_read h p) (number_read h v))
+pub load_kept : (script : Script) (h : RunState) (x : ℕ) (p : Pointer) (v : Number) →
+    operands_refused h (Statement-F.Load x p v) ≡ None → Means script h (Statement-F.Load x p v) (load_carried h x (pointer_read script h p) (number_read h v))
 unfolding statement with_words with_cell
-load_kept script literals locals h x p v ok r f rec at k =
+load_kept script h x p v ok r f rec at k =
     let st = state_of script h in
-    let q = pointer_read h p in
-    let named = and_left (is_pointer locals p) (is_number locals v) (and_right (is_variable locals x) (is_pointer locals p && is_number locals v) ok) in
+    let q = pointer_read script h p in
+    let named = fine_first h p [] ok in
     load_found_kept r script h x q (number_read h v) (cell_at q h.debug.heap.row) refl k
     ∙ ap (λ o. flow r (and_then (from_cell st x (number_read h v) o) k) h) (sym (read_cell_at script q h.debug.heap.row))
-    ∙ sym (ap (λ y. flow r (and_then y k) h) (pointer_is script locals h p (λ q. from_cell st x (number_of st v) (cell_at q st.heap.row)) named)
+    ∙ sym (ap (λ y. flow r (and_then y k) h) (pointer_is script h p (λ q. from_cell st x (number_of st v) (cell_at q st.heap.row)) named)
     ∙ ap (λ y. flow r (and_then (from_cell st x y (cell_at q st.heap.row)) k) h) (number_is script h v))
 
 -- the usable bytes of a cell
@@ -146,13 +145,13 @@ unfolding flow with_some
 usable_found_kept r script h x None k = refl
 usable_found_kept r script h x (Some c) k = refl
 
-pub usable_kept : (script : Script) (literals : ℕ) (locals : List Local) (h : RunState) (x : ℕ) (p : Pointer) →
-    is_statement literals locals (Statement-F.AllocLen x p) ≡ true → Means script h (Statement-F.AllocLen x p) (usable_carried h x (pointer_read h p))
+pub usable_kept : (script : Script) (h : RunState) (x : ℕ) (p : Pointer) →
+    operands_refused h (Statement-F.AllocLen x p) ≡ None → Means script h (Statement-F.AllocLen x p) (usable_carried h x (pointer_read script h p))
 unfolding statement
-usable_kept script literals locals h x p ok r f rec at k =
+usable_kept script h x p ok r f rec at k =
     let st = state_of script h in
-    let q = pointer_read h p in
+    let q = pointer_read script h p in
     let go : Option (Cell Content) → Process = λ o. with_some o BAD_CELL st (λ c. done (set_local st x (number (pos (usable_of c.head))))) in
     usable_found_kept r script h x (cell_at q h.debug.heap.row) k
     ∙ ap (λ o. flow r (and_then (go o) k) h) (sym (read_cell_at script q h.debug.heap.row))
-    ∙ sym (ap (λ y. flow r (and_then y k) h) (pointer_is script locals h p (λ q. go (cell_at q st.heap.row)) (and_right (is_variable locals x) (is_pointer locals p) ok)))
+    ∙ sym (ap (λ y. flow r (and_then y k) h) (pointer_is script h p (λ q. go (cell_at q st.heap.row)) (fine_first h p [] ok)))

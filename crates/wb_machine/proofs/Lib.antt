@@ -8,7 +8,6 @@ pub mod Fitting
 pub mod Flows
 pub mod Frames
 pub mod Heads
-pub mod Quiet
 pub mod Kept
 pub mod KeptCells
 pub mod KeptCleanup
@@ -16,6 +15,7 @@ pub mod KeptLeaves
 pub mod KeptLines
 pub mod KeptMarks
 pub mod KeptNumbers
+pub mod KeptObjects
 pub mod KeptReallocations
 pub mod KeptTextCells
 pub mod KeptTexts
@@ -23,8 +23,13 @@ pub mod KeptViews
 pub mod KeptWords
 pub mod Later
 pub mod NothingAsked
+pub mod ObjectFields
+pub mod ObjectsMade
 pub mod Outcomes
+pub mod PointerOperands
+pub mod Quiet
 pub mod ReadTexts
+pub mod Refused
 pub mod Rows
 pub mod Scripts
 pub mod StackBeside

@@ -1,4 +1,4 @@
--- Which statements ask for no attempt before a further step is counted: all but five.
+-- Which statements ask for no attempt before a further step is counted: all but those that allocate, reallocate or push.
 use Rattle.std.proofs.Common.{◌≡◌, ℕ, ℤ, ◌+◌, ◌≤◌, Bool, true, false, List, [], ◌∷◌, ◌++◌, map, length, refl, Option, Some, None, Result, Ok, Err, arith}
 use Rattle.wb_model.specs.declared.heap.Ptr.{Ptr}
 use Rattle.wb_model.specs.declared.heap.Panic.{Panic}
@@ -18,9 +18,6 @@ use Rattle.wb_model.specs.declared.script.Condition.TheVariants.{IsNull, NotNull
 use Rattle.wb_model.specs.declared.script.Argument.{Argument}
 use Rattle.wb_model.specs.declared.script.Argument.TheVariants.{Passed, Given}
 use Rattle.wb_model.specs.declared.script.Body.{Body}
-use Rattle.wb_model.specs.declared.script.Local.{Local}
-use Rattle.wb_model.specs.declared.script.Numbered.{Numbered}
-use Rattle.wb_model.specs.Sound.{Declared, is_nested}
 use Rattle.wb_model.specs.declared.script.Script.{Script}
 use Rattle.wb_model.specs.declared.script.Statement.TheOpen.{Statement-F}
 use Rattle.wb_model.specs.Row.{Cell, cell_at}
@@ -28,7 +25,8 @@ use Rattle.wb_model.specs.Texts.{Edited, Part}
 use Rattle.wb_model.specs.State.{Content, Value, null, initial, pointer, State, Way, goes_on, returns, leaves, Process, on_plain_end, then_do, require, with_some, unless}
 use Rattle.wb_model.specs.Operands.{with_cell, with_fields, with_pointer}
 use Rattle.wb_model.specs.Reading.{Source, whole, part, with_writable, with_readable, with_base, with_units, with_room, with_text_cell, write, write_view}
-use Rattle.wb_model.specs.Statements.{with_words, all, Where, Layer, done, of_script, released, release, is_null, in_frame, plain, with_arguments, with_condition, leave_if, trapped, procedure_at, operation_at, destroy_items, destroy_object, newest, drop_newest, with_class, destroyed_item, destroyed_object, statement}
+use Rattle.wb_model.specs.Statements.{with_words, all, Where, Layer, done, of_script, released, release, is_null, in_frame, plain, with_arguments, with_condition, leave_if, trapped, destroy_items, destroy_object, newest, drop_newest, with_class, destroyed_item, destroyed_object, statement}
+use Rattle.wb_model.specs.Bodies.{procedure_at, operation_at}
 use Rattle.wb_model.proofs.AlikeLemmas.{Fine, then_do-alike, with_some-alike, with_class-alike, release-alike}
 use Rattle.wb_model.proofs.AlikeStatements.{plain-alike, in_frame-alike, destroyed_item-alike}
 use Rattle.wb_model.proofs.AlikePieces.{between}
@@ -145,7 +143,9 @@ may_ask (Statement-F.Alloc p v x) = true
 may_ask (Statement-F.Realloc p q v x) = true
 may_ask (Statement-F.NewText p v x) = true
 may_ask (Statement-F.ReallocText p q v) = true
+may_ask (Statement-F.New p class x) = true
 may_ask (Statement-F.Push p) = true
+may_ask (Statement-F.PushObject p) = true
 may_ask (Statement-F.PushOperation p operation) = true
 may_ask _ = false
 
@@ -221,79 +221,78 @@ module _ (script : Script) (budget : ℕ) where
       later_higher script budget low st.steps _ least (destroyed_onward script budget at _ st _ most (λ low st. tt) (λ ns st g. (refl, g))).0
 
   -- one that doesn't asks for nothing before a further step is counted, nor does what stands inside it
-  pub nothing_asked : (declared : Declared) (locals : List Local) (held : Bool) (inside : Bool → List Numbered → Bool) (at : Where) (layer : Layer) (st : State) →
-      st.steps ≤ budget → is_nested declared locals held inside layer ≡ true → may_ask layer ≡ false → IsLater st.steps (statement script (meant script budget) at layer st)
+  pub nothing_asked : (at : Where) (layer : Layer) (st : State) → st.steps ≤ budget → may_ask layer ≡ false → IsLater st.steps (statement script (meant script budget) at layer st)
   unfolding statement
-  nothing_asked declared locals held inside at (Statement-F.Alloc p v x) st within ok plain = cc
-  nothing_asked declared locals held inside at (Statement-F.Realloc p q v x) st within ok plain = cc
-  nothing_asked declared locals held inside at (Statement-F.NewText p v x) st within ok plain = cc
-  nothing_asked declared locals held inside at (Statement-F.ReallocText p q v) st within ok plain = cc
-  nothing_asked declared locals held inside at (Statement-F.New p class x) st within ok plain = cc
-  nothing_asked declared locals held inside at (Statement-F.Construct p) st within ok plain =
+  nothing_asked at (Statement-F.Alloc p v x) st within plain = cc
+  nothing_asked at (Statement-F.Realloc p q v x) st within plain = cc
+  nothing_asked at (Statement-F.NewText p v x) st within plain = cc
+  nothing_asked at (Statement-F.ReallocText p q v) st within plain = cc
+  nothing_asked at (Statement-F.New p class x) st within plain = cc
+  nothing_asked at (Statement-F.Construct p) st within plain =
       with_pointer_later st.steps st p _ (λ q. with_class_later st q _ (λ class. frame_later at q [] _ st _ within (λ p st'. tt)))
-  nothing_asked declared locals held inside at (Statement-F.Delete p) st within ok plain = with_pointer_later st.steps st p _ (λ q. deleted_later (is_null q) at q st within)
-  nothing_asked declared locals held inside at (Statement-F.Push p) st within ok plain = cc
-  nothing_asked declared locals held inside at (Statement-F.PushObject p) st within ok plain = cc
-  nothing_asked declared locals held inside at (Statement-F.PushOperation p operation) st within ok plain = cc
-  nothing_asked declared locals held inside at (Statement-F.Pop v) st within ok plain = with_some_later st.steps _ _ _ _ (λ n. require_later st.steps _ _ st _ tt)
-  nothing_asked declared locals held inside at (Statement-F.PopDestroy v) st within ok plain =
+  nothing_asked at (Statement-F.Delete p) st within plain = with_pointer_later st.steps st p _ (λ q. deleted_later (is_null q) at q st within)
+  nothing_asked at (Statement-F.Push p) st within plain = cc
+  nothing_asked at (Statement-F.PushObject p) st within plain = cc
+  nothing_asked at (Statement-F.PushOperation p operation) st within plain = cc
+  nothing_asked at (Statement-F.Pop v) st within plain = with_some_later st.steps _ _ _ _ (λ n. require_later st.steps _ _ st _ tt)
+  nothing_asked at (Statement-F.PopDestroy v) st within plain =
       with_some_later st.steps _ _ _ _ (λ n. require_later st.steps _ _ st _ (meaning_later script budget at (destroy_items n) st within).0)
-  nothing_asked declared locals held inside at (Statement-F.PopCheck p) st within ok plain =
+  nothing_asked at (Statement-F.PopCheck p) st within plain =
       with_pointer_later st.steps st p _ (λ q. require_later st.steps _ _ st _ (with_some_later st.steps _ _ _ _ (λ item. require_later st.steps _ _ st _ tt)))
-  nothing_asked declared locals held inside at (Statement-F.Free p) st within ok plain = with_pointer_later st.steps st p _ (λ q. release_later st.steps q st)
-  nothing_asked declared locals held inside at (Statement-F.AllocLen x p) st within ok plain = with_pointer_later st.steps st p _ (λ q. with_some_later st.steps _ _ _ _ (λ c. tt))
-  nothing_asked declared locals held inside at (Statement-F.Store p v w) st within ok plain =
+  nothing_asked at (Statement-F.Free p) st within plain = with_pointer_later st.steps st p _ (λ q. release_later st.steps q st)
+  nothing_asked at (Statement-F.AllocLen x p) st within plain = with_pointer_later st.steps st p _ (λ q. with_some_later st.steps _ _ _ _ (λ c. tt))
+  nothing_asked at (Statement-F.Store p v w) st within plain =
       with_pointer_later st.steps st p _ (λ q. with_words_later st.steps st q _ (λ c ws. with_some_later st.steps _ _ _ _ (λ k. tt)))
-  nothing_asked declared locals held inside at (Statement-F.Load x p v) st within ok plain =
+  nothing_asked at (Statement-F.Load x p v) st within plain =
       with_pointer_later st.steps st p _ (λ q. with_words_later st.steps st q _ (λ c ws. with_some_later st.steps _ _ _ _ (λ k. tt)))
-  nothing_asked declared locals held inside at (Statement-F.Set p q) st within ok plain = with_pointer_later st.steps st p _ (λ _. with_pointer_later st.steps st q _ (λ _. tt))
-  nothing_asked declared locals held inside at (Statement-F.SetNumber x v) st within ok plain = tt
-  nothing_asked declared locals held inside at (Statement-F.SetNull p) st within ok plain = with_pointer_later st.steps st p _ (λ _. tt)
-  nothing_asked declared locals held inside at (Statement-F.Add x v) st within ok plain = require_later st.steps _ _ st _ tt
-  nothing_asked declared locals held inside at (Statement-F.Leave v) st within ok plain = tt
-  nothing_asked declared locals held inside at (Statement-F.LeaveIfError v) st within ok plain = leave_if_later st.steps _ _ st
-  nothing_asked declared locals held inside at (Statement-F.LeaveIfNull p) st within ok plain = with_pointer_later st.steps st p _ (λ q. leave_if_later st.steps _ _ st)
-  nothing_asked declared locals held inside at (Statement-F.Call index arguments) st within ok plain =
+  nothing_asked at (Statement-F.Set p q) st within plain = with_pointer_later st.steps st p _ (λ _. with_pointer_later st.steps st q _ (λ _. tt))
+  nothing_asked at (Statement-F.SetNumber x v) st within plain = tt
+  nothing_asked at (Statement-F.SetNull p) st within plain = with_pointer_later st.steps st p _ (λ _. tt)
+  nothing_asked at (Statement-F.Add x v) st within plain = require_later st.steps _ _ st _ tt
+  nothing_asked at (Statement-F.Leave v) st within plain = tt
+  nothing_asked at (Statement-F.LeaveIfError v) st within plain = leave_if_later st.steps _ _ st
+  nothing_asked at (Statement-F.LeaveIfNull p) st within plain = with_pointer_later st.steps st p _ (λ q. leave_if_later st.steps _ _ st)
+  nothing_asked at (Statement-F.Call index arguments) st within plain =
       with_arguments_later st.steps st arguments _ (λ given. frame_later at null given (procedure_at script index) st _ within (λ p st'. tt))
-  nothing_asked declared locals held inside at (Statement-F.CallTo x index arguments) st within ok plain =
+  nothing_asked at (Statement-F.CallTo x index arguments) st within plain =
       with_arguments_later st.steps st arguments _ (λ given. frame_later at null given (procedure_at script index) st _ within (λ p st'. tt))
-  nothing_asked declared locals held inside at Statement-F.Return st within ok plain = tt
-  nothing_asked declared locals held inside at (Statement-F.ReturnPointer p) st within ok plain = with_pointer_later st.steps st p _ (λ _. tt)
-  nothing_asked declared locals held inside at Statement-F.Mark st within ok plain = tt
-  nothing_asked declared locals held inside at (Statement-F.MarkEnd v) st within ok plain = with_some_later st.steps _ _ _ _ (λ k. unless_later st.steps _ st _ tt)
-  nothing_asked declared locals held inside at (Statement-F.Check v) st within ok plain = with_some_later st.steps _ _ _ _ (λ k. unless_later st.steps _ st _ tt)
-  nothing_asked declared locals held inside at (Statement-F.CheckAll v) st within ok plain = with_some_later st.steps _ _ _ _ (λ k. unless_later st.steps _ st _ tt)
-  nothing_asked declared locals held inside at (Statement-F.FailNext v) st within ok plain = with_some_later st.steps _ _ _ _ (λ k. tt)
-  nothing_asked declared locals held inside at (Statement-F.FailEvery v) st within ok plain = with_some_later st.steps _ _ _ _ (λ k. tt)
-  nothing_asked declared locals held inside at Statement-F.FailNone st within ok plain = tt
-  nothing_asked declared locals held inside at (Statement-F.Copy d t) st within ok plain =
+  nothing_asked at Statement-F.Return st within plain = tt
+  nothing_asked at (Statement-F.ReturnPointer p) st within plain = with_pointer_later st.steps st p _ (λ _. tt)
+  nothing_asked at Statement-F.Mark st within plain = tt
+  nothing_asked at (Statement-F.MarkEnd v) st within plain = with_some_later st.steps _ _ _ _ (λ k. unless_later st.steps _ st _ tt)
+  nothing_asked at (Statement-F.Check v) st within plain = with_some_later st.steps _ _ _ _ (λ k. unless_later st.steps _ st _ tt)
+  nothing_asked at (Statement-F.CheckAll v) st within plain = with_some_later st.steps _ _ _ _ (λ k. unless_later st.steps _ st _ tt)
+  nothing_asked at (Statement-F.FailNext v) st within plain = with_some_later st.steps _ _ _ _ (λ k. tt)
+  nothing_asked at (Statement-F.FailEvery v) st within plain = with_some_later st.steps _ _ _ _ (λ k. tt)
+  nothing_asked at Statement-F.FailNone st within plain = tt
+  nothing_asked at (Statement-F.Copy d t) st within plain =
       with_writable_later st.steps st d _ (λ to. with_readable_later st.steps st t _ (λ from. with_room_later st.steps st to _ (λ max old. with_units_later st.steps _ st from _ (λ us. write_later st.steps _ st to max))))
-  nothing_asked declared locals held inside at (Statement-F.Append d t) st within ok plain =
+  nothing_asked at (Statement-F.Append d t) st within plain =
       with_writable_later st.steps st d _ (λ to. with_readable_later st.steps st t _ (λ from. with_room_later st.steps st to _ (λ max old. with_units_later st.steps _ st from _ (λ us. write_later st.steps _ st to max))))
-  nothing_asked declared locals held inside at (Statement-F.Insert d v t) st within ok plain =
+  nothing_asked at (Statement-F.Insert d v t) st within plain =
       with_writable_later st.steps st d _ (λ to. with_readable_later st.steps st t _ (λ from. with_room_later st.steps st to _ (λ max old. with_units_later st.steps _ st from _ (λ us.
       with_some_later st.steps _ _ _ _ (λ k. require_later st.steps _ _ st _ (write_later st.steps _ st to max))))))
-  nothing_asked declared locals held inside at (Statement-F.DeleteText d v w) st within ok plain =
+  nothing_asked at (Statement-F.DeleteText d v w) st within plain =
       with_writable_later st.steps st d _ (λ to. with_room_later st.steps st to _ (λ max old. with_some_later st.steps _ _ _ _ (λ k. with_some_later st.steps _ _ _ _ (λ m. write_later st.steps _ st to max))))
-  nothing_asked declared locals held inside at (Statement-F.SetLength d v) st within ok plain =
+  nothing_asked at (Statement-F.SetLength d v) st within plain =
       with_writable_later st.steps st d _ (λ to. with_room_later st.steps st to _ (λ max old. with_some_later st.steps _ _ _ _ (λ k. write_later st.steps _ st to max)))
-  nothing_asked declared locals held inside at (Statement-F.Left x t v) st within ok plain =
+  nothing_asked at (Statement-F.Left x t v) st within plain =
       with_readable_later st.steps st t _ (λ from. with_units_later st.steps _ st from _ (λ us. with_some_later st.steps _ _ _ _ (λ k. write_view_later st.steps _ st x from)))
-  nothing_asked declared locals held inside at (Statement-F.Right x t v) st within ok plain =
+  nothing_asked at (Statement-F.Right x t v) st within plain =
       with_readable_later st.steps st t _ (λ from. with_units_later st.steps _ st from _ (λ us. with_some_later st.steps _ _ _ _ (λ k. write_view_later st.steps _ st x from)))
-  nothing_asked declared locals held inside at (Statement-F.Mid x t v w) st within ok plain =
+  nothing_asked at (Statement-F.Mid x t v w) st within plain =
       with_readable_later st.steps st t _ (λ from. with_units_later st.steps _ st from _ (λ us. with_some_later st.steps _ _ _ _ (λ k. with_some_later st.steps _ _ _ _ (λ m. write_view_later st.steps _ st x from))))
-  nothing_asked declared locals held inside at (Statement-F.GetLength x t) st within ok plain = with_readable_later st.steps st t _ (λ from. with_units_later st.steps _ st from _ (λ us. tt))
-  nothing_asked declared locals held inside at (Statement-F.GetMaximum x d) st within ok plain = with_writable_later st.steps st d _ (λ to. with_room_later st.steps st to _ (λ max us. tt))
-  nothing_asked declared locals held inside at (Statement-F.PrintText t) st within ok plain = with_readable_later st.steps st t _ (λ from. with_units_later st.steps _ st from _ (λ us. tt))
-  nothing_asked declared locals held inside at (Statement-F.PrintNumber v) st within ok plain = tt
-  nothing_asked declared locals held inside at Statement-F.NoteHeap st within ok plain = tt
-  nothing_asked declared locals held inside at Statement-F.NoteAvailable st within ok plain = tt
-  nothing_asked declared locals held inside at Statement-F.NoteCompress st within ok plain = tt
-  nothing_asked declared locals held inside at (Statement-F.If c first) st within ok plain = with_condition_later st.steps st c _ (λ b. (meaning_later script budget at _ st within).0)
-  nothing_asked declared locals held inside at (Statement-F.IfElse c first other) st within ok plain = with_condition_later st.steps st c _ (λ b. (meaning_later script budget at _ st within).0)
-  nothing_asked declared locals held inside at (Statement-F.Repeat v body) st within ok plain = with_some_later st.steps _ _ _ _ (λ k. (meaning_later script budget at _ st within).0)
-  nothing_asked declared locals held inside at (Statement-F.Trap x body) st within ok plain =
+  nothing_asked at (Statement-F.GetLength x t) st within plain = with_readable_later st.steps st t _ (λ from. with_units_later st.steps _ st from _ (λ us. tt))
+  nothing_asked at (Statement-F.GetMaximum x d) st within plain = with_writable_later st.steps st d _ (λ to. with_room_later st.steps st to _ (λ max us. tt))
+  nothing_asked at (Statement-F.PrintText t) st within plain = with_readable_later st.steps st t _ (λ from. with_units_later st.steps _ st from _ (λ us. tt))
+  nothing_asked at (Statement-F.PrintNumber v) st within plain = tt
+  nothing_asked at Statement-F.NoteHeap st within plain = tt
+  nothing_asked at Statement-F.NoteAvailable st within plain = tt
+  nothing_asked at Statement-F.NoteCompress st within plain = tt
+  nothing_asked at (Statement-F.If c first) st within plain = with_condition_later st.steps st c _ (λ b. (meaning_later script budget at _ st within).0)
+  nothing_asked at (Statement-F.IfElse c first other) st within plain = with_condition_later st.steps st c _ (λ b. (meaning_later script budget at _ st within).0)
+  nothing_asked at (Statement-F.Repeat v body) st within plain = with_some_later st.steps _ _ _ _ (λ k. (meaning_later script budget at _ st within).0)
+  nothing_asked at (Statement-F.Trap x body) st within plain =
       let entry = length st.items in
       let m = meaning_later script budget (record at { floor = entry }) (all body) st within in
       later_then script budget st.steps _ _ m.0 m.1 (λ w st' least most. trap_later at x entry w st.steps st' least most)

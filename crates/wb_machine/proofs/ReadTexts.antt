@@ -5,10 +5,8 @@ use Rattle.std.proofs.lemmas.List.{take_all, append-nil}
 use Rattle.wb_model.specs.declared.heap.TheConstants.Panic.{NULL_OR_STALE, WRONG_KIND}
 use Rattle.wb_model.specs.declared.heap.Kind.{Kind}
 use Rattle.wb_model.specs.declared.heap.Kind.TheVariants.{Raw, Object, Text, Cleanup}
-use Rattle.wb_model.specs.declared.heap.Panic.{Panic}
 use Rattle.wb_model.specs.declared.heap.Ptr.{Ptr}
 use Rattle.wb_model.specs.declared.script.Script.{Script}
-use Rattle.wb_model.specs.declared.script.Local.{Local}
 use Rattle.wb_model.specs.declared.script.Writable.{Writable}
 use Rattle.wb_model.specs.declared.script.Writable.TheVariants.{OwnBuffer, InCell}
 use Rattle.wb_model.specs.declared.script.Readable.{Readable}
@@ -16,11 +14,10 @@ use Rattle.wb_model.specs.declared.script.Readable.TheVariants.{Of, ViewOf, Quot
 use Rattle.wb_model.specs.declared.text.Base.{Base}
 use Rattle.wb_model.specs.declared.text.Base.TheVariants as B
 use Rattle.wb_model.specs.declared.text.View.{View}
-use Rattle.wb_model.specs.Sound.{is_writable, is_readable}
 use Rattle.wb_model.specs.Row.{Cell, cell_at, usable_of}
 use Rattle.wb_model.specs.CellRow.{content_or_nil}
 use Rattle.wb_model.specs.Spelling.{read_as}
-use Rattle.wb_model.specs.State.{Content, Value, pointer, number, buffer, view, State, panics, Process, stops, with_some}
+use Rattle.wb_model.specs.State.{Content, Value, pointer, number, buffer, view, State, Process, with_some}
 use Rattle.wb_model.specs.Operands.{with_cell, units_of}
 use Rattle.wb_model.specs.Texts.{units_of_part}
 use Rattle.wb_model.specs.TextCells.{text_in, text_at, usable_or_none}
@@ -30,12 +27,9 @@ use Rattle.wb_machine.specs.LocalValues.{window_in}
 use Rattle.wb_machine.specs.TextOperands.{base_named, is_text, text_refusal, base_refusal, base_text, base_max, is_writable_base, window_units, whole_of, window_read}
 use Rattle.wb_model.proofs.TextCells.{length-exactly}
 use Rattle.wb_machine.proofs.Rows.{read_cell_at}
-use Rattle.wb_machine.proofs.Kept.{pointer_is}
-
--- a refusal, or what follows
-abbrev pub through : Option Panic → State → Process → Process
-through (Some panic) st p = stops (panics panic) st
-through None st p = p
+use Rattle.wb_machine.specs.PointerOperands.{first_refusal, of_writable, of_readable}
+pub use Rattle.wb_machine.proofs.PointerOperands.{through}
+use Rattle.wb_machine.proofs.PointerOperands.{one_asked, passed_by, refusal_append, through_both}
 
 -- the text of a cell
 cell_is : (script : Script) (h : RunState) (p : Ptr) (go : ℕ → List ℕ → Process) →
@@ -78,28 +72,48 @@ room_is script h (B.Literal i) go ok = cc
 room_is script h (B.Local i) go ok = refl
 room_is script h (B.Cell p) go ok = cell_is script h p (λ u us. go (max_units u) us)
 
-pub named_writable : (h : RunState) (d : Writable) → is_writable_base (base_named h d) ≡ true
-named_writable h (OwnBuffer i) = refl
-named_writable h (InCell p) = refl
+pub named_writable : (script : Script) (h : RunState) (d : Writable) → is_writable_base (base_named script h d) ≡ true
+named_writable script h (OwnBuffer i) = refl
+named_writable script h (InCell p) = refl
 
-pub writable_is : (script : Script) (locals : List Local) (h : RunState) (d : Writable) (go : Base → Process) → is_writable locals d ≡ true →
-    with_writable (state_of script h) d go ≡ go (base_named h d)
+pub writable_asked : (script : Script) (h : RunState) (d : Writable) (go : Base → Process) →
+    with_writable (state_of script h) d go ≡ through (first_refusal h (of_writable d)) (state_of script h) (go (base_named script h d))
 unfolding with_writable
-writable_is script locals h (OwnBuffer i) go ok = refl
-writable_is script locals h (InCell p) go ok = pointer_is script locals h p (λ at. go (B.Cell at)) ok
+writable_asked script h (OwnBuffer i) go = refl
+writable_asked script h (InCell p) go = one_asked script h p (λ at. go (B.Cell at))
+
+pub writable_is : (script : Script) (h : RunState) (d : Writable) (go : Base → Process) → first_refusal h (of_writable d) ≡ None →
+    with_writable (state_of script h) d go ≡ go (base_named script h d)
+writable_is script h d go fine = passed_by (state_of script h) _ (writable_asked script h d go) fine
 
 -- what a readable text is a part of
-abbrev pub source_named : RunState → Readable → Source
-source_named h (Of d) = whole (base_named h d)
-source_named h (ViewOf i) = view_in (value_in h.locals i)
-source_named h (Quoted i) = whole (B.Literal i)
+abbrev pub source_named : Script → RunState → Readable → Source
+source_named script h (Of d) = whole (base_named script h d)
+source_named script h (ViewOf i) = view_in (value_in h.locals i)
+source_named script h (Quoted i) = whole (B.Literal i)
 
-pub readable_is : (script : Script) (literals : ℕ) (locals : List Local) (h : RunState) (t : Readable) (go : Source → Process) → is_readable literals locals t ≡ true →
-    with_readable (state_of script h) t go ≡ go (source_named h t)
+pub readable_asked : (script : Script) (h : RunState) (t : Readable) (go : Source → Process) →
+    with_readable (state_of script h) t go ≡ through (first_refusal h (of_readable t)) (state_of script h) (go (source_named script h t))
 unfolding with_readable
-readable_is script literals locals h (Of d) go ok = writable_is script locals h d (λ b. go (whole b)) ok
-readable_is script literals locals h (ViewOf i) go ok = refl
-readable_is script literals locals h (Quoted i) go ok = refl
+readable_asked script h (Of d) go = writable_asked script h d (λ b. go (whole b))
+readable_asked script h (ViewOf i) go = refl
+readable_asked script h (Quoted i) go = refl
+
+pub readable_is : (script : Script) (h : RunState) (t : Readable) (go : Source → Process) → first_refusal h (of_readable t) ≡ None →
+    with_readable (state_of script h) t go ≡ go (source_named script h t)
+readable_is script h t go fine = passed_by (state_of script h) _ (readable_asked script h t go) fine
+
+-- a text that is changed, and the one that it is changed by
+pub texts_asked : (script : Script) (h : RunState) (d : Writable) (t : Readable) (go : Base → Source → Process) →
+    with_writable (state_of script h) d (λ to. with_readable (state_of script h) t (go to))
+    ≡ through (first_refusal h (of_writable d ++ of_readable t)) (state_of script h) (go (base_named script h d) (source_named script h t))
+texts_asked script h d t go =
+    let st = state_of script h in
+    let rest = go (base_named script h d) (source_named script h t) in
+    writable_asked script h d (λ to. with_readable st t (go to))
+    ∙ ap (through (first_refusal h (of_writable d)) st) (readable_asked script h t (go (base_named script h d)))
+    ∙ through_both (first_refusal h (of_writable d)) (first_refusal h (of_readable t)) st rest
+    ∙ ap (λ o. through o st rest) (sym (refusal_append h (of_writable d) (of_readable t)))
 
 whole_units : (us : List ℕ) → units_of_part us 0 (length us) ≡ us
 whole_units us =
@@ -140,7 +154,7 @@ value_shown script h (pointer p) = whole_shown script h B.Nothing
 value_shown script h (number z) = whole_shown script h B.Nothing
 value_shown script h (buffer max t) = whole_shown script h B.Nothing
 
-pub shown : (script : Script) (h : RunState) (t : Readable) → IsShown script h (source_named h t) (window_read script.literals h t)
-shown script h (Of d) = whole_shown script h (base_named h d)
+pub shown : (script : Script) (h : RunState) (t : Readable) → IsShown script h (source_named script h t) (window_read script h t)
+shown script h (Of d) = whole_shown script h (base_named script h d)
 shown script h (ViewOf i) = value_shown script h (value_in h.locals i)
 shown script h (Quoted i) = whole_shown script h (B.Literal i)

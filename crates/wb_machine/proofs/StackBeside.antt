@@ -38,7 +38,7 @@ pub record Stays (o : Option Cleanup) (d e : Debug) : Type 0 where
 abbrev KeepsCell : Option Cleanup → Debug → Debug → Type 0
 KeepsCell o d e = (stack : Cleanup) → IsStack stack d → cell_at (cell_of stack) e.heap.row ≡ cell_at (cell_of stack) d.heap.row
 
-same_cell : (o : Option Cleanup) (d e : Debug) → StandsIn o d.heap.row → KeepsCell o d e → Stays o d e
+pub same_cell : (o : Option Cleanup) (d e : Debug) → StandsIn o d.heap.row → KeepsCell o d e → Stays o d e
 same_cell None d e stands kept = record { stands = tt; items = refl }
 same_cell (Some stack) d e stands kept =
     let is = stands d refl in
@@ -112,6 +112,11 @@ pub changed_beside : (o : Option Cleanup) (d : Debug) (p : Ptr) (c : Cell (List 
     Stays o d (debug_changed d p ws)
 changed_beside o d p c ws stands found other =
     same_cell o d _ stands (λ stack is. found-other p (cell_of stack) ws d.heap.row (apart stack p d c is found other))
+
+-- of an object
+pub field_beside : (o : Option Cleanup) (d e : Debug) (p : Ptr) (ws : List ℕ) (c : Cell (List ℕ)) (class : ℕ) → StandsIn o d.heap.row → cell_at p d.heap.row ≡ Some c → c.head.kind ≡ Object class →
+    e ≡ debug_changed d p ws → Stays o d e
+field_beside o d e p ws c class stands found kind put = subst (Stays o d) (sym put) (changed_beside o d p c ws stands found (ap is_cleanup kind))
 
 -- a cell in the place of another one
 found-replaced : (q p : Ptr) (c : Cell (List ℕ)) (row : List (Cell (List ℕ))) → is_at q c.head ≡ false → q ≢ p → cell_at q (inserted c (without p row)) ≡ cell_at q row

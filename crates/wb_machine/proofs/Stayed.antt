@@ -15,7 +15,7 @@ use Rattle.wb_machine.specs.RunState.{RunState, with_debug}
 use Rattle.wb_machine.specs.Owed.{Stays, KeepsCount}
 
 -- an attempt
-made_stays : (h : RunState) (t : Request) (after : ℕ → Answer → AfterAnswer (List ℕ)) → ((n : ℕ) (a : Answer) → (after n a).heap.level ≡ h.debug.heap.level) → (o : Option Answer) →
+pub made_stays : (h : RunState) (t : Request) (after : ℕ → Answer → AfterAnswer (List ℕ)) → ((n : ℕ) (a : Answer) → (after n a).heap.level ≡ h.debug.heap.level) → (o : Option Answer) →
     Stays h (with_debug h (made_by h.debug t after o).debug)
 made_stays h t after same None = record { rule = refl; shape = refl; fewer = omega arith; more = omega arith; lines = refl; deeper = omega arith; stack = λ has. has }
 made_stays h t after same (Some a) = record {
@@ -28,10 +28,10 @@ made_stays h t after same (Some a) = record {
   stack = λ has. has;
 }
 
-alloc_after : (d : Debug) (t : Request) (kind : Kind) (n : ℕ) (a : Answer) → (after_alloc d.heap t kind (zero_words t.length) n a).heap.level ≡ d.heap.level
-alloc_after d t kind n Granted = refl
-alloc_after d t kind n Simulated = refl
-alloc_after d t kind n Refused = refl
+pub alloc_after : (d : Debug) (t : Request) (kind : Kind) (ws : List ℕ) (n : ℕ) (a : Answer) → (after_alloc d.heap t kind ws n a).heap.level ≡ d.heap.level
+alloc_after d t kind ws n Granted = refl
+alloc_after d t kind ws n Simulated = refl
+alloc_after d t kind ws n Refused = refl
 
 -- it changes no level
 pub alloc_level : {X Y : Type 0} (o : Result X Y) (d new : Debug) (bytes : ℕ) (kind : Kind) → OnOk o (new ≡ (alloc_made d bytes kind).debug) → OnErr o (new ≡ d) → new.heap.level ≡ d.heap.level
@@ -43,13 +43,13 @@ alloc_level (Ok x) d new bytes kind ok err = ap (λ (x : Debug). x.heap.level) o
 
     by : (o : Option Answer) → (made_by d t (after_alloc d.heap t kind (zero_words t.length)) o).debug.heap.level ≡ d.heap.level
     by None = refl
-    by (Some a) = alloc_after d t kind (number_of_next d) a
+    by (Some a) = alloc_after d t kind (zero_words t.length) (number_of_next d) a
 
 -- an allocation
 pub alloc_stays : (h : RunState) (bytes : ℕ) (kind : Kind) → Stays h (with_debug h (alloc_made h.debug bytes kind).debug)
 alloc_stays h bytes kind =
     let t = alloc_request h.debug.heap bytes in
-    made_stays h t (after_alloc h.debug.heap t kind (zero_words t.length)) (alloc_after h.debug t kind) (answer_in h.debug t)
+    made_stays h t (after_alloc h.debug.heap t kind (zero_words t.length)) (alloc_after h.debug t kind (zero_words t.length)) (answer_in h.debug t)
 
 -- a call on the debug heap that made of it what stays, or left it
 pub called_keeps : {X Y : Type 0} (o : Result X Y) (h : RunState) (made d : Debug) → Stays h (with_debug h made) → OnOk o (d ≡ made) → OnErr o (d ≡ h.debug) → KeepsCount h (with_debug h d)

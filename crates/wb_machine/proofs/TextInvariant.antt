@@ -230,6 +230,11 @@ pub texts_stored : (p : Ptr) (ws : List ℕ) (row : List (Cell (List ℕ))) → 
 texts_stored p ws row raw texts =
     texts_changed p ws row (λ c found kind. absurd (raw_isnt_text c.head.kind (subst (λ o. IfSome o (λ c. is_raw c.head.kind ≡ true)) found raw) kind)) texts
 
+-- the words of an object are no text's
+pub texts_with_field : (p : Ptr) (ws : List ℕ) (row : List (Cell (List ℕ))) (c : Cell (List ℕ)) (class : ℕ) → cell_at p row ≡ Some c → c.head.kind ≡ Object class → AreTexts row → AreTexts (with_payload p ws row)
+texts_with_field p ws row c class found kind texts =
+    texts_changed p ws row (λ d at text. let same : Some d ≡ Some c = sym at ∙ found in let one : d ≡ c = cc in let no : Object class ≡ Text = sym kind ∙ sym (ap (λ (x : Cell (List ℕ)). x.head.kind) one) ∙ text in cc) texts
+
 limit_under-ceiling : (r : Rule) → limit_under r ≤ CEILING
 limit_under-ceiling Unlimited = omega arith
 limit_under-ceiling (Limit l) = omega arith

@@ -1,5 +1,5 @@
 -- When the next turn asks for an attempt.
-use Rattle.std.specs.Prelude.{ℕ, ◌+◌, ◌*◌, List, Bool, true, false, ◌&&◌, nat_eq, nat_lt, nat_le, if◌then◌else◌, Option, Some, None, length}
+use Rattle.std.specs.Prelude.{ℕ, ◌+◌, ◌*◌, List, Bool, true, false, not, ◌&&◌, nat_eq, nat_lt, nat_le, if◌then◌else◌, Option, Some, None, length}
 use Rattle.wb_model.specs.declared.limits.TheConstants.{LARGEST_REQUEST, MOST_UNITS}
 use Rattle.wb_model.specs.declared.heap.Ptr.{Ptr}
 use Rattle.wb_model.specs.declared.script.Script.{Script}
@@ -12,6 +12,7 @@ use Rattle.wb_model.specs.Statements.{Layer, is_null, is_raw}
 use Rattle.wb_model.specs.Rest.{Progress, not_begun, going, has_stopped, resume}
 use Rattle.wb_machine.specs.RunState.{RunState}
 use Rattle.wb_machine.specs.Carried.{pointer_read, number_read}
+use Rattle.wb_machine.specs.PointerOperands.{operands_refused}
 use Rattle.wb_machine.specs.TextOperands.{is_text}
 
 -- a process asks for an attempt at once, its state having counted this many steps
@@ -62,11 +63,17 @@ abbrev pub push_asks : RunState → Bool
 push_asks h = nat_eq (length h.items + 1) h.slots && growth_asks h.slots (cell_at h.cleanup h.debug.heap.row)
 
 -- a statement that is carried out from a state asks for an attempt
-abbrev pub statement_asks : RunState → Layer → Bool
-statement_asks h (Statement-F.Alloc p v x) = is_some (within LARGEST_REQUEST (number_read h v))
-statement_asks h (Statement-F.Realloc p q v x) = realloc_asks h (pointer_read h q) (within LARGEST_REQUEST (number_read h v))
-statement_asks h (Statement-F.NewText p v x) = is_some (within MOST_UNITS (number_read h v))
-statement_asks h (Statement-F.ReallocText p q v) = realloc_text_asks h (pointer_read h q) (within MOST_UNITS (number_read h v))
-statement_asks h (Statement-F.Push p) = push_asks h
-statement_asks h (Statement-F.PushOperation p operation) = push_asks h
-statement_asks h _ = false
+abbrev pub carried_asks : Script → RunState → Layer → Bool
+carried_asks script h (Statement-F.Alloc p v x) = is_some (within LARGEST_REQUEST (number_read h v))
+carried_asks script h (Statement-F.Realloc p q v x) = realloc_asks h (pointer_read script h q) (within LARGEST_REQUEST (number_read h v))
+carried_asks script h (Statement-F.NewText p v x) = is_some (within MOST_UNITS (number_read h v))
+carried_asks script h (Statement-F.ReallocText p q v) = realloc_text_asks h (pointer_read script h q) (within MOST_UNITS (number_read h v))
+carried_asks script h (Statement-F.New p class x) = true
+carried_asks script h (Statement-F.Push p) = push_asks h
+carried_asks script h (Statement-F.PushObject p) = push_asks h
+carried_asks script h (Statement-F.PushOperation p operation) = push_asks h
+carried_asks script h _ = false
+
+-- the same of one whose operands may be refused, and then it asks for nothing
+abbrev pub statement_asks : Script → RunState → Layer → Bool
+statement_asks script h layer = not (is_some (operands_refused h layer)) && carried_asks script h layer

@@ -1,11 +1,9 @@
 -- The bodies of a script as a machine is lent them, and the classes of objects.
-use Rattle.std.specs.Prelude.{◌≡◌, ℕ, ◌-◌, List, length, take, Option, Some, None, Result, Ok, Err}
-use Rattle.wb_model.specs.declared.heap.TheConstants.Panic.{NULL_OR_STALE, WRONG_KIND}
+use Rattle.std.specs.Prelude.{◌≡◌, ℕ, ◌-◌, length, take, Result}
 use Rattle.wb_model.specs.declared.heap.Panic.{Panic}
 use Rattle.wb_model.specs.declared.heap.Ptr.{Ptr}
 use Rattle.wb_model.specs.declared.script.Body.{Body}
-use Rattle.wb_model.specs.Row.{Cell, cell_at}
-use Rattle.wb_model.specs.Statements.{class_of}
+use Rattle.wb_objects.specs.Objects.{class_found}
 use Rattle.wb_machine.specs.declared.bodies.Lines.{Lines}
 use Rattle.wb_machine.specs.declared.pieces.After.{After}
 use Rattle.wb_machine.specs.declared.pieces.After.TheVariants.{Nothing, Gives, Releases}
@@ -19,12 +17,8 @@ pub record IsBody (lines : Lines) (body : Body) : Type 0 where
   pub statements : lines.statements.now ≡ body.statements
 
 -- the class of an object, or what refuses its pointer
-abbrev pub class_of_cell : Option (Cell (List ℕ)) → Result ℕ Panic
-class_of_cell None = Err NULL_OR_STALE
-class_of_cell (Some c) = elim (class_of c.head.kind) [ None ↦ Err WRONG_KIND | Some class ↦ Ok class ]
-
 abbrev pub class_read : RunState → Ptr → Result ℕ Panic
-class_read h p = class_of_cell (cell_at p h.debug.heap.row)
+class_read h p = class_found h.debug p
 
 -- what follows the end of a body that gave a result, in its caller's frame
 abbrev pub followed_carried : RunState → After → Ptr → Carried

@@ -12,6 +12,7 @@ use Rattle.wb_model.specs.declared.heap.Panic.{Panic}
 use Rattle.wb_model.specs.declared.run.Note.{Note}
 use Rattle.wb_model.specs.declared.run.Why.TheVariants as why
 use Rattle.wb_model.specs.declared.script.Holder.TheVariants as H
+use Rattle.wb_model.specs.declared.script.Script.{Script}
 use Rattle.wb_model.specs.declared.script.Local.{Local}
 use Rattle.wb_model.specs.declared.script.Pointer.{Pointer}
 use Rattle.wb_model.specs.declared.script.Pointer.TheVariants as P
@@ -32,7 +33,9 @@ use Rattle.wb_model.specs.Debug.{Made, alloc_made, realloc_made, with_row, debug
 use Rattle.wb_machine.specs.declared.pieces.Ending.{Ending}
 use Rattle.wb_machine.specs.declared.pieces.Ending.TheVariants.{GoesOn, Returns, Leaves, Panics, Cut, NoCleanup}
 use Rattle.wb_machine.specs.RunState.{Values, RunState, with_debug, value_in}
-use Rattle.wb_machine.specs.LocalValues.{pointer_over, number_over}
+use Rattle.wb_machine.specs.LocalValues.{number_over}
+use Rattle.wb_machine.specs.PointerOperands.{held_in, row_with_field}
+pub use Rattle.wb_machine.specs.PointerOperands.{pointer_read}
 
 pub record Carried : Type 0 where
   pub ending : Ending
@@ -51,20 +54,16 @@ abbrev pub unless_refused : RunState → Option Panic → RunState → Carried
 unless_refused h (Some panic) after = panicked h panic
 unless_refused h None after = gone_on after
 
--- the pointer of an operand
-abbrev pub pointer_read : RunState → Pointer → Ptr
-pointer_read h p = pointer_over h.locals p
-
 -- the number of an operand
 abbrev pub number_read : RunState → Number → ℤ
 number_read h v = number_over h.locals v
 
 -- what an `if` asks
-abbrev pub condition_read : RunState → Condition → Bool
-condition_read h (IsNull p) = is_null (pointer_read h p)
-condition_read h (NotNull p) = not (is_null (pointer_read h p))
-condition_read h (Equal v w) = int_le (number_read h v) (number_read h w) && int_le (number_read h w) (number_read h v)
-condition_read h (Less v w) = int_lt (number_read h v) (number_read h w)
+abbrev pub condition_read : Script → RunState → Condition → Bool
+condition_read script h (IsNull p) = is_null (pointer_read script h p)
+condition_read script h (NotNull p) = not (is_null (pointer_read script h p))
+condition_read script h (Equal v w) = int_le (number_read h v) (number_read h w) && int_le (number_read h w) (number_read h v)
+condition_read script h (Less v w) = int_lt (number_read h v) (number_read h w)
 
 -- it leaves with a code
 abbrev pub left_with : RunState → ℤ → Carried
@@ -82,10 +81,11 @@ returned h p = record { ending = Returns p; state = h }
 abbrev pub stored : RunState → ℕ → Value → RunState
 stored h i v = record h { locals = slice_set h.locals i v }
 
--- a pointer operand gets a pointer
+-- a pointer operand gets a pointer; `self` is none that a statement writes
 abbrev pub pointer_stored : RunState → Pointer → Ptr → RunState
 pointer_stored h (P.Held (H.Local i)) q = stored h i (pointer q)
-pointer_stored h _ q = h
+pointer_stored h (P.Held H.This) q = h
+pointer_stored h (P.Field holder class i) q = with_debug h (with_row h.debug (row_with_field (held_in h holder) i q h.debug.heap.row))
 
 -- a target gets null for a refused attempt, or it is a leave
 abbrev pub refused_carried : RunState → Pointer → Refusal → Carried

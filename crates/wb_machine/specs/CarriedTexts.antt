@@ -6,6 +6,7 @@ use Rattle.wb_model.specs.declared.heap.Kind.TheVariants.{Text}
 use Rattle.wb_model.specs.declared.heap.Panic.{Panic}
 use Rattle.wb_model.specs.declared.heap.Ptr.{Ptr}
 use Rattle.wb_model.specs.declared.script.Pointer.{Pointer}
+use Rattle.wb_model.specs.declared.script.Script.{Script}
 use Rattle.wb_model.specs.declared.script.Refusal.{Refusal}
 use Rattle.wb_model.specs.declared.script.Refusal.TheVariants.{GivesNull}
 use Rattle.wb_model.specs.declared.text.Base.{Base}
@@ -135,24 +136,24 @@ abbrev pub count_read : RunState → Number → Result ℕ Panic
 count_read h z = ok_or (not_negative (number_read h z)) NUMBER_OUT_OF_RANGE
 
 -- parts of what a readable text shows, or what refuses them: first its base, then the numbers
-abbrev pub left_read : List (List ℕ) → RunState → Readable → Number → Result View Panic
-left_read literals h t z = when_fine (window_found literals h t) (λ v. when_fine (count_read h z) (λ n. view_of_part v (left_part v.length n)))
+abbrev pub left_read : Script → RunState → Readable → Number → Result View Panic
+left_read script h t z = when_fine (window_found script h t) (λ v. when_fine (count_read h z) (λ n. view_of_part v (left_part v.length n)))
 
-abbrev pub right_read : List (List ℕ) → RunState → Readable → Number → Result View Panic
-right_read literals h t z = when_fine (window_found literals h t) (λ v. when_fine (count_read h z) (λ n. view_of_part v (right_part v.length n)))
+abbrev pub right_read : Script → RunState → Readable → Number → Result View Panic
+right_read script h t z = when_fine (window_found script h t) (λ v. when_fine (count_read h z) (λ n. view_of_part v (right_part v.length n)))
 
-abbrev pub mid_read : List (List ℕ) → RunState → Readable → Number → Number → Result View Panic
-mid_read literals h t z y =
-    when_fine (window_found literals h t) (λ v. when_fine (count_read h z) (λ n. when_fine (count_read h y) (λ m. view_of_part v (mid_part v.length n m))))
+abbrev pub mid_read : Script → RunState → Readable → Number → Number → Result View Panic
+mid_read script h t z y =
+    when_fine (window_found script h t) (λ v. when_fine (count_read h z) (λ n. when_fine (count_read h y) (λ m. view_of_part v (mid_part v.length n m))))
 
 -- what a view whose base isn't gone leads to
 abbrev pub with_window : RunState → View → Carried → Carried
 with_window h v go = unless_panics h (base_refusal h v.base) go
 
 -- a number local gets the length of a text
-abbrev pub length_carried : List (List ℕ) → RunState → ℕ → Readable → Carried
-length_carried literals h x t =
-    let v = window_read literals h t in
+abbrev pub length_carried : Script → RunState → ℕ → Readable → Carried
+length_carried script h x t =
+    let v = window_read script h t in
     with_window h v (gone_on (stored h x (number (pos v.length))))
 
 -- or the maximum of one
@@ -160,7 +161,7 @@ abbrev pub max_carried : RunState → ℕ → Base → Carried
 max_carried h x to = unless_panics h (base_refusal h to) (gone_on (stored h x (number (pos (base_max h to)))))
 
 -- a text is printed
-abbrev pub print_carried : List (List ℕ) → RunState → Readable → Carried
-print_carried literals h t =
-    let v = window_read literals h t in
-    with_window h v (gone_on (line_printed h (printed (window_units literals h v))))
+abbrev pub print_carried : Script → RunState → Readable → Carried
+print_carried script h t =
+    let v = window_read script h t in
+    with_window h v (gone_on (line_printed h (printed (window_units script.literals h v))))

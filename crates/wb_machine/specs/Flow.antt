@@ -5,10 +5,9 @@ use Rattle.wb_model.specs.declared.heap.Rule.{Rule}
 use Rattle.wb_model.specs.declared.run.RunResult.{RunResult}
 use Rattle.wb_model.specs.declared.script.Script.{Script}
 use Rattle.wb_model.specs.declared.script.Body.{Body}
-use Rattle.wb_model.specs.declared.script.Local.{Local}
 use Rattle.wb_model.specs.declared.script.Numbered.{Numbered}
 use Rattle.wb_model.specs.declared.script.Statement.TheOpen.{Statement-F}
-use Rattle.wb_model.specs.Sound.{is_simple, is_pointer, is_nested, are_within, declared_in}
+use Rattle.wb_model.specs.Sound.{Scope, is_simple, is_pointer, is_nested, are_within, declared_in, fields_declared}
 use Rattle.wb_model.specs.Space.{space_of}
 use Rattle.wb_model.specs.State.{State, Frame, Way, goes_on, returns, leaves, panics, is_cut, no_cleanup, Process, ends, stops, and_then}
 use Rattle.wb_model.specs.Statements.{all, turns, destroy_items, destroy_object, Where, Layer, Meaning, statement, in_frame, plain}
@@ -79,30 +78,33 @@ first_statement _ = None
 -- statements as they stand in a script
 abbrev pub AreOwn : Script → List Numbered → Type 0
 AreOwn script statements =
-    (locals : List Local) × (trapped : Bool) × (depth : ℕ) × (are_within (declared_in script) locals depth trapped statements ≡ true)
+    (scope : Scope) × (scope.fields ≡ fields_declared script.classes) × (trapped : Bool) × (depth : ℕ)
+    × (are_within (declared_in script) scope depth trapped statements ≡ true)
 
 -- a statement as it stands in a script
 pub record IsOwn (script : Script) (layer : Layer) : Type 0 where
-  pub locals : List Local
+  pub scope : Scope
+  pub shaped : scope.fields ≡ fields_declared script.classes
   pub trapped : Bool
   pub depth : ℕ
-  pub sound : is_nested (declared_in script) locals trapped (are_within (declared_in script) locals depth) layer ≡ true
+  pub sound : is_nested (declared_in script) scope trapped (are_within (declared_in script) scope depth) layer ≡ true
 
 -- a statement leaves steps to be taken, though no other stands inside it
 abbrev pub leaves_steps : Layer → Bool
 leaves_steps (Statement-F.PopDestroy v) = true
 leaves_steps _ = false
 
--- a statement that no other stands inside, over a number of literals and the locals of a body
-abbrev pub is_carried : ℕ → List Local → Bool → Layer → Bool
-is_carried literals locals trapped (Statement-F.PushOperation p n) = is_pointer locals p
-is_carried literals locals trapped layer = is_simple literals locals trapped layer
+-- a statement that no other stands inside, over a number of literals and the scope of a body
+abbrev pub is_carried : ℕ → Scope → Bool → Layer → Bool
+is_carried literals scope trapped (Statement-F.PushOperation p n) = is_pointer scope p
+is_carried literals scope trapped layer = is_simple literals scope trapped layer
 
 -- the same of one that no other stands inside, and that leaves none
 pub record IsSimple (script : Script) (layer : Layer) : Type 0 where
-  pub locals : List Local
+  pub scope : Scope
+  pub shaped : scope.fields ≡ fields_declared script.classes
   pub trapped : Bool
-  pub sound : is_carried (length script.literals) locals trapped layer ≡ true
+  pub sound : is_carried (length script.literals) scope trapped layer ≡ true
   pub whole : leaves_steps layer ≡ false
 
 -- a piece of the script's own statements

@@ -2,6 +2,7 @@ pub mod Asks
 pub mod Bodies
 pub mod Carried
 pub mod CarriedCleanup
+pub mod CarriedObjects
 pub mod CarriedTexts
 pub mod Flow
 pub mod RunState
@@ -10,6 +11,7 @@ pub mod Seen
 pub mod StackInvariant
 pub mod LocalValues
 pub mod Owed
+pub mod PointerOperands
 pub mod TextOperands
 pub mod TextInvariant
 pub mod Told

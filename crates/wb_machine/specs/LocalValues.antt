@@ -1,26 +1,28 @@
 -- Locals as values.
-use Rattle.std.specs.Prelude.{ℕ, ℤ, ◌≤◌, ◌++◌, ◌∷◌, [], List, map, take, drop, vec_len}
+use Rattle.std.specs.Prelude.{ℕ, ℤ, Bool, true, nat_le, ◌≤◌, ◌++◌, ◌∷◌, [], List, map, take, drop, vec_len}
 use Rattle.wb_model.specs.declared.heap.Ptr.{Ptr}
 use Rattle.wb_model.specs.declared.script.Argument.{Argument}
 use Rattle.wb_model.specs.declared.script.Argument.TheVariants.{Passed, Given}
-use Rattle.wb_model.specs.declared.script.Holder.TheVariants as H
+use Rattle.wb_model.specs.declared.limits.TheConstants.{LARGEST_BUFFER}
 use Rattle.wb_model.specs.declared.script.Local.{Local}
+use Rattle.wb_model.specs.declared.script.Local.TheVariants.{OfBuffer}
+use Rattle.wb_model.specs.declared.script.Script.{Script}
 use Rattle.wb_model.specs.declared.script.Number.{Number}
 use Rattle.wb_model.specs.declared.script.Number.TheVariants.{Constant, Variable}
-use Rattle.wb_model.specs.declared.script.Pointer.{Pointer}
-use Rattle.wb_model.specs.declared.script.Pointer.TheVariants.{Held}
 use Rattle.wb_model.specs.declared.text.Base.{Base}
 use Rattle.wb_model.specs.declared.text.Base.TheVariants.{Nothing}
 use Rattle.wb_model.specs.declared.text.View.{View}
 use Rattle.wb_model.specs.Texts.{Buffer}
-use Rattle.wb_model.specs.State.{Value, pointer, number, buffer, view, initial, null, pointer_in, number_in}
+use Rattle.wb_model.specs.State.{Value, pointer, number, buffer, view, initial, number_in}
 use Rattle.wb_model.specs.Reading.{buffer_text, max_in}
 use Rattle.wb_machine.specs.declared.arguments.Handed.{Handed}
 use Rattle.wb_machine.specs.declared.arguments.Handed.TheVariants.{Arguments, Item}
 use Rattle.wb_machine.specs.declared.locals.Slot.{Slot}
 use Rattle.wb_machine.specs.declared.locals.Slot.TheVariants as S
 use Rattle.wb_machine.specs.declared.locals.Locals.TheInside.{Inside}
-use Rattle.wb_machine.specs.RunState.{Values, value_in}
+use Rattle.wb_model.specs.Debug.{Debug}
+use Rattle.wb_machine.specs.RunState.{Values, RunState, value_in}
+use Rattle.wb_machine.specs.PointerOperands.{pointer_over}
 
 abbrev pub value_of : Slot → Value
 value_of (S.Pointer p) = pointer p
@@ -40,29 +42,36 @@ frames_in l = record { callers = take l.base (map value_of l.slots.items); local
 abbrev pub IsWithin : Inside → Type 0
 IsWithin l = l.base ≤ vec_len l.slots
 
--- the pointer of an operand, over the locals of a frame
-abbrev pub pointer_over : Values → Pointer → Ptr
-pointer_over locals (Held (H.Local i)) = pointer_in (value_in locals i)
-pointer_over locals _ = null
-
 -- the number of an operand
 abbrev pub number_over : Values → Number → ℤ
 number_over locals (Constant z) = z
 number_over locals (Variable i) = number_in (value_in locals i)
 
--- what a parameter gets
-abbrev pub passed : Values → Argument → Value
-passed locals (Passed p) = pointer (pointer_over locals p)
-passed locals (Given v) = number (number_over locals v)
+-- what a parameter gets, over a heap, the caller's object and its locals
+abbrev pub passed_over : Script → Debug → Ptr → Values → Argument → Value
+passed_over script d this locals (Passed p) = pointer (pointer_over script d this locals p)
+passed_over script d this locals (Given v) = number (number_over locals v)
 
--- what a body is handed, over its caller's locals
-abbrev pub values_handed : Values → Handed → Values
-values_handed locals (Arguments arguments) = map (passed locals) arguments.now
-values_handed locals (Item p) = pointer p ∷ []
+-- what a body is handed
+abbrev pub values_over : Script → Debug → Ptr → Values → Handed → Values
+values_over script d this locals (Arguments arguments) = map (passed_over script d this locals) arguments.now
+values_over script d this locals (Item p) = pointer p ∷ []
 
--- a frame on top of the innermost one: what its body is handed, and what it declares
-abbrev pub framed : Frames → Handed → List Local → Frames
-framed f handed declared = record { callers = f.callers ++ f.locals; locals = values_handed f.locals handed ++ map initial declared }
+-- the same by the state of its caller
+abbrev pub passed : Script → RunState → Argument → Value
+passed script h argument = passed_over script h.debug h.this h.locals argument
+
+abbrev pub values_handed : Script → RunState → Handed → Values
+values_handed script h handed = values_over script h.debug h.this h.locals handed
+
+-- a frame on top of the innermost one: what its body is given, and what it declares
+abbrev pub framed : Frames → Values → List Local → Frames
+framed f given declared = record { callers = f.callers ++ f.locals; locals = given ++ map initial declared }
+
+-- a buffer's maximum is within its limit
+abbrev pub is_small : Local → Bool
+is_small (OfBuffer max) = nat_le max LARGEST_BUFFER
+is_small _ = true
 
 -- the innermost frame is dropped; the one below it begins at a place
 abbrev pub unframed : Frames → ℕ → Frames

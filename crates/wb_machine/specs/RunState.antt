@@ -10,7 +10,7 @@ use Rattle.wb_model.specs.declared.script.Script.{Script}
 use Rattle.wb_model.specs.Row.{Cell}
 use Rattle.wb_model.specs.Heap.{Heap}
 use Rattle.wb_model.specs.State.{Content, Value, number, State, null}
-use Rattle.wb_model.specs.Statements.{class_at, procedure_at}
+use Rattle.wb_model.specs.Bodies.{class_at, procedure_at}
 use Rattle.wb_model.specs.Account.{Account}
 use Rattle.wb_model.specs.Debug.{Debug, first_debug}
 use Rattle.wb_model.specs.Spelling.{read_as}

@@ -4,6 +4,7 @@ use Rattle.wb_model.specs.declared.heap.TheConstants.Panic.{NULL_OR_STALE, WRONG
 use Rattle.wb_model.specs.declared.heap.Kind.{Kind}
 use Rattle.wb_model.specs.declared.heap.Kind.TheVariants.{Text}
 use Rattle.wb_model.specs.declared.heap.Panic.{Panic}
+use Rattle.wb_model.specs.declared.script.Script.{Script}
 use Rattle.wb_model.specs.declared.script.Writable.{Writable}
 use Rattle.wb_model.specs.declared.script.Writable.TheVariants.{OwnBuffer, InCell}
 use Rattle.wb_model.specs.declared.script.Readable.{Readable}
@@ -17,12 +18,12 @@ use Rattle.wb_model.specs.Reading.{literal_at, buffer_text, max_in}
 use Rattle.wb_model.specs.TextCells.{text_at, max_at}
 use Rattle.wb_machine.specs.RunState.{RunState, value_in}
 use Rattle.wb_machine.specs.LocalValues.{buffer_in, whole_window, window_in}
-use Rattle.wb_machine.specs.Carried.{pointer_read}
+use Rattle.wb_machine.specs.PointerOperands.{pointer_read}
 
 -- a text that can be changed: a buffer, or a cell
-abbrev pub base_named : RunState → Writable → Base
-base_named h (OwnBuffer i) = B.Local i
-base_named h (InCell p) = B.Cell (pointer_read h p)
+abbrev pub base_named : Script → RunState → Writable → Base
+base_named script h (OwnBuffer i) = B.Local i
+base_named script h (InCell p) = B.Cell (pointer_read script h p)
 
 abbrev pub is_text : Kind → Bool
 is_text Text = true
@@ -65,18 +66,18 @@ abbrev pub whole_of : List (List ℕ) → RunState → Base → View
 whole_of literals h base = whole_window base (length (base_text literals h base))
 
 -- what a readable text shows, as a view
-abbrev pub window_read : List (List ℕ) → RunState → Readable → View
-window_read literals h (Of d) = whole_of literals h (base_named h d)
-window_read literals h (ViewOf i) = window_in (value_in h.locals i)
-window_read literals h (Quoted i) = whole_of literals h (B.Literal i)
+abbrev pub window_read : Script → RunState → Readable → View
+window_read script h (Of d) = whole_of script.literals h (base_named script h d)
+window_read script h (ViewOf i) = window_in (value_in h.locals i)
+window_read script h (Quoted i) = whole_of script.literals h (B.Literal i)
 
 -- a view, or what is refused of its base
 abbrev pub unless_gone : Option Panic → View → Result View Panic
 unless_gone (Some panic) v = Err panic
 unless_gone None v = Ok v
 
-abbrev pub window_found : List (List ℕ) → RunState → Readable → Result View Panic
-window_found literals h t = unless_gone (base_refusal h (window_read literals h t).base) (window_read literals h t)
+abbrev pub window_found : Script → RunState → Readable → Result View Panic
+window_found script h t = unless_gone (base_refusal h (window_read script h t).base) (window_read script h t)
 
 -- the buffer of a base, and an empty one where it is no buffer
 abbrev pub buffer_under : RunState → Base → Buffer

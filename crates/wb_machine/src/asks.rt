@@ -6,7 +6,7 @@ ghost use Rattle.wb_model.specs.Row.{cell_at, cell_length};
 ghost use Rattle.wb_model.specs.declared.limits.TheConstants.{LARGEST_REQUEST, MOST_UNITS, CEILING};
 ghost use Rattle.wb_model.specs.declared.script.Statement.TheViews.{out-Statement};
 ghost use Rattle.wb_machine.specs.Carried.{pointer_read, number_read};
-ghost use Rattle.wb_machine.specs.Asks.{cell_asks, text_asks, realloc_asks, realloc_text_asks, push_asks, statement_asks};
+ghost use Rattle.wb_machine.specs.Asks.{cell_asks, text_asks, realloc_asks, realloc_text_asks, push_asks, carried_asks, statement_asks};
 
 use crate::operands::number_within;
 use crate::state::State;
@@ -14,7 +14,7 @@ use crate::text_operands::is_text;
 use crate::words::is_raw;
 use wb_model::heap::Ptr;
 use wb_model::limits::{LARGEST_REQUEST, MOST_UNITS};
-use wb_model::script::{Number, Pointer, Statement};
+use wb_model::script::{Number, Pointer, Script, Statement};
 
 /// The length of the cell for a request of `bytes` bytes.
 fn cell_length(bytes: u32) -> u32
@@ -51,10 +51,10 @@ impl State {
     }
 
     /// Whether a reallocation of a source to `bytes` bytes asks for an attempt; of null it is an allocation.
-    fn realloc_asks(&self, source: Pointer, bytes: Number) -> bool
-        ensures { result ≡ realloc_asks self.now (pointer_read self.now source) (within LARGEST_REQUEST (number_read self.now bytes)) }
+    fn realloc_asks(&self, script: &Script, source: Pointer, bytes: Number) -> bool
+        ensures { result ≡ realloc_asks self.now (pointer_read script.now self.now source) (within LARGEST_REQUEST (number_read self.now bytes)) }
     {
-        let ptr = self.pointer(source);
+        let ptr = self.pointer(script, source);
         match number_within(LARGEST_REQUEST, self.number(bytes)) {
             Some(bytes) => ptr.number == 0 || self.cell_asks(ptr, bytes),
             None => false,
@@ -62,10 +62,10 @@ impl State {
     }
 
     /// Whether a reallocation of a source's text for `units` units asks for an attempt.
-    fn realloc_text_asks(&self, source: Pointer, units: Number) -> bool
-        ensures { result ≡ realloc_text_asks self.now (pointer_read self.now source) (within MOST_UNITS (number_read self.now units)) }
+    fn realloc_text_asks(&self, script: &Script, source: Pointer, units: Number) -> bool
+        ensures { result ≡ realloc_text_asks self.now (pointer_read script.now self.now source) (within MOST_UNITS (number_read self.now units)) }
     {
-        let ptr = self.pointer(source);
+        let ptr = self.pointer(script, source);
         match number_within(MOST_UNITS, self.number(units)) {
             Some(units) => self.text_asks(ptr, units),
             None => false,
@@ -82,22 +82,33 @@ impl State {
         }
     }
 
-    /// Whether a statement asks for an attempt where it begins now.
-    pub fn asks(&self, statement: &Statement) -> bool
-        ensures { result ≡ statement_asks self.now (out-Statement statement.now) }
+    /// Whether a statement asks for an attempt where it is carried out now.
+    fn carried_asks(&self, script: &Script, statement: &Statement) -> bool
+        ensures { result ≡ carried_asks script.now self.now (out-Statement statement.now) }
     {
         match statement {
             Statement::Alloc(_, bytes, _) => {
                 number_within(LARGEST_REQUEST, self.number(*bytes)).is_some()
             }
-            Statement::Realloc(_, source, bytes, _) => self.realloc_asks(*source, *bytes),
+            Statement::Realloc(_, source, bytes, _) => self.realloc_asks(script, *source, *bytes),
             Statement::NewText(_, units, _) => {
                 number_within(MOST_UNITS, self.number(*units)).is_some()
             }
-            Statement::ReallocText(_, source, units) => self.realloc_text_asks(*source, *units),
+            Statement::ReallocText(_, source, units) => {
+                self.realloc_text_asks(script, *source, *units)
+            }
+            Statement::New(..) => true,
             Statement::Push(_) => self.push_asks(),
+            Statement::PushObject(_) => self.push_asks(),
             Statement::PushOperation(..) => self.push_asks(),
             _ => false,
         }
+    }
+
+    /// Whether a statement asks for an attempt where it begins now. One that is refused for an operand asks for none.
+    pub fn asks(&self, script: &Script, statement: &Statement) -> bool
+        ensures { result ≡ statement_asks script.now self.now (out-Statement statement.now) }
+    {
+        self.operands_refused(statement).is_none() && self.carried_asks(script, statement)
     }
 }

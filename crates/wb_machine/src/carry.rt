@@ -1,10 +1,11 @@
 //! Which function carries out which statement.
 
-ghost use Rattle.std.specs.Prelude.{◌≡◌, ◌+◌, ◌^◌, ◌<◌, IfOk, OnOk, IsTrue};
+ghost use Rattle.std.specs.Prelude.{◌≡◌, ◌+◌, ◌^◌, ◌<◌, None, IfOk, OnOk, IsTrue};
 ghost use Rattle.wb_model.specs.Sound.{is_script};
 ghost use Rattle.wb_model.specs.declared.script.Statement.TheViews.{out-Statement};
 ghost use Rattle.wb_machine.specs.Flow.{IsSimple, IsCarriedOut};
 ghost use Rattle.wb_machine.specs.Owed.{HasStack, KeepsCount, MayAttempt};
+ghost use Rattle.wb_machine.specs.PointerOperands.{operands_refused};
 
 use crate::pieces::Ending;
 use crate::state::State;
@@ -24,6 +25,7 @@ impl State {
     ) -> Result<Ending, NoMemory>
         requires script { IsTrue (is_script script.now) }
         requires statement { IsSimple script.now (out-Statement first.now) }
+        requires operands { operands_refused self.old (out-Statement first.now) ≡ None }
         requires number { MayAttempt self.old }
         requires level { self.old.debug.heap.level + 1 < 2 ^ 32 }
         requires stack { HasStack self.old }
@@ -33,24 +35,29 @@ impl State {
         match first {
             Statement::Alloc(target, bytes, refusal) => self.alloc(*target, *bytes, *refusal),
             Statement::Realloc(target, source, bytes, refusal) => {
-                self.realloc(*target, *source, *bytes, *refusal)
+                self.realloc(script, *target, *source, *bytes, *refusal)
             }
-            Statement::Free(pointer) => Ok(self.free(*pointer)),
-            Statement::AllocLen(local, pointer) => Ok(self.alloc_len(*local, *pointer)),
+            Statement::Free(pointer) => Ok(self.free(script, *pointer)),
+            Statement::AllocLen(local, pointer) => Ok(self.alloc_len(script, *local, *pointer)),
             Statement::Store(pointer, index, value) => {
                 let value = self.number(*value);
-                Ok(self.store(*pointer, *index, value))
+                Ok(self.store(script, *pointer, *index, value))
             }
-            Statement::Load(local, pointer, index) => Ok(self.load(*local, *pointer, *index)),
-            Statement::Set(target, source) => Ok(self.copy_pointer(*target, *source)),
+            Statement::Load(local, pointer, index) => {
+                Ok(self.load(script, *local, *pointer, *index))
+            }
+            Statement::New(target, class, refusal) => {
+                self.new_object(script, *target, *class, *refusal)
+            }
+            Statement::Set(target, source) => Ok(self.copy_pointer(script, *target, *source)),
             Statement::SetNumber(local, value) => Ok(self.set_number(*local, *value)),
             Statement::SetNull(target) => Ok(self.set_null(*target)),
             Statement::Add(local, value) => Ok(self.add(*local, *value)),
             Statement::Leave(code) => Ok(self.leave(*code)),
             Statement::LeaveIfError(code) => Ok(self.leave_if_error(*code)),
-            Statement::LeaveIfNull(pointer) => Ok(self.leave_if_null(*pointer)),
+            Statement::LeaveIfNull(pointer) => Ok(self.leave_if_null(script, *pointer)),
             Statement::Return => Ok(self.end_body()),
-            Statement::ReturnPointer(pointer) => Ok(self.end_body_with(*pointer)),
+            Statement::ReturnPointer(pointer) => Ok(self.end_body_with(script, *pointer)),
             Statement::Mark => Ok(self.mark()),
             Statement::MarkEnd(count) => Ok(self.mark_end(*count)),
             Statement::Check(count) => Ok(self.check(*count)),
@@ -60,7 +67,7 @@ impl State {
             Statement::FailNone => Ok(self.fail_none()),
             Statement::NewText(target, units, refusal) => self.new_text(*target, *units, *refusal),
             Statement::ReallocText(target, source, units) => {
-                self.realloc_text(*target, *source, *units)
+                self.realloc_text(script, *target, *source, *units)
             }
             Statement::Copy(target, text) => Ok(self.edit(script, *target, Edit::Copy, *text)),
             Statement::Append(target, text) => Ok(self.edit(script, *target, Edit::Append, *text)),
@@ -68,31 +75,30 @@ impl State {
                 Ok(self.insert(script, *target, *position, *text))
             }
             Statement::DeleteText(target, position, count) => {
-                Ok(self.delete_text(*target, *position, *count))
+                Ok(self.delete_text(script, *target, *position, *count))
             }
-            Statement::SetLength(target, length) => Ok(self.set_length(*target, *length)),
+            Statement::SetLength(target, length) => Ok(self.set_length(script, *target, *length)),
             Statement::Left(local, text, count) => Ok(self.left(script, *local, *text, *count)),
             Statement::Right(local, text, count) => Ok(self.right(script, *local, *text, *count)),
             Statement::Mid(local, text, position, count) => {
                 Ok(self.mid(script, *local, *text, *position, *count))
             }
             Statement::GetLength(local, text) => Ok(self.get_length(script, *local, *text)),
-            Statement::GetMaximum(local, target) => Ok(self.get_maximum(*local, *target)),
+            Statement::GetMaximum(local, target) => Ok(self.get_maximum(script, *local, *target)),
             Statement::PrintText(text) => self.print_text(script, *text),
             Statement::PrintNumber(value) => self.print_number(*value),
             Statement::NoteHeap => self.note_heap(),
             Statement::NoteAvailable => self.note_available(),
             Statement::NoteCompress => self.note_compress(),
-            Statement::Push(pointer) => self.push(*pointer),
+            Statement::Push(pointer) => self.push(script, *pointer),
+            Statement::PushObject(pointer) => self.push_object(script, *pointer),
             Statement::PushOperation(pointer, operation) => {
-                self.push_operation(*pointer, *operation)
+                self.push_operation(script, *pointer, *operation)
             }
             Statement::Pop(count) => Ok(self.pop(floor, *count)),
-            Statement::PopCheck(pointer) => Ok(self.pop_check(floor, *pointer)),
-            Statement::New(..)
-            | Statement::Construct(_)
+            Statement::PopCheck(pointer) => Ok(self.pop_check(script, floor, *pointer)),
+            Statement::Construct(_)
             | Statement::Delete(_)
-            | Statement::PushObject(_)
             | Statement::PopDestroy(_)
             | Statement::Call(..)
             | Statement::CallTo(..)

@@ -19,7 +19,7 @@ use wb_model::heap::{Gave, KERR_NO_MEMORY, Kind, Panic, Ptr};
 use wb_model::limits::{CEILING, LARGEST_REQUEST};
 use wb_model::memory::NoMemory;
 use wb_model::run::Why;
-use wb_model::script::{Number, Pointer, Refusal};
+use wb_model::script::{Number, Pointer, Refusal, Script};
 
 /// Whether a cell is the cleanup stack's.
 fn is_cleanup(kind: Kind) -> bool
@@ -133,16 +133,17 @@ impl State {
     /// A target gets the cell of a source, reallocated to `bytes` bytes; of null it is an allocation.
     pub fn realloc(
         &mut self,
+        script: &Script,
         target: Pointer,
         source: Pointer,
         bytes: Number,
         refusal: Refusal,
     ) -> Result<Ending, NoMemory>
         requires number { MayAttempt self.old }
-        ensures carried { IfOk result (λ ending. CarriesOut self.old (realloc_carried self.old target refusal (pointer_read self.old source) (number_read self.old bytes)) ending self.new) }
+        ensures carried { IfOk result (λ ending. CarriesOut self.old (realloc_carried self.old target refusal (pointer_read script.now self.old source) (number_read self.old bytes)) ending self.new) }
         ensures keeps { KeepsCount self.old self.new }
     {
-        let ptr = self.pointer(source);
+        let ptr = self.pointer(script, source);
         if ptr.number == 0 {
             return self.alloc(target, bytes, refusal);
         }
@@ -156,10 +157,10 @@ impl State {
     }
 
     /// A number local gets how many bytes of a cell are usable.
-    pub fn alloc_len(&mut self, local: u8, pointer: Pointer) -> Ending
-        ensures { CarriesOut self.old (usable_carried self.old local (pointer_read self.old pointer)) result self.new }
+    pub fn alloc_len(&mut self, script: &Script, local: u8, pointer: Pointer) -> Ending
+        ensures { CarriesOut self.old (usable_carried self.old local (pointer_read script.now self.old pointer)) result self.new }
     {
-        let Some(header) = self.heap.header(self.pointer(pointer)) else {
+        let Some(header) = self.heap.header(self.pointer(script, pointer)) else {
             return Ending::Panics(Panic::BAD_CELL);
         };
         let usable = header.length - 16;
@@ -198,9 +199,9 @@ impl State {
     }
 
     /// Releases the pointer of an operand.
-    pub fn free(&mut self, pointer: Pointer) -> Ending
-        ensures { CarriesOut self.old (free_carried self.old (pointer_read self.old pointer)) result self.new }
+    pub fn free(&mut self, script: &Script, pointer: Pointer) -> Ending
+        ensures { CarriesOut self.old (free_carried self.old (pointer_read script.now self.old pointer)) result self.new }
     {
-        self.release(self.pointer(pointer))
+        self.release(self.pointer(script, pointer))
     }
 }

@@ -20,7 +20,7 @@ use wb_cleanup::{Cleanup, Pushed};
 use wb_model::heap::{Item, KERR_NO_MEMORY, Panic, Ptr};
 use wb_model::memory::NoMemory;
 use wb_model::run::Why;
-use wb_model::script::{Number, Pointer};
+use wb_model::script::{Number, Pointer, Script};
 
 impl State {
     /// Attempt 1, for the stack's cell. Answers whether it was granted.
@@ -107,27 +107,44 @@ impl State {
     }
 
     /// Pushes a pointer that is to be freed.
-    pub fn push(&mut self, pointer: Pointer) -> Result<Ending, NoMemory>
+    pub fn push(&mut self, script: &Script, pointer: Pointer) -> Result<Ending, NoMemory>
         requires stack { HasStack self.old }
         requires number { MayAttempt self.old }
-        ensures carried { IfOk result (λ ending. CarriesOut self.old (push_carried self.old (I.Free (pointer_read self.old pointer)) (payload_of self.new.cleanup self.new.debug.heap.row)) ending self.new) }
+        ensures carried { IfOk result (λ ending. CarriesOut self.old (push_carried self.old (I.Free (pointer_read script.now self.old pointer)) (payload_of self.new.cleanup self.new.debug.heap.row)) ending self.new) }
         ensures there { IsStackThere self.old }
         ensures stands { IsStackThere self.new }
         ensures keeps { KeepsCount self.old self.new }
     {
-        self.push_item(Item::Free(self.pointer(pointer)))
+        self.push_item(Item::Free(self.pointer(script, pointer)))
+    }
+
+    /// Pushes an object that is to be destroyed by its class.
+    pub fn push_object(&mut self, script: &Script, pointer: Pointer) -> Result<Ending, NoMemory>
+        requires stack { HasStack self.old }
+        requires number { MayAttempt self.old }
+        ensures carried { IfOk result (λ ending. CarriesOut self.old (push_carried self.old (I.Delete (pointer_read script.now self.old pointer)) (payload_of self.new.cleanup self.new.debug.heap.row)) ending self.new) }
+        ensures there { IsStackThere self.old }
+        ensures stands { IsStackThere self.new }
+        ensures keeps { KeepsCount self.old self.new }
+    {
+        self.push_item(Item::Delete(self.pointer(script, pointer)))
     }
 
     /// Pushes a pointer that an operation is to destroy.
-    pub fn push_operation(&mut self, pointer: Pointer, operation: u16) -> Result<Ending, NoMemory>
+    pub fn push_operation(
+        &mut self,
+        script: &Script,
+        pointer: Pointer,
+        operation: u16,
+    ) -> Result<Ending, NoMemory>
         requires stack { HasStack self.old }
         requires number { MayAttempt self.old }
-        ensures carried { IfOk result (λ ending. CarriesOut self.old (push_carried self.old (I.Call (pointer_read self.old pointer) operation) (payload_of self.new.cleanup self.new.debug.heap.row)) ending self.new) }
+        ensures carried { IfOk result (λ ending. CarriesOut self.old (push_carried self.old (I.Call (pointer_read script.now self.old pointer) operation) (payload_of self.new.cleanup self.new.debug.heap.row)) ending self.new) }
         ensures there { IsStackThere self.old }
         ensures stands { IsStackThere self.new }
         ensures keeps { KeepsCount self.old self.new }
     {
-        self.push_item(Item::Call(self.pointer(pointer), operation))
+        self.push_item(Item::Call(self.pointer(script, pointer), operation))
     }
 
     /// Takes the `count` newest items off, where so many stand above the `floor` first ones.
@@ -173,11 +190,11 @@ impl State {
     }
 
     /// Pops the newest item, which must be of a pointer.
-    pub fn pop_check(&mut self, floor: u32, pointer: Pointer) -> Ending
+    pub fn pop_check(&mut self, script: &Script, floor: u32, pointer: Pointer) -> Ending
         requires { HasStack self.old }
-        ensures { CarriesOut self.old (pop_check_carried self.old floor (pointer_read self.old pointer)) result self.new }
+        ensures { CarriesOut self.old (pop_check_carried self.old floor (pointer_read script.now self.old pointer)) result self.new }
     {
-        match self.take_expected(floor, self.pointer(pointer)) {
+        match self.take_expected(floor, self.pointer(script, pointer)) {
             Ok(()) => Ending::GoesOn,
             Err(panic) => Ending::Panics(panic),
         }

@@ -3,7 +3,8 @@
 
 ghost use Rattle.std.specs.Prelude.{◌≡◌, ◌+◌, ◌^◌, ◌<◌, ◌≤◌, ◌⊎◌, ◌++◌, ◌∷◌, ◌&&◌, [], ℕ, true, false, if◌then◌else◌, nat_lt, length, unwrap_or, min, IsTrue, OnOk};
 ghost use Rattle.wb_model.specs.Sound.{is_script};
-ghost use Rattle.wb_model.specs.Statements.{all, turns, procedure_at};
+ghost use Rattle.wb_model.specs.Statements.{all, turns};
+ghost use Rattle.wb_model.specs.Bodies.{procedure_at};
 ghost use Rattle.wb_model.specs.Rest.{doing, first_line, Fits};
 ghost use Rattle.wb_model.specs.Run.{run};
 ghost use Rattle.wb_model.specs.declared.heap.Rule.{Rule};
@@ -113,7 +114,7 @@ impl<'a> Control<'a> {
             return Ok(());
         }
         let main = procedure_at(script, script.main);
-        state.enter(main.locals.as_slice())?;
+        state.enter(script, main.locals.as_slice())?;
         self.push(Piece::MainTrap)?;
         self.push(Piece::Code(IN_MAIN, main.statements.as_slice()))?;
         Ok(())
@@ -148,7 +149,7 @@ impl<'a> Control<'a> {
         state.tick();
         self.line = first.line;
         self.push(Piece::Code(at, rest))?;
-        self.begin_statement(script, at, &first.statement, state)
+        self.begin_unless_refused(script, at, &first.statement, state)
     }
 
     /// A turn of a `repeat`.
@@ -208,10 +209,10 @@ impl<'a> Control<'a> {
     }
 
     /// Whether a step asks for an attempt: it does where it begins a statement that asks.
-    pub fn asks(&self, state: &State) -> bool
+    pub fn asks(&self, script: &Script, state: &State) -> bool
         requires { (is_over self.now.ending self.now.pieces.items ≡ true) ⊎ IsReady self.now.ending self.now.pieces.items }
-        ensures { (script : Script) (budget : ℕ) → AreSound script self.now.pieces.items → state.now.steps < budget →
-            result ≡ asks_next script budget (progress_by self.now.ending (pending_in state.now.callers self.now.pieces.items) (state_of script state.now)) }
+        ensures { (budget : ℕ) → AreSound script.now self.now.pieces.items → state.now.steps < budget →
+            result ≡ asks_next script.now budget (progress_by self.now.ending (pending_in state.now.callers self.now.pieces.items) (state_of script.now state.now)) }
     {
         if self.is_over() {
             return false;
@@ -220,7 +221,7 @@ impl<'a> Control<'a> {
             return false;
         };
         match first_statement(piece) {
-            Some(first) => state.asks(&first.statement),
+            Some(first) => state.asks(script, &first.statement),
             None => false,
         }
     }

@@ -11,16 +11,16 @@ use crate::locals::NULL;
 use crate::pieces::Ending;
 use crate::state::State;
 use wb_model::heap::KERR_NO_MEMORY;
-use wb_model::script::{Condition, Number, Pointer};
+use wb_model::script::{Condition, Number, Pointer, Script};
 
 impl State {
     /// Whether a condition holds.
-    pub fn holds(&self, condition: Condition) -> bool
-        ensures { result ≡ condition_read self.now condition }
+    pub fn holds(&self, script: &Script, condition: Condition) -> bool
+        ensures { result ≡ condition_read script.now self.now condition }
     {
         match condition {
-            Condition::IsNull(pointer) => self.pointer(pointer).number == 0,
-            Condition::NotNull(pointer) => self.pointer(pointer).number != 0,
+            Condition::IsNull(pointer) => self.pointer(script, pointer).number == 0,
+            Condition::NotNull(pointer) => self.pointer(script, pointer).number != 0,
             Condition::Equal(one, other) => self.number(one) == self.number(other),
             Condition::Less(one, other) => self.number(one) < self.number(other),
         }
@@ -46,10 +46,10 @@ impl State {
     }
 
     /// A leave with `KErrNoMemory` where a pointer is null.
-    pub fn leave_if_null(&mut self, pointer: Pointer) -> Ending
-        ensures { CarriesOut self.old (left_where self.old (is_null (pointer_read self.old pointer)) KERR_NO_MEMORY) result self.new }
+    pub fn leave_if_null(&mut self, script: &Script, pointer: Pointer) -> Ending
+        ensures { CarriesOut self.old (left_where self.old (is_null (pointer_read script.now self.old pointer)) KERR_NO_MEMORY) result self.new }
     {
-        if self.pointer(pointer).number == 0 {
+        if self.pointer(script, pointer).number == 0 {
             Ending::Leaves(KERR_NO_MEMORY)
         } else {
             Ending::GoesOn
@@ -64,9 +64,9 @@ impl State {
     }
 
     /// The end of a body, with a pointer.
-    pub fn end_body_with(&mut self, pointer: Pointer) -> Ending
-        ensures { CarriesOut self.old (returned self.old (pointer_read self.old pointer)) result self.new }
+    pub fn end_body_with(&mut self, script: &Script, pointer: Pointer) -> Ending
+        ensures { CarriesOut self.old (returned self.old (pointer_read script.now self.old pointer)) result self.new }
     {
-        Ending::Returns(self.pointer(pointer))
+        Ending::Returns(self.pointer(script, pointer))
     }
 }

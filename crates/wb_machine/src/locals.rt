@@ -2,17 +2,18 @@
 
 ghost use Rattle.std.specs.Prelude.{◌≡◌, ◌++◌, [], map, length, slice_set, vec_len, ◌≤◌, IsTrue, IfOk, OnOk};
 ghost use Rattle.std.specs.List.{list_all};
-ghost use Rattle.wb_model.specs.Sound.{is_local};
 ghost use Rattle.wb_model.specs.State.{initial};
 ghost use Rattle.wb_machine.specs.RunState.{value_in};
-ghost use Rattle.wb_machine.specs.LocalValues.{value_of, pointer_over, number_over, framed, unframed, buffer_in, window_in};
+ghost use Rattle.wb_machine.specs.LocalValues.{is_small, value_of, number_over, values_over, framed, unframed, buffer_in, window_in};
+ghost use Rattle.wb_machine.specs.PointerOperands.{held_over, pointer_over};
 
-use crate::arguments::{Handed, hand, number_over, pointer_over};
+use crate::arguments::{Handed, hand, number_over};
+use crate::pointers::{Sight, held_over, pointer_over};
 use crate::windows::Window;
 use std::alloc::{AllocError, Global};
 use std::marker::Model;
 use wb_model::heap::Ptr;
-use wb_model::script::{Local, Number, Pointer};
+use wb_model::script::{Holder, Local, Number, Pointer};
 use wb_text::buf::Buf;
 
 /// The pointer that names no cell.
@@ -52,7 +53,7 @@ impl Model for Locals {
 
 /// What a local holds at first.
 fn first_slot(local: Local) -> Slot
-    requires { IsTrue (is_local local) }
+    requires { IsTrue (is_small local) }
     ensures { value_of result ≡ initial local }
 {
     match local {
@@ -76,7 +77,7 @@ fn copy_of(buf: &Buf) -> Buf
 
 /// Puts locals behind others, with what they hold at first.
 fn declare(slots: &mut Vec<Slot>, locals: &[Local]) -> Result<(), AllocError>
-    requires { IsTrue (list_all is_local locals.now) }
+    requires { IsTrue (list_all is_small locals.now) }
     ensures declared { OnOk result (map value_of slots.new.items ≡ map value_of slots.old.items ++ map initial locals.now) }
     ensures more { vec_len slots.old ≤ vec_len slots.new }
 {
@@ -99,14 +100,19 @@ impl Locals {
 
     /// A frame on top, for a body that is handed this and declares these locals. Answers where the caller's frame begins. No
     /// memory is asked for where as many locals stood at once before.
-    pub fn call(&mut self, handed: Handed, locals: &[Local]) -> Result<usize, AllocError>
-        requires { IsTrue (list_all is_local locals.now) }
-        ensures frames { OnOk result (self.new ≡ framed self.old handed.entry locals.now) }
+    pub fn call(
+        &mut self,
+        sight: Sight,
+        handed: Handed,
+        locals: &[Local],
+    ) -> Result<usize, AllocError>
+        requires { IsTrue (list_all is_small locals.now) }
+        ensures frames { OnOk result (self.new ≡ framed self.old (values_over sight.entry.script.now sight.entry.heap.now sight.entry.this self.old.locals handed.entry) locals.now) }
         ensures caller { IfOk result (λ base. base ≡ length self.old.callers) }
     {
         let caller = self.base;
         let top = self.slots.len();
-        hand(&mut self.slots, caller, handed)?;
+        hand(&mut self.slots, caller, sight, handed)?;
         declare(&mut self.slots, locals)?;
         self.base = top;
         Ok(caller)
@@ -128,11 +134,18 @@ impl Locals {
         &self.slots[self.base..]
     }
 
-    /// The pointer of an operand; null where it names no pointer.
-    pub fn pointer(&self, operand: Pointer) -> Ptr
-        ensures { result ≡ pointer_over self.now.locals operand }
+    /// What a holder holds, in a body of this object; null where it holds no pointer.
+    pub fn held(&self, this: Ptr, holder: Holder) -> Ptr
+        ensures { result ≡ held_over this self.now.locals holder }
     {
-        pointer_over(self.frame(), operand)
+        held_over(this, self.frame(), holder)
+    }
+
+    /// The pointer of an operand; null where it names no pointer.
+    pub fn pointer(&self, sight: Sight, operand: Pointer) -> Ptr
+        ensures { result ≡ pointer_over sight.entry.script.now sight.entry.heap.now sight.entry.this self.now.locals operand }
+    {
+        pointer_over(sight, self.frame(), operand)
     }
 
     /// The number of an operand; 0 where it names none.

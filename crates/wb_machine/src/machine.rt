@@ -184,7 +184,7 @@ impl<'a> Machine<'a> {
         if !self.begun {
             return true;
         }
-        self.state.steps() < self.budget && self.control.asks(&self.state)
+        self.state.steps() < self.budget && self.control.asks(self.script, &self.state)
     }
 
     /// How many attempts were made so far. One that the ceiling cuts isn't counted.

@@ -10,14 +10,14 @@ use crate::locals::{NULL, Slot};
 use crate::pieces::Ending;
 use crate::state::State;
 use wb_model::heap::Panic;
-use wb_model::script::{Number, Pointer};
+use wb_model::script::{Number, Pointer, Script};
 
 impl State {
     /// A target gets the pointer of a source.
-    pub fn copy_pointer(&mut self, target: Pointer, source: Pointer) -> Ending
-        ensures { CarriesOut self.old (gone_on (pointer_stored self.old target (pointer_read self.old source))) result self.new }
+    pub fn copy_pointer(&mut self, script: &Script, target: Pointer, source: Pointer) -> Ending
+        ensures { CarriesOut self.old (gone_on (pointer_stored self.old target (pointer_read script.now self.old source))) result self.new }
     {
-        let ptr = self.pointer(source);
+        let ptr = self.pointer(script, source);
         self.set_pointer(target, ptr);
         Ending::GoesOn
     }

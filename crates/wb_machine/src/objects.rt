@@ -1,22 +1,88 @@
-//! What objects tell of themselves.
+//! Statements that make objects, what objects tell of themselves, and their fields.
 
-ghost use Rattle.std.specs.Prelude.{◌≡◌};
+ghost use Rattle.std.specs.Prelude.{◌≡◌, ◌+◌, ◌*◌, ◌^◌, ◌<◌, ◌≤◌, Ok, length, IfOk, OnOk, IsTrue};
+ghost use Rattle.wb_model.specs.Bodies.{class_at};
+ghost use Rattle.wb_model.specs.Sound.{is_script};
+ghost use Rattle.wb_model.specs.CellRow.{payload_of};
+ghost use Rattle.wb_model.specs.Debug.{debug_changed, with_row};
+ghost use Rattle.wb_objects.specs.Objects.{object_made, with_field};
 ghost use Rattle.wb_machine.specs.Bodies.{class_read};
+ghost use Rattle.wb_machine.specs.CarriedObjects.{new_carried};
+ghost use Rattle.wb_machine.specs.Owed.{CarriesOut, KeepsCount, MayAttempt};
+ghost use Rattle.wb_machine.specs.PointerOperands.{row_with_field};
+ghost use Rattle.wb_machine.specs.RunState.{with_debug};
 
+use crate::pieces::Ending;
+use crate::pointers::has_words;
 use crate::state::State;
-use wb_model::heap::{Kind, Panic, Ptr};
+use wb_model::heap::{Gave, Panic, Ptr};
+use wb_model::memory::NoMemory;
+use wb_model::script::{Pointer, Refusal, Script};
+use wb_objects::set_field;
 
 impl State {
     /// The class of an object. WORKBENCH 1 where the pointer names no cell, and WORKBENCH 2 where its cell is no object's.
     pub fn class(&self, ptr: Ptr) -> Result<u16, Panic>
         ensures { result ≡ class_read self.now ptr }
     {
-        match self.heap.header(ptr) {
-            Some(header) => match header.kind {
-                Kind::Object(class) => Ok(class),
-                Kind::Raw | Kind::Text | Kind::Cleanup => Err(Panic::WRONG_KIND),
-            },
-            None => Err(Panic::NULL_OR_STALE),
+        wb_objects::class_of(&self.heap, ptr)
+    }
+
+    /// Puts a pointer into a field of an object of this class, which has words for it.
+    fn put_field(&mut self, object: Ptr, class: u16, index: u8, to: Ptr)
+        requires class { class_read self.old object ≡ Ok class }
+        requires room { 4 + 2 * index ≤ length (payload_of object self.old.debug.heap.row) }
+        ensures put { self.new ≡ with_debug self.old (debug_changed self.old.debug object (with_field index to (payload_of object self.old.debug.heap.row))) }
+        ensures keeps { KeepsCount self.old self.new }
+    {
+        match set_field(&mut self.heap, object, class, index, to) {
+            Ok(()) => {}
+            Err(_) => unreachable!(),
         }
+    }
+
+    /// Puts a pointer into a field of an object, whatever its class. A cell that is no object, or has no words for the field,
+    /// stays as it is; a script that was read has neither, since the object is asked for before the statement is carried out.
+    pub fn set_field(&mut self, object: Ptr, index: u8, to: Ptr)
+        ensures set { self.new ≡ with_debug self.old (with_row self.old.debug (row_with_field object index to self.old.debug.heap.row)) }
+        ensures keeps { KeepsCount self.old self.new }
+    {
+        if !has_words(&self.heap, object, index) {
+            return;
+        }
+        if let Ok(class) = self.class(object) {
+            self.put_field(object, class, index, to);
+        }
+    }
+    /// An attempt to get a cell for an object of a class.
+    ///
+    /// Past the ceiling nothing is counted; nor is it where memory runs out.
+    fn attempt_object(&mut self, script: &Script, class: u16) -> Result<Gave, NoMemory>
+        requires script { IsTrue (is_script script.now) }
+        requires class { class < length script.now.classes }
+        requires number { MayAttempt self.old }
+        ensures gave { IfOk result (λ gave. gave ≡ (object_made self.old.debug class (class_at script.now class)).gave) }
+        ensures made { OnOk result (self.new ≡ with_debug self.old (object_made self.old.debug class (class_at script.now class)).debug) }
+        ensures keeps { KeepsCount self.old self.new }
+    {
+        wb_objects::make(&mut self.heap, script, class)
+    }
+
+    /// A target gets a new object of a class.
+    pub fn new_object(
+        &mut self,
+        script: &Script,
+        target: Pointer,
+        class: u16,
+        refusal: Refusal,
+    ) -> Result<Ending, NoMemory>
+        requires script { IsTrue (is_script script.now) }
+        requires class { class < length script.now.classes }
+        requires number { MayAttempt self.old }
+        ensures carried { IfOk result (λ ending. CarriesOut self.old (new_carried script.now self.old target class refusal) ending self.new) }
+        ensures keeps { KeepsCount self.old self.new }
+    {
+        let gave = self.attempt_object(script, class)?;
+        Ok(self.give(target, refusal, gave))
     }
 }

@@ -3,18 +3,19 @@
 
 ghost use Rattle.std.specs.Prelude.{◌≡◌, ◌+◌, ◌^◌, ◌<◌, ◌↔◌, [], length, false, IfOk, OnOk, IsTrue};
 ghost use Rattle.std.specs.List.{list_all};
-ghost use Rattle.wb_model.specs.Sound.{is_local};
 ghost use Rattle.wb_model.specs.Space.{is_shape};
 ghost use Rattle.wb_model.specs.State.{null};
 ghost use Rattle.wb_machine.specs.RunState.{first_state};
 ghost use Rattle.wb_machine.specs.Told.{leaks_at_end, outcome_by, told_by};
 ghost use Rattle.wb_machine.specs.Carried.{pointer_read, number_read, pointer_stored, stored, stepped, entered, framed_with, called_back};
-ghost use Rattle.wb_machine.specs.LocalValues.{value_of, values_handed};
-ghost use Rattle.wb_machine.specs.Owed.{IsSameButFrames};
+ghost use Rattle.wb_machine.specs.LocalValues.{is_small, value_of, values_handed};
+ghost use Rattle.wb_machine.specs.PointerOperands.{held_in};
+ghost use Rattle.wb_machine.specs.Owed.{IsSameButFrames, KeepsCount};
 
 use crate::arguments::Handed;
 use crate::locals::{Locals, NULL, Slot};
 use crate::pieces::Ending;
+use crate::pointers::Sight;
 use std::alloc::Global;
 use std::marker::Model;
 use wb_cleanup::Cleanup;
@@ -24,7 +25,7 @@ use wb_model::heap::{Ptr, Rule, Shape};
 use wb_model::items::Items;
 use wb_model::memory::NoMemory;
 use wb_model::run::{Leaks, Lines, Notes, Outcome, RunResult};
-use wb_model::script::{Holder, Local, Number, Pointer};
+use wb_model::script::{Holder, Local, Number, Pointer, Script};
 
 /// What all bodies share.
 #[derive(Drop)]
@@ -95,15 +96,20 @@ impl State {
     }
 
     /// `main` begins, with its locals.
-    pub fn enter(&mut self, locals: &[Local]) -> Result<(), NoMemory>
+    pub fn enter(&mut self, script: &Script, locals: &[Local]) -> Result<(), NoMemory>
         requires none { self.old.locals ≡ [] }
         requires no_caller { self.old.callers ≡ [] }
         requires no_object { self.old.this ≡ null }
-        requires locals { IsTrue (list_all is_local locals.now) }
+        requires locals { IsTrue (list_all is_small locals.now) }
         ensures entered { OnOk result (self.new ≡ entered self.old locals.now) }
         ensures debug { self.new.debug ≡ self.old.debug }
     {
-        self.locals.call(Handed::Arguments(&[]), locals)?;
+        let sight = Sight {
+            script,
+            heap: &self.heap,
+            this: self.this,
+        };
+        self.locals.call(sight, Handed::Arguments(&[]), locals)?;
         Ok(())
     }
 
@@ -116,13 +122,24 @@ impl State {
 
     /// A body is called, of an object or of none, with what it is handed, in a frame of its own. Answers where the caller's
     /// frame begins.
-    pub fn call(&mut self, this: Ptr, handed: Handed, locals: &[Local]) -> Result<usize, NoMemory>
-        requires { IsTrue (list_all is_local locals.now) }
-        ensures called { OnOk result (self.new ≡ framed_with self.old this (values_handed self.old.locals handed.entry) locals.now) }
+    pub fn call(
+        &mut self,
+        script: &Script,
+        this: Ptr,
+        handed: Handed,
+        locals: &[Local],
+    ) -> Result<usize, NoMemory>
+        requires { IsTrue (list_all is_small locals.now) }
+        ensures called { OnOk result (self.new ≡ framed_with self.old this (values_handed script.now self.old handed.entry) locals.now) }
         ensures caller { IfOk result (λ base. base ≡ length self.old.callers) }
         ensures frames { IsSameButFrames self.old self.new }
     {
-        let caller = self.locals.call(handed, locals)?;
+        let sight = Sight {
+            script,
+            heap: &self.heap,
+            this: self.this,
+        };
+        let caller = self.locals.call(sight, handed, locals)?;
         self.this = this;
         Ok(caller)
     }
@@ -136,10 +153,22 @@ impl State {
     }
 
     /// The pointer of an operand.
-    pub fn pointer(&self, operand: Pointer) -> Ptr
-        ensures { result ≡ pointer_read self.now operand }
+    pub fn pointer(&self, script: &Script, operand: Pointer) -> Ptr
+        ensures { result ≡ pointer_read script.now self.now operand }
     {
-        self.locals.pointer(operand)
+        let sight = Sight {
+            script,
+            heap: &self.heap,
+            this: self.this,
+        };
+        self.locals.pointer(sight, operand)
+    }
+
+    /// What a holder holds.
+    pub fn held(&self, holder: Holder) -> Ptr
+        ensures { result ≡ held_in self.now holder }
+    {
+        self.locals.held(self.this, holder)
     }
 
     /// The number of an operand.
@@ -159,12 +188,12 @@ impl State {
     /// A pointer operand gets a pointer.
     pub fn set_pointer(&mut self, target: Pointer, ptr: Ptr)
         ensures stored { self.new ≡ pointer_stored self.old target ptr }
-        ensures debug { self.new.debug ≡ self.old.debug }
-        ensures steps { self.new.steps ≡ self.old.steps }
+        ensures keeps { KeepsCount self.old self.new }
     {
         match target {
             Pointer::Held(Holder::Local(index)) => self.set(index, Slot::Pointer(ptr)),
-            Pointer::Held(Holder::This) | Pointer::Field(..) => {}
+            Pointer::Held(Holder::This) => {}
+            Pointer::Field(holder, _, index) => self.set_field(self.held(holder), index, ptr),
         }
     }
 

@@ -20,7 +20,7 @@ use wb_hbuf::sources::{Edit, Source};
 use wb_model::heap::{Gave, Kind, Panic, Ptr};
 use wb_model::limits::MOST_UNITS;
 use wb_model::memory::NoMemory;
-use wb_model::script::{Number, Pointer, Refusal};
+use wb_model::script::{Number, Pointer, Refusal, Script};
 use wb_text::Base;
 
 impl State {
@@ -58,16 +58,17 @@ impl State {
     /// A target gets the text of a source, reallocated for `units` units, or null where that is refused.
     pub fn realloc_text(
         &mut self,
+        script: &Script,
         target: Pointer,
         source: Pointer,
         units: Number,
     ) -> Result<Ending, NoMemory>
         requires number { MayAttempt self.old }
-        ensures carried { IfOk result (λ ending. CarriesOut self.old (realloc_text_carried self.old target (pointer_read self.old source) (number_read self.old units)) ending self.new) }
+        ensures carried { IfOk result (λ ending. CarriesOut self.old (realloc_text_carried self.old target (pointer_read script.now self.old source) (number_read self.old units)) ending self.new) }
         ensures texts { AreTexts self.old.debug.heap.row }
         ensures keeps { KeepsCount self.old self.new }
     {
-        let ptr = self.pointer(source);
+        let ptr = self.pointer(script, source);
         if let Some(panic) = self.refusal(Base::Cell(ptr)) {
             return Ok(Ending::Panics(panic));
         }

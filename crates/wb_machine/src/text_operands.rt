@@ -51,12 +51,12 @@ fn literal_length(script: &Script, index: u32) -> u32
 
 impl State {
     /// The text that can be changed.
-    pub fn base(&self, text: Writable) -> Base
-        ensures { result ≡ base_named self.now text }
+    pub fn base(&self, script: &Script, text: Writable) -> Base
+        ensures { result ≡ base_named script.now self.now text }
     {
         match text {
             Writable::OwnBuffer(index) => Base::Local(index),
-            Writable::InCell(pointer) => Base::Cell(self.pointer(pointer)),
+            Writable::InCell(pointer) => Base::Cell(self.pointer(script, pointer)),
         }
     }
 
@@ -126,10 +126,10 @@ impl State {
     /// What a readable text shows, or what is refused of its base.
     pub fn window(&self, script: &Script, text: Readable) -> Result<Window, Panic>
         requires { IsTrue (is_script script.now) }
-        ensures { result ≡ window_found script.now.literals self.now text }
+        ensures { result ≡ window_found script.now self.now text }
     {
         match text {
-            Readable::Of(target) => self.whole(script, self.base(target)),
+            Readable::Of(target) => self.whole(script, self.base(script, target)),
             Readable::ViewOf(index) => self.viewed(self.locals.view(index)),
             Readable::Quoted(index) => self.whole(script, Base::Literal(index)),
         }

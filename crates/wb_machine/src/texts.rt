@@ -103,11 +103,11 @@ impl State {
         text: Readable,
     ) -> Ending
         requires script { IsTrue (is_script script.now) }
-        requires suits { (from : Base) → SuitsBase change (base_named self.old target) from }
-        ensures edited { IsEditedBy script.now.literals self.old (base_named self.old target) (window_read script.now.literals self.old text) change result self.new }
+        requires suits { (from : Base) → SuitsBase change (base_named script.now self.old target) from }
+        ensures edited { IsEditedBy script.now.literals self.old (base_named script.now self.old target) (window_read script.now self.old text) change result self.new }
         ensures keeps { KeepsCount self.old self.new }
     {
-        let to = self.base(target);
+        let to = self.base(script, target);
         if let Some(panic) = self.refusal(to) {
             return Ending::Panics(panic);
         }
@@ -126,10 +126,10 @@ impl State {
         text: Readable,
     ) -> Ending
         requires { IsTrue (is_script script.now) }
-        ensures inserted { IsInsertedBy script.now.literals self.old (base_named self.old target) (window_read script.now.literals self.old text) (number_read self.old position) result self.new }
+        ensures inserted { IsInsertedBy script.now.literals self.old (base_named script.now self.old target) (window_read script.now self.old text) (number_read self.old position) result self.new }
         ensures keeps { KeepsCount self.old self.new }
     {
-        let to = self.base(target);
+        let to = self.base(script, target);
         if let Some(panic) = self.refusal(to) {
             return Ending::Panics(panic);
         }
@@ -186,11 +186,17 @@ impl State {
     }
 
     /// `count` units of a text from a position on are taken out.
-    pub fn delete_text(&mut self, target: Writable, position: Number, count: Number) -> Ending
-        ensures deleted { IsDeletedBy self.old (base_named self.old target) (number_read self.old position) (number_read self.old count) result self.new }
+    pub fn delete_text(
+        &mut self,
+        script: &Script,
+        target: Writable,
+        position: Number,
+        count: Number,
+    ) -> Ending
+        ensures deleted { IsDeletedBy self.old (base_named script.now self.old target) (number_read self.old position) (number_read self.old count) result self.new }
         ensures keeps { KeepsCount self.old self.new }
     {
-        let to = self.base(target);
+        let to = self.base(script, target);
         if let Some(panic) = self.refusal(to) {
             return Ending::Panics(panic);
         }
@@ -204,11 +210,11 @@ impl State {
     }
 
     /// A text gets another length.
-    pub fn set_length(&mut self, target: Writable, length: Number) -> Ending
-        ensures set { IsLengthSet self.old (base_named self.old target) (number_read self.old length) result self.new }
+    pub fn set_length(&mut self, script: &Script, target: Writable, length: Number) -> Ending
+        ensures set { IsLengthSet self.old (base_named script.now self.old target) (number_read self.old length) result self.new }
         ensures keeps { KeepsCount self.old self.new }
     {
-        let to = self.base(target);
+        let to = self.base(script, target);
         if let Some(panic) = self.refusal(to) {
             return Ending::Panics(panic);
         }

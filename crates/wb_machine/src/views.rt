@@ -46,7 +46,7 @@ impl State {
     /// The first so many units of a text, or what refuses them.
     fn left_part(&self, script: &Script, text: Readable, count: Number) -> Result<Window, Panic>
         requires { IsTrue (is_script script.now) }
-        ensures { result ≡ left_read script.now.literals self.now text count }
+        ensures { result ≡ left_read script.now self.now text count }
     {
         let window = self.window(script, text)?;
         window.left(self.count(count)?)
@@ -55,7 +55,7 @@ impl State {
     /// The last so many units of a text, or what refuses them.
     fn right_part(&self, script: &Script, text: Readable, count: Number) -> Result<Window, Panic>
         requires { IsTrue (is_script script.now) }
-        ensures { result ≡ right_read script.now.literals self.now text count }
+        ensures { result ≡ right_read script.now self.now text count }
     {
         let window = self.window(script, text)?;
         window.right(self.count(count)?)
@@ -70,7 +70,7 @@ impl State {
         count: Number,
     ) -> Result<Window, Panic>
         requires { IsTrue (is_script script.now) }
-        ensures { result ≡ mid_read script.now.literals self.now text position count }
+        ensures { result ≡ mid_read script.now self.now text position count }
     {
         let window = self.window(script, text)?;
         let position = self.count(position)?;
@@ -80,7 +80,7 @@ impl State {
     /// A view local gets the first `count` units of a text.
     pub fn left(&mut self, script: &Script, local: u8, text: Readable, count: Number) -> Ending
         requires { IsTrue (is_script script.now) }
-        ensures { CarriesOut self.old (part_stored self.old local (left_read script.now.literals self.old text count)) result self.new }
+        ensures { CarriesOut self.old (part_stored self.old local (left_read script.now self.old text count)) result self.new }
     {
         let part = self.left_part(script, text, count);
         self.set_part(local, part)
@@ -89,7 +89,7 @@ impl State {
     /// A view local gets the last `count` units of a text.
     pub fn right(&mut self, script: &Script, local: u8, text: Readable, count: Number) -> Ending
         requires { IsTrue (is_script script.now) }
-        ensures { CarriesOut self.old (part_stored self.old local (right_read script.now.literals self.old text count)) result self.new }
+        ensures { CarriesOut self.old (part_stored self.old local (right_read script.now self.old text count)) result self.new }
     {
         let part = self.right_part(script, text, count);
         self.set_part(local, part)
@@ -105,7 +105,7 @@ impl State {
         count: Number,
     ) -> Ending
         requires { IsTrue (is_script script.now) }
-        ensures { CarriesOut self.old (part_stored self.old local (mid_read script.now.literals self.old text position count)) result self.new }
+        ensures { CarriesOut self.old (part_stored self.old local (mid_read script.now self.old text position count)) result self.new }
     {
         let part = self.mid_part(script, text, position, count);
         self.set_part(local, part)
@@ -117,7 +117,7 @@ impl State {
     /// A number local gets the length of a text.
     pub fn get_length(&mut self, script: &Script, local: u8, text: Readable) -> Ending
         requires { IsTrue (is_script script.now) }
-        ensures { CarriesOut self.old (length_carried script.now.literals self.old local text) result self.new }
+        ensures { CarriesOut self.old (length_carried script.now self.old local text) result self.new }
     {
         match self.window(script, text) {
             Ok(window) => {
@@ -146,10 +146,10 @@ impl State {
     }
 
     /// A number local gets the maximum of a text.
-    pub fn get_maximum(&mut self, local: u8, target: Writable) -> Ending
-        ensures { CarriesOut self.old (max_carried self.old local (base_named self.old target)) result self.new }
+    pub fn get_maximum(&mut self, script: &Script, local: u8, target: Writable) -> Ending
+        ensures { CarriesOut self.old (max_carried self.old local (base_named script.now self.old target)) result self.new }
     {
-        let base = self.base(target);
+        let base = self.base(script, target);
         if let Some(panic) = self.refusal(base) {
             return Ending::Panics(panic);
         }
@@ -161,7 +161,7 @@ impl State {
     /// Prints a text.
     pub fn print_text(&mut self, script: &Script, text: Readable) -> Result<Ending, NoMemory>
         requires { IsTrue (is_script script.now) }
-        ensures carried { IfOk result (λ ending. CarriesOut self.old (print_carried script.now.literals self.old text) ending self.new) }
+        ensures carried { IfOk result (λ ending. CarriesOut self.old (print_carried script.now self.old text) ending self.new) }
         ensures keeps { KeepsCount self.old self.new }
     {
         match self.window(script, text) {

@@ -16,7 +16,7 @@ use crate::operands::word_within;
 use crate::pieces::Ending;
 use crate::state::State;
 use wb_model::heap::{Kind, Panic, Ptr};
-use wb_model::script::{Number, Pointer};
+use wb_model::script::{Number, Pointer, Script};
 
 /// Whether a cell holds words that the script stores itself.
 pub fn is_raw(kind: Kind) -> bool
@@ -40,10 +40,10 @@ impl State {
     }
 
     /// Stores a number in a word of a Raw cell.
-    pub fn store(&mut self, pointer: Pointer, index: Number, value: i32) -> Ending
-        ensures { CarriesOut self.old (store_carried self.old (pointer_read self.old pointer) (number_read self.old index) value) result self.new }
+    pub fn store(&mut self, script: &Script, pointer: Pointer, index: Number, value: i32) -> Ending
+        ensures { CarriesOut self.old (store_carried self.old (pointer_read script.now self.old pointer) (number_read self.old index) value) result self.new }
     {
-        let ptr = self.pointer(pointer);
+        let ptr = self.pointer(script, pointer);
         let Some(header) = self.heap.header(ptr) else {
             return Ending::Panics(Panic::NULL_OR_STALE);
         };
@@ -66,10 +66,10 @@ impl State {
     }
 
     /// A number local gets a word of a Raw cell, as a signed number.
-    pub fn load(&mut self, local: u8, pointer: Pointer, index: Number) -> Ending
-        ensures { CarriesOut self.old (load_carried self.old local (pointer_read self.old pointer) (number_read self.old index)) result self.new }
+    pub fn load(&mut self, script: &Script, local: u8, pointer: Pointer, index: Number) -> Ending
+        ensures { CarriesOut self.old (load_carried self.old local (pointer_read script.now self.old pointer) (number_read self.old index)) result self.new }
     {
-        let ptr = self.pointer(pointer);
+        let ptr = self.pointer(script, pointer);
         let Some(header) = self.heap.header(ptr) else {
             return Ending::Panics(Panic::NULL_OR_STALE);
         };

@@ -31,3 +31,4 @@ pub mod TraceLemmas
 pub mod SizeLemmas
 pub mod SameRuns
 pub mod SweepLemmas
+pub mod QuietRuns

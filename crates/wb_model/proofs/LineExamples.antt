@@ -1,9 +1,10 @@
 -- What the definitions make of bytes where a reader might doubt: each example is proved by computing.
 use Rattle.std.specs.Prelude.{◌≡◌, pos, negsuc, [], ◌∷◌, ◌++◌, Some, None, codes, map, replicate}
 use Rattle.std.proofs.Common.{refl}
-use Rattle.wb_model.specs.declared.script_lines.Key.TheVariants.{Proc, Op, Ptr, Buf, Alloc, AllocL, Free, Store, Set, Leave, LeaveIfNull, Call, CallTo, Return, ReturnPointer, Insert, Left, Print, PushOp, Heap, Available, Compress, IfNull, IfSome, IfEqual, IfLess, Else, Repeat, Trap, End}
+use Rattle.wb_model.specs.declared.script_lines.Key.TheVariants.{Class, Field, ClassField, Constructor, Destructor, ClassPtr, New, NewLeave, Construct, Delete, SetField, PushObj, Add, Proc, Op, Ptr, Buf, Alloc, AllocL, Free, Store, Set, Leave, LeaveIfNull, Call, CallTo, Return, ReturnPointer, Insert, Left, Print, PushOp, Heap, Available, Compress, IfNull, IfSome, IfEqual, IfLess, Else, Repeat, Trap, End}
+use Rattle.wb_model.specs.declared.script_lines.Operand.TheVariants as spelled
 use Rattle.wb_model.specs.declared.script_lines.Operand.TheVariants.{Name, Number, Size, Literal, Parameter, Keyword}
-use Rattle.wb_model.specs.declared.script.Parameter.TheVariants.{OfPointer, OfNumber}
+use Rattle.wb_model.specs.declared.script_lines.Taken.TheVariants as taken
 use Rattle.wb_model.specs.declared.script_lines.Form.TheVariants.{Skip, Unknown, Line}
 use Rattle.wb_model.specs.Lines.{lines_of, words_of, first_foreign_line}
 use Rattle.wb_model.specs.Words.{declared_name, number_spelled}
@@ -111,9 +112,9 @@ null_is_used : line_form (codes "free null") ≡ Line Free (Name (codes "null") 
 unfolding keys
 null_is_used = refl
 
-self_is_not_used : line_form (codes "free self") ≡ Unknown
+self_is_used : line_form (codes "free self") ≡ Line Free (Name (codes "self") ∷ [])
 unfolding keys
-self_is_not_used = refl
+self_is_used = refl
 
 name_that_begins_with_self : line_form (codes "free selfish") ≡ Line Free (Name (codes "selfish") ∷ [])
 unfolding keys
@@ -207,13 +208,13 @@ name_is_printed = refl
 -- Procedures and calls.
 
 parameters : map line_form (codes "proc f a:ptr" ∷ codes "proc f a:int b:int c:ptr a:ptr e:int" ∷ []) ≡
-    Line Proc (Name (codes "f") ∷ Parameter (codes "a") (OfPointer None) ∷ [])
-    ∷ Line Proc (Name (codes "f") ∷ Parameter (codes "a") OfNumber ∷ Parameter (codes "b") OfNumber ∷ Parameter (codes "c") (OfPointer None) ∷ Parameter (codes "a") (OfPointer None) ∷ Parameter (codes "e") OfNumber ∷ []) ∷ []
+    Line Proc (Name (codes "f") ∷ Parameter (codes "a") taken.Pointer ∷ [])
+    ∷ Line Proc (Name (codes "f") ∷ Parameter (codes "a") taken.Number ∷ Parameter (codes "b") taken.Number ∷ Parameter (codes "c") taken.Pointer ∷ Parameter (codes "a") taken.Pointer ∷ Parameter (codes "e") taken.Number ∷ []) ∷ []
 unfolding keys
 parameters = refl
 
 -- a kind is wanted, with nothing between it and the name, and a name that can be declared
-no_parameters : map line_form (codes "proc f a" ∷ codes "proc f a: int" ∷ codes "proc f a:buf" ∷ codes "proc f :ptr" ∷ codes "proc f self:ptr" ∷ codes "proc f int:int" ∷ codes "proc f a:b:int" ∷ codes "proc f int" ∷ []) ≡ replicate 8 Unknown
+no_parameters : map line_form (codes "proc f a" ∷ codes "proc f a: int" ∷ codes "proc f :ptr" ∷ codes "proc f self:ptr" ∷ codes "proc f int:int" ∷ codes "proc f a:b:int" ∷ codes "proc f int" ∷ []) ≡ replicate 7 Unknown
 unfolding keys
 no_parameters = refl
 
@@ -231,7 +232,7 @@ returns = refl
 -- Operations: the one parameter is a pointer, and no kind is told.
 
 operations : map line_form (codes "op drop p" ∷ codes " op  p p\r" ∷ codes "pushop p drop" ∷ codes "pushop null p" ∷ []) ≡
-    Line Op (Name (codes "drop") ∷ Parameter (codes "p") (OfPointer None) ∷ []) ∷ Line Op (Name (codes "p") ∷ Parameter (codes "p") (OfPointer None) ∷ [])
+    Line Op (Name (codes "drop") ∷ Parameter (codes "p") taken.Pointer ∷ []) ∷ Line Op (Name (codes "p") ∷ Parameter (codes "p") taken.Pointer ∷ [])
     ∷ Line PushOp (Name (codes "p") ∷ Name (codes "drop") ∷ []) ∷ Line PushOp (Name (codes "null") ∷ Name (codes "p") ∷ []) ∷ []
 unfolding keys
 operations = refl
@@ -241,9 +242,47 @@ no_operations : map line_form (codes "op" ∷ codes "op drop" ∷ codes "op drop
 unfolding keys
 no_operations = refl
 
-no_pushes : map line_form (codes "pushop" ∷ codes "pushop p" ∷ codes "pushop p drop q" ∷ codes "pushop p 1" ∷ codes "pushop 1 drop" ∷ codes "pushop p self" ∷ []) ≡ replicate 6 Unknown
+no_pushes : map line_form (codes "pushop" ∷ codes "pushop p" ∷ codes "pushop p drop q" ∷ codes "pushop p 1" ∷ codes "pushop 1 drop" ∷ []) ≡ replicate 5 Unknown
 unfolding keys
 no_pushes = refl
+
+-- Classes, and what they bring.
+
+classes : map line_form (codes "class cat 8" ∷ codes "field tail" ∷ codes "field owner cat" ∷ codes "construct" ∷ codes "destroy" ∷ codes "ptr p cat" ∷ []) ≡
+    Line Class (Name (codes "cat") ∷ Size 8 ∷ []) ∷ Line Field (Name (codes "tail") ∷ []) ∷ Line ClassField (Name (codes "owner") ∷ Name (codes "cat") ∷ [])
+    ∷ Line Constructor [] ∷ Line Destructor [] ∷ Line ClassPtr (Name (codes "p") ∷ Name (codes "cat") ∷ []) ∷ []
+unfolding keys
+classes = refl
+
+-- no number below 0, no further word, and no name that can't be declared
+no_classes : map line_form (codes "class cat" ∷ codes "class cat -1" ∷ codes "class self 0" ∷ codes "field" ∷ codes "field self" ∷ codes "field a b c" ∷ codes "destroy p" ∷ codes "ptr ptr cat" ∷ []) ≡ replicate 8 Unknown
+unfolding keys
+no_classes = refl
+
+objects : map line_form (codes "new p cat" ∷ codes "newleave self.tail cat" ∷ codes "construct p" ∷ codes "delete p.tail" ∷ codes "pushobj self" ∷ []) ≡
+    Line New (Name (codes "p") ∷ Name (codes "cat") ∷ []) ∷ Line NewLeave (spelled.Field (codes "self") (codes "tail") ∷ Name (codes "cat") ∷ [])
+    ∷ Line Construct (Name (codes "p") ∷ []) ∷ Line Delete (spelled.Field (codes "p") (codes "tail") ∷ []) ∷ Line PushObj (Name (codes "self") ∷ []) ∷ []
+unfolding keys
+objects = refl
+
+-- a field is set by another key than a name, and to a pointer alone
+fields_are_set : map line_form (codes "set p.a q" ∷ codes "set p.a q.b" ∷ codes "set p q.b" ∷ codes "set p.a 5" ∷ codes "add p.a 1" ∷ codes "add self 1" ∷ []) ≡
+    Line SetField (spelled.Field (codes "p") (codes "a") ∷ Name (codes "q") ∷ []) ∷ Line SetField (spelled.Field (codes "p") (codes "a") ∷ spelled.Field (codes "q") (codes "b") ∷ [])
+    ∷ Line Set (Name (codes "p") ∷ spelled.Field (codes "q") (codes "b") ∷ []) ∷ Unknown ∷ Unknown ∷ Line Add (Name (codes "self") ∷ Number (pos 1) ∷ []) ∷ []
+unfolding keys
+fields_are_set = refl
+
+-- a field is two names with a dot between them, and nothing else
+no_fields : map line_form (codes "free p." ∷ codes "free .a" ∷ codes "free p.a.b" ∷ codes "free p .a" ∷ codes "free 1.a" ∷ codes "repeat p.a" ∷ codes "left p.a q 1" ∷ []) ≡ replicate 7 Unknown
+unfolding keys
+no_fields = refl
+
+-- any word but `ptr` and `int` that is a name is a class, `self` too, though nothing is declared with it
+parameters_of_classes : map line_form (codes "proc f a:cat b:self" ∷ codes "proc f a:buf" ∷ codes "proc f a:" ∷ codes "proc f a:1" ∷ codes "op f a:cat" ∷ []) ≡
+    Line Proc (Name (codes "f") ∷ Parameter (codes "a") (taken.OfClass (codes "cat")) ∷ Parameter (codes "b") (taken.OfClass (codes "self")) ∷ [])
+    ∷ Line Proc (Name (codes "f") ∷ Parameter (codes "a") (taken.OfClass (codes "buf")) ∷ []) ∷ replicate 3 Unknown
+unfolding keys
+parameters_of_classes = refl
 
 -- Blocks and leaves.
 

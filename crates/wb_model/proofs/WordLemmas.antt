@@ -1,30 +1,29 @@
 -- A line that says something is made of words.
-use Rattle.std.proofs.Common.{◌≡◌, ◌≢◌, inl, inr, ℕ, zero, suc, ap, ℤ, pos, neg_ℤ, nat_le, length, fold, ◌≤◌, List, [], ◌∷◌, ◌++◌, ◌-◌, take, drop, Bool, true, false, not, ◌&&◌, nat_eq, Option, Some, None, if◌then◌else◌, arith, refl, sym, subst}
+use Rattle.std.proofs.Common.{◌≡◌, ◌≢◌, inl, inr, ℕ, zero, suc, ap, ℤ, pos, neg_ℤ, nat_le, length, fold, ◌≤◌, List, [], ◌∷◌, ◌++◌, ◌+◌, ◌-◌, take, drop, Bool, true, false, not, ◌&&◌, nat_eq, Option, Some, None, if◌then◌else◌, arith, refl, sym, subst}
 use Rattle.std.specs.Prelude.{codes}
 use Rattle.std.specs.List.{list_all}
 use Rattle.std.specs.Option.{option_map}
 use Rattle.std.specs.Str.{bytes_eq}
 use Rattle.std.specs.Cmp.Lexicographic.{same_text}
 use Rattle.std.proofs.lemmas.Bool.Decides.{nat_tests}
-use Rattle.std.proofs.lemmas.List.{take-append-drop}
 use borrow.Author.Tests.{ne_eqb, eqb-true}
 use Rattle.wb_model.specs.declared.script_lines.Key.{Key}
 use Rattle.wb_model.specs.declared.script_lines.Letter.{Letter}
 use Rattle.wb_model.specs.declared.script_lines.Operand.{Operand}
 use Rattle.wb_model.specs.declared.script_lines.Operand.TheVariants.{Name, Number, Literal, Keyword}
 use Rattle.wb_model.specs.declared.script_lines.Operand.TheVariants as spelled
-use Rattle.wb_model.specs.declared.script.Parameter.{Parameter}
-use Rattle.wb_model.specs.declared.script.Parameter.TheVariants as parameter
+use Rattle.wb_model.specs.declared.script_lines.Taken.{Taken}
+use Rattle.wb_model.specs.declared.script_lines.Taken.TheVariants.{Pointer, OfClass}
 use Rattle.wb_model.specs.declared.script_lines.Keyword as model
 use Rattle.wb_model.specs.declared.script_lines.Keyword.TheVariants as keyword
 use Rattle.wb_model.specs.declared.script_lines.Form.{Form}
 use Rattle.wb_model.specs.declared.script_lines.Form.TheVariants.{Line}
 use Rattle.wb_model.specs.Lines.{is_blank, words_of}
-use Rattle.wb_model.specs.Words.{is_reserved, with_digit, is_digit, is_name_byte, is_name, is_letter, declared_name, used_name, digits_of, number_spelled, literal_spelled, kind_spelled, parameter_name, parameter_kind, text_of_keyword}
+use Rattle.wb_model.specs.Words.{is_reserved, with_digit, is_digit, is_name_byte, is_name, is_letter, declared_name, used_name, digits_of, number_spelled, literal_spelled, length_before, before_first, behind_first, base_name, field_name, taken_spelled, parameter_name, parameter_taken, text_of_keyword}
 use Rattle.wb_model.specs.declared.script_lines.WordKind.{WordKind}
 use Rattle.wb_model.specs.declared.script_lines.WordKind.TheVariants as kind
 use Rattle.wb_model.specs.Keys.{keys, text_of, letters_for, word_kinds}
-use Rattle.wb_model.specs.Forms.{operand_of, operand_as, operand_among, operands_of, operands_if, either, size_of, parameter_of, onto, line_or, form_in, begins_comment, skipped_or, form_of}
+use Rattle.wb_model.specs.Forms.{operand_of, operand_as, operand_among, operands_of, operands_if, either, size_of, parameter_of, field_of, onto, line_or, form_in, begins_comment, skipped_or, form_of}
 use Rattle.wb_model.specs.Writing.{is_plain, IsWord, AreWords, IsMadeOfWords}
 use Rattle.wb_model.proofs.WritingLemmas.{both, quoted_of_literal}
 
@@ -81,9 +80,7 @@ word_of_declared word name h =
     word_of_name word is
 
 word_of_used : (word name : List ℕ) → used_name word ≡ Some name → IsWord word
-word_of_used word name h =
-    let (is, _) = both (is_name word) _ (chosen_back (is_name word && not (bytes_eq word (codes "self"))) word name h) in
-    word_of_name word is
+word_of_used word name h = word_of_name word (chosen_back (is_name word) word name h)
 
 plain_of_digits : (word : List ℕ) (n : ℕ) → digits_of word ≡ Some n → is_plain word ≡ true
 plain_of_digits word n h =
@@ -128,37 +125,70 @@ plain_of_name (byte ∷ bytes) h =
     let (here, there) = both (is_letter byte) (list_all is_name_byte bytes) h in
     (not_empty byte bytes, both_hold _ (is_plain bytes) (high_byte byte (high_of_letter byte here)) (plain_all is_name_byte high_of_name bytes there))
 
-plain_of_kind : (bytes : List ℕ) (kind : Parameter) → kind_spelled bytes ≡ Some kind → is_plain bytes ≡ true
-plain_of_kind bytes kind h = go (bytes_eq bytes (codes ":ptr")) (bytes_eq bytes (codes ":int")) refl refl h
+plain_of_taken : (bytes : List ℕ) (kind : Taken (List ℕ)) → taken_spelled bytes ≡ Some kind → is_plain bytes ≡ true
+plain_of_taken bytes kind h = go (bytes_eq bytes (codes "ptr")) (bytes_eq bytes (codes "int")) refl refl h
   where
-    go : (ptr int : Bool) → bytes_eq bytes (codes ":ptr") ≡ ptr → bytes_eq bytes (codes ":int") ≡ int → kind_spelled bytes ≡ Some kind → is_plain bytes ≡ true
-    go true int is_ptr is_int h = subst (λ b. is_plain b ≡ true) (sym (same_text bytes (codes ":ptr") (sym is_ptr))) refl
-    go false true is_ptr is_int h = subst (λ b. is_plain b ≡ true) (sym (same_text bytes (codes ":int") (sym is_int))) refl
-    go false false is_ptr is_int h = let none : None ≡ Some kind = rw (is_ptr, is_int) at h in cc
+    go : (ptr int : Bool) → bytes_eq bytes (codes "ptr") ≡ ptr → bytes_eq bytes (codes "int") ≡ int → taken_spelled bytes ≡ Some kind → is_plain bytes ≡ true
+    go true int is_ptr is_int h = subst (λ b. is_plain b ≡ true) (sym (same_text bytes (codes "ptr") (sym is_ptr))) refl
+    go false true is_ptr is_int h = subst (λ b. is_plain b ≡ true) (sym (same_text bytes (codes "int") (sym is_int))) refl
+    go false false is_ptr is_int h =
+        let named : option_map OfClass (used_name bytes) ≡ Some kind = rw (is_ptr, is_int) at h in
+        let (name, is) = mapped_back OfClass (used_name bytes) kind named in
+        (plain_of_name bytes (chosen_back (is_name bytes) bytes name is)).1
 
 none_taken : (n : ℕ) (word : List ℕ) → word ≡ [] → take n word ≡ []
 none_taken zero word h = refl
 none_taken (suc n) word h = ap (take (suc n)) h
 
--- two parts, the first not empty
-word_of_parts : (word : List ℕ) (n : ℕ) → take n word ≢ [] → is_plain (take n word) ≡ true → is_plain (drop n word) ≡ true → IsWord word
-word_of_parts word n some front back =
-    let whole : take n word ++ drop n word ≡ word = take-append-drop n word in
-    inl ((λ none. some (none_taken n word none)), subst (λ w. is_plain w ≡ true) whole (plain_append (take n word) (drop n word) front back))
+-- what stands before and behind a byte that is plain, and the byte itself
+module _ (byte : ℕ) (plain : is_plain (byte ∷ []) ≡ true) where
+  -- one byte more, which is this one or not
+  plain_here : (b : ℕ) (word : List ℕ) (same : Bool) → nat_eq b byte ≡ same → (is_plain (before_first byte word) ≡ true → is_plain (behind_first byte word) ≡ true → is_plain word ≡ true) →
+      is_plain (before_first byte (b ∷ word)) ≡ true → is_plain (behind_first byte (b ∷ word)) ≡ true → is_plain (b ∷ word) ≡ true
+  plain_here b word true is rest front back =
+      let here : b ≡ byte = eqb-true b byte is in
+      let behind : is_plain word ≡ true = rw (is) at back in
+      plain_append (b ∷ []) word (subst (λ x. is_plain (x ∷ []) ≡ true) (sym here) plain) behind
+  plain_here b word false is rest front back =
+      let before : is_plain (b ∷ before_first byte word) ≡ true = rw (is) at front in
+      let one_less : suc (length_before byte word) + 1 ≡ suc (length_before byte word + 1) = omega arith in
+      let shifted : is_plain (drop (suc (length_before byte word) + 1) (b ∷ word)) ≡ true = rw (is) at back in
+      let behind : is_plain (behind_first byte word) ≡ true = subst (λ n. is_plain (drop n (b ∷ word)) ≡ true) one_less shifted in
+      let (first, others) = both (not (is_blank b) && not (nat_eq b 34)) (is_plain (before_first byte word)) before in
+      both_hold _ (is_plain word) first (rest others behind)
 
-word_of_parameter : (word : List ℕ) (operand : Operand (List ℕ)) → parameter_of (parameter_name word) (parameter_kind word) ≡ Some operand → IsWord word
-word_of_parameter word operand h = go (parameter_name word) (parameter_kind word) refl refl h
+  plain_around : (word : List ℕ) → is_plain (before_first byte word) ≡ true → is_plain (behind_first byte word) ≡ true → is_plain word ≡ true
+  plain_around [] front back = refl
+  plain_around (b ∷ word) front back = plain_here b word (nat_eq b byte) refl (plain_around word) front back
+
+  -- the first part isn't empty
+  word_around : (word : List ℕ) → before_first byte word ≢ [] → is_plain (before_first byte word) ≡ true → is_plain (behind_first byte word) ≡ true → IsWord word
+  word_around word some front back = inl ((λ none. some (none_taken (length_before byte word) word none)), plain_around word front back)
+
+word_of_parameter : (word : List ℕ) (operand : Operand (List ℕ)) → parameter_of (parameter_name word) (parameter_taken word) ≡ Some operand → IsWord word
+word_of_parameter word operand h = go (parameter_name word) (parameter_taken word) refl refl h
   where
     front : List ℕ
-    front = take (length word - 4) word
+    front = before_first 58 word
 
-    go : (name : Option (List ℕ)) (kind : Option Parameter) → parameter_name word ≡ name → parameter_kind word ≡ kind → parameter_of name kind ≡ Some operand → IsWord word
+    go : (name : Option (List ℕ)) (kind : Option (Taken (List ℕ))) → parameter_name word ≡ name → parameter_taken word ≡ kind → parameter_of name kind ≡ Some operand → IsWord word
     go (Some name) (Some kind) is_name_there is_kind h =
         let (named, _) = both (is_name front) (not (is_reserved front)) (chosen_back (is_name front && not (is_reserved front)) front name is_name_there) in
         let (some, plain) = plain_of_name front named in
-        word_of_parts word (length word - 4) some plain (plain_of_kind (drop (length word - 4) word) kind is_kind)
+        word_around 58 refl word some plain (plain_of_taken (behind_first 58 word) kind is_kind)
     go (Some name) None is_name_there is_kind h = cc
     go None kind is_name_there is_kind h = cc
+
+word_of_field : (word : List ℕ) (operand : Operand (List ℕ)) → field_of (base_name word) (field_name word) ≡ Some operand → IsWord word
+word_of_field word operand h = go (base_name word) (field_name word) refl refl h
+  where
+    go : (base field : Option (List ℕ)) → base_name word ≡ base → field_name word ≡ field → field_of base field ≡ Some operand → IsWord word
+    go (Some base) (Some field) is_base is_field h =
+        let (some, plain) = plain_of_name (before_first 46 word) (chosen_back (is_name (before_first 46 word)) (before_first 46 word) base is_base) in
+        let (_, behind) = plain_of_name (behind_first 46 word) (chosen_back (is_name (behind_first 46 word)) (behind_first 46 word) field is_field) in
+        word_around 46 refl word some plain behind
+    go (Some base) None is_base is_field h = cc
+    go None field is_base is_field h = cc
 
 plain_keyword : (k : model.Keyword) → IsWord (text_of_keyword k)
 plain_keyword keyword.Null = word_of_name (codes "null") refl
@@ -174,11 +204,12 @@ word_of_keyword k word false is operand h = cc
 word_of_kind : (kind : WordKind) (word : List ℕ) (operand : Operand (List ℕ)) → operand_as kind word ≡ Some operand → IsWord word
 word_of_kind kind.NewName word operand h = let (name, is) = mapped_back Name (declared_name word) operand h in word_of_declared word name is
 word_of_kind kind.Name word operand h = let (name, is) = mapped_back Name (used_name word) operand h in word_of_used word name is
+word_of_kind kind.Field word operand h = word_of_field word operand h
 word_of_kind kind.Number word operand h = let (z, is) = mapped_back Number (number_spelled word) operand h in word_of_number word z is
 word_of_kind kind.Size word operand h = word_of_size word operand h
 word_of_kind kind.Literal word operand h = let (text, is) = mapped_back Literal (literal_spelled word) operand h in word_of_literal word text is
 word_of_kind kind.Parameter word operand h = word_of_parameter word operand h
-word_of_kind kind.NewPointer word operand h = let (name, is) = mapped_back (λ n. spelled.Parameter n (parameter.OfPointer None)) (declared_name word) operand h in word_of_declared word name is
+word_of_kind kind.NewPointer word operand h = let (name, is) = mapped_back (λ n. spelled.Parameter n Pointer) (declared_name word) operand h in word_of_declared word name is
 word_of_kind (kind.Keyword k) word operand h = word_of_keyword k word (bytes_eq word (text_of_keyword k)) refl operand h
 
 word_among : (kinds : List WordKind) (word : List ℕ) (operand : Operand (List ℕ)) → operand_among kinds word ≡ Some operand → IsWord word

@@ -218,6 +218,461 @@ return_in_a_repetition_ends_the_body_run : run script_return_in_a_repetition_end
 unfolding everything
 return_in_a_repetition_ends_the_body_run = refl
 
+abbrev script_argument_of_a_parameter_with_a_class_may_be_of_another_run : Script
+script_argument_of_a_parameter_with_a_class_may_be_of_another_run = record { classes = (record { line = 1; extra = 0; fields = []; construct = None; destroy = None }) ∷ (record { line = 3; extra = 0; fields = None ∷ []; construct = None; destroy = None }) ∷ []; procedures = (record { line = 6; parameters = (Par.OfPointer (Some 1)) ∷ []; body = record { locals = []; statements = (on 7 (Statement-F.PrintText (Quoted 0))) ∷ (on 8 (Statement-F.Free (Field (H.Local 0) 1 0))) ∷ [] } }) ∷ (record { line = 10; parameters = []; body = record { locals = (OfPointer (Some 0)) ∷ []; statements = (on 12 (Statement-F.New (Held (H.Local 0)) 0 Leaves)) ∷ (on 13 (Statement-F.Call 0 ((Passed (Held (H.Local 0))) ∷ []))) ∷ [] } }) ∷ []; operations = []; literals = (104 ∷ 101 ∷ 114 ∷ 101 ∷ []) ∷ []; main = 1 }
+
+argument_of_a_parameter_with_a_class_may_be_of_another_run : run script_argument_of_a_parameter_with_a_class_may_be_of_another_run R.Unlimited 10000 (shaped 4096 4096) ≡ record { outcome = Panicked (P.Workbench 2); trace = (line 1 144 0 Granted) ∷ (line 2 32 144 Granted) ∷ []; lines = (104 ∷ 101 ∷ 114 ∷ 101 ∷ []) ∷ []; notes = []; steps = 4 }
+unfolding everything
+argument_of_a_parameter_with_a_class_may_be_of_another_run = refl
+
+abbrev script_arguments_with_fields_are_refused_before_the_frame_run : Script
+script_arguments_with_fields_are_refused_before_the_frame_run = record { classes = (record { line = 1; extra = 0; fields = None ∷ []; construct = None; destroy = None }) ∷ []; procedures = (record { line = 4; parameters = (Par.OfPointer None) ∷ Par.OfNumber ∷ []; body = record { locals = []; statements = (on 5 (Statement-F.PrintText (Quoted 0))) ∷ [] } }) ∷ (record { line = 7; parameters = []; body = record { locals = (OfPointer (Some 0)) ∷ []; statements = (on 9 (Statement-F.Call 0 ((Passed (Field (H.Local 0) 0 0)) ∷ (Given (Constant (pos 3))) ∷ []))) ∷ [] } }) ∷ []; operations = []; literals = (110 ∷ 101 ∷ 118 ∷ 101 ∷ 114 ∷ []) ∷ []; main = 1 }
+
+arguments_with_fields_are_refused_before_the_frame_run : run script_arguments_with_fields_are_refused_before_the_frame_run R.Unlimited 10000 (shaped 4096 4096) ≡ record { outcome = Panicked (P.Workbench 1); trace = (line 1 144 0 Granted) ∷ []; lines = []; notes = []; steps = 1 }
+unfolding everything
+arguments_with_fields_are_refused_before_the_frame_run = refl
+
+abbrev script_condition_on_a_field_of_null_run : Script
+script_condition_on_a_field_of_null_run = record { classes = (record { line = 1; extra = 0; fields = None ∷ []; construct = None; destroy = None }) ∷ []; procedures = (record { line = 4; parameters = []; body = record { locals = (OfPointer (Some 0)) ∷ []; statements = (on 6 (Statement-F.If (NotNull (Field (H.Local 0) 0 0)) [])) ∷ [] } }) ∷ []; operations = []; literals = []; main = 0 }
+
+condition_on_a_field_of_null_run : run script_condition_on_a_field_of_null_run R.Unlimited 10000 (shaped 4096 4096) ≡ record { outcome = Panicked (P.Workbench 1); trace = (line 1 144 0 Granted) ∷ []; lines = []; notes = []; steps = 1 }
+unfolding everything
+condition_on_a_field_of_null_run = refl
+
+abbrev script_construct_and_delete_take_steps_without_bodies_run : Script
+script_construct_and_delete_take_steps_without_bodies_run = record { classes = (record { line = 1; extra = 0; fields = []; construct = None; destroy = None }) ∷ []; procedures = (record { line = 3; parameters = []; body = record { locals = (OfPointer (Some 0)) ∷ []; statements = (on 5 (Statement-F.New (Held (H.Local 0)) 0 Leaves)) ∷ (on 6 (Statement-F.Construct (Held (H.Local 0)))) ∷ (on 7 (Statement-F.Delete (Held (H.Local 0)))) ∷ [] } }) ∷ []; operations = []; literals = []; main = 0 }
+
+construct_and_delete_take_steps_without_bodies_run : run script_construct_and_delete_take_steps_without_bodies_run R.Unlimited 10000 (shaped 4096 4096) ≡ record { outcome = Ended None []; trace = (line 1 144 0 Granted) ∷ (line 2 32 144 Granted) ∷ []; lines = []; notes = []; steps = 4 }
+unfolding everything
+construct_and_delete_take_steps_without_bodies_run = refl
+
+abbrev script_construct_of_another_kind_run : Script
+script_construct_of_another_kind_run = record { classes = (record { line = 1; extra = 0; fields = []; construct = None; destroy = None }) ∷ []; procedures = (record { line = 3; parameters = []; body = record { locals = (OfPointer (Some 0)) ∷ []; statements = (on 5 (Statement-F.Alloc (Held (H.Local 0)) (Constant (pos 4)) GivesNull)) ∷ (on 6 (Statement-F.Construct (Held (H.Local 0)))) ∷ [] } }) ∷ []; operations = []; literals = []; main = 0 }
+
+construct_of_another_kind_run : run script_construct_of_another_kind_run R.Unlimited 10000 (shaped 4096 4096) ≡ record { outcome = Panicked (P.Workbench 2); trace = (line 1 144 0 Granted) ∷ (line 2 32 144 Granted) ∷ []; lines = []; notes = []; steps = 2 }
+unfolding everything
+construct_of_another_kind_run = refl
+
+abbrev script_construct_of_null_run : Script
+script_construct_of_null_run = record { classes = (record { line = 1; extra = 0; fields = []; construct = None; destroy = None }) ∷ []; procedures = (record { line = 3; parameters = []; body = record { locals = (OfPointer (Some 0)) ∷ []; statements = (on 5 (Statement-F.Construct (Held (H.Local 0)))) ∷ [] } }) ∷ []; operations = []; literals = []; main = 0 }
+
+construct_of_null_run : run script_construct_of_null_run R.Unlimited 10000 (shaped 4096 4096) ≡ record { outcome = Panicked (P.Workbench 1); trace = (line 1 144 0 Granted) ∷ []; lines = []; notes = []; steps = 1 }
+unfolding everything
+construct_of_null_run = refl
+
+abbrev script_delete_item_of_a_raw_cell_run : Script
+script_delete_item_of_a_raw_cell_run = record { classes = []; procedures = (record { line = 1; parameters = []; body = record { locals = (OfPointer None) ∷ []; statements = (on 3 (Statement-F.Alloc (Held (H.Local 0)) (Constant (pos 1)) GivesNull)) ∷ (on 4 (Statement-F.PushObject (Held (H.Local 0)))) ∷ (on 5 (Statement-F.PopDestroy (Constant (pos 1)))) ∷ [] } }) ∷ []; operations = []; literals = []; main = 0 }
+
+delete_item_of_a_raw_cell_run : run script_delete_item_of_a_raw_cell_run R.Unlimited 10000 (shaped 4096 4096) ≡ record { outcome = Panicked (P.Workbench 2); trace = (line 1 144 0 Granted) ∷ (line 2 32 144 Granted) ∷ []; lines = []; notes = []; steps = 5 }
+unfolding everything
+delete_item_of_a_raw_cell_run = refl
+
+abbrev script_delete_item_of_an_object_that_is_gone_run : Script
+script_delete_item_of_an_object_that_is_gone_run = record { classes = (record { line = 1; extra = 0; fields = []; construct = None; destroy = None }) ∷ []; procedures = (record { line = 3; parameters = []; body = record { locals = (OfPointer (Some 0)) ∷ []; statements = (on 5 (Statement-F.New (Held (H.Local 0)) 0 Leaves)) ∷ (on 6 (Statement-F.PushObject (Held (H.Local 0)))) ∷ (on 7 (Statement-F.Free (Held (H.Local 0)))) ∷ (on 8 (Statement-F.PopDestroy (Constant (pos 1)))) ∷ [] } }) ∷ []; operations = []; literals = []; main = 0 }
+
+delete_item_of_an_object_that_is_gone_run : run script_delete_item_of_an_object_that_is_gone_run R.Unlimited 10000 (shaped 4096 4096) ≡ record { outcome = Panicked (P.Workbench 1); trace = (line 1 144 0 Granted) ∷ (line 2 32 144 Granted) ∷ []; lines = []; notes = []; steps = 6 }
+unfolding everything
+delete_item_of_an_object_that_is_gone_run = refl
+
+abbrev script_delete_of_an_object_that_is_gone_run : Script
+script_delete_of_an_object_that_is_gone_run = record { classes = (record { line = 1; extra = 0; fields = []; construct = None; destroy = None }) ∷ []; procedures = (record { line = 3; parameters = []; body = record { locals = (OfPointer (Some 0)) ∷ []; statements = (on 5 (Statement-F.New (Held (H.Local 0)) 0 Leaves)) ∷ (on 6 (Statement-F.Delete (Held (H.Local 0)))) ∷ (on 7 (Statement-F.Delete (Held (H.Local 0)))) ∷ [] } }) ∷ []; operations = []; literals = []; main = 0 }
+
+delete_of_an_object_that_is_gone_run : run script_delete_of_an_object_that_is_gone_run R.Unlimited 10000 (shaped 4096 4096) ≡ record { outcome = Panicked (P.Workbench 1); trace = (line 1 144 0 Granted) ∷ (line 2 32 144 Granted) ∷ []; lines = []; notes = []; steps = 5 }
+unfolding everything
+delete_of_an_object_that_is_gone_run = refl
+
+abbrev script_delete_of_another_kind_run : Script
+script_delete_of_another_kind_run = record { classes = (record { line = 1; extra = 0; fields = []; construct = None; destroy = None }) ∷ []; procedures = (record { line = 3; parameters = []; body = record { locals = (OfPointer (Some 0)) ∷ []; statements = (on 5 (Statement-F.Alloc (Held (H.Local 0)) (Constant (pos 4)) GivesNull)) ∷ (on 6 (Statement-F.Delete (Held (H.Local 0)))) ∷ [] } }) ∷ []; operations = []; literals = []; main = 0 }
+
+delete_of_another_kind_run : run script_delete_of_another_kind_run R.Unlimited 10000 (shaped 4096 4096) ≡ record { outcome = Panicked (P.Workbench 2); trace = (line 1 144 0 Granted) ∷ (line 2 32 144 Granted) ∷ []; lines = []; notes = []; steps = 3 }
+unfolding everything
+delete_of_another_kind_run = refl
+
+abbrev script_delete_of_null_takes_one_step_run : Script
+script_delete_of_null_takes_one_step_run = record { classes = (record { line = 1; extra = 0; fields = []; construct = None; destroy = Some (record { locals = []; statements = (on 3 (Statement-F.PrintText (Quoted 0))) ∷ [] }) }) ∷ []; procedures = (record { line = 6; parameters = []; body = record { locals = (OfPointer (Some 0)) ∷ []; statements = (on 8 (Statement-F.Delete (Held (H.Local 0)))) ∷ [] } }) ∷ []; operations = []; literals = (110 ∷ 101 ∷ 118 ∷ 101 ∷ 114 ∷ []) ∷ []; main = 0 }
+
+delete_of_null_takes_one_step_run : run script_delete_of_null_takes_one_step_run R.Unlimited 10000 (shaped 4096 4096) ≡ record { outcome = Ended None []; trace = (line 1 144 0 Granted) ∷ []; lines = []; notes = []; steps = 1 }
+unfolding everything
+delete_of_null_takes_one_step_run = refl
+
+abbrev script_destructor_runs_before_the_cell_is_released_run : Script
+script_destructor_runs_before_the_cell_is_released_run = record { classes = (record { line = 1; extra = 0; fields = None ∷ []; construct = None; destroy = Some (record { locals = []; statements = (on 4 Statement-F.NoteHeap) ∷ (on 5 (Statement-F.Free (Field H.This 0 0))) ∷ (on 6 Statement-F.NoteHeap) ∷ [] }) }) ∷ []; procedures = (record { line = 9; parameters = []; body = record { locals = (OfPointer (Some 0)) ∷ []; statements = (on 11 (Statement-F.New (Held (H.Local 0)) 0 Leaves)) ∷ (on 12 (Statement-F.Alloc (Field (H.Local 0) 0 0) (Constant (pos 4)) GivesNull)) ∷ (on 13 (Statement-F.Delete (Held (H.Local 0)))) ∷ (on 14 Statement-F.NoteHeap) ∷ [] } }) ∷ []; operations = []; literals = []; main = 0 }
+
+destructor_runs_before_the_cell_is_released_run : run script_destructor_runs_before_the_cell_is_released_run R.Unlimited 10000 (shaped 4096 4096) ≡ record { outcome = Ended None []; trace = (line 1 144 0 Granted) ∷ (line 2 32 144 Granted) ∷ (line 3 32 176 Granted) ∷ []; lines = []; notes = (Heap 3 208 4096) ∷ (Heap 2 176 4096) ∷ (Heap 1 144 4096) ∷ []; steps = 8 }
+unfolding everything
+destructor_runs_before_the_cell_is_released_run = refl
+
+abbrev script_destructor_that_frees_its_own_cell_run : Script
+script_destructor_that_frees_its_own_cell_run = record { classes = (record { line = 1; extra = 0; fields = []; construct = None; destroy = Some (record { locals = []; statements = (on 3 (Statement-F.Free (Held H.This))) ∷ [] }) }) ∷ []; procedures = (record { line = 6; parameters = []; body = record { locals = (OfPointer (Some 0)) ∷ []; statements = (on 8 (Statement-F.New (Held (H.Local 0)) 0 Leaves)) ∷ (on 9 (Statement-F.Delete (Held (H.Local 0)))) ∷ [] } }) ∷ []; operations = []; literals = []; main = 0 }
+
+destructor_that_frees_its_own_cell_run : run script_destructor_that_frees_its_own_cell_run R.Unlimited 10000 (shaped 4096 4096) ≡ record { outcome = Panicked (P.User 42); trace = (line 1 144 0 Granted) ∷ (line 2 32 144 Granted) ∷ []; lines = []; notes = []; steps = 4 }
+unfolding everything
+destructor_that_frees_its_own_cell_run = refl
+
+abbrev script_extra_bytes_are_asked_for_run : Script
+script_extra_bytes_are_asked_for_run = record { classes = (record { line = 1; extra = 8; fields = []; construct = None; destroy = None }) ∷ (record { line = 3; extra = 9; fields = []; construct = None; destroy = None }) ∷ []; procedures = (record { line = 5; parameters = []; body = record { locals = (OfPointer (Some 0)) ∷ (OfPointer (Some 1)) ∷ []; statements = (on 8 (Statement-F.New (Held (H.Local 0)) 0 Leaves)) ∷ (on 9 (Statement-F.New (Held (H.Local 1)) 1 Leaves)) ∷ (on 10 (Statement-F.Free (Held (H.Local 0)))) ∷ (on 11 (Statement-F.Free (Held (H.Local 1)))) ∷ [] } }) ∷ []; operations = []; literals = []; main = 0 }
+
+extra_bytes_are_asked_for_run : run script_extra_bytes_are_asked_for_run R.Unlimited 10000 (shaped 4096 4096) ≡ record { outcome = Ended None []; trace = (line 1 144 0 Granted) ∷ (line 2 32 144 Granted) ∷ (line 3 48 176 Granted) ∷ []; lines = []; notes = []; steps = 4 }
+unfolding everything
+extra_bytes_are_asked_for_run = refl
+
+abbrev script_field_is_passed_run : Script
+script_field_is_passed_run = record { classes = (record { line = 1; extra = 0; fields = None ∷ []; construct = None; destroy = None }) ∷ []; procedures = (record { line = 4; parameters = (Par.OfPointer None) ∷ []; body = record { locals = []; statements = (on 5 (Statement-F.Store (Held (H.Local 0)) (Constant (pos 0)) (Constant (pos 9)))) ∷ (on 6 (Statement-F.Free (Held (H.Local 0)))) ∷ [] } }) ∷ (record { line = 8; parameters = []; body = record { locals = (OfPointer (Some 0)) ∷ []; statements = (on 10 (Statement-F.New (Held (H.Local 0)) 0 Leaves)) ∷ (on 11 (Statement-F.Alloc (Field (H.Local 0) 0 0) (Constant (pos 4)) GivesNull)) ∷ (on 12 (Statement-F.Call 0 ((Passed (Field (H.Local 0) 0 0)) ∷ []))) ∷ (on 13 (Statement-F.Delete (Held (H.Local 0)))) ∷ [] } }) ∷ []; operations = []; literals = []; main = 1 }
+
+field_is_passed_run : run script_field_is_passed_run R.Unlimited 10000 (shaped 4096 4096) ≡ record { outcome = Ended None []; trace = (line 1 144 0 Granted) ∷ (line 2 32 144 Granted) ∷ (line 3 32 176 Granted) ∷ []; lines = []; notes = []; steps = 7 }
+unfolding everything
+field_is_passed_run = refl
+
+abbrev script_field_is_pushed_and_popped_run : Script
+script_field_is_pushed_and_popped_run = record { classes = (record { line = 1; extra = 0; fields = None ∷ []; construct = None; destroy = None }) ∷ []; procedures = (record { line = 4; parameters = []; body = record { locals = (OfPointer (Some 0)) ∷ []; statements = (on 6 (Statement-F.New (Held (H.Local 0)) 0 Leaves)) ∷ (on 7 (Statement-F.Alloc (Field (H.Local 0) 0 0) (Constant (pos 4)) Leaves)) ∷ (on 8 (Statement-F.Push (Field (H.Local 0) 0 0))) ∷ (on 9 (Statement-F.PopCheck (Field (H.Local 0) 0 0))) ∷ (on 10 (Statement-F.LeaveIfNull (Field (H.Local 0) 0 0))) ∷ (on 11 (Statement-F.Free (Field (H.Local 0) 0 0))) ∷ (on 12 (Statement-F.Free (Held (H.Local 0)))) ∷ [] } }) ∷ []; operations = []; literals = []; main = 0 }
+
+field_is_pushed_and_popped_run : run script_field_is_pushed_and_popped_run R.Unlimited 10000 (shaped 4096 4096) ≡ record { outcome = Ended None []; trace = (line 1 144 0 Granted) ∷ (line 2 32 144 Granted) ∷ (line 3 32 176 Granted) ∷ []; lines = []; notes = []; steps = 7 }
+unfolding everything
+field_is_pushed_and_popped_run = refl
+
+abbrev script_field_is_refused_before_a_cell_run : Script
+script_field_is_refused_before_a_cell_run = record { classes = (record { line = 1; extra = 0; fields = None ∷ []; construct = None; destroy = None }) ∷ []; procedures = (record { line = 4; parameters = []; body = record { locals = (OfPointer (Some 0)) ∷ (OfPointer None) ∷ []; statements = (on 7 (Statement-F.Realloc (Field (H.Local 0) 0 0) (Held (H.Local 1)) (Constant (negsuc 0)) GivesNull)) ∷ [] } }) ∷ []; operations = []; literals = []; main = 0 }
+
+field_is_refused_before_a_cell_run : run script_field_is_refused_before_a_cell_run R.Unlimited 10000 (shaped 4096 4096) ≡ record { outcome = Panicked (P.Workbench 1); trace = (line 1 144 0 Granted) ∷ []; lines = []; notes = []; steps = 1 }
+unfolding everything
+field_is_refused_before_a_cell_run = refl
+
+abbrev script_field_is_refused_before_a_range_run : Script
+script_field_is_refused_before_a_range_run = record { classes = (record { line = 1; extra = 0; fields = None ∷ []; construct = None; destroy = None }) ∷ []; procedures = (record { line = 4; parameters = []; body = record { locals = (OfPointer (Some 0)) ∷ []; statements = (on 6 (Statement-F.Alloc (Field (H.Local 0) 0 0) (Constant (negsuc 0)) GivesNull)) ∷ [] } }) ∷ []; operations = []; literals = []; main = 0 }
+
+field_is_refused_before_a_range_run : run script_field_is_refused_before_a_range_run R.Unlimited 10000 (shaped 4096 4096) ≡ record { outcome = Panicked (P.Workbench 1); trace = (line 1 144 0 Granted) ∷ []; lines = []; notes = []; steps = 1 }
+unfolding everything
+field_is_refused_before_a_range_run = refl
+
+abbrev script_field_is_returned_run : Script
+script_field_is_returned_run = record { classes = (record { line = 1; extra = 0; fields = None ∷ []; construct = None; destroy = None }) ∷ []; procedures = (record { line = 4; parameters = (Par.OfPointer (Some 0)) ∷ []; body = record { locals = []; statements = (on 5 (Statement-F.ReturnPointer (Field (H.Local 0) 0 0))) ∷ [] } }) ∷ (record { line = 7; parameters = []; body = record { locals = (OfPointer (Some 0)) ∷ (OfPointer None) ∷ []; statements = (on 10 (Statement-F.New (Held (H.Local 0)) 0 Leaves)) ∷ (on 11 (Statement-F.Alloc (Field (H.Local 0) 0 0) (Constant (pos 4)) Leaves)) ∷ (on 12 (Statement-F.CallTo 1 0 ((Passed (Held (H.Local 0))) ∷ []))) ∷ (on 13 (Statement-F.Free (Held (H.Local 1)))) ∷ (on 14 (Statement-F.Free (Held (H.Local 0)))) ∷ [] } }) ∷ []; operations = []; literals = []; main = 1 }
+
+field_is_returned_run : run script_field_is_returned_run R.Unlimited 10000 (shaped 4096 4096) ≡ record { outcome = Ended None []; trace = (line 1 144 0 Granted) ∷ (line 2 32 144 Granted) ∷ (line 3 32 176 Granted) ∷ []; lines = []; notes = []; steps = 6 }
+unfolding everything
+field_is_returned_run = refl
+
+abbrev script_field_of_an_object_that_is_gone_run : Script
+script_field_of_an_object_that_is_gone_run = record { classes = (record { line = 1; extra = 0; fields = None ∷ []; construct = None; destroy = None }) ∷ []; procedures = (record { line = 4; parameters = []; body = record { locals = (OfPointer (Some 0)) ∷ []; statements = (on 6 (Statement-F.New (Held (H.Local 0)) 0 Leaves)) ∷ (on 7 (Statement-F.Delete (Held (H.Local 0)))) ∷ (on 8 (Statement-F.If (IsNull (Field (H.Local 0) 0 0)) ((on 9 (Statement-F.PrintText (Quoted 0))) ∷ []))) ∷ [] } }) ∷ []; operations = []; literals = (110 ∷ 101 ∷ 118 ∷ 101 ∷ 114 ∷ []) ∷ []; main = 0 }
+
+field_of_an_object_that_is_gone_run : run script_field_of_an_object_that_is_gone_run R.Unlimited 10000 (shaped 4096 4096) ≡ record { outcome = Panicked (P.Workbench 1); trace = (line 1 144 0 Granted) ∷ (line 2 32 144 Granted) ∷ []; lines = []; notes = []; steps = 4 }
+unfolding everything
+field_of_an_object_that_is_gone_run = refl
+
+abbrev script_field_of_another_class_run : Script
+script_field_of_another_class_run = record { classes = (record { line = 1; extra = 0; fields = None ∷ []; construct = None; destroy = None }) ∷ (record { line = 4; extra = 0; fields = None ∷ []; construct = None; destroy = None }) ∷ []; procedures = (record { line = 7; parameters = []; body = record { locals = (OfPointer (Some 0)) ∷ []; statements = (on 9 (Statement-F.New (Held (H.Local 0)) 1 Leaves)) ∷ (on 10 (Statement-F.SetNull (Field (H.Local 0) 0 0))) ∷ [] } }) ∷ []; operations = []; literals = []; main = 0 }
+
+field_of_another_class_run : run script_field_of_another_class_run R.Unlimited 10000 (shaped 4096 4096) ≡ record { outcome = Panicked (P.Workbench 2); trace = (line 1 144 0 Granted) ∷ (line 2 32 144 Granted) ∷ []; lines = []; notes = []; steps = 2 }
+unfolding everything
+field_of_another_class_run = refl
+
+abbrev script_field_of_another_kind_run : Script
+script_field_of_another_kind_run = record { classes = (record { line = 1; extra = 0; fields = None ∷ []; construct = None; destroy = None }) ∷ []; procedures = (record { line = 4; parameters = []; body = record { locals = (OfPointer (Some 0)) ∷ []; statements = (on 6 (Statement-F.Alloc (Held (H.Local 0)) (Constant (pos 100)) GivesNull)) ∷ (on 7 (Statement-F.SetNull (Field (H.Local 0) 0 0))) ∷ [] } }) ∷ []; operations = []; literals = []; main = 0 }
+
+field_of_another_kind_run : run script_field_of_another_kind_run R.Unlimited 10000 (shaped 4096 4096) ≡ record { outcome = Panicked (P.Workbench 2); trace = (line 1 144 0 Granted) ∷ (line 2 128 144 Granted) ∷ []; lines = []; notes = []; steps = 2 }
+unfolding everything
+field_of_another_kind_run = refl
+
+abbrev script_field_of_null_is_returned_run : Script
+script_field_of_null_is_returned_run = record { classes = (record { line = 1; extra = 0; fields = None ∷ []; construct = None; destroy = None }) ∷ []; procedures = (record { line = 4; parameters = (Par.OfPointer (Some 0)) ∷ []; body = record { locals = []; statements = (on 5 (Statement-F.ReturnPointer (Field (H.Local 0) 0 0))) ∷ [] } }) ∷ (record { line = 7; parameters = []; body = record { locals = (OfPointer (Some 0)) ∷ (OfPointer None) ∷ []; statements = (on 10 (Statement-F.CallTo 1 0 ((Passed (Held (H.Local 0))) ∷ []))) ∷ [] } }) ∷ []; operations = []; literals = []; main = 1 }
+
+field_of_null_is_returned_run : run script_field_of_null_is_returned_run R.Unlimited 10000 (shaped 4096 4096) ≡ record { outcome = Panicked (P.Workbench 1); trace = (line 1 144 0 Granted) ∷ []; lines = []; notes = []; steps = 2 }
+unfolding everything
+field_of_null_is_returned_run = refl
+
+abbrev script_field_of_null_run : Script
+script_field_of_null_run = record { classes = (record { line = 1; extra = 0; fields = None ∷ []; construct = None; destroy = None }) ∷ []; procedures = (record { line = 4; parameters = []; body = record { locals = (OfPointer (Some 0)) ∷ []; statements = (on 6 (Statement-F.Set (Field (H.Local 0) 0 0) (Held (H.Local 0)))) ∷ [] } }) ∷ []; operations = []; literals = []; main = 0 }
+
+field_of_null_run : run script_field_of_null_run R.Unlimited 10000 (shaped 4096 4096) ≡ record { outcome = Panicked (P.Workbench 1); trace = (line 1 144 0 Granted) ∷ []; lines = []; notes = []; steps = 1 }
+unfolding everything
+field_of_null_run = refl
+
+abbrev script_fields_are_null_at_first_run : Script
+script_fields_are_null_at_first_run = record { classes = (record { line = 1; extra = 0; fields = None ∷ (Some 0) ∷ []; construct = None; destroy = None }) ∷ []; procedures = (record { line = 5; parameters = []; body = record { locals = (OfPointer (Some 0)) ∷ []; statements = (on 7 (Statement-F.New (Held (H.Local 0)) 0 Leaves)) ∷ (on 8 (Statement-F.If (IsNull (Field (H.Local 0) 0 0)) ((on 9 (Statement-F.PrintText (Quoted 0))) ∷ []))) ∷ (on 11 (Statement-F.If (IsNull (Field (H.Local 0) 0 1)) ((on 12 (Statement-F.PrintText (Quoted 1))) ∷ []))) ∷ (on 14 (Statement-F.Free (Held (H.Local 0)))) ∷ [] } }) ∷ []; operations = []; literals = (97 ∷ []) ∷ (98 ∷ []) ∷ []; main = 0 }
+
+fields_are_null_at_first_run : run script_fields_are_null_at_first_run R.Unlimited 10000 (shaped 4096 4096) ≡ record { outcome = Ended None []; trace = (line 1 144 0 Granted) ∷ (line 2 48 144 Granted) ∷ []; lines = (97 ∷ []) ∷ (98 ∷ []) ∷ []; notes = []; steps = 6 }
+unfolding everything
+fields_are_null_at_first_run = refl
+
+abbrev script_fields_are_refused_from_left_to_right_run : Script
+script_fields_are_refused_from_left_to_right_run = record { classes = (record { line = 1; extra = 0; fields = None ∷ []; construct = None; destroy = None }) ∷ []; procedures = (record { line = 4; parameters = []; body = record { locals = (OfPointer (Some 0)) ∷ (OfPointer (Some 0)) ∷ []; statements = (on 7 (Statement-F.Alloc (Held (H.Local 1)) (Constant (pos 4)) GivesNull)) ∷ (on 8 (Statement-F.Set (Field (H.Local 0) 0 0) (Field (H.Local 1) 0 0))) ∷ [] } }) ∷ []; operations = []; literals = []; main = 0 }
+
+fields_are_refused_from_left_to_right_run : run script_fields_are_refused_from_left_to_right_run R.Unlimited 10000 (shaped 4096 4096) ≡ record { outcome = Panicked (P.Workbench 1); trace = (line 1 144 0 Granted) ∷ (line 2 32 144 Granted) ∷ []; lines = []; notes = []; steps = 2 }
+unfolding everything
+fields_are_refused_from_left_to_right_run = refl
+
+abbrev script_free_runs_no_destructor_run : Script
+script_free_runs_no_destructor_run = record { classes = (record { line = 1; extra = 0; fields = None ∷ []; construct = None; destroy = Some (record { locals = []; statements = (on 4 (Statement-F.Free (Field H.This 0 0))) ∷ [] }) }) ∷ []; procedures = (record { line = 7; parameters = []; body = record { locals = (OfPointer (Some 0)) ∷ []; statements = (on 9 (Statement-F.New (Held (H.Local 0)) 0 Leaves)) ∷ (on 10 (Statement-F.Alloc (Field (H.Local 0) 0 0) (Constant (pos 4)) GivesNull)) ∷ (on 11 (Statement-F.Free (Held (H.Local 0)))) ∷ [] } }) ∷ []; operations = []; literals = []; main = 0 }
+
+free_runs_no_destructor_run : run script_free_runs_no_destructor_run R.Unlimited 10000 (shaped 4096 4096) ≡ record { outcome = Ended None ((record { number = 3; length = 32; place = 176 }) ∷ []); trace = (line 1 144 0 Granted) ∷ (line 2 32 144 Granted) ∷ (line 3 32 176 Granted) ∷ []; lines = []; notes = []; steps = 3 }
+unfolding everything
+free_runs_no_destructor_run = refl
+
+abbrev script_hbuf_in_a_field_is_reallocated_run : Script
+script_hbuf_in_a_field_is_reallocated_run = record { classes = (record { line = 1; extra = 0; fields = None ∷ []; construct = None; destroy = None }) ∷ []; procedures = (record { line = 4; parameters = []; body = record { locals = (OfPointer (Some 0)) ∷ []; statements = (on 6 (Statement-F.New (Held (H.Local 0)) 0 Leaves)) ∷ (on 7 (Statement-F.NewText (Field (H.Local 0) 0 0) (Constant (pos 4)) Leaves)) ∷ (on 8 (Statement-F.Copy (InCell (Field (H.Local 0) 0 0)) (Quoted 0))) ∷ (on 9 (Statement-F.ReallocText (Field (H.Local 0) 0 0) (Field (H.Local 0) 0 0) (Constant (pos 20)))) ∷ (on 10 (Statement-F.Append (InCell (Field (H.Local 0) 0 0)) (Quoted 1))) ∷ (on 11 (Statement-F.PrintText (Of (InCell (Field (H.Local 0) 0 0))))) ∷ (on 12 (Statement-F.Free (Field (H.Local 0) 0 0))) ∷ (on 13 (Statement-F.Free (Held (H.Local 0)))) ∷ [] } }) ∷ []; operations = []; literals = (97 ∷ 98 ∷ 99 ∷ 100 ∷ []) ∷ (101 ∷ 102 ∷ []) ∷ []; main = 0 }
+
+hbuf_in_a_field_is_reallocated_run : run script_hbuf_in_a_field_is_reallocated_run R.Unlimited 10000 (shaped 4096 4096) ≡ record { outcome = Ended None []; trace = (line 1 144 0 Granted) ∷ (line 2 32 144 Granted) ∷ (line 3 32 176 Granted) ∷ (line 4 64 176 Granted) ∷ []; lines = (97 ∷ 98 ∷ 99 ∷ 100 ∷ 101 ∷ 102 ∷ []) ∷ []; notes = []; steps = 8 }
+unfolding everything
+hbuf_in_a_field_is_reallocated_run = refl
+
+abbrev script_hbuf_in_a_field_shorter_than_its_text_run : Script
+script_hbuf_in_a_field_shorter_than_its_text_run = record { classes = (record { line = 1; extra = 0; fields = None ∷ []; construct = None; destroy = None }) ∷ []; procedures = (record { line = 4; parameters = []; body = record { locals = (OfPointer (Some 0)) ∷ []; statements = (on 6 (Statement-F.New (Held (H.Local 0)) 0 Leaves)) ∷ (on 7 (Statement-F.NewText (Field (H.Local 0) 0 0) (Constant (pos 4)) Leaves)) ∷ (on 8 (Statement-F.Copy (InCell (Field (H.Local 0) 0 0)) (Quoted 0))) ∷ (on 9 (Statement-F.ReallocText (Field (H.Local 0) 0 0) (Field (H.Local 0) 0 0) (Constant (pos 2)))) ∷ [] } }) ∷ []; operations = []; literals = (97 ∷ 98 ∷ 99 ∷ []) ∷ []; main = 0 }
+
+hbuf_in_a_field_shorter_than_its_text_run : run script_hbuf_in_a_field_shorter_than_its_text_run R.Unlimited 10000 (shaped 4096 4096) ≡ record { outcome = Panicked (P.Workbench 8); trace = (line 1 144 0 Granted) ∷ (line 2 32 144 Granted) ∷ (line 3 32 176 Granted) ∷ []; lines = []; notes = []; steps = 4 }
+unfolding everything
+hbuf_in_a_field_shorter_than_its_text_run = refl
+
+abbrev script_leave_in_a_construct_body_is_trapped_run : Script
+script_leave_in_a_construct_body_is_trapped_run = record { classes = (record { line = 1; extra = 0; fields = None ∷ []; construct = Some (record { locals = []; statements = (on 4 (Statement-F.Alloc (Field H.This 0 0) (Constant (pos 4)) Leaves)) ∷ (on 5 (Statement-F.Leave (Constant (negsuc 6)))) ∷ [] }); destroy = Some (record { locals = []; statements = (on 8 (Statement-F.Free (Field H.This 0 0))) ∷ [] }) }) ∷ []; procedures = (record { line = 11; parameters = []; body = record { locals = (OfPointer (Some 0)) ∷ OfNumber ∷ []; statements = (on 14 (Statement-F.New (Held (H.Local 0)) 0 Leaves)) ∷ (on 15 (Statement-F.Trap 1 ((on 16 (Statement-F.Construct (Held (H.Local 0)))) ∷ []))) ∷ (on 18 (Statement-F.PrintNumber (Variable 1))) ∷ (on 19 (Statement-F.Delete (Held (H.Local 0)))) ∷ [] } }) ∷ []; operations = []; literals = []; main = 0 }
+
+leave_in_a_construct_body_is_trapped_run : run script_leave_in_a_construct_body_is_trapped_run R.Unlimited 10000 (shaped 4096 4096) ≡ record { outcome = Ended None []; trace = (line 1 144 0 Granted) ∷ (line 2 32 144 Granted) ∷ (line 3 32 176 Granted) ∷ []; lines = (45 ∷ 55 ∷ []) ∷ []; notes = []; steps = 9 }
+unfolding everything
+leave_in_a_construct_body_is_trapped_run = refl
+
+abbrev script_locals_of_both_bodies_of_a_class_run : Script
+script_locals_of_both_bodies_of_a_class_run = record { classes = (record { line = 1; extra = 0; fields = []; construct = Some (record { locals = OfNumber ∷ OfNumber ∷ OfNumber ∷ OfNumber ∷ OfNumber ∷ OfNumber ∷ OfNumber ∷ OfNumber ∷ OfNumber ∷ OfNumber ∷ OfNumber ∷ OfNumber ∷ OfNumber ∷ OfNumber ∷ OfNumber ∷ OfNumber ∷ OfNumber ∷ OfNumber ∷ OfNumber ∷ OfNumber ∷ OfNumber ∷ OfNumber ∷ OfNumber ∷ OfNumber ∷ OfNumber ∷ OfNumber ∷ OfNumber ∷ OfNumber ∷ OfNumber ∷ OfNumber ∷ OfNumber ∷ OfNumber ∷ []; statements = [] }); destroy = Some (record { locals = OfNumber ∷ OfNumber ∷ OfNumber ∷ OfNumber ∷ OfNumber ∷ OfNumber ∷ OfNumber ∷ OfNumber ∷ OfNumber ∷ OfNumber ∷ OfNumber ∷ OfNumber ∷ OfNumber ∷ OfNumber ∷ OfNumber ∷ OfNumber ∷ OfNumber ∷ OfNumber ∷ OfNumber ∷ OfNumber ∷ OfNumber ∷ OfNumber ∷ OfNumber ∷ OfNumber ∷ OfNumber ∷ OfNumber ∷ OfNumber ∷ OfNumber ∷ OfNumber ∷ OfNumber ∷ OfNumber ∷ OfNumber ∷ []; statements = [] }) }) ∷ []; procedures = (record { line = 71; parameters = []; body = record { locals = (OfPointer (Some 0)) ∷ []; statements = (on 73 (Statement-F.New (Held (H.Local 0)) 0 Leaves)) ∷ (on 74 (Statement-F.Construct (Held (H.Local 0)))) ∷ (on 75 (Statement-F.Delete (Held (H.Local 0)))) ∷ [] } }) ∷ []; operations = []; literals = []; main = 0 }
+
+locals_of_both_bodies_of_a_class_run : run script_locals_of_both_bodies_of_a_class_run R.Unlimited 10000 (shaped 4096 4096) ≡ record { outcome = Ended None []; trace = (line 1 144 0 Granted) ∷ (line 2 32 144 Granted) ∷ []; lines = []; notes = []; steps = 4 }
+unfolding everything
+locals_of_both_bodies_of_a_class_run = refl
+
+abbrev script_marks_count_objects_run : Script
+script_marks_count_objects_run = record { classes = (record { line = 1; extra = 0; fields = []; construct = None; destroy = None }) ∷ []; procedures = (record { line = 3; parameters = []; body = record { locals = (OfPointer (Some 0)) ∷ []; statements = (on 5 Statement-F.Mark) ∷ (on 6 (Statement-F.New (Held (H.Local 0)) 0 Leaves)) ∷ (on 7 (Statement-F.MarkEnd (Constant (pos 0)))) ∷ [] } }) ∷ []; operations = []; literals = []; main = 0 }
+
+marks_count_objects_run : run script_marks_count_objects_run R.Unlimited 10000 (shaped 4096 4096) ≡ record { outcome = Panicked (P.Alloc 144); trace = (line 1 144 0 Granted) ∷ (line 2 32 144 Granted) ∷ []; lines = []; notes = []; steps = 3 }
+unfolding everything
+marks_count_objects_run = refl
+
+abbrev script_members_are_destroyed_by_their_owner_run : Script
+script_members_are_destroyed_by_their_owner_run = record { classes = (record { line = 1; extra = 0; fields = []; construct = None; destroy = Some (record { locals = []; statements = (on 3 (Statement-F.PrintText (Quoted 0))) ∷ [] }) }) ∷ (record { line = 6; extra = 0; fields = (Some 0) ∷ (Some 0) ∷ []; construct = Some (record { locals = []; statements = (on 10 (Statement-F.New (Field H.This 1 0) 0 Leaves)) ∷ (on 11 (Statement-F.New (Field H.This 1 1) 0 Leaves)) ∷ [] }); destroy = Some (record { locals = []; statements = (on 14 (Statement-F.PrintText (Quoted 1))) ∷ (on 15 (Statement-F.Delete (Field H.This 1 1))) ∷ (on 16 (Statement-F.Delete (Field H.This 1 0))) ∷ [] }) }) ∷ []; procedures = (record { line = 19; parameters = []; body = record { locals = (OfPointer (Some 1)) ∷ []; statements = (on 21 (Statement-F.New (Held (H.Local 0)) 1 Leaves)) ∷ (on 22 (Statement-F.Construct (Held (H.Local 0)))) ∷ (on 23 (Statement-F.Delete (Held (H.Local 0)))) ∷ [] } }) ∷ []; operations = []; literals = (112 ∷ 97 ∷ 114 ∷ 116 ∷ []) ∷ (119 ∷ 104 ∷ 111 ∷ 108 ∷ 101 ∷ []) ∷ []; main = 0 }
+
+members_are_destroyed_by_their_owner_run : run script_members_are_destroyed_by_their_owner_run R.Unlimited 10000 (shaped 4096 4096) ≡ record { outcome = Ended None []; trace = (line 1 144 0 Granted) ∷ (line 2 48 144 Granted) ∷ (line 3 32 192 Granted) ∷ (line 4 32 224 Granted) ∷ []; lines = (119 ∷ 104 ∷ 111 ∷ 108 ∷ 101 ∷ []) ∷ (112 ∷ 97 ∷ 114 ∷ 116 ∷ []) ∷ (112 ∷ 97 ∷ 114 ∷ 116 ∷ []) ∷ []; notes = []; steps = 13 }
+unfolding everything
+members_are_destroyed_by_their_owner_run = refl
+
+abbrev script_new_into_a_field_that_is_refused_gives_null_run : Script
+script_new_into_a_field_that_is_refused_gives_null_run = record { classes = (record { line = 1; extra = 0; fields = (Some 0) ∷ []; construct = None; destroy = None }) ∷ []; procedures = (record { line = 4; parameters = []; body = record { locals = (OfPointer (Some 0)) ∷ []; statements = (on 6 (Statement-F.New (Held (H.Local 0)) 0 Leaves)) ∷ (on 7 (Statement-F.Set (Field (H.Local 0) 0 0) (Held (H.Local 0)))) ∷ (on 8 (Statement-F.FailNext (Constant (pos 1)))) ∷ (on 9 (Statement-F.New (Field (H.Local 0) 0 0) 0 GivesNull)) ∷ (on 10 (Statement-F.If (IsNull (Field (H.Local 0) 0 0)) ((on 11 (Statement-F.PrintText (Quoted 0))) ∷ []))) ∷ (on 13 (Statement-F.Delete (Held (H.Local 0)))) ∷ [] } }) ∷ []; operations = []; literals = (110 ∷ 117 ∷ 108 ∷ 108 ∷ []) ∷ []; main = 0 }
+
+new_into_a_field_that_is_refused_gives_null_run : run script_new_into_a_field_that_is_refused_gives_null_run R.Unlimited 10000 (shaped 4096 4096) ≡ record { outcome = Ended None []; trace = (line 1 144 0 Granted) ∷ (line 2 32 144 Granted) ∷ (line 3 32 176 Simulated) ∷ []; lines = (110 ∷ 117 ∷ 108 ∷ 108 ∷ []) ∷ []; notes = []; steps = 8 }
+unfolding everything
+new_into_a_field_that_is_refused_gives_null_run = refl
+
+abbrev script_new_that_is_refused_gives_null_run : Script
+script_new_that_is_refused_gives_null_run = record { classes = (record { line = 1; extra = 0; fields = []; construct = None; destroy = None }) ∷ []; procedures = (record { line = 3; parameters = []; body = record { locals = (OfPointer (Some 0)) ∷ []; statements = (on 5 (Statement-F.New (Held (H.Local 0)) 0 GivesNull)) ∷ (on 6 (Statement-F.If (IsNull (Held (H.Local 0))) ((on 7 (Statement-F.PrintText (Quoted 0))) ∷ []))) ∷ [] } }) ∷ []; operations = []; literals = (110 ∷ 111 ∷ 110 ∷ 101 ∷ []) ∷ []; main = 0 }
+
+new_that_is_refused_gives_null_run : run script_new_that_is_refused_gives_null_run (R.Number 2) 10000 (shaped 4096 4096) ≡ record { outcome = Ended None []; trace = (line 1 144 0 Granted) ∷ (line 2 32 144 Simulated) ∷ []; lines = (110 ∷ 111 ∷ 110 ∷ 101 ∷ []) ∷ []; notes = []; steps = 3 }
+unfolding everything
+new_that_is_refused_gives_null_run = refl
+
+abbrev script_newest_object_is_destroyed_first_run : Script
+script_newest_object_is_destroyed_first_run = record { classes = (record { line = 1; extra = 0; fields = []; construct = None; destroy = Some (record { locals = []; statements = (on 3 (Statement-F.PrintText (Quoted 0))) ∷ [] }) }) ∷ (record { line = 6; extra = 0; fields = []; construct = None; destroy = Some (record { locals = []; statements = (on 8 (Statement-F.PrintText (Quoted 1))) ∷ [] }) }) ∷ []; procedures = (record { line = 11; parameters = []; body = record { locals = (OfPointer (Some 0)) ∷ (OfPointer (Some 1)) ∷ []; statements = (on 14 (Statement-F.New (Held (H.Local 0)) 0 Leaves)) ∷ (on 15 (Statement-F.PushObject (Held (H.Local 0)))) ∷ (on 16 (Statement-F.New (Held (H.Local 1)) 1 Leaves)) ∷ (on 17 (Statement-F.PushObject (Held (H.Local 1)))) ∷ (on 18 (Statement-F.Leave (Constant (negsuc 4)))) ∷ [] } }) ∷ []; operations = []; literals = (65 ∷ []) ∷ (66 ∷ []) ∷ []; main = 0 }
+
+newest_object_is_destroyed_first_run : run script_newest_object_is_destroyed_first_run R.Unlimited 10000 (shaped 4096 4096) ≡ record { outcome = Ended (Some (negsuc 4)) []; trace = (line 1 144 0 Granted) ∷ (line 2 32 144 Granted) ∷ (line 3 32 176 Granted) ∷ []; lines = (66 ∷ []) ∷ (65 ∷ []) ∷ []; notes = []; steps = 11 }
+unfolding everything
+newest_object_is_destroyed_first_run = refl
+
+abbrev script_newleave_into_a_field_that_is_refused_keeps_it_run : Script
+script_newleave_into_a_field_that_is_refused_keeps_it_run = record { classes = (record { line = 1; extra = 0; fields = (Some 0) ∷ []; construct = None; destroy = None }) ∷ []; procedures = (record { line = 4; parameters = []; body = record { locals = (OfPointer (Some 0)) ∷ OfNumber ∷ []; statements = (on 7 (Statement-F.New (Held (H.Local 0)) 0 Leaves)) ∷ (on 8 (Statement-F.Set (Field (H.Local 0) 0 0) (Held (H.Local 0)))) ∷ (on 9 (Statement-F.FailNext (Constant (pos 1)))) ∷ (on 10 (Statement-F.Trap 1 ((on 11 (Statement-F.New (Field (H.Local 0) 0 0) 0 Leaves)) ∷ []))) ∷ (on 13 (Statement-F.If (NotNull (Field (H.Local 0) 0 0)) ((on 14 (Statement-F.PrintNumber (Variable 1))) ∷ []))) ∷ (on 16 (Statement-F.Delete (Held (H.Local 0)))) ∷ [] } }) ∷ []; operations = []; literals = []; main = 0 }
+
+newleave_into_a_field_that_is_refused_keeps_it_run : run script_newleave_into_a_field_that_is_refused_keeps_it_run R.Unlimited 10000 (shaped 4096 4096) ≡ record { outcome = Ended None []; trace = (line 1 144 0 Granted) ∷ (line 2 32 144 Granted) ∷ (line 3 32 176 Simulated) ∷ []; lines = (45 ∷ 52 ∷ []) ∷ []; notes = []; steps = 9 }
+unfolding everything
+newleave_into_a_field_that_is_refused_keeps_it_run = refl
+
+abbrev script_newleave_that_is_refused_leaves_run : Script
+script_newleave_that_is_refused_leaves_run = record { classes = (record { line = 1; extra = 0; fields = None ∷ []; construct = None; destroy = None }) ∷ []; procedures = (record { line = 4; parameters = []; body = record { locals = (OfPointer (Some 0)) ∷ (OfPointer None) ∷ OfNumber ∷ []; statements = (on 8 (Statement-F.New (Held (H.Local 0)) 0 Leaves)) ∷ (on 9 (Statement-F.Alloc (Field (H.Local 0) 0 0) (Constant (pos 4)) GivesNull)) ∷ (on 10 (Statement-F.Set (Held (H.Local 1)) (Field (H.Local 0) 0 0))) ∷ (on 11 (Statement-F.Trap 2 ((on 12 (Statement-F.New (Field (H.Local 0) 0 0) 0 Leaves)) ∷ []))) ∷ (on 14 (Statement-F.PrintNumber (Variable 2))) ∷ (on 15 (Statement-F.Free (Field (H.Local 0) 0 0))) ∷ (on 16 (Statement-F.Free (Held (H.Local 0)))) ∷ [] } }) ∷ []; operations = []; literals = []; main = 0 }
+
+newleave_that_is_refused_leaves_run : run script_newleave_that_is_refused_leaves_run (R.Number 4) 10000 (shaped 4096 4096) ≡ record { outcome = Ended None []; trace = (line 1 144 0 Granted) ∷ (line 2 32 144 Granted) ∷ (line 3 32 176 Granted) ∷ (line 4 32 208 Simulated) ∷ []; lines = (45 ∷ 52 ∷ []) ∷ []; notes = []; steps = 8 }
+unfolding everything
+newleave_that_is_refused_leaves_run = refl
+
+abbrev script_object_made_and_deleted_run : Script
+script_object_made_and_deleted_run = record { classes = (record { line = 1; extra = 16; fields = None ∷ []; construct = Some (record { locals = []; statements = (on 4 (Statement-F.NewText (Field H.This 0 0) (Constant (pos 4)) Leaves)) ∷ [] }); destroy = Some (record { locals = []; statements = (on 7 (Statement-F.Free (Field H.This 0 0))) ∷ [] }) }) ∷ []; procedures = (record { line = 10; parameters = []; body = record { locals = (OfPointer (Some 0)) ∷ []; statements = (on 12 (Statement-F.New (Held (H.Local 0)) 0 Leaves)) ∷ (on 13 (Statement-F.Construct (Held (H.Local 0)))) ∷ (on 14 (Statement-F.Delete (Held (H.Local 0)))) ∷ [] } }) ∷ []; operations = []; literals = []; main = 0 }
+
+object_made_and_deleted_run : run script_object_made_and_deleted_run R.Unlimited 10000 (shaped 4096 4096) ≡ record { outcome = Ended None []; trace = (line 1 144 0 Granted) ∷ (line 2 48 144 Granted) ∷ (line 3 32 192 Granted) ∷ []; lines = []; notes = []; steps = 6 }
+unfolding everything
+object_made_and_deleted_run = refl
+
+abbrev script_object_of_a_class_below_run : Script
+script_object_of_a_class_below_run = record { classes = (record { line = 7; extra = 0; fields = None ∷ []; construct = None; destroy = Some (record { locals = []; statements = (on 10 (Statement-F.Free (Field H.This 0 0))) ∷ [] }) }) ∷ []; procedures = (record { line = 1; parameters = []; body = record { locals = (OfPointer (Some 0)) ∷ []; statements = (on 3 (Statement-F.New (Held (H.Local 0)) 0 Leaves)) ∷ (on 4 (Statement-F.Alloc (Field (H.Local 0) 0 0) (Constant (pos 4)) Leaves)) ∷ (on 5 (Statement-F.Delete (Held (H.Local 0)))) ∷ [] } }) ∷ []; operations = []; literals = []; main = 0 }
+
+object_of_a_class_below_run : run script_object_of_a_class_below_run R.Unlimited 10000 (shaped 4096 4096) ≡ record { outcome = Ended None []; trace = (line 1 144 0 Granted) ∷ (line 2 32 144 Granted) ∷ (line 3 32 176 Granted) ∷ []; lines = []; notes = []; steps = 5 }
+unfolding everything
+object_of_a_class_below_run = refl
+
+abbrev script_object_that_deletes_itself_while_it_is_made_run : Script
+script_object_that_deletes_itself_while_it_is_made_run = record { classes = (record { line = 1; extra = 0; fields = None ∷ []; construct = Some (record { locals = []; statements = (on 4 (Statement-F.Delete (Held H.This))) ∷ (on 5 (Statement-F.SetNull (Field H.This 0 0))) ∷ [] }); destroy = None }) ∷ []; procedures = (record { line = 8; parameters = []; body = record { locals = (OfPointer (Some 0)) ∷ []; statements = (on 10 (Statement-F.New (Held (H.Local 0)) 0 Leaves)) ∷ (on 11 (Statement-F.Construct (Held (H.Local 0)))) ∷ [] } }) ∷ []; operations = []; literals = []; main = 0 }
+
+object_that_deletes_itself_while_it_is_made_run : run script_object_that_deletes_itself_while_it_is_made_run R.Unlimited 10000 (shaped 4096 4096) ≡ record { outcome = Panicked (P.Workbench 1); trace = (line 1 144 0 Granted) ∷ (line 2 32 144 Granted) ∷ []; lines = []; notes = []; steps = 5 }
+unfolding everything
+object_that_deletes_itself_while_it_is_made_run = refl
+
+abbrev script_objects_that_construct_each_other_run : Script
+script_objects_that_construct_each_other_run = record { classes = (record { line = 1; extra = 0; fields = (Some 0) ∷ []; construct = Some (record { locals = []; statements = (on 4 (Statement-F.Construct (Field H.This 0 0))) ∷ [] }); destroy = None }) ∷ []; procedures = (record { line = 7; parameters = []; body = record { locals = (OfPointer (Some 0)) ∷ []; statements = (on 9 (Statement-F.New (Held (H.Local 0)) 0 Leaves)) ∷ (on 10 (Statement-F.Set (Field (H.Local 0) 0 0) (Held (H.Local 0)))) ∷ (on 11 (Statement-F.Construct (Held (H.Local 0)))) ∷ [] } }) ∷ []; operations = []; literals = []; main = 0 }
+
+objects_that_construct_each_other_run : run script_objects_that_construct_each_other_run R.Unlimited 10000 (shaped 4096 4096) ≡ record { outcome = Panicked (P.Workbench 7); trace = (line 1 144 0 Granted) ∷ (line 2 32 144 Granted) ∷ []; lines = []; notes = []; steps = 130 }
+unfolding everything
+objects_that_construct_each_other_run = refl
+
+abbrev script_objects_that_delete_each_other_budget_just_enough_run : Script
+script_objects_that_delete_each_other_budget_just_enough_run = record { classes = (record { line = 1; extra = 0; fields = (Some 0) ∷ []; construct = None; destroy = Some (record { locals = []; statements = (on 4 (Statement-F.Delete (Field H.This 0 0))) ∷ [] }) }) ∷ []; procedures = (record { line = 7; parameters = []; body = record { locals = (OfPointer (Some 0)) ∷ (OfPointer (Some 0)) ∷ []; statements = (on 10 (Statement-F.New (Held (H.Local 0)) 0 Leaves)) ∷ (on 11 (Statement-F.New (Held (H.Local 1)) 0 Leaves)) ∷ (on 12 (Statement-F.Set (Field (H.Local 0) 0 0) (Held (H.Local 1)))) ∷ (on 13 (Statement-F.Set (Field (H.Local 1) 0 0) (Held (H.Local 0)))) ∷ (on 14 (Statement-F.Delete (Held (H.Local 0)))) ∷ [] } }) ∷ []; operations = []; literals = []; main = 0 }
+
+objects_that_delete_each_other_budget_just_enough_run : run script_objects_that_delete_each_other_budget_just_enough_run R.Unlimited 260 (shaped 4096 4096) ≡ record { outcome = Panicked (P.Workbench 7); trace = (line 1 144 0 Granted) ∷ (line 2 32 144 Granted) ∷ (line 3 32 176 Granted) ∷ []; lines = []; notes = []; steps = 260 }
+unfolding everything
+objects_that_delete_each_other_budget_just_enough_run = refl
+
+abbrev script_objects_that_delete_each_other_one_step_short_run : Script
+script_objects_that_delete_each_other_one_step_short_run = record { classes = (record { line = 1; extra = 0; fields = (Some 0) ∷ []; construct = None; destroy = Some (record { locals = []; statements = (on 4 (Statement-F.Delete (Field H.This 0 0))) ∷ [] }) }) ∷ []; procedures = (record { line = 7; parameters = []; body = record { locals = (OfPointer (Some 0)) ∷ (OfPointer (Some 0)) ∷ []; statements = (on 10 (Statement-F.New (Held (H.Local 0)) 0 Leaves)) ∷ (on 11 (Statement-F.New (Held (H.Local 1)) 0 Leaves)) ∷ (on 12 (Statement-F.Set (Field (H.Local 0) 0 0) (Held (H.Local 1)))) ∷ (on 13 (Statement-F.Set (Field (H.Local 1) 0 0) (Held (H.Local 0)))) ∷ (on 14 (Statement-F.Delete (Held (H.Local 0)))) ∷ [] } }) ∷ []; operations = []; literals = []; main = 0 }
+
+objects_that_delete_each_other_one_step_short_run : run script_objects_that_delete_each_other_one_step_short_run R.Unlimited 259 (shaped 4096 4096) ≡ record { outcome = Cut Budget; trace = (line 1 144 0 Granted) ∷ (line 2 32 144 Granted) ∷ (line 3 32 176 Granted) ∷ []; lines = []; notes = []; steps = 259 }
+unfolding everything
+objects_that_delete_each_other_one_step_short_run = refl
+
+abbrev script_objects_that_delete_each_other_small_budget_run : Script
+script_objects_that_delete_each_other_small_budget_run = record { classes = (record { line = 1; extra = 0; fields = (Some 0) ∷ []; construct = None; destroy = Some (record { locals = []; statements = (on 4 (Statement-F.Delete (Field H.This 0 0))) ∷ [] }) }) ∷ []; procedures = (record { line = 7; parameters = []; body = record { locals = (OfPointer (Some 0)) ∷ (OfPointer (Some 0)) ∷ []; statements = (on 10 (Statement-F.New (Held (H.Local 0)) 0 Leaves)) ∷ (on 11 (Statement-F.New (Held (H.Local 1)) 0 Leaves)) ∷ (on 12 (Statement-F.Set (Field (H.Local 0) 0 0) (Held (H.Local 1)))) ∷ (on 13 (Statement-F.Set (Field (H.Local 1) 0 0) (Held (H.Local 0)))) ∷ (on 14 (Statement-F.Delete (Held (H.Local 0)))) ∷ [] } }) ∷ []; operations = []; literals = []; main = 0 }
+
+objects_that_delete_each_other_small_budget_run : run script_objects_that_delete_each_other_small_budget_run R.Unlimited 20 (shaped 4096 4096) ≡ record { outcome = Cut Budget; trace = (line 1 144 0 Granted) ∷ (line 2 32 144 Granted) ∷ (line 3 32 176 Granted) ∷ []; lines = []; notes = []; steps = 20 }
+unfolding everything
+objects_that_delete_each_other_small_budget_run = refl
+
+abbrev script_objects_that_delete_each_other_run : Script
+script_objects_that_delete_each_other_run = record { classes = (record { line = 1; extra = 0; fields = (Some 0) ∷ []; construct = None; destroy = Some (record { locals = []; statements = (on 4 (Statement-F.Delete (Field H.This 0 0))) ∷ [] }) }) ∷ []; procedures = (record { line = 7; parameters = []; body = record { locals = (OfPointer (Some 0)) ∷ (OfPointer (Some 0)) ∷ []; statements = (on 10 (Statement-F.New (Held (H.Local 0)) 0 Leaves)) ∷ (on 11 (Statement-F.New (Held (H.Local 1)) 0 Leaves)) ∷ (on 12 (Statement-F.Set (Field (H.Local 0) 0 0) (Held (H.Local 1)))) ∷ (on 13 (Statement-F.Set (Field (H.Local 1) 0 0) (Held (H.Local 0)))) ∷ (on 14 (Statement-F.Delete (Held (H.Local 0)))) ∷ [] } }) ∷ []; operations = []; literals = []; main = 0 }
+
+objects_that_delete_each_other_run : run script_objects_that_delete_each_other_run R.Unlimited 10000 (shaped 4096 4096) ≡ record { outcome = Panicked (P.Workbench 7); trace = (line 1 144 0 Granted) ∷ (line 2 32 144 Granted) ∷ (line 3 32 176 Granted) ∷ []; lines = []; notes = []; steps = 260 }
+unfolding everything
+objects_that_delete_each_other_run = refl
+
+abbrev script_one_field_name_in_two_classes_run : Script
+script_one_field_name_in_two_classes_run = record { classes = (record { line = 1; extra = 0; fields = None ∷ None ∷ []; construct = None; destroy = None }) ∷ (record { line = 5; extra = 0; fields = None ∷ []; construct = None; destroy = None }) ∷ []; procedures = (record { line = 8; parameters = []; body = record { locals = (OfPointer (Some 0)) ∷ (OfPointer (Some 1)) ∷ []; statements = (on 11 (Statement-F.New (Held (H.Local 0)) 0 Leaves)) ∷ (on 12 (Statement-F.New (Held (H.Local 1)) 1 Leaves)) ∷ (on 13 (Statement-F.Set (Field (H.Local 0) 0 1) (Held (H.Local 1)))) ∷ (on 14 (Statement-F.Set (Field (H.Local 1) 1 0) (Held (H.Local 0)))) ∷ (on 15 (Statement-F.Delete (Field (H.Local 0) 0 1))) ∷ (on 16 (Statement-F.Delete (Field (H.Local 1) 1 0))) ∷ [] } }) ∷ []; operations = []; literals = []; main = 0 }
+
+one_field_name_in_two_classes_run : run script_one_field_name_in_two_classes_run R.Unlimited 10000 (shaped 4096 4096) ≡ record { outcome = Panicked (P.Workbench 1); trace = (line 1 144 0 Granted) ∷ (line 2 48 144 Granted) ∷ (line 3 32 192 Granted) ∷ []; lines = []; notes = []; steps = 7 }
+unfolding everything
+one_field_name_in_two_classes_run = refl
+
+abbrev script_operation_deletes_an_object_run : Script
+script_operation_deletes_an_object_run = record { classes = (record { line = 8; extra = 0; fields = None ∷ []; construct = None; destroy = Some (record { locals = []; statements = (on 11 (Statement-F.PrintText (Quoted 0))) ∷ [] }) }) ∷ []; procedures = (record { line = 14; parameters = []; body = record { locals = (OfPointer (Some 0)) ∷ []; statements = (on 16 (Statement-F.New (Held (H.Local 0)) 0 Leaves)) ∷ (on 17 (Statement-F.PushOperation (Held (H.Local 0)) 0)) ∷ (on 18 (Statement-F.Alloc (Field (H.Local 0) 0 0) (Constant (pos 4)) GivesNull)) ∷ (on 19 (Statement-F.Leave (Constant (negsuc 0)))) ∷ [] } }) ∷ []; operations = (record { line = 1; body = record { locals = (OfPointer (Some 0)) ∷ []; statements = (on 3 (Statement-F.Set (Held (H.Local 1)) (Held (H.Local 0)))) ∷ (on 4 (Statement-F.Free (Field (H.Local 1) 0 0))) ∷ (on 5 (Statement-F.SetNull (Field (H.Local 1) 0 0))) ∷ (on 6 (Statement-F.Delete (Held (H.Local 1)))) ∷ [] } }) ∷ []; literals = (103 ∷ 111 ∷ 110 ∷ 101 ∷ []) ∷ []; main = 0 }
+
+operation_deletes_an_object_run : run script_operation_deletes_an_object_run R.Unlimited 10000 (shaped 4096 4096) ≡ record { outcome = Ended (Some (negsuc 0)) []; trace = (line 1 144 0 Granted) ∷ (line 2 32 144 Granted) ∷ (line 3 32 176 Granted) ∷ []; lines = (103 ∷ 111 ∷ 110 ∷ 101 ∷ []) ∷ []; notes = []; steps = 11 }
+unfolding everything
+operation_deletes_an_object_run = refl
+
+abbrev script_own_class_is_constructed_and_destroyed_run : Script
+script_own_class_is_constructed_and_destroyed_run = record { classes = (record { line = 1; extra = 0; fields = []; construct = Some (record { locals = []; statements = (on 3 (Statement-F.PrintText (Quoted 0))) ∷ [] }); destroy = Some (record { locals = []; statements = (on 6 (Statement-F.PrintText (Quoted 1))) ∷ [] }) }) ∷ (record { line = 9; extra = 0; fields = []; construct = Some (record { locals = []; statements = (on 11 (Statement-F.PrintText (Quoted 2))) ∷ [] }); destroy = Some (record { locals = []; statements = (on 14 (Statement-F.PrintText (Quoted 3))) ∷ [] }) }) ∷ []; procedures = (record { line = 17; parameters = []; body = record { locals = (OfPointer (Some 0)) ∷ []; statements = (on 19 (Statement-F.New (Held (H.Local 0)) 1 Leaves)) ∷ (on 20 (Statement-F.Construct (Held (H.Local 0)))) ∷ (on 21 (Statement-F.Delete (Held (H.Local 0)))) ∷ [] } }) ∷ []; operations = []; literals = (65 ∷ 32 ∷ 109 ∷ 97 ∷ 100 ∷ 101 ∷ []) ∷ (65 ∷ 32 ∷ 103 ∷ 111 ∷ 110 ∷ 101 ∷ []) ∷ (66 ∷ 32 ∷ 109 ∷ 97 ∷ 100 ∷ 101 ∷ []) ∷ (66 ∷ 32 ∷ 103 ∷ 111 ∷ 110 ∷ 101 ∷ []) ∷ []; main = 0 }
+
+own_class_is_constructed_and_destroyed_run : run script_own_class_is_constructed_and_destroyed_run R.Unlimited 10000 (shaped 4096 4096) ≡ record { outcome = Ended None []; trace = (line 1 144 0 Granted) ∷ (line 2 32 144 Granted) ∷ []; lines = (66 ∷ 32 ∷ 109 ∷ 97 ∷ 100 ∷ 101 ∷ []) ∷ (66 ∷ 32 ∷ 103 ∷ 111 ∷ 110 ∷ 101 ∷ []) ∷ []; notes = []; steps = 6 }
+unfolding everything
+own_class_is_constructed_and_destroyed_run = refl
+
+abbrev script_popdestroy_destroys_objects_run : Script
+script_popdestroy_destroys_objects_run = record { classes = (record { line = 1; extra = 0; fields = None ∷ []; construct = None; destroy = Some (record { locals = []; statements = (on 4 (Statement-F.Free (Field H.This 0 0))) ∷ (on 5 (Statement-F.PrintText (Quoted 0))) ∷ [] }) }) ∷ []; procedures = (record { line = 8; parameters = []; body = record { locals = (OfPointer (Some 0)) ∷ []; statements = (on 10 (Statement-F.New (Held (H.Local 0)) 0 Leaves)) ∷ (on 11 (Statement-F.PushObject (Held (H.Local 0)))) ∷ (on 12 (Statement-F.Alloc (Field (H.Local 0) 0 0) (Constant (pos 4)) GivesNull)) ∷ (on 13 (Statement-F.PopDestroy (Constant (pos 1)))) ∷ [] } }) ∷ []; operations = []; literals = (103 ∷ 111 ∷ 110 ∷ 101 ∷ []) ∷ []; main = 0 }
+
+popdestroy_destroys_objects_run : run script_popdestroy_destroys_objects_run R.Unlimited 10000 (shaped 4096 4096) ≡ record { outcome = Ended None []; trace = (line 1 144 0 Granted) ∷ (line 2 32 144 Granted) ∷ (line 3 32 176 Granted) ∷ []; lines = (103 ∷ 111 ∷ 110 ∷ 101 ∷ []) ∷ []; notes = []; steps = 8 }
+unfolding everything
+popdestroy_destroys_objects_run = refl
+
+abbrev script_pushed_null_object_is_one_step_run : Script
+script_pushed_null_object_is_one_step_run = record { classes = (record { line = 1; extra = 0; fields = []; construct = None; destroy = None }) ∷ []; procedures = (record { line = 3; parameters = []; body = record { locals = (OfPointer (Some 0)) ∷ []; statements = (on 5 (Statement-F.PushObject (Held (H.Local 0)))) ∷ (on 6 (Statement-F.PopDestroy (Constant (pos 1)))) ∷ [] } }) ∷ []; operations = []; literals = []; main = 0 }
+
+pushed_null_object_is_one_step_run : run script_pushed_null_object_is_one_step_run R.Unlimited 10000 (shaped 4096 4096) ≡ record { outcome = Ended None []; trace = (line 1 144 0 Granted) ∷ []; lines = []; notes = []; steps = 3 }
+unfolding everything
+pushed_null_object_is_one_step_run = refl
+
+abbrev script_pushed_object_made_and_deleted_run : Script
+script_pushed_object_made_and_deleted_run = record { classes = (record { line = 1; extra = 16; fields = None ∷ []; construct = Some (record { locals = []; statements = (on 4 (Statement-F.NewText (Field H.This 0 0) (Constant (pos 4)) Leaves)) ∷ [] }); destroy = Some (record { locals = []; statements = (on 7 (Statement-F.Free (Field H.This 0 0))) ∷ [] }) }) ∷ []; procedures = (record { line = 10; parameters = []; body = record { locals = (OfPointer (Some 0)) ∷ []; statements = (on 12 (Statement-F.New (Held (H.Local 0)) 0 Leaves)) ∷ (on 13 (Statement-F.PushObject (Held (H.Local 0)))) ∷ (on 14 (Statement-F.Construct (Held (H.Local 0)))) ∷ (on 15 (Statement-F.Pop (Constant (pos 1)))) ∷ (on 16 (Statement-F.Delete (Held (H.Local 0)))) ∷ [] } }) ∷ []; operations = []; literals = []; main = 0 }
+
+pushed_object_made_and_deleted_run : run script_pushed_object_made_and_deleted_run R.Unlimited 10000 (shaped 4096 4096) ≡ record { outcome = Ended None []; trace = (line 1 144 0 Granted) ∷ (line 2 48 144 Granted) ∷ (line 3 32 192 Granted) ∷ []; lines = []; notes = []; steps = 8 }
+unfolding everything
+pushed_object_made_and_deleted_run = refl
+
+abbrev script_return_ends_a_construct_body_run : Script
+script_return_ends_a_construct_body_run = record { classes = (record { line = 1; extra = 4; fields = []; construct = Some (record { locals = []; statements = (on 3 (Statement-F.PrintText (Quoted 0))) ∷ (on 4 Statement-F.Return) ∷ (on 5 (Statement-F.PrintText (Quoted 1))) ∷ [] }); destroy = None }) ∷ []; procedures = (record { line = 8; parameters = []; body = record { locals = (OfPointer (Some 0)) ∷ []; statements = (on 10 (Statement-F.New (Held (H.Local 0)) 0 Leaves)) ∷ (on 11 (Statement-F.Construct (Held (H.Local 0)))) ∷ (on 12 (Statement-F.Delete (Held (H.Local 0)))) ∷ [] } }) ∷ []; operations = []; literals = (111 ∷ 110 ∷ 101 ∷ []) ∷ (116 ∷ 119 ∷ 111 ∷ []) ∷ []; main = 0 }
+
+return_ends_a_construct_body_run : run script_return_ends_a_construct_body_run R.Unlimited 10000 (shaped 4096 4096) ≡ record { outcome = Ended None []; trace = (line 1 144 0 Granted) ∷ (line 2 32 144 Granted) ∷ []; lines = (111 ∷ 110 ∷ 101 ∷ []) ∷ []; notes = []; steps = 6 }
+unfolding everything
+return_ends_a_construct_body_run = refl
+
+abbrev script_right_field_is_refused_second_run : Script
+script_right_field_is_refused_second_run = record { classes = (record { line = 1; extra = 0; fields = None ∷ []; construct = None; destroy = None }) ∷ []; procedures = (record { line = 4; parameters = []; body = record { locals = (OfPointer (Some 0)) ∷ (OfPointer (Some 0)) ∷ []; statements = (on 7 (Statement-F.Alloc (Held (H.Local 1)) (Constant (pos 4)) GivesNull)) ∷ (on 8 (Statement-F.New (Held (H.Local 0)) 0 Leaves)) ∷ (on 9 (Statement-F.Set (Field (H.Local 0) 0 0) (Field (H.Local 1) 0 0))) ∷ [] } }) ∷ []; operations = []; literals = []; main = 0 }
+
+right_field_is_refused_second_run : run script_right_field_is_refused_second_run R.Unlimited 10000 (shaped 4096 4096) ≡ record { outcome = Panicked (P.Workbench 2); trace = (line 1 144 0 Granted) ∷ (line 2 32 144 Granted) ∷ (line 3 32 176 Granted) ∷ []; lines = []; notes = []; steps = 3 }
+unfolding everything
+right_field_is_refused_second_run = refl
+
+abbrev script_second_object_takes_the_place_of_the_first_run : Script
+script_second_object_takes_the_place_of_the_first_run = record { classes = (record { line = 1; extra = 0; fields = None ∷ []; construct = None; destroy = None }) ∷ []; procedures = (record { line = 4; parameters = []; body = record { locals = (OfPointer (Some 0)) ∷ (OfPointer (Some 0)) ∷ []; statements = (on 7 (Statement-F.New (Held (H.Local 0)) 0 Leaves)) ∷ (on 8 (Statement-F.Alloc (Field (H.Local 0) 0 0) (Constant (pos 4)) Leaves)) ∷ (on 9 (Statement-F.Free (Field (H.Local 0) 0 0))) ∷ (on 10 (Statement-F.Delete (Held (H.Local 0)))) ∷ (on 11 (Statement-F.New (Held (H.Local 1)) 0 Leaves)) ∷ (on 12 (Statement-F.If (IsNull (Field (H.Local 1) 0 0)) ((on 13 (Statement-F.PrintText (Quoted 0))) ∷ []))) ∷ (on 15 (Statement-F.Delete (Held (H.Local 0)))) ∷ [] } }) ∷ []; operations = []; literals = (110 ∷ 117 ∷ 108 ∷ 108 ∷ []) ∷ []; main = 0 }
+
+second_object_takes_the_place_of_the_first_run : run script_second_object_takes_the_place_of_the_first_run R.Unlimited 10000 (shaped 4096 4096) ≡ record { outcome = Panicked (P.Workbench 1); trace = (line 1 144 0 Granted) ∷ (line 2 32 144 Granted) ∷ (line 3 32 176 Granted) ∷ (line 4 32 144 Granted) ∷ []; lines = (110 ∷ 117 ∷ 108 ∷ 108 ∷ []) ∷ []; notes = []; steps = 10 }
+unfolding everything
+second_object_takes_the_place_of_the_first_run = refl
+
+abbrev script_self_freed_while_it_is_made_run : Script
+script_self_freed_while_it_is_made_run = record { classes = (record { line = 1; extra = 0; fields = None ∷ []; construct = Some (record { locals = []; statements = (on 4 (Statement-F.Free (Held H.This))) ∷ (on 5 (Statement-F.If (IsNull (Field H.This 0 0)) [])) ∷ [] }); destroy = None }) ∷ []; procedures = (record { line = 9; parameters = []; body = record { locals = (OfPointer (Some 0)) ∷ []; statements = (on 11 (Statement-F.New (Held (H.Local 0)) 0 Leaves)) ∷ (on 12 (Statement-F.Construct (Held (H.Local 0)))) ∷ [] } }) ∷ []; operations = []; literals = []; main = 0 }
+
+self_freed_while_it_is_made_run : run script_self_freed_while_it_is_made_run R.Unlimited 10000 (shaped 4096 4096) ≡ record { outcome = Panicked (P.Workbench 1); trace = (line 1 144 0 Granted) ∷ (line 2 32 144 Granted) ∷ []; lines = []; notes = []; steps = 4 }
+unfolding everything
+self_freed_while_it_is_made_run = refl
+
+abbrev script_self_is_compared_and_kept_run : Script
+script_self_is_compared_and_kept_run = record { classes = (record { line = 1; extra = 0; fields = (Some 0) ∷ []; construct = Some (record { locals = []; statements = (on 4 (Statement-F.Set (Field H.This 0 0) (Held H.This))) ∷ [] }); destroy = Some (record { locals = []; statements = (on 7 (Statement-F.SetNull (Field H.This 0 0))) ∷ [] }) }) ∷ []; procedures = (record { line = 10; parameters = []; body = record { locals = (OfPointer (Some 0)) ∷ []; statements = (on 12 (Statement-F.New (Held (H.Local 0)) 0 Leaves)) ∷ (on 13 (Statement-F.Construct (Held (H.Local 0)))) ∷ (on 14 (Statement-F.PushObject (Field (H.Local 0) 0 0))) ∷ (on 15 (Statement-F.PopCheck (Held (H.Local 0)))) ∷ (on 16 (Statement-F.Delete (Held (H.Local 0)))) ∷ [] } }) ∷ []; operations = []; literals = []; main = 0 }
+
+self_is_compared_and_kept_run : run script_self_is_compared_and_kept_run R.Unlimited 10000 (shaped 4096 4096) ≡ record { outcome = Ended None []; trace = (line 1 144 0 Granted) ∷ (line 2 32 144 Granted) ∷ []; lines = []; notes = []; steps = 8 }
+unfolding everything
+self_is_compared_and_kept_run = refl
+
+abbrev script_self_is_passed_and_a_procedure_has_none_of_its_own_run : Script
+script_self_is_passed_and_a_procedure_has_none_of_its_own_run = record { classes = (record { line = 1; extra = 0; fields = None ∷ []; construct = Some (record { locals = []; statements = (on 4 (Statement-F.Call 0 ((Passed (Held H.This)) ∷ []))) ∷ [] }); destroy = Some (record { locals = []; statements = (on 7 (Statement-F.Free (Field H.This 0 0))) ∷ [] }) }) ∷ []; procedures = (record { line = 10; parameters = (Par.OfPointer (Some 0)) ∷ []; body = record { locals = []; statements = (on 11 (Statement-F.Alloc (Field (H.Local 0) 0 0) (Constant (pos 4)) Leaves)) ∷ [] } }) ∷ (record { line = 13; parameters = []; body = record { locals = (OfPointer (Some 0)) ∷ []; statements = (on 15 (Statement-F.New (Held (H.Local 0)) 0 Leaves)) ∷ (on 16 (Statement-F.Construct (Held (H.Local 0)))) ∷ (on 17 (Statement-F.Delete (Held (H.Local 0)))) ∷ [] } }) ∷ []; operations = []; literals = []; main = 1 }
+
+self_is_passed_and_a_procedure_has_none_of_its_own_run : run script_self_is_passed_and_a_procedure_has_none_of_its_own_run R.Unlimited 10000 (shaped 4096 4096) ≡ record { outcome = Ended None []; trace = (line 1 144 0 Granted) ∷ (line 2 32 144 Granted) ∷ (line 3 32 176 Granted) ∷ []; lines = []; notes = []; steps = 7 }
+unfolding everything
+self_is_passed_and_a_procedure_has_none_of_its_own_run = refl
+
+abbrev script_target_is_refused_before_the_attempt_run : Script
+script_target_is_refused_before_the_attempt_run = record { classes = (record { line = 1; extra = 0; fields = None ∷ []; construct = None; destroy = None }) ∷ []; procedures = (record { line = 4; parameters = []; body = record { locals = (OfPointer (Some 0)) ∷ []; statements = (on 6 (Statement-F.Alloc (Field (H.Local 0) 0 0) (Constant (pos 4)) GivesNull)) ∷ [] } }) ∷ []; operations = []; literals = []; main = 0 }
+
+target_is_refused_before_the_attempt_run : run script_target_is_refused_before_the_attempt_run R.Unlimited 10000 (shaped 4096 4096) ≡ record { outcome = Panicked (P.Workbench 1); trace = (line 1 144 0 Granted) ∷ []; lines = []; notes = []; steps = 1 }
+unfolding everything
+target_is_refused_before_the_attempt_run = refl
+
+abbrev script_text_in_a_field_is_not_put_into_itself_run : Script
+script_text_in_a_field_is_not_put_into_itself_run = record { classes = (record { line = 1; extra = 0; fields = None ∷ []; construct = None; destroy = None }) ∷ []; procedures = (record { line = 4; parameters = []; body = record { locals = (OfPointer (Some 0)) ∷ []; statements = (on 6 (Statement-F.New (Held (H.Local 0)) 0 Leaves)) ∷ (on 7 (Statement-F.NewText (Field (H.Local 0) 0 0) (Constant (pos 4)) Leaves)) ∷ (on 8 (Statement-F.Insert (InCell (Field (H.Local 0) 0 0)) (Constant (pos 9)) (Of (InCell (Field (H.Local 0) 0 0))))) ∷ [] } }) ∷ []; operations = []; literals = []; main = 0 }
+
+text_in_a_field_is_not_put_into_itself_run : run script_text_in_a_field_is_not_put_into_itself_run R.Unlimited 10000 (shaped 4096 4096) ≡ record { outcome = Panicked (P.Workbench 9); trace = (line 1 144 0 Granted) ∷ (line 2 32 144 Granted) ∷ (line 3 32 176 Granted) ∷ []; lines = []; notes = []; steps = 3 }
+unfolding everything
+text_in_a_field_is_not_put_into_itself_run = refl
+
+abbrev script_text_of_self_is_no_text_run : Script
+script_text_of_self_is_no_text_run = record { classes = (record { line = 1; extra = 0; fields = []; construct = Some (record { locals = []; statements = (on 3 (Statement-F.Copy (InCell (Held H.This)) (Quoted 0))) ∷ [] }); destroy = None }) ∷ []; procedures = (record { line = 6; parameters = []; body = record { locals = (OfPointer (Some 0)) ∷ []; statements = (on 8 (Statement-F.New (Held (H.Local 0)) 0 Leaves)) ∷ (on 9 (Statement-F.Construct (Held (H.Local 0)))) ∷ [] } }) ∷ []; operations = []; literals = (120 ∷ []) ∷ []; main = 0 }
+
+text_of_self_is_no_text_run : run script_text_of_self_is_no_text_run R.Unlimited 10000 (shaped 4096 4096) ≡ record { outcome = Panicked (P.Workbench 2); trace = (line 1 144 0 Granted) ∷ (line 2 32 144 Granted) ∷ []; lines = []; notes = []; steps = 3 }
+unfolding everything
+text_of_self_is_no_text_run = refl
+
+abbrev script_texts_in_fields_run : Script
+script_texts_in_fields_run = record { classes = (record { line = 1; extra = 0; fields = None ∷ []; construct = Some (record { locals = []; statements = (on 4 (Statement-F.NewText (Field H.This 0 0) (Constant (pos 8)) Leaves)) ∷ (on 5 (Statement-F.Copy (InCell (Field H.This 0 0)) (Quoted 0))) ∷ (on 6 (Statement-F.Append (InCell (Field H.This 0 0)) (Quoted 1))) ∷ [] }); destroy = Some (record { locals = []; statements = (on 9 (Statement-F.Free (Field H.This 0 0))) ∷ [] }) }) ∷ []; procedures = (record { line = 12; parameters = []; body = record { locals = (OfPointer (Some 0)) ∷ OfNumber ∷ OfView ∷ []; statements = (on 16 (Statement-F.New (Held (H.Local 0)) 0 Leaves)) ∷ (on 17 (Statement-F.Construct (Held (H.Local 0)))) ∷ (on 18 (Statement-F.GetLength 1 (Of (InCell (Field (H.Local 0) 0 0))))) ∷ (on 19 (Statement-F.PrintNumber (Variable 1))) ∷ (on 20 (Statement-F.PrintText (Of (InCell (Field (H.Local 0) 0 0))))) ∷ (on 21 (Statement-F.Mid 2 (Of (InCell (Field (H.Local 0) 0 0))) (Constant (pos 1)) (Constant (pos 3)))) ∷ (on 22 (Statement-F.PrintText (ViewOf 2))) ∷ (on 23 (Statement-F.Append (InCell (Field (H.Local 0) 0 0)) (ViewOf 2))) ∷ (on 24 (Statement-F.PrintText (Of (InCell (Field (H.Local 0) 0 0))))) ∷ (on 25 (Statement-F.Delete (Held (H.Local 0)))) ∷ [] } }) ∷ []; operations = []; literals = (97 ∷ 98 ∷ 99 ∷ []) ∷ (100 ∷ 101 ∷ []) ∷ []; main = 0 }
+
+texts_in_fields_run : run script_texts_in_fields_run R.Unlimited 10000 (shaped 4096 4096) ≡ record { outcome = Ended None []; trace = (line 1 144 0 Granted) ∷ (line 2 32 144 Granted) ∷ (line 3 48 176 Granted) ∷ []; lines = (53 ∷ []) ∷ (97 ∷ 98 ∷ 99 ∷ 100 ∷ 101 ∷ []) ∷ (98 ∷ 99 ∷ 100 ∷ []) ∷ (97 ∷ 98 ∷ 99 ∷ 100 ∷ 101 ∷ 98 ∷ 99 ∷ 100 ∷ []) ∷ []; notes = []; steps = 15 }
+unfolding everything
+texts_in_fields_run = refl
+
+abbrev script_unpushed_object_leaks_when_construction_fails_run : Script
+script_unpushed_object_leaks_when_construction_fails_run = record { classes = (record { line = 1; extra = 16; fields = None ∷ []; construct = Some (record { locals = []; statements = (on 4 (Statement-F.NewText (Field H.This 0 0) (Constant (pos 4)) Leaves)) ∷ [] }); destroy = Some (record { locals = []; statements = (on 7 (Statement-F.Free (Field H.This 0 0))) ∷ [] }) }) ∷ []; procedures = (record { line = 10; parameters = []; body = record { locals = (OfPointer (Some 0)) ∷ []; statements = (on 12 (Statement-F.New (Held (H.Local 0)) 0 Leaves)) ∷ (on 13 (Statement-F.Construct (Held (H.Local 0)))) ∷ (on 14 (Statement-F.Delete (Held (H.Local 0)))) ∷ [] } }) ∷ []; operations = []; literals = []; main = 0 }
+
+unpushed_object_leaks_when_construction_fails_run : run script_unpushed_object_leaks_when_construction_fails_run (R.Number 3) 10000 (shaped 4096 4096) ≡ record { outcome = Ended (Some (negsuc 3)) ((record { number = 2; length = 48; place = 144 }) ∷ []); trace = (line 1 144 0 Granted) ∷ (line 2 48 144 Granted) ∷ (line 3 32 192 Simulated) ∷ []; lines = []; notes = []; steps = 3 }
+unfolding everything
+unpushed_object_leaks_when_construction_fails_run = refl
+
+abbrev script_words_in_fields_run : Script
+script_words_in_fields_run = record { classes = (record { line = 1; extra = 0; fields = None ∷ []; construct = None; destroy = None }) ∷ []; procedures = (record { line = 4; parameters = []; body = record { locals = (OfPointer (Some 0)) ∷ OfNumber ∷ []; statements = (on 7 (Statement-F.New (Held (H.Local 0)) 0 Leaves)) ∷ (on 8 (Statement-F.Alloc (Field (H.Local 0) 0 0) (Constant (pos 4)) Leaves)) ∷ (on 9 (Statement-F.Store (Field (H.Local 0) 0 0) (Constant (pos 1)) (Constant (negsuc 5)))) ∷ (on 10 (Statement-F.Load 1 (Field (H.Local 0) 0 0) (Constant (pos 1)))) ∷ (on 11 (Statement-F.PrintNumber (Variable 1))) ∷ (on 12 (Statement-F.AllocLen 1 (Field (H.Local 0) 0 0))) ∷ (on 13 (Statement-F.PrintNumber (Variable 1))) ∷ (on 14 (Statement-F.Realloc (Field (H.Local 0) 0 0) (Field (H.Local 0) 0 0) (Constant (pos 40)) Leaves)) ∷ (on 15 (Statement-F.Load 1 (Field (H.Local 0) 0 0) (Constant (pos 1)))) ∷ (on 16 (Statement-F.PrintNumber (Variable 1))) ∷ (on 17 (Statement-F.Free (Field (H.Local 0) 0 0))) ∷ (on 18 (Statement-F.Free (Held (H.Local 0)))) ∷ [] } }) ∷ []; operations = []; literals = []; main = 0 }
+
+words_in_fields_run : run script_words_in_fields_run R.Unlimited 10000 (shaped 4096 4096) ≡ record { outcome = Ended None []; trace = (line 1 144 0 Granted) ∷ (line 2 32 144 Granted) ∷ (line 3 32 176 Granted) ∷ (line 4 64 176 Granted) ∷ []; lines = (45 ∷ 54 ∷ []) ∷ (49 ∷ 54 ∷ []) ∷ (45 ∷ 54 ∷ []) ∷ []; notes = []; steps = 12 }
+unfolding everything
+words_in_fields_run = refl
+
+abbrev script_words_of_an_object_are_not_read_run : Script
+script_words_of_an_object_are_not_read_run = record { classes = (record { line = 1; extra = 16; fields = []; construct = None; destroy = None }) ∷ []; procedures = (record { line = 3; parameters = []; body = record { locals = (OfPointer (Some 0)) ∷ OfNumber ∷ []; statements = (on 6 (Statement-F.New (Held (H.Local 0)) 0 Leaves)) ∷ (on 7 (Statement-F.AllocLen 1 (Held (H.Local 0)))) ∷ (on 8 (Statement-F.PrintNumber (Variable 1))) ∷ (on 9 (Statement-F.Load 1 (Held (H.Local 0)) (Constant (pos 0)))) ∷ [] } }) ∷ []; operations = []; literals = []; main = 0 }
+
+words_of_an_object_are_not_read_run : run script_words_of_an_object_are_not_read_run R.Unlimited 10000 (shaped 4096 4096) ≡ record { outcome = Panicked (P.Workbench 2); trace = (line 1 144 0 Granted) ∷ (line 2 48 144 Granted) ∷ []; lines = (51 ∷ 50 ∷ []) ∷ []; notes = []; steps = 4 }
+unfolding everything
+words_of_an_object_are_not_read_run = refl
+
 abbrev script_budget_cuts_before_the_first_item_run : Script
 script_budget_cuts_before_the_first_item_run = record { classes = []; procedures = (record { line = 1; parameters = []; body = record { locals = (OfPointer None) ∷ (OfPointer None) ∷ (OfPointer None) ∷ []; statements = (on 5 (Statement-F.Alloc (Held (H.Local 0)) (Constant (pos 16)) Leaves)) ∷ (on 6 (Statement-F.Push (Held (H.Local 0)))) ∷ (on 7 (Statement-F.Alloc (Held (H.Local 1)) (Constant (pos 16)) Leaves)) ∷ (on 8 (Statement-F.Push (Held (H.Local 1)))) ∷ (on 9 (Statement-F.Alloc (Held (H.Local 2)) (Constant (pos 16)) Leaves)) ∷ (on 10 (Statement-F.Push (Held (H.Local 2)))) ∷ (on 11 (Statement-F.PopDestroy (Constant (pos 3)))) ∷ (on 12 (Statement-F.PrintText (Quoted 0))) ∷ [] } }) ∷ []; operations = []; literals = (110 ∷ 111 ∷ 110 ∷ 101 ∷ 32 ∷ 105 ∷ 115 ∷ 32 ∷ 108 ∷ 101 ∷ 102 ∷ 116 ∷ []) ∷ []; main = 0 }
 
@@ -841,6 +1296,20 @@ append_too_long_run : run script_append_too_long_run R.Unlimited 10000 (shaped 4
 unfolding everything
 append_too_long_run = refl
 
+abbrev script_double_delete_mended_check : Script
+script_double_delete_mended_check = record { classes = (record { line = 2; extra = 4; fields = []; construct = None; destroy = None }) ∷ (record { line = 5; extra = 0; fields = (Some 0) ∷ None ∷ []; construct = None; destroy = Some (record { locals = []; statements = (on 9 (Statement-F.Delete (Field H.This 1 0))) ∷ (on 10 (Statement-F.Free (Field H.This 1 1))) ∷ [] }) }) ∷ []; procedures = (record { line = 14; parameters = (Par.OfPointer (Some 1)) ∷ (Par.OfPointer (Some 0)) ∷ []; body = record { locals = []; statements = (on 16 (Statement-F.Set (Field (H.Local 0) 1 0) (Held (H.Local 1)))) ∷ (on 17 (Statement-F.Alloc (Field (H.Local 0) 1 1) (Constant (pos 40)) Leaves)) ∷ [] } }) ∷ (record { line = 20; parameters = []; body = record { locals = (OfPointer (Some 1)) ∷ (OfPointer (Some 0)) ∷ OfNumber ∷ []; statements = (on 24 (Statement-F.New (Held (H.Local 0)) 1 Leaves)) ∷ (on 25 (Statement-F.PushObject (Held (H.Local 0)))) ∷ (on 26 (Statement-F.New (Held (H.Local 1)) 0 Leaves)) ∷ (on 27 (Statement-F.Trap 2 ((on 28 (Statement-F.Call 0 ((Passed (Held (H.Local 0))) ∷ (Passed (Held (H.Local 1))) ∷ []))) ∷ []))) ∷ (on 30 (Statement-F.LeaveIfError (Variable 2))) ∷ (on 31 (Statement-F.PopDestroy (Constant (pos 1)))) ∷ [] } }) ∷ []; operations = []; literals = []; main = 1 }
+
+double_delete_mended_check : (required script_double_delete_mended_check 10000 (shaped 4096 4096) ≡ 288) × (rises script_double_delete_mended_check 10000 (shaped 4096 4096) ≡ (rise 1 144) ∷ (rise 2 192) ∷ (rise 3 224) ∷ (rise 4 288) ∷ []) × (length (run_at script_double_delete_mended_check 10000 (shaped 4096 4096) 0).trace ≡ 4) × (least_bad_or_cut script_double_delete_mended_check 10000 (shaped 4096 4096) ≡ None)
+unfolding everything
+double_delete_mended_check = (refl, refl, refl, refl)
+
+abbrev script_double_delete_check : Script
+script_double_delete_check = record { classes = (record { line = 2; extra = 4; fields = []; construct = None; destroy = None }) ∷ (record { line = 5; extra = 0; fields = (Some 0) ∷ None ∷ []; construct = None; destroy = Some (record { locals = []; statements = (on 9 (Statement-F.Delete (Field H.This 1 0))) ∷ (on 10 (Statement-F.Free (Field H.This 1 1))) ∷ [] }) }) ∷ []; procedures = (record { line = 14; parameters = (Par.OfPointer (Some 1)) ∷ (Par.OfPointer (Some 0)) ∷ []; body = record { locals = []; statements = (on 16 (Statement-F.Set (Field (H.Local 0) 1 0) (Held (H.Local 1)))) ∷ (on 17 (Statement-F.Alloc (Field (H.Local 0) 1 1) (Constant (pos 40)) Leaves)) ∷ [] } }) ∷ (record { line = 20; parameters = []; body = record { locals = (OfPointer (Some 1)) ∷ (OfPointer (Some 0)) ∷ OfNumber ∷ []; statements = (on 24 (Statement-F.New (Held (H.Local 0)) 1 Leaves)) ∷ (on 25 (Statement-F.PushObject (Held (H.Local 0)))) ∷ (on 26 (Statement-F.New (Held (H.Local 1)) 0 Leaves)) ∷ (on 27 (Statement-F.Trap 2 ((on 28 (Statement-F.Call 0 ((Passed (Held (H.Local 0))) ∷ (Passed (Held (H.Local 1))) ∷ []))) ∷ []))) ∷ (on 30 (Statement-F.If (Less (Variable 2) (Constant (pos 0))) ((on 31 (Statement-F.Delete (Held (H.Local 1)))) ∷ []))) ∷ (on 33 (Statement-F.PopDestroy (Constant (pos 1)))) ∷ [] } }) ∷ []; operations = []; literals = []; main = 1 }
+
+double_delete_check : (required script_double_delete_check 10000 (shaped 4096 4096) ≡ 288) × (rises script_double_delete_check 10000 (shaped 4096 4096) ≡ (rise 1 144) ∷ (rise 2 192) ∷ (rise 3 224) ∷ (rise 4 288) ∷ []) × (length (run_at script_double_delete_check 10000 (shaped 4096 4096) 0).trace ≡ 4) × (least_bad_or_cut script_double_delete_check 10000 (shaped 4096 4096) ≡ Some 4) × (run_at script_double_delete_check 10000 (shaped 4096 4096) 4 ≡ record { outcome = Panicked (P.Workbench 1); trace = (line 1 144 0 Granted) ∷ (line 2 48 144 Granted) ∷ (line 3 32 192 Granted) ∷ (line 4 64 224 Simulated) ∷ []; lines = []; notes = []; steps = 15 })
+unfolding everything
+double_delete_check = (refl, refl, refl, refl, refl)
+
 abbrev script_double_free_run : Script
 script_double_free_run = record { classes = []; procedures = (record { line = 2; parameters = []; body = record { locals = (OfPointer None) ∷ (OfPointer None) ∷ []; statements = (on 5 (Statement-F.Alloc (Held (H.Local 0)) (Constant (pos 40)) GivesNull)) ∷ (on 6 (Statement-F.Free (Held (H.Local 0)))) ∷ (on 7 (Statement-F.Alloc (Held (H.Local 1)) (Constant (pos 40)) GivesNull)) ∷ (on 8 (Statement-F.PrintText (Quoted 0))) ∷ (on 9 (Statement-F.Free (Held (H.Local 0)))) ∷ [] } }) ∷ []; operations = []; literals = (116 ∷ 104 ∷ 101 ∷ 32 ∷ 112 ∷ 108 ∷ 97 ∷ 99 ∷ 101 ∷ 115 ∷ 32 ∷ 97 ∷ 114 ∷ 101 ∷ 32 ∷ 116 ∷ 104 ∷ 101 ∷ 32 ∷ 115 ∷ 97 ∷ 109 ∷ 101 ∷ 44 ∷ 32 ∷ 116 ∷ 104 ∷ 101 ∷ 32 ∷ 97 ∷ 108 ∷ 108 ∷ 111 ∷ 99 ∷ 97 ∷ 116 ∷ 105 ∷ 111 ∷ 110 ∷ 32 ∷ 110 ∷ 117 ∷ 109 ∷ 98 ∷ 101 ∷ 114 ∷ 115 ∷ 32 ∷ 97 ∷ 114 ∷ 101 ∷ 110 ∷ 39 ∷ 116 ∷ []) ∷ []; main = 0 }
 
@@ -882,6 +1351,20 @@ script_grown_unchecked_check = record { classes = []; procedures = (record { lin
 grown_unchecked_check : (required script_grown_unchecked_check 10000 (shaped 4096 4096) ≡ 256) × (rises script_grown_unchecked_check 10000 (shaped 4096 4096) ≡ (rise 1 144) ∷ (rise 2 176) ∷ (rise 3 256) ∷ []) × (length (run_at script_grown_unchecked_check 10000 (shaped 4096 4096) 0).trace ≡ 3) × (least_bad_or_cut script_grown_unchecked_check 10000 (shaped 4096 4096) ≡ Some 3) × (run_at script_grown_unchecked_check 10000 (shaped 4096 4096) 3 ≡ record { outcome = Panicked (P.Workbench 1); trace = (line 1 144 0 Granted) ∷ (line 2 32 144 Granted) ∷ (line 3 112 144 Simulated) ∷ []; lines = []; notes = []; steps = 5 })
 unfolding everything
 grown_unchecked_check = (refl, refl, refl, refl, refl)
+
+abbrev script_half_built_object_mended_check : Script
+script_half_built_object_mended_check = record { classes = (record { line = 2; extra = 0; fields = None ∷ None ∷ []; construct = Some (record { locals = []; statements = (on 6 (Statement-F.NewText (Field H.This 0 0) (Constant (pos 8)) Leaves)) ∷ (on 7 (Statement-F.Alloc (Field H.This 0 1) (Constant (pos 40)) Leaves)) ∷ [] }); destroy = Some (record { locals = []; statements = (on 10 (Statement-F.If (NotNull (Field H.This 0 1)) ((on 11 (Statement-F.Store (Field H.This 0 1) (Constant (pos 0)) (Constant (pos 1)))) ∷ []))) ∷ (on 13 (Statement-F.Free (Field H.This 0 1))) ∷ (on 14 (Statement-F.Free (Field H.This 0 0))) ∷ [] }) }) ∷ []; procedures = (record { line = 18; parameters = []; body = record { locals = (OfPointer (Some 0)) ∷ []; statements = (on 20 (Statement-F.New (Held (H.Local 0)) 0 Leaves)) ∷ (on 21 (Statement-F.PushObject (Held (H.Local 0)))) ∷ (on 22 (Statement-F.Construct (Held (H.Local 0)))) ∷ (on 23 (Statement-F.PopDestroy (Constant (pos 1)))) ∷ [] } }) ∷ []; operations = []; literals = []; main = 0 }
+
+half_built_object_mended_check : (required script_half_built_object_mended_check 10000 (shaped 4096 4096) ≡ 304) × (rises script_half_built_object_mended_check 10000 (shaped 4096 4096) ≡ (rise 1 144) ∷ (rise 2 192) ∷ (rise 3 240) ∷ (rise 4 304) ∷ []) × (length (run_at script_half_built_object_mended_check 10000 (shaped 4096 4096) 0).trace ≡ 4) × (least_bad_or_cut script_half_built_object_mended_check 10000 (shaped 4096 4096) ≡ None)
+unfolding everything
+half_built_object_mended_check = (refl, refl, refl, refl)
+
+abbrev script_half_built_object_check : Script
+script_half_built_object_check = record { classes = (record { line = 3; extra = 0; fields = None ∷ None ∷ []; construct = Some (record { locals = []; statements = (on 7 (Statement-F.NewText (Field H.This 0 0) (Constant (pos 8)) Leaves)) ∷ (on 8 (Statement-F.Alloc (Field H.This 0 1) (Constant (pos 40)) Leaves)) ∷ [] }); destroy = Some (record { locals = []; statements = (on 12 (Statement-F.Store (Field H.This 0 1) (Constant (pos 0)) (Constant (pos 1)))) ∷ (on 13 (Statement-F.Free (Field H.This 0 1))) ∷ (on 14 (Statement-F.Free (Field H.This 0 0))) ∷ [] }) }) ∷ []; procedures = (record { line = 18; parameters = []; body = record { locals = (OfPointer (Some 0)) ∷ []; statements = (on 20 (Statement-F.New (Held (H.Local 0)) 0 Leaves)) ∷ (on 21 (Statement-F.PushObject (Held (H.Local 0)))) ∷ (on 22 (Statement-F.Construct (Held (H.Local 0)))) ∷ (on 23 (Statement-F.PopDestroy (Constant (pos 1)))) ∷ [] } }) ∷ []; operations = []; literals = []; main = 0 }
+
+half_built_object_check : (required script_half_built_object_check 10000 (shaped 4096 4096) ≡ 304) × (rises script_half_built_object_check 10000 (shaped 4096 4096) ≡ (rise 1 144) ∷ (rise 2 192) ∷ (rise 3 240) ∷ (rise 4 304) ∷ []) × (length (run_at script_half_built_object_check 10000 (shaped 4096 4096) 0).trace ≡ 4) × (least_bad_or_cut script_half_built_object_check 10000 (shaped 4096 4096) ≡ Some 3) × (run_at script_half_built_object_check 10000 (shaped 4096 4096) 3 ≡ record { outcome = Panicked (P.Workbench 1); trace = (line 1 144 0 Granted) ∷ (line 2 48 144 Granted) ∷ (line 3 48 192 Simulated) ∷ []; lines = []; notes = []; steps = 7 })
+unfolding everything
+half_built_object_check = (refl, refl, refl, refl, refl)
 
 abbrev script_hole_reused_run : Script
 script_hole_reused_run = record { classes = []; procedures = (record { line = 2; parameters = []; body = record { locals = (OfPointer None) ∷ (OfPointer None) ∷ (OfPointer None) ∷ OfNumber ∷ []; statements = (on 7 (Statement-F.Alloc (Held (H.Local 0)) (Constant (pos 48)) GivesNull)) ∷ (on 8 (Statement-F.Alloc (Held (H.Local 1)) (Constant (pos 16)) GivesNull)) ∷ (on 9 (Statement-F.Store (Held (H.Local 1)) (Constant (pos 0)) (Constant (pos 7)))) ∷ (on 10 (Statement-F.Alloc (Held (H.Local 2)) (Constant (pos 16)) GivesNull)) ∷ (on 12 (Statement-F.Free (Held (H.Local 0)))) ∷ (on 14 (Statement-F.Realloc (Held (H.Local 1)) (Held (H.Local 1)) (Constant (pos 40)) GivesNull)) ∷ (on 16 (Statement-F.Load 3 (Held (H.Local 1)) (Constant (pos 0)))) ∷ (on 17 (Statement-F.PrintNumber (Variable 3))) ∷ (on 19 (Statement-F.SetNull (Held (H.Local 0)))) ∷ (on 21 (Statement-F.Realloc (Held (H.Local 0)) (Held (H.Local 0)) (Constant (pos 16)) GivesNull)) ∷ (on 22 (Statement-F.Free (Held (H.Local 0)))) ∷ (on 23 (Statement-F.Free (Held (H.Local 2)))) ∷ (on 24 (Statement-F.Free (Held (H.Local 1)))) ∷ [] } }) ∷ []; operations = []; literals = []; main = 0 }
@@ -939,6 +1422,20 @@ leak_under_failure_run : run script_leak_under_failure_run (R.Number 3) 10000 (s
 unfolding everything
 leak_under_failure_run = refl
 
+abbrev script_member_not_cleared_mended_check : Script
+script_member_not_cleared_mended_check = record { classes = (record { line = 2; extra = 4; fields = None ∷ []; construct = Some (record { locals = []; statements = (on 5 (Statement-F.NewText (Field H.This 0 0) (Constant (pos 8)) Leaves)) ∷ [] }); destroy = Some (record { locals = []; statements = (on 8 (Statement-F.Free (Field H.This 0 0))) ∷ [] }) }) ∷ []; procedures = (record { line = 12; parameters = (Par.OfPointer (Some 0)) ∷ []; body = record { locals = []; statements = (on 13 (Statement-F.Free (Field (H.Local 0) 0 0))) ∷ (on 14 (Statement-F.SetNull (Field (H.Local 0) 0 0))) ∷ (on 15 (Statement-F.NewText (Field (H.Local 0) 0 0) (Constant (pos 20)) Leaves)) ∷ [] } }) ∷ (record { line = 18; parameters = []; body = record { locals = (OfPointer (Some 0)) ∷ []; statements = (on 20 (Statement-F.New (Held (H.Local 0)) 0 Leaves)) ∷ (on 21 (Statement-F.PushObject (Held (H.Local 0)))) ∷ (on 22 (Statement-F.Construct (Held (H.Local 0)))) ∷ (on 23 (Statement-F.Call 0 ((Passed (Held (H.Local 0))) ∷ []))) ∷ (on 24 (Statement-F.PopDestroy (Constant (pos 1)))) ∷ [] } }) ∷ []; operations = []; literals = []; main = 1 }
+
+member_not_cleared_mended_check : (required script_member_not_cleared_mended_check 10000 (shaped 4096 4096) ≡ 256) × (rises script_member_not_cleared_mended_check 10000 (shaped 4096 4096) ≡ (rise 1 144) ∷ (rise 2 192) ∷ (rise 3 240) ∷ (rise 4 256) ∷ []) × (length (run_at script_member_not_cleared_mended_check 10000 (shaped 4096 4096) 0).trace ≡ 4) × (least_bad_or_cut script_member_not_cleared_mended_check 10000 (shaped 4096 4096) ≡ None)
+unfolding everything
+member_not_cleared_mended_check = (refl, refl, refl, refl)
+
+abbrev script_member_not_cleared_check : Script
+script_member_not_cleared_check = record { classes = (record { line = 2; extra = 4; fields = None ∷ []; construct = Some (record { locals = []; statements = (on 5 (Statement-F.NewText (Field H.This 0 0) (Constant (pos 8)) Leaves)) ∷ [] }); destroy = Some (record { locals = []; statements = (on 8 (Statement-F.Free (Field H.This 0 0))) ∷ [] }) }) ∷ []; procedures = (record { line = 12; parameters = (Par.OfPointer (Some 0)) ∷ []; body = record { locals = []; statements = (on 13 (Statement-F.Free (Field (H.Local 0) 0 0))) ∷ (on 15 (Statement-F.NewText (Field (H.Local 0) 0 0) (Constant (pos 20)) Leaves)) ∷ [] } }) ∷ (record { line = 18; parameters = []; body = record { locals = (OfPointer (Some 0)) ∷ []; statements = (on 20 (Statement-F.New (Held (H.Local 0)) 0 Leaves)) ∷ (on 21 (Statement-F.PushObject (Held (H.Local 0)))) ∷ (on 22 (Statement-F.Construct (Held (H.Local 0)))) ∷ (on 23 (Statement-F.Call 0 ((Passed (Held (H.Local 0))) ∷ []))) ∷ (on 24 (Statement-F.PopDestroy (Constant (pos 1)))) ∷ [] } }) ∷ []; operations = []; literals = []; main = 1 }
+
+member_not_cleared_check : (required script_member_not_cleared_check 10000 (shaped 4096 4096) ≡ 256) × (rises script_member_not_cleared_check 10000 (shaped 4096 4096) ≡ (rise 1 144) ∷ (rise 2 192) ∷ (rise 3 240) ∷ (rise 4 256) ∷ []) × (length (run_at script_member_not_cleared_check 10000 (shaped 4096 4096) 0).trace ≡ 4) × (least_bad_or_cut script_member_not_cleared_check 10000 (shaped 4096 4096) ≡ Some 4) × (run_at script_member_not_cleared_check 10000 (shaped 4096 4096) 4 ≡ record { outcome = Panicked (P.User 42); trace = (line 1 144 0 Granted) ∷ (line 2 48 144 Granted) ∷ (line 3 48 192 Granted) ∷ (line 4 64 192 Simulated) ∷ []; lines = []; notes = []; steps = 10 })
+unfolding everything
+member_not_cleared_check = (refl, refl, refl, refl, refl)
+
 abbrev script_newlc_refused_run : Script
 script_newlc_refused_run = record { classes = []; procedures = (record { line = 3; parameters = Par.OfNumber ∷ []; body = record { locals = (OfPointer None) ∷ (OfPointer None) ∷ []; statements = (on 6 (Statement-F.Alloc (Held (H.Local 1)) (Constant (pos 40)) Leaves)) ∷ (on 8 (Statement-F.Push (Held (H.Local 1)))) ∷ (on 10 (Statement-F.Alloc (Held (H.Local 2)) (Constant (pos 200)) Leaves)) ∷ (on 11 (Statement-F.Push (Held (H.Local 2)))) ∷ (on 12 (Statement-F.Store (Held (H.Local 2)) (Constant (pos 0)) (Variable 0))) ∷ (on 13 (Statement-F.Store (Held (H.Local 1)) (Constant (pos 0)) (Variable 0))) ∷ (on 14 (Statement-F.PopDestroy (Constant (pos 1)))) ∷ (on 16 (Statement-F.ReturnPointer (Held (H.Local 1)))) ∷ [] } }) ∷ (record { line = 19; parameters = []; body = record { locals = (OfPointer None) ∷ (OfPointer None) ∷ []; statements = (on 22 (Statement-F.CallTo 0 0 ((Given (Constant (pos 3))) ∷ []))) ∷ (on 24 (Statement-F.CallTo 1 0 ((Given (Constant (pos 4))) ∷ []))) ∷ (on 25 (Statement-F.Store (Held (H.Local 0)) (Constant (pos 1)) (Constant (pos 7)))) ∷ (on 26 (Statement-F.Store (Held (H.Local 1)) (Constant (pos 1)) (Constant (pos 7)))) ∷ (on 27 (Statement-F.PopDestroy (Constant (pos 2)))) ∷ [] } }) ∷ []; operations = []; literals = []; main = 1 }
 
@@ -974,6 +1471,20 @@ push_too_late_check : (required script_push_too_late_check 10000 (shaped 4096 40
 unfolding everything
 push_too_late_check = (refl, refl, refl, refl, refl)
 
+abbrev script_regrown_member_check : Script
+script_regrown_member_check = record { classes = (record { line = 3; extra = 4; fields = None ∷ []; construct = Some (record { locals = []; statements = (on 6 (Statement-F.NewText (Field H.This 0 0) (Constant (pos 4)) Leaves)) ∷ (on 7 (Statement-F.Copy (InCell (Field H.This 0 0)) (Quoted 0))) ∷ [] }); destroy = Some (record { locals = []; statements = (on 10 (Statement-F.Free (Field H.This 0 0))) ∷ [] }) }) ∷ []; procedures = (record { line = 14; parameters = (Par.OfPointer None) ∷ Par.OfNumber ∷ []; body = record { locals = (OfPointer None) ∷ []; statements = (on 16 (Statement-F.ReallocText (Held (H.Local 2)) (Held (H.Local 0)) (Variable 1))) ∷ (on 17 (Statement-F.LeaveIfNull (Held (H.Local 2)))) ∷ (on 18 (Statement-F.ReturnPointer (Held (H.Local 2)))) ∷ [] } }) ∷ (record { line = 21; parameters = (Par.OfPointer (Some 0)) ∷ []; body = record { locals = (OfPointer None) ∷ []; statements = (on 23 (Statement-F.CallTo 1 0 ((Passed (Field (H.Local 0) 0 0)) ∷ (Given (Constant (pos 40))) ∷ []))) ∷ (on 24 (Statement-F.Set (Field (H.Local 0) 0 0) (Held (H.Local 1)))) ∷ (on 25 (Statement-F.Append (InCell (Field (H.Local 0) 0 0)) (Quoted 1))) ∷ [] } }) ∷ (record { line = 28; parameters = []; body = record { locals = (OfPointer (Some 0)) ∷ []; statements = (on 30 (Statement-F.New (Held (H.Local 0)) 0 Leaves)) ∷ (on 31 (Statement-F.PushObject (Held (H.Local 0)))) ∷ (on 32 (Statement-F.Construct (Held (H.Local 0)))) ∷ (on 33 (Statement-F.Call 1 ((Passed (Held (H.Local 0))) ∷ []))) ∷ (on 34 (Statement-F.PrintText (Of (InCell (Field (H.Local 0) 0 0))))) ∷ (on 35 (Statement-F.PopDestroy (Constant (pos 1)))) ∷ [] } }) ∷ []; operations = []; literals = (109 ∷ 105 ∷ 108 ∷ 107 ∷ []) ∷ (32 ∷ 97 ∷ 110 ∷ 100 ∷ 32 ∷ 98 ∷ 114 ∷ 101 ∷ 97 ∷ 100 ∷ []) ∷ []; main = 2 }
+
+regrown_member_check : (required script_regrown_member_check 10000 (shaped 4096 4096) ≡ 304) × (rises script_regrown_member_check 10000 (shaped 4096 4096) ≡ (rise 1 144) ∷ (rise 2 192) ∷ (rise 3 224) ∷ (rise 4 304) ∷ []) × (length (run_at script_regrown_member_check 10000 (shaped 4096 4096) 0).trace ≡ 4) × (least_bad_or_cut script_regrown_member_check 10000 (shaped 4096 4096) ≡ None)
+unfolding everything
+regrown_member_check = (refl, refl, refl, refl)
+
+abbrev script_regrown_member_run : Script
+script_regrown_member_run = record { classes = (record { line = 3; extra = 4; fields = None ∷ []; construct = Some (record { locals = []; statements = (on 6 (Statement-F.NewText (Field H.This 0 0) (Constant (pos 4)) Leaves)) ∷ (on 7 (Statement-F.Copy (InCell (Field H.This 0 0)) (Quoted 0))) ∷ [] }); destroy = Some (record { locals = []; statements = (on 10 (Statement-F.Free (Field H.This 0 0))) ∷ [] }) }) ∷ []; procedures = (record { line = 14; parameters = (Par.OfPointer None) ∷ Par.OfNumber ∷ []; body = record { locals = (OfPointer None) ∷ []; statements = (on 16 (Statement-F.ReallocText (Held (H.Local 2)) (Held (H.Local 0)) (Variable 1))) ∷ (on 17 (Statement-F.LeaveIfNull (Held (H.Local 2)))) ∷ (on 18 (Statement-F.ReturnPointer (Held (H.Local 2)))) ∷ [] } }) ∷ (record { line = 21; parameters = (Par.OfPointer (Some 0)) ∷ []; body = record { locals = (OfPointer None) ∷ []; statements = (on 23 (Statement-F.CallTo 1 0 ((Passed (Field (H.Local 0) 0 0)) ∷ (Given (Constant (pos 40))) ∷ []))) ∷ (on 24 (Statement-F.Set (Field (H.Local 0) 0 0) (Held (H.Local 1)))) ∷ (on 25 (Statement-F.Append (InCell (Field (H.Local 0) 0 0)) (Quoted 1))) ∷ [] } }) ∷ (record { line = 28; parameters = []; body = record { locals = (OfPointer (Some 0)) ∷ []; statements = (on 30 (Statement-F.New (Held (H.Local 0)) 0 Leaves)) ∷ (on 31 (Statement-F.PushObject (Held (H.Local 0)))) ∷ (on 32 (Statement-F.Construct (Held (H.Local 0)))) ∷ (on 33 (Statement-F.Call 1 ((Passed (Held (H.Local 0))) ∷ []))) ∷ (on 34 (Statement-F.PrintText (Of (InCell (Field (H.Local 0) 0 0))))) ∷ (on 35 (Statement-F.PopDestroy (Constant (pos 1)))) ∷ [] } }) ∷ []; operations = []; literals = (109 ∷ 105 ∷ 108 ∷ 107 ∷ []) ∷ (32 ∷ 97 ∷ 110 ∷ 100 ∷ 32 ∷ 98 ∷ 114 ∷ 101 ∷ 97 ∷ 100 ∷ []) ∷ []; main = 2 }
+
+regrown_member_run : run script_regrown_member_run R.Unlimited 10000 (shaped 4096 4096) ≡ record { outcome = Ended None []; trace = (line 1 144 0 Granted) ∷ (line 2 48 144 Granted) ∷ (line 3 32 192 Granted) ∷ (line 4 112 192 Granted) ∷ []; lines = (109 ∷ 105 ∷ 108 ∷ 107 ∷ 32 ∷ 97 ∷ 110 ∷ 100 ∷ 32 ∷ 98 ∷ 114 ∷ 101 ∷ 97 ∷ 100 ∷ []) ∷ []; notes = []; steps = 17 }
+unfolding everything
+regrown_member_run = refl
+
 abbrev script_retry_in_a_short_heap_run : Script
 script_retry_in_a_short_heap_run = record { classes = []; procedures = (record { line = 3; parameters = []; body = record { locals = (OfPointer None) ∷ (OfPointer None) ∷ OfNumber ∷ []; statements = (on 7 (Statement-F.Alloc (Held (H.Local 0)) (Constant (pos 100)) GivesNull)) ∷ (on 8 (Statement-F.Repeat (Constant (pos 3)) ((on 9 (Statement-F.If (IsNull (Held (H.Local 1))) ((on 10 (Statement-F.Add 2 (Constant (pos 1)))) ∷ (on 11 (Statement-F.Alloc (Held (H.Local 1)) (Constant (pos 300)) GivesNull)) ∷ (on 12 (Statement-F.If (IsNull (Held (H.Local 1))) ((on 14 (Statement-F.Free (Held (H.Local 0)))) ∷ (on 15 (Statement-F.SetNull (Held (H.Local 0)))) ∷ []))) ∷ []))) ∷ []))) ∷ (on 19 (Statement-F.PrintNumber (Variable 2))) ∷ (on 20 (Statement-F.Free (Held (H.Local 1)))) ∷ (on 21 (Statement-F.Free (Held (H.Local 0)))) ∷ [] } }) ∷ []; operations = []; literals = []; main = 0 }
 
@@ -1001,6 +1512,20 @@ script_retry_check = record { classes = []; procedures = (record { line = 3; par
 retry_check : (required script_retry_check 10000 (shaped 4096 4096) ≡ 592) × (rises script_retry_check 10000 (shaped 4096 4096) ≡ (rise 1 144) ∷ (rise 2 272) ∷ (rise 3 592) ∷ []) × (length (run_at script_retry_check 10000 (shaped 4096 4096) 0).trace ≡ 3) × (least_bad_or_cut script_retry_check 10000 (shaped 4096 4096) ≡ None)
 unfolding everything
 retry_check = (refl, refl, refl, refl)
+
+abbrev script_second_phase_leaks_mended_check : Script
+script_second_phase_leaks_mended_check = record { classes = (record { line = 2; extra = 4; fields = None ∷ []; construct = Some (record { locals = []; statements = (on 5 (Statement-F.NewText (Field H.This 0 0) (Constant (pos 16)) Leaves)) ∷ (on 6 (Statement-F.Copy (InCell (Field H.This 0 0)) (Quoted 0))) ∷ [] }); destroy = Some (record { locals = []; statements = (on 9 (Statement-F.Free (Field H.This 0 0))) ∷ [] }) }) ∷ []; procedures = (record { line = 13; parameters = []; body = record { locals = (OfPointer (Some 0)) ∷ []; statements = (on 15 (Statement-F.New (Held (H.Local 0)) 0 Leaves)) ∷ (on 16 (Statement-F.PushObject (Held (H.Local 0)))) ∷ (on 17 (Statement-F.Construct (Held (H.Local 0)))) ∷ (on 18 (Statement-F.ReturnPointer (Held (H.Local 0)))) ∷ [] } }) ∷ (record { line = 21; parameters = []; body = record { locals = (OfPointer (Some 0)) ∷ []; statements = (on 23 (Statement-F.CallTo 0 0 [])) ∷ (on 24 (Statement-F.PrintText (Of (InCell (Field (H.Local 0) 0 0))))) ∷ (on 25 (Statement-F.PopDestroy (Constant (pos 1)))) ∷ [] } }) ∷ []; operations = []; literals = (109 ∷ 105 ∷ 108 ∷ 107 ∷ []) ∷ []; main = 1 }
+
+second_phase_leaks_mended_check : (required script_second_phase_leaks_mended_check 10000 (shaped 4096 4096) ≡ 256) × (rises script_second_phase_leaks_mended_check 10000 (shaped 4096 4096) ≡ (rise 1 144) ∷ (rise 2 192) ∷ (rise 3 256) ∷ []) × (length (run_at script_second_phase_leaks_mended_check 10000 (shaped 4096 4096) 0).trace ≡ 3) × (least_bad_or_cut script_second_phase_leaks_mended_check 10000 (shaped 4096 4096) ≡ None)
+unfolding everything
+second_phase_leaks_mended_check = (refl, refl, refl, refl)
+
+abbrev script_second_phase_leaks_check : Script
+script_second_phase_leaks_check = record { classes = (record { line = 3; extra = 4; fields = None ∷ []; construct = Some (record { locals = []; statements = (on 6 (Statement-F.NewText (Field H.This 0 0) (Constant (pos 16)) Leaves)) ∷ (on 7 (Statement-F.Copy (InCell (Field H.This 0 0)) (Quoted 0))) ∷ [] }); destroy = Some (record { locals = []; statements = (on 10 (Statement-F.Free (Field H.This 0 0))) ∷ [] }) }) ∷ []; procedures = (record { line = 14; parameters = []; body = record { locals = (OfPointer (Some 0)) ∷ []; statements = (on 16 (Statement-F.New (Held (H.Local 0)) 0 Leaves)) ∷ (on 18 (Statement-F.Construct (Held (H.Local 0)))) ∷ (on 19 (Statement-F.PrintText (Of (InCell (Field (H.Local 0) 0 0))))) ∷ (on 20 (Statement-F.Delete (Held (H.Local 0)))) ∷ [] } }) ∷ []; operations = []; literals = (109 ∷ 105 ∷ 108 ∷ 107 ∷ []) ∷ []; main = 0 }
+
+second_phase_leaks_check : (required script_second_phase_leaks_check 10000 (shaped 4096 4096) ≡ 256) × (rises script_second_phase_leaks_check 10000 (shaped 4096 4096) ≡ (rise 1 144) ∷ (rise 2 192) ∷ (rise 3 256) ∷ []) × (length (run_at script_second_phase_leaks_check 10000 (shaped 4096 4096) 0).trace ≡ 3) × (least_bad_or_cut script_second_phase_leaks_check 10000 (shaped 4096 4096) ≡ Some 3) × (run_at script_second_phase_leaks_check 10000 (shaped 4096 4096) 3 ≡ record { outcome = Ended (Some (negsuc 3)) ((record { number = 2; length = 48; place = 144 }) ∷ []); trace = (line 1 144 0 Granted) ∷ (line 2 48 144 Granted) ∷ (line 3 64 192 Simulated) ∷ []; lines = []; notes = []; steps = 3 })
+unfolding everything
+second_phase_leaks_check = (refl, refl, refl, refl, refl)
 
 abbrev script_swallowed_leave_mended_check : Script
 script_swallowed_leave_mended_check = record { classes = []; procedures = (record { line = 2; parameters = []; body = record { locals = (OfPointer None) ∷ OfNumber ∷ []; statements = (on 5 (Statement-F.Trap 1 ((on 6 (Statement-F.NewText (Held (H.Local 0)) (Constant (pos 8)) Leaves)) ∷ []))) ∷ (on 8 (Statement-F.IfElse (Equal (Variable 1) (Constant (pos 0))) ((on 9 (Statement-F.Append (InCell (Held (H.Local 0))) (Quoted 0))) ∷ (on 10 (Statement-F.PrintText (Of (InCell (Held (H.Local 0)))))) ∷ (on 11 (Statement-F.Free (Held (H.Local 0)))) ∷ []) ((on 13 (Statement-F.PrintText (Quoted 1))) ∷ []))) ∷ [] } }) ∷ []; operations = []; literals = (103 ∷ 117 ∷ 101 ∷ 115 ∷ 116 ∷ []) ∷ (110 ∷ 111 ∷ 32 ∷ 114 ∷ 111 ∷ 111 ∷ 109 ∷ 32 ∷ 102 ∷ 111 ∷ 114 ∷ 32 ∷ 97 ∷ 32 ∷ 110 ∷ 97 ∷ 109 ∷ 101 ∷ []) ∷ []; main = 0 }
@@ -1149,6 +1674,13 @@ name_in_a_cell_run : run script_name_in_a_cell_run R.Unlimited 10000 (shaped 409
 unfolding everything
 name_in_a_cell_run = refl
 
+abbrev script_note_that_owns_its_text_run : Script
+script_note_that_owns_its_text_run = record { classes = (record { line = 2; extra = 4; fields = None ∷ []; construct = Some (record { locals = []; statements = (on 5 (Statement-F.NewText (Field H.This 0 0) (Constant (pos 16)) Leaves)) ∷ (on 6 (Statement-F.Copy (InCell (Field H.This 0 0)) (Quoted 0))) ∷ [] }); destroy = Some (record { locals = []; statements = (on 9 (Statement-F.Free (Field H.This 0 0))) ∷ [] }) }) ∷ []; procedures = (record { line = 12; parameters = []; body = record { locals = (OfPointer (Some 0)) ∷ []; statements = (on 14 (Statement-F.New (Held (H.Local 0)) 0 Leaves)) ∷ (on 15 (Statement-F.PushObject (Held (H.Local 0)))) ∷ (on 16 (Statement-F.Construct (Held (H.Local 0)))) ∷ (on 17 (Statement-F.PrintText (Of (InCell (Field (H.Local 0) 0 0))))) ∷ (on 18 (Statement-F.PopDestroy (Constant (pos 1)))) ∷ [] } }) ∷ []; operations = []; literals = (109 ∷ 105 ∷ 108 ∷ 107 ∷ []) ∷ []; main = 0 }
+
+note_that_owns_its_text_run : run script_note_that_owns_its_text_run R.Unlimited 10000 (shaped 4096 4096) ≡ record { outcome = Ended None []; trace = (line 1 144 0 Granted) ∷ (line 2 48 144 Granted) ∷ (line 3 64 192 Granted) ∷ []; lines = (109 ∷ 105 ∷ 108 ∷ 107 ∷ []) ∷ []; notes = []; steps = 10 }
+unfolding everything
+note_that_owns_its_text_run = refl
+
 abbrev script_numbers_below_six_run : Script
 script_numbers_below_six_run = record { classes = []; procedures = (record { line = 2; parameters = []; body = record { locals = OfNumber ∷ OfNumber ∷ []; statements = (on 5 (Statement-F.Repeat (Constant (pos 10)) ((on 6 (Statement-F.IfElse (Less (Variable 0) (Constant (pos 6))) ((on 7 (Statement-F.Add 1 (Constant (pos 1)))) ∷ []) ((on 9 (Statement-F.PrintNumber (Variable 0))) ∷ []))) ∷ (on 11 (Statement-F.Add 0 (Constant (pos 1)))) ∷ []))) ∷ (on 13 (Statement-F.PrintNumber (Variable 1))) ∷ [] } }) ∷ []; operations = []; literals = []; main = 0 }
 
@@ -1169,6 +1701,13 @@ script_operation_of_an_item_run = record { classes = []; procedures = (record { 
 operation_of_an_item_run : run script_operation_of_an_item_run R.Unlimited 10000 (shaped 4096 4096) ≡ record { outcome = Ended None []; trace = (line 1 144 0 Granted) ∷ (line 2 32 144 Granted) ∷ []; lines = (99 ∷ 108 ∷ 111 ∷ 115 ∷ 105 ∷ 110 ∷ 103 ∷ []) ∷ (45 ∷ 50 ∷ 48 ∷ []) ∷ []; notes = []; steps = 13 }
 unfolding everything
 operation_of_an_item_run = refl
+
+abbrev script_owner_deletes_its_member_run : Script
+script_owner_deletes_its_member_run = record { classes = (record { line = 2; extra = 0; fields = (Some 1) ∷ []; construct = None; destroy = Some (record { locals = []; statements = (on 5 (Statement-F.PrintText (Quoted 0))) ∷ [] }) }) ∷ (record { line = 8; extra = 0; fields = (Some 0) ∷ []; construct = Some (record { locals = (OfPointer (Some 0)) ∷ []; statements = (on 12 (Statement-F.New (Held (H.Local 0)) 0 Leaves)) ∷ (on 13 (Statement-F.Set (Field H.This 1 0) (Held (H.Local 0)))) ∷ (on 14 (Statement-F.Set (Field (H.Local 0) 0 0) (Held H.This))) ∷ [] }); destroy = Some (record { locals = []; statements = (on 17 (Statement-F.Delete (Field H.This 1 0))) ∷ (on 18 (Statement-F.PrintText (Quoted 1))) ∷ [] }) }) ∷ []; procedures = (record { line = 21; parameters = []; body = record { locals = (OfPointer (Some 1)) ∷ []; statements = (on 23 (Statement-F.New (Held (H.Local 0)) 1 Leaves)) ∷ (on 24 (Statement-F.Construct (Held (H.Local 0)))) ∷ (on 25 (Statement-F.Delete (Held (H.Local 0)))) ∷ [] } }) ∷ []; operations = []; literals = (105 ∷ 116 ∷ 101 ∷ 109 ∷ []) ∷ (108 ∷ 105 ∷ 115 ∷ 116 ∷ []) ∷ []; main = 0 }
+
+owner_deletes_its_member_run : run script_owner_deletes_its_member_run R.Unlimited 10000 (shaped 4096 4096) ≡ record { outcome = Ended None []; trace = (line 1 144 0 Granted) ∷ (line 2 32 144 Granted) ∷ (line 3 32 176 Granted) ∷ []; lines = (105 ∷ 116 ∷ 101 ∷ 109 ∷ []) ∷ (108 ∷ 105 ∷ 115 ∷ 116 ∷ []) ∷ []; notes = []; steps = 11 }
+unfolding everything
+owner_deletes_its_member_run = refl
 
 abbrev script_pointer_to_a_moved_cell_run : Script
 script_pointer_to_a_moved_cell_run = record { classes = []; procedures = (record { line = 2; parameters = []; body = record { locals = (OfPointer None) ∷ (OfPointer None) ∷ (OfPointer None) ∷ []; statements = (on 6 (Statement-F.Alloc (Held (H.Local 0)) (Constant (pos 16)) GivesNull)) ∷ (on 7 (Statement-F.Alloc (Held (H.Local 1)) (Constant (pos 16)) GivesNull)) ∷ (on 8 (Statement-F.Set (Held (H.Local 2)) (Held (H.Local 0)))) ∷ (on 9 (Statement-F.Realloc (Held (H.Local 0)) (Held (H.Local 0)) (Constant (pos 32)) GivesNull)) ∷ (on 10 (Statement-F.Free (Held (H.Local 1)))) ∷ (on 11 (Statement-F.SetNull (Held (H.Local 1)))) ∷ (on 12 (Statement-F.Free (Held (H.Local 1)))) ∷ (on 13 (Statement-F.Free (Held (H.Local 2)))) ∷ [] } }) ∷ []; operations = []; literals = []; main = 0 }
@@ -1260,6 +1799,13 @@ script_leak_without_any_failure_json_sweep = record { classes = []; procedures =
 leak_without_any_failure_json_sweep : (length (run_at script_leak_without_any_failure_json_sweep 10000 (shaped 4096 4096) 0).trace ≡ 2) × (least_bad_or_cut script_leak_without_any_failure_json_sweep 10000 (shaped 4096 4096) ≡ Some 0) × (run_at script_leak_without_any_failure_json_sweep 10000 (shaped 4096 4096) 0 ≡ record { outcome = Ended None ((record { number = 2; length = 32; place = 144 }) ∷ []); trace = (line 1 144 0 Granted) ∷ (line 2 32 144 Granted) ∷ []; lines = []; notes = []; steps = 1 })
 unfolding everything
 leak_without_any_failure_json_sweep = (refl, refl, refl)
+
+abbrev script_object_deleted_twice_check : Script
+script_object_deleted_twice_check = record { classes = (record { line = 2; extra = 4; fields = []; construct = None; destroy = None }) ∷ (record { line = 5; extra = 0; fields = (Some 0) ∷ None ∷ []; construct = None; destroy = Some (record { locals = []; statements = (on 9 (Statement-F.Delete (Field H.This 1 0))) ∷ (on 10 (Statement-F.Free (Field H.This 1 1))) ∷ [] }) }) ∷ []; procedures = (record { line = 14; parameters = (Par.OfPointer (Some 1)) ∷ (Par.OfPointer (Some 0)) ∷ []; body = record { locals = []; statements = (on 16 (Statement-F.Set (Field (H.Local 0) 1 0) (Held (H.Local 1)))) ∷ (on 17 (Statement-F.Alloc (Field (H.Local 0) 1 1) (Constant (pos 40)) Leaves)) ∷ [] } }) ∷ (record { line = 20; parameters = []; body = record { locals = (OfPointer (Some 1)) ∷ (OfPointer (Some 0)) ∷ OfNumber ∷ []; statements = (on 24 (Statement-F.New (Held (H.Local 0)) 1 Leaves)) ∷ (on 25 (Statement-F.PushObject (Held (H.Local 0)))) ∷ (on 26 (Statement-F.New (Held (H.Local 1)) 0 Leaves)) ∷ (on 27 (Statement-F.Trap 2 ((on 28 (Statement-F.Call 0 ((Passed (Held (H.Local 0))) ∷ (Passed (Held (H.Local 1))) ∷ []))) ∷ []))) ∷ (on 30 (Statement-F.If (Less (Variable 2) (Constant (pos 0))) ((on 31 (Statement-F.Delete (Held (H.Local 1)))) ∷ []))) ∷ (on 33 (Statement-F.PopDestroy (Constant (pos 1)))) ∷ [] } }) ∷ []; operations = []; literals = []; main = 1 }
+
+object_deleted_twice_check : (required script_object_deleted_twice_check 10000 (shaped 4096 4096) ≡ 288) × (rises script_object_deleted_twice_check 10000 (shaped 4096 4096) ≡ (rise 1 144) ∷ (rise 2 192) ∷ (rise 3 224) ∷ (rise 4 288) ∷ []) × (length (run_at script_object_deleted_twice_check 10000 (shaped 4096 4096) 0).trace ≡ 4) × (least_bad_or_cut script_object_deleted_twice_check 10000 (shaped 4096 4096) ≡ Some 4) × (run_at script_object_deleted_twice_check 10000 (shaped 4096 4096) 4 ≡ record { outcome = Panicked (P.Workbench 1); trace = (line 1 144 0 Granted) ∷ (line 2 48 144 Granted) ∷ (line 3 32 192 Granted) ∷ (line 4 64 224 Simulated) ∷ []; lines = []; notes = []; steps = 15 })
+unfolding everything
+object_deleted_twice_check = (refl, refl, refl, refl, refl)
 
 abbrev script_cell_behind_a_pointer_made_null_leaks_run : Script
 script_cell_behind_a_pointer_made_null_leaks_run = record { classes = []; procedures = (record { line = 1; parameters = []; body = record { locals = (OfPointer None) ∷ []; statements = (on 3 (Statement-F.Alloc (Held (H.Local 0)) (Constant (pos 1)) GivesNull)) ∷ (on 4 (Statement-F.SetNull (Held (H.Local 0)))) ∷ (on 5 (Statement-F.Free (Held (H.Local 0)))) ∷ [] } }) ∷ []; operations = []; literals = []; main = 0 }
@@ -1743,104 +2289,6 @@ script_words_of_a_shrunk_cell_are_gone_run = record { classes = []; procedures =
 words_of_a_shrunk_cell_are_gone_run : run script_words_of_a_shrunk_cell_are_gone_run R.Unlimited 10000 (shaped 4096 4096) ≡ record { outcome = Ended None []; trace = (line 1 144 0 Granted) ∷ (line 2 48 144 Granted) ∷ (line 3 48 144 Granted) ∷ []; lines = (48 ∷ []) ∷ []; notes = []; steps = 7 }
 unfolding everything
 words_of_a_shrunk_cell_are_gone_run = refl
-
-abbrev script_field_is_passed_run : Script
-script_field_is_passed_run = record { classes = (record { line = 1; extra = 0; fields = None ∷ []; construct = None; destroy = None }) ∷ []; procedures = (record { line = 4; parameters = (Par.OfPointer None) ∷ []; body = record { locals = []; statements = (on 5 (Statement-F.Store (Held (H.Local 0)) (Constant (pos 0)) (Constant (pos 9)))) ∷ (on 6 (Statement-F.Free (Held (H.Local 0)))) ∷ [] } }) ∷ (record { line = 8; parameters = []; body = record { locals = (OfPointer (Some 0)) ∷ []; statements = (on 10 (Statement-F.New (Held (H.Local 0)) 0 Leaves)) ∷ (on 11 (Statement-F.Alloc (Field (H.Local 0) 0 0) (Constant (pos 4)) GivesNull)) ∷ (on 12 (Statement-F.Call 0 ((Passed (Field (H.Local 0) 0 0)) ∷ []))) ∷ (on 13 (Statement-F.Delete (Held (H.Local 0)))) ∷ [] } }) ∷ []; operations = []; literals = []; main = 1 }
-
-field_is_passed_run : run script_field_is_passed_run R.Unlimited 10000 (shaped 4096 4096) ≡ record { outcome = Ended None []; trace = (line 1 144 0 Granted) ∷ (line 2 32 144 Granted) ∷ (line 3 32 176 Granted) ∷ []; lines = []; notes = []; steps = 7 }
-unfolding everything
-field_is_passed_run = refl
-
-abbrev script_object_made_and_deleted_run : Script
-script_object_made_and_deleted_run = record { classes = (record { line = 1; extra = 16; fields = None ∷ []; construct = Some (record { locals = []; statements = (on 4 (Statement-F.NewText (Field H.This 0 0) (Constant (pos 4)) Leaves)) ∷ [] }); destroy = Some (record { locals = []; statements = (on 7 (Statement-F.Free (Field H.This 0 0))) ∷ [] }) }) ∷ []; procedures = (record { line = 10; parameters = []; body = record { locals = (OfPointer (Some 0)) ∷ []; statements = (on 12 (Statement-F.New (Held (H.Local 0)) 0 Leaves)) ∷ (on 13 (Statement-F.Construct (Held (H.Local 0)))) ∷ (on 14 (Statement-F.Delete (Held (H.Local 0)))) ∷ [] } }) ∷ []; operations = []; literals = []; main = 0 }
-
-object_made_and_deleted_run : run script_object_made_and_deleted_run R.Unlimited 10000 (shaped 4096 4096) ≡ record { outcome = Ended None []; trace = (line 1 144 0 Granted) ∷ (line 2 48 144 Granted) ∷ (line 3 32 192 Granted) ∷ []; lines = []; notes = []; steps = 6 }
-unfolding everything
-object_made_and_deleted_run = refl
-
-abbrev script_objects_that_delete_each_other_budget_just_enough_run : Script
-script_objects_that_delete_each_other_budget_just_enough_run = record { classes = (record { line = 1; extra = 0; fields = (Some 0) ∷ []; construct = None; destroy = Some (record { locals = []; statements = (on 4 (Statement-F.Delete (Field H.This 0 0))) ∷ [] }) }) ∷ []; procedures = (record { line = 7; parameters = []; body = record { locals = (OfPointer (Some 0)) ∷ (OfPointer (Some 0)) ∷ []; statements = (on 10 (Statement-F.New (Held (H.Local 0)) 0 Leaves)) ∷ (on 11 (Statement-F.New (Held (H.Local 1)) 0 Leaves)) ∷ (on 12 (Statement-F.Set (Field (H.Local 0) 0 0) (Held (H.Local 1)))) ∷ (on 13 (Statement-F.Set (Field (H.Local 1) 0 0) (Held (H.Local 0)))) ∷ (on 14 (Statement-F.Delete (Held (H.Local 0)))) ∷ [] } }) ∷ []; operations = []; literals = []; main = 0 }
-
-objects_that_delete_each_other_budget_just_enough_run : run script_objects_that_delete_each_other_budget_just_enough_run R.Unlimited 260 (shaped 4096 4096) ≡ record { outcome = Panicked (P.Workbench 7); trace = (line 1 144 0 Granted) ∷ (line 2 32 144 Granted) ∷ (line 3 32 176 Granted) ∷ []; lines = []; notes = []; steps = 260 }
-unfolding everything
-objects_that_delete_each_other_budget_just_enough_run = refl
-
-abbrev script_objects_that_delete_each_other_one_step_short_run : Script
-script_objects_that_delete_each_other_one_step_short_run = record { classes = (record { line = 1; extra = 0; fields = (Some 0) ∷ []; construct = None; destroy = Some (record { locals = []; statements = (on 4 (Statement-F.Delete (Field H.This 0 0))) ∷ [] }) }) ∷ []; procedures = (record { line = 7; parameters = []; body = record { locals = (OfPointer (Some 0)) ∷ (OfPointer (Some 0)) ∷ []; statements = (on 10 (Statement-F.New (Held (H.Local 0)) 0 Leaves)) ∷ (on 11 (Statement-F.New (Held (H.Local 1)) 0 Leaves)) ∷ (on 12 (Statement-F.Set (Field (H.Local 0) 0 0) (Held (H.Local 1)))) ∷ (on 13 (Statement-F.Set (Field (H.Local 1) 0 0) (Held (H.Local 0)))) ∷ (on 14 (Statement-F.Delete (Held (H.Local 0)))) ∷ [] } }) ∷ []; operations = []; literals = []; main = 0 }
-
-objects_that_delete_each_other_one_step_short_run : run script_objects_that_delete_each_other_one_step_short_run R.Unlimited 259 (shaped 4096 4096) ≡ record { outcome = Cut Budget; trace = (line 1 144 0 Granted) ∷ (line 2 32 144 Granted) ∷ (line 3 32 176 Granted) ∷ []; lines = []; notes = []; steps = 259 }
-unfolding everything
-objects_that_delete_each_other_one_step_short_run = refl
-
-abbrev script_objects_that_delete_each_other_small_budget_run : Script
-script_objects_that_delete_each_other_small_budget_run = record { classes = (record { line = 1; extra = 0; fields = (Some 0) ∷ []; construct = None; destroy = Some (record { locals = []; statements = (on 4 (Statement-F.Delete (Field H.This 0 0))) ∷ [] }) }) ∷ []; procedures = (record { line = 7; parameters = []; body = record { locals = (OfPointer (Some 0)) ∷ (OfPointer (Some 0)) ∷ []; statements = (on 10 (Statement-F.New (Held (H.Local 0)) 0 Leaves)) ∷ (on 11 (Statement-F.New (Held (H.Local 1)) 0 Leaves)) ∷ (on 12 (Statement-F.Set (Field (H.Local 0) 0 0) (Held (H.Local 1)))) ∷ (on 13 (Statement-F.Set (Field (H.Local 1) 0 0) (Held (H.Local 0)))) ∷ (on 14 (Statement-F.Delete (Held (H.Local 0)))) ∷ [] } }) ∷ []; operations = []; literals = []; main = 0 }
-
-objects_that_delete_each_other_small_budget_run : run script_objects_that_delete_each_other_small_budget_run R.Unlimited 20 (shaped 4096 4096) ≡ record { outcome = Cut Budget; trace = (line 1 144 0 Granted) ∷ (line 2 32 144 Granted) ∷ (line 3 32 176 Granted) ∷ []; lines = []; notes = []; steps = 20 }
-unfolding everything
-objects_that_delete_each_other_small_budget_run = refl
-
-abbrev script_objects_that_delete_each_other_run : Script
-script_objects_that_delete_each_other_run = record { classes = (record { line = 1; extra = 0; fields = (Some 0) ∷ []; construct = None; destroy = Some (record { locals = []; statements = (on 4 (Statement-F.Delete (Field H.This 0 0))) ∷ [] }) }) ∷ []; procedures = (record { line = 7; parameters = []; body = record { locals = (OfPointer (Some 0)) ∷ (OfPointer (Some 0)) ∷ []; statements = (on 10 (Statement-F.New (Held (H.Local 0)) 0 Leaves)) ∷ (on 11 (Statement-F.New (Held (H.Local 1)) 0 Leaves)) ∷ (on 12 (Statement-F.Set (Field (H.Local 0) 0 0) (Held (H.Local 1)))) ∷ (on 13 (Statement-F.Set (Field (H.Local 1) 0 0) (Held (H.Local 0)))) ∷ (on 14 (Statement-F.Delete (Held (H.Local 0)))) ∷ [] } }) ∷ []; operations = []; literals = []; main = 0 }
-
-objects_that_delete_each_other_run : run script_objects_that_delete_each_other_run R.Unlimited 10000 (shaped 4096 4096) ≡ record { outcome = Panicked (P.Workbench 7); trace = (line 1 144 0 Granted) ∷ (line 2 32 144 Granted) ∷ (line 3 32 176 Granted) ∷ []; lines = []; notes = []; steps = 260 }
-unfolding everything
-objects_that_delete_each_other_run = refl
-
-abbrev script_pushed_object_made_and_deleted_run : Script
-script_pushed_object_made_and_deleted_run = record { classes = (record { line = 1; extra = 16; fields = None ∷ []; construct = Some (record { locals = []; statements = (on 4 (Statement-F.NewText (Field H.This 0 0) (Constant (pos 4)) Leaves)) ∷ [] }); destroy = Some (record { locals = []; statements = (on 7 (Statement-F.Free (Field H.This 0 0))) ∷ [] }) }) ∷ []; procedures = (record { line = 10; parameters = []; body = record { locals = (OfPointer (Some 0)) ∷ []; statements = (on 12 (Statement-F.New (Held (H.Local 0)) 0 Leaves)) ∷ (on 13 (Statement-F.PushObject (Held (H.Local 0)))) ∷ (on 14 (Statement-F.Construct (Held (H.Local 0)))) ∷ (on 15 (Statement-F.Pop (Constant (pos 1)))) ∷ (on 16 (Statement-F.Delete (Held (H.Local 0)))) ∷ [] } }) ∷ []; operations = []; literals = []; main = 0 }
-
-pushed_object_made_and_deleted_run : run script_pushed_object_made_and_deleted_run R.Unlimited 10000 (shaped 4096 4096) ≡ record { outcome = Ended None []; trace = (line 1 144 0 Granted) ∷ (line 2 48 144 Granted) ∷ (line 3 32 192 Granted) ∷ []; lines = []; notes = []; steps = 8 }
-unfolding everything
-pushed_object_made_and_deleted_run = refl
-
-abbrev script_return_ends_a_construct_body_run : Script
-script_return_ends_a_construct_body_run = record { classes = (record { line = 1; extra = 4; fields = []; construct = Some (record { locals = []; statements = (on 3 (Statement-F.PrintText (Quoted 0))) ∷ (on 4 Statement-F.Return) ∷ (on 5 (Statement-F.PrintText (Quoted 1))) ∷ [] }); destroy = None }) ∷ []; procedures = (record { line = 8; parameters = []; body = record { locals = (OfPointer (Some 0)) ∷ []; statements = (on 10 (Statement-F.New (Held (H.Local 0)) 0 Leaves)) ∷ (on 11 (Statement-F.Construct (Held (H.Local 0)))) ∷ (on 12 (Statement-F.Delete (Held (H.Local 0)))) ∷ [] } }) ∷ []; operations = []; literals = (111 ∷ 110 ∷ 101 ∷ []) ∷ (116 ∷ 119 ∷ 111 ∷ []) ∷ []; main = 0 }
-
-return_ends_a_construct_body_run : run script_return_ends_a_construct_body_run R.Unlimited 10000 (shaped 4096 4096) ≡ record { outcome = Ended None []; trace = (line 1 144 0 Granted) ∷ (line 2 32 144 Granted) ∷ []; lines = (111 ∷ 110 ∷ 101 ∷ []) ∷ []; notes = []; steps = 6 }
-unfolding everything
-return_ends_a_construct_body_run = refl
-
-abbrev script_unpushed_object_leaks_when_construction_fails_run : Script
-script_unpushed_object_leaks_when_construction_fails_run = record { classes = (record { line = 1; extra = 16; fields = None ∷ []; construct = Some (record { locals = []; statements = (on 4 (Statement-F.NewText (Field H.This 0 0) (Constant (pos 4)) Leaves)) ∷ [] }); destroy = Some (record { locals = []; statements = (on 7 (Statement-F.Free (Field H.This 0 0))) ∷ [] }) }) ∷ []; procedures = (record { line = 10; parameters = []; body = record { locals = (OfPointer (Some 0)) ∷ []; statements = (on 12 (Statement-F.New (Held (H.Local 0)) 0 Leaves)) ∷ (on 13 (Statement-F.Construct (Held (H.Local 0)))) ∷ (on 14 (Statement-F.Delete (Held (H.Local 0)))) ∷ [] } }) ∷ []; operations = []; literals = []; main = 0 }
-
-unpushed_object_leaks_when_construction_fails_run : run script_unpushed_object_leaks_when_construction_fails_run (R.Number 3) 10000 (shaped 4096 4096) ≡ record { outcome = Ended (Some (negsuc 3)) ((record { number = 2; length = 48; place = 144 }) ∷ []); trace = (line 1 144 0 Granted) ∷ (line 2 48 144 Granted) ∷ (line 3 32 192 Simulated) ∷ []; lines = []; notes = []; steps = 3 }
-unfolding everything
-unpushed_object_leaks_when_construction_fails_run = refl
-
-abbrev script_objects_that_delete_each_other_small_budget_size : Script
-script_objects_that_delete_each_other_small_budget_size = record { classes = (record { line = 1; extra = 0; fields = (Some 0) ∷ []; construct = None; destroy = Some (record { locals = []; statements = (on 4 (Statement-F.Delete (Field H.This 0 0))) ∷ [] }) }) ∷ []; procedures = (record { line = 7; parameters = []; body = record { locals = (OfPointer (Some 0)) ∷ (OfPointer (Some 0)) ∷ []; statements = (on 10 (Statement-F.New (Held (H.Local 0)) 0 Leaves)) ∷ (on 11 (Statement-F.New (Held (H.Local 1)) 0 Leaves)) ∷ (on 12 (Statement-F.Set (Field (H.Local 0) 0 0) (Held (H.Local 1)))) ∷ (on 13 (Statement-F.Set (Field (H.Local 1) 0 0) (Held (H.Local 0)))) ∷ (on 14 (Statement-F.Delete (Held (H.Local 0)))) ∷ [] } }) ∷ []; operations = []; literals = []; main = 0 }
-
-objects_that_delete_each_other_small_budget_size : (run script_objects_that_delete_each_other_small_budget_size R.Unlimited 20 (shaped 4096 4096)).outcome ≡ Cut Budget
-unfolding everything
-objects_that_delete_each_other_small_budget_size = refl
-
-abbrev script_pushed_object_made_and_deleted_size : Script
-script_pushed_object_made_and_deleted_size = record { classes = (record { line = 1; extra = 16; fields = None ∷ []; construct = Some (record { locals = []; statements = (on 4 (Statement-F.NewText (Field H.This 0 0) (Constant (pos 4)) Leaves)) ∷ [] }); destroy = Some (record { locals = []; statements = (on 7 (Statement-F.Free (Field H.This 0 0))) ∷ [] }) }) ∷ []; procedures = (record { line = 10; parameters = []; body = record { locals = (OfPointer (Some 0)) ∷ []; statements = (on 12 (Statement-F.New (Held (H.Local 0)) 0 Leaves)) ∷ (on 13 (Statement-F.PushObject (Held (H.Local 0)))) ∷ (on 14 (Statement-F.Construct (Held (H.Local 0)))) ∷ (on 15 (Statement-F.Pop (Constant (pos 1)))) ∷ (on 16 (Statement-F.Delete (Held (H.Local 0)))) ∷ [] } }) ∷ []; operations = []; literals = []; main = 0 }
-
-pushed_object_made_and_deleted_size : (required script_pushed_object_made_and_deleted_size 10000 (shaped 4096 4096) ≡ 224) × (rises script_pushed_object_made_and_deleted_size 10000 (shaped 4096 4096) ≡ (rise 1 144) ∷ (rise 2 192) ∷ (rise 3 224) ∷ [])
-unfolding everything
-pushed_object_made_and_deleted_size = (refl, refl)
-
-abbrev script_pushed_object_survives_every_failure_sweep : Script
-script_pushed_object_survives_every_failure_sweep = record { classes = (record { line = 1; extra = 16; fields = None ∷ []; construct = Some (record { locals = []; statements = (on 4 (Statement-F.NewText (Field H.This 0 0) (Constant (pos 4)) Leaves)) ∷ [] }); destroy = Some (record { locals = []; statements = (on 7 (Statement-F.Free (Field H.This 0 0))) ∷ [] }) }) ∷ []; procedures = (record { line = 10; parameters = []; body = record { locals = (OfPointer (Some 0)) ∷ []; statements = (on 12 (Statement-F.New (Held (H.Local 0)) 0 Leaves)) ∷ (on 13 (Statement-F.PushObject (Held (H.Local 0)))) ∷ (on 14 (Statement-F.Construct (Held (H.Local 0)))) ∷ (on 15 (Statement-F.Pop (Constant (pos 1)))) ∷ (on 16 (Statement-F.Delete (Held (H.Local 0)))) ∷ [] } }) ∷ []; operations = []; literals = []; main = 0 }
-
-pushed_object_survives_every_failure_sweep : (length (run_at script_pushed_object_survives_every_failure_sweep 10000 (shaped 4096 4096) 0).trace ≡ 3) × (least_bad_or_cut script_pushed_object_survives_every_failure_sweep 10000 (shaped 4096 4096) ≡ None)
-unfolding everything
-pushed_object_survives_every_failure_sweep = (refl, refl)
-
-abbrev script_unpushed_object_leaks_when_construction_fails_check : Script
-script_unpushed_object_leaks_when_construction_fails_check = record { classes = (record { line = 1; extra = 16; fields = None ∷ []; construct = Some (record { locals = []; statements = (on 4 (Statement-F.NewText (Field H.This 0 0) (Constant (pos 4)) Leaves)) ∷ [] }); destroy = Some (record { locals = []; statements = (on 7 (Statement-F.Free (Field H.This 0 0))) ∷ [] }) }) ∷ []; procedures = (record { line = 10; parameters = []; body = record { locals = (OfPointer (Some 0)) ∷ []; statements = (on 12 (Statement-F.New (Held (H.Local 0)) 0 Leaves)) ∷ (on 13 (Statement-F.Construct (Held (H.Local 0)))) ∷ (on 14 (Statement-F.Delete (Held (H.Local 0)))) ∷ [] } }) ∷ []; operations = []; literals = []; main = 0 }
-
-unpushed_object_leaks_when_construction_fails_check : (required script_unpushed_object_leaks_when_construction_fails_check 10000 (shaped 4096 4096) ≡ 224) × (rises script_unpushed_object_leaks_when_construction_fails_check 10000 (shaped 4096 4096) ≡ (rise 1 144) ∷ (rise 2 192) ∷ (rise 3 224) ∷ []) × (length (run_at script_unpushed_object_leaks_when_construction_fails_check 10000 (shaped 4096 4096) 0).trace ≡ 3) × (least_bad_or_cut script_unpushed_object_leaks_when_construction_fails_check 10000 (shaped 4096 4096) ≡ Some 3) × (run_at script_unpushed_object_leaks_when_construction_fails_check 10000 (shaped 4096 4096) 3 ≡ record { outcome = Ended (Some (negsuc 3)) ((record { number = 2; length = 48; place = 144 }) ∷ []); trace = (line 1 144 0 Granted) ∷ (line 2 48 144 Granted) ∷ (line 3 32 192 Simulated) ∷ []; lines = []; notes = []; steps = 3 })
-unfolding everything
-unpushed_object_leaks_when_construction_fails_check = (refl, refl, refl, refl, refl)
-
-abbrev script_unpushed_object_leaks_when_construction_fails_sweep : Script
-script_unpushed_object_leaks_when_construction_fails_sweep = record { classes = (record { line = 1; extra = 16; fields = None ∷ []; construct = Some (record { locals = []; statements = (on 4 (Statement-F.NewText (Field H.This 0 0) (Constant (pos 4)) Leaves)) ∷ [] }); destroy = Some (record { locals = []; statements = (on 7 (Statement-F.Free (Field H.This 0 0))) ∷ [] }) }) ∷ []; procedures = (record { line = 10; parameters = []; body = record { locals = (OfPointer (Some 0)) ∷ []; statements = (on 12 (Statement-F.New (Held (H.Local 0)) 0 Leaves)) ∷ (on 13 (Statement-F.Construct (Held (H.Local 0)))) ∷ (on 14 (Statement-F.Delete (Held (H.Local 0)))) ∷ [] } }) ∷ []; operations = []; literals = []; main = 0 }
-
-unpushed_object_leaks_when_construction_fails_sweep : (length (run_at script_unpushed_object_leaks_when_construction_fails_sweep 10000 (shaped 4096 4096) 0).trace ≡ 3) × (least_bad_or_cut script_unpushed_object_leaks_when_construction_fails_sweep 10000 (shaped 4096 4096) ≡ Some 3) × (run_at script_unpushed_object_leaks_when_construction_fails_sweep 10000 (shaped 4096 4096) 3 ≡ record { outcome = Ended (Some (negsuc 3)) ((record { number = 2; length = 48; place = 144 }) ∷ []); trace = (line 1 144 0 Granted) ∷ (line 2 48 144 Granted) ∷ (line 3 32 192 Simulated) ∷ []; lines = []; notes = []; steps = 3 })
-unfolding everything
-unpushed_object_leaks_when_construction_fails_sweep = (refl, refl, refl)
 
 abbrev script_leak_of_a_cell_that_a_frame_named_run : Script
 script_leak_of_a_cell_that_a_frame_named_run = record { classes = []; procedures = (record { line = 1; parameters = []; body = record { locals = (OfPointer None) ∷ []; statements = (on 3 (Statement-F.Alloc (Held (H.Local 0)) (Constant (pos 4)) Leaves)) ∷ (on 4 (Statement-F.Leave (Constant (negsuc 1)))) ∷ [] } }) ∷ (record { line = 6; parameters = []; body = record { locals = OfNumber ∷ []; statements = (on 8 (Statement-F.Trap 0 ((on 9 (Statement-F.Call 0 [])) ∷ []))) ∷ (on 11 (Statement-F.PrintNumber (Variable 0))) ∷ [] } }) ∷ []; operations = []; literals = []; main = 1 }
@@ -2353,12 +2801,26 @@ marks_never_count_the_cleanup_cell_size : (required script_marks_never_count_the
 unfolding everything
 marks_never_count_the_cleanup_cell_size = (refl, refl)
 
+abbrev script_objects_that_delete_each_other_small_budget_size : Script
+script_objects_that_delete_each_other_small_budget_size = record { classes = (record { line = 1; extra = 0; fields = (Some 0) ∷ []; construct = None; destroy = Some (record { locals = []; statements = (on 4 (Statement-F.Delete (Field H.This 0 0))) ∷ [] }) }) ∷ []; procedures = (record { line = 7; parameters = []; body = record { locals = (OfPointer (Some 0)) ∷ (OfPointer (Some 0)) ∷ []; statements = (on 10 (Statement-F.New (Held (H.Local 0)) 0 Leaves)) ∷ (on 11 (Statement-F.New (Held (H.Local 1)) 0 Leaves)) ∷ (on 12 (Statement-F.Set (Field (H.Local 0) 0 0) (Held (H.Local 1)))) ∷ (on 13 (Statement-F.Set (Field (H.Local 1) 0 0) (Held (H.Local 0)))) ∷ (on 14 (Statement-F.Delete (Held (H.Local 0)))) ∷ [] } }) ∷ []; operations = []; literals = []; main = 0 }
+
+objects_that_delete_each_other_small_budget_size : (run script_objects_that_delete_each_other_small_budget_size R.Unlimited 20 (shaped 4096 4096)).outcome ≡ Cut Budget
+unfolding everything
+objects_that_delete_each_other_small_budget_size = refl
+
 abbrev script_procedure_returns_a_pushed_cell_size : Script
 script_procedure_returns_a_pushed_cell_size = record { classes = []; procedures = (record { line = 1; parameters = Par.OfNumber ∷ []; body = record { locals = (OfPointer None) ∷ []; statements = (on 3 (Statement-F.Alloc (Held (H.Local 1)) (Variable 0) Leaves)) ∷ (on 4 (Statement-F.Push (Held (H.Local 1)))) ∷ (on 5 (Statement-F.ReturnPointer (Held (H.Local 1)))) ∷ [] } }) ∷ (record { line = 7; parameters = []; body = record { locals = (OfPointer None) ∷ []; statements = (on 9 (Statement-F.CallTo 0 0 ((Given (Constant (pos 40))) ∷ []))) ∷ (on 10 (Statement-F.PopDestroy (Constant (pos 1)))) ∷ [] } }) ∷ []; operations = []; literals = []; main = 1 }
 
 procedure_returns_a_pushed_cell_size : (required script_procedure_returns_a_pushed_cell_size 10000 (shaped 4096 4096) ≡ 208) × (rises script_procedure_returns_a_pushed_cell_size 10000 (shaped 4096 4096) ≡ (rise 1 144) ∷ (rise 2 208) ∷ [])
 unfolding everything
 procedure_returns_a_pushed_cell_size = (refl, refl)
+
+abbrev script_pushed_object_made_and_deleted_size : Script
+script_pushed_object_made_and_deleted_size = record { classes = (record { line = 1; extra = 16; fields = None ∷ []; construct = Some (record { locals = []; statements = (on 4 (Statement-F.NewText (Field H.This 0 0) (Constant (pos 4)) Leaves)) ∷ [] }); destroy = Some (record { locals = []; statements = (on 7 (Statement-F.Free (Field H.This 0 0))) ∷ [] }) }) ∷ []; procedures = (record { line = 10; parameters = []; body = record { locals = (OfPointer (Some 0)) ∷ []; statements = (on 12 (Statement-F.New (Held (H.Local 0)) 0 Leaves)) ∷ (on 13 (Statement-F.PushObject (Held (H.Local 0)))) ∷ (on 14 (Statement-F.Construct (Held (H.Local 0)))) ∷ (on 15 (Statement-F.Pop (Constant (pos 1)))) ∷ (on 16 (Statement-F.Delete (Held (H.Local 0)))) ∷ [] } }) ∷ []; operations = []; literals = []; main = 0 }
+
+pushed_object_made_and_deleted_size : (required script_pushed_object_made_and_deleted_size 10000 (shaped 4096 4096) ≡ 224) × (rises script_pushed_object_made_and_deleted_size 10000 (shaped 4096 4096) ≡ (rise 1 144) ∷ (rise 2 192) ∷ (rise 3 224) ∷ [])
+unfolding everything
+pushed_object_made_and_deleted_size = (refl, refl)
 
 abbrev script_simulated_refusal_needs_no_room_size : Script
 script_simulated_refusal_needs_no_room_size = record { classes = []; procedures = (record { line = 1; parameters = []; body = record { locals = (OfPointer None) ∷ (OfPointer None) ∷ []; statements = (on 4 (Statement-F.NewText (Held (H.Local 0)) (Constant (pos 4)) Leaves)) ∷ (on 5 (Statement-F.Append (InCell (Held (H.Local 0))) (Quoted 0))) ∷ (on 6 (Statement-F.FailNext (Constant (pos 1)))) ∷ (on 7 (Statement-F.ReallocText (Held (H.Local 1)) (Held (H.Local 0)) (Constant (pos 20)))) ∷ (on 8 (Statement-F.PrintText (Of (InCell (Held (H.Local 0)))))) ∷ (on 9 (Statement-F.Free (Held (H.Local 0)))) ∷ [] } }) ∷ []; operations = []; literals = (97 ∷ 98 ∷ 99 ∷ []) ∷ []; main = 0 }
@@ -2500,6 +2962,13 @@ push_that_the_script_refuses_destroys_its_own_item_sweep : (length (run_at scrip
 unfolding everything
 push_that_the_script_refuses_destroys_its_own_item_sweep = (refl, refl, refl)
 
+abbrev script_pushed_object_survives_every_failure_sweep : Script
+script_pushed_object_survives_every_failure_sweep = record { classes = (record { line = 1; extra = 16; fields = None ∷ []; construct = Some (record { locals = []; statements = (on 4 (Statement-F.NewText (Field H.This 0 0) (Constant (pos 4)) Leaves)) ∷ [] }); destroy = Some (record { locals = []; statements = (on 7 (Statement-F.Free (Field H.This 0 0))) ∷ [] }) }) ∷ []; procedures = (record { line = 10; parameters = []; body = record { locals = (OfPointer (Some 0)) ∷ []; statements = (on 12 (Statement-F.New (Held (H.Local 0)) 0 Leaves)) ∷ (on 13 (Statement-F.PushObject (Held (H.Local 0)))) ∷ (on 14 (Statement-F.Construct (Held (H.Local 0)))) ∷ (on 15 (Statement-F.Pop (Constant (pos 1)))) ∷ (on 16 (Statement-F.Delete (Held (H.Local 0)))) ∷ [] } }) ∷ []; operations = []; literals = []; main = 0 }
+
+pushed_object_survives_every_failure_sweep : (length (run_at script_pushed_object_survives_every_failure_sweep 10000 (shaped 4096 4096) 0).trace ≡ 3) × (least_bad_or_cut script_pushed_object_survives_every_failure_sweep 10000 (shaped 4096 4096) ≡ None)
+unfolding everything
+pushed_object_survives_every_failure_sweep = (refl, refl)
+
 abbrev script_retry_that_fails_again_sweep : Script
 script_retry_that_fails_again_sweep = record { classes = []; procedures = (record { line = 1; parameters = []; body = record { locals = (OfPointer None) ∷ (OfPointer None) ∷ []; statements = (on 4 (Statement-F.Alloc (Held (H.Local 1)) (Constant (pos 16)) GivesNull)) ∷ (on 5 (Statement-F.Alloc (Held (H.Local 0)) (Constant (pos 16)) GivesNull)) ∷ (on 6 (Statement-F.If (IsNull (Held (H.Local 0))) ((on 7 (Statement-F.Alloc (Held (H.Local 0)) (Constant (pos 16)) GivesNull)) ∷ (on 8 (Statement-F.If (IsNull (Held (H.Local 0))) ((on 9 (Statement-F.Leave (Constant (negsuc 3)))) ∷ []))) ∷ []))) ∷ (on 12 (Statement-F.Free (Held (H.Local 0)))) ∷ (on 13 (Statement-F.Free (Held (H.Local 1)))) ∷ [] } }) ∷ []; operations = []; literals = []; main = 0 }
 
@@ -2520,6 +2989,20 @@ script_top_cell_grows_in_place_check = record { classes = []; procedures = (reco
 top_cell_grows_in_place_check : (required script_top_cell_grows_in_place_check 10000 (shaped 4096 4096) ≡ 272) × (rises script_top_cell_grows_in_place_check 10000 (shaped 4096 4096) ≡ (rise 1 144) ∷ (rise 2 208) ∷ (rise 3 240) ∷ (rise 4 272) ∷ []) × (length (run_at script_top_cell_grows_in_place_check 10000 (shaped 4096 4096) 0).trace ≡ 4) × (least_bad_or_cut script_top_cell_grows_in_place_check 10000 (shaped 4096 4096) ≡ None)
 unfolding everything
 top_cell_grows_in_place_check = (refl, refl, refl, refl)
+
+abbrev script_unpushed_object_leaks_when_construction_fails_check : Script
+script_unpushed_object_leaks_when_construction_fails_check = record { classes = (record { line = 1; extra = 16; fields = None ∷ []; construct = Some (record { locals = []; statements = (on 4 (Statement-F.NewText (Field H.This 0 0) (Constant (pos 4)) Leaves)) ∷ [] }); destroy = Some (record { locals = []; statements = (on 7 (Statement-F.Free (Field H.This 0 0))) ∷ [] }) }) ∷ []; procedures = (record { line = 10; parameters = []; body = record { locals = (OfPointer (Some 0)) ∷ []; statements = (on 12 (Statement-F.New (Held (H.Local 0)) 0 Leaves)) ∷ (on 13 (Statement-F.Construct (Held (H.Local 0)))) ∷ (on 14 (Statement-F.Delete (Held (H.Local 0)))) ∷ [] } }) ∷ []; operations = []; literals = []; main = 0 }
+
+unpushed_object_leaks_when_construction_fails_check : (required script_unpushed_object_leaks_when_construction_fails_check 10000 (shaped 4096 4096) ≡ 224) × (rises script_unpushed_object_leaks_when_construction_fails_check 10000 (shaped 4096 4096) ≡ (rise 1 144) ∷ (rise 2 192) ∷ (rise 3 224) ∷ []) × (length (run_at script_unpushed_object_leaks_when_construction_fails_check 10000 (shaped 4096 4096) 0).trace ≡ 3) × (least_bad_or_cut script_unpushed_object_leaks_when_construction_fails_check 10000 (shaped 4096 4096) ≡ Some 3) × (run_at script_unpushed_object_leaks_when_construction_fails_check 10000 (shaped 4096 4096) 3 ≡ record { outcome = Ended (Some (negsuc 3)) ((record { number = 2; length = 48; place = 144 }) ∷ []); trace = (line 1 144 0 Granted) ∷ (line 2 48 144 Granted) ∷ (line 3 32 192 Simulated) ∷ []; lines = []; notes = []; steps = 3 })
+unfolding everything
+unpushed_object_leaks_when_construction_fails_check = (refl, refl, refl, refl, refl)
+
+abbrev script_unpushed_object_leaks_when_construction_fails_sweep : Script
+script_unpushed_object_leaks_when_construction_fails_sweep = record { classes = (record { line = 1; extra = 16; fields = None ∷ []; construct = Some (record { locals = []; statements = (on 4 (Statement-F.NewText (Field H.This 0 0) (Constant (pos 4)) Leaves)) ∷ [] }); destroy = Some (record { locals = []; statements = (on 7 (Statement-F.Free (Field H.This 0 0))) ∷ [] }) }) ∷ []; procedures = (record { line = 10; parameters = []; body = record { locals = (OfPointer (Some 0)) ∷ []; statements = (on 12 (Statement-F.New (Held (H.Local 0)) 0 Leaves)) ∷ (on 13 (Statement-F.Construct (Held (H.Local 0)))) ∷ (on 14 (Statement-F.Delete (Held (H.Local 0)))) ∷ [] } }) ∷ []; operations = []; literals = []; main = 0 }
+
+unpushed_object_leaks_when_construction_fails_sweep : (length (run_at script_unpushed_object_leaks_when_construction_fails_sweep 10000 (shaped 4096 4096) 0).trace ≡ 3) × (least_bad_or_cut script_unpushed_object_leaks_when_construction_fails_sweep 10000 (shaped 4096 4096) ≡ Some 3) × (run_at script_unpushed_object_leaks_when_construction_fails_sweep 10000 (shaped 4096 4096) 3 ≡ record { outcome = Ended (Some (negsuc 3)) ((record { number = 2; length = 48; place = 144 }) ∷ []); trace = (line 1 144 0 Granted) ∷ (line 2 48 144 Granted) ∷ (line 3 32 192 Simulated) ∷ []; lines = []; notes = []; steps = 3 })
+unfolding everything
+unpushed_object_leaks_when_construction_fails_sweep = (refl, refl, refl)
 
 abbrev script_append_of_null_run : Script
 script_append_of_null_run = record { classes = []; procedures = (record { line = 2; parameters = []; body = record { locals = (OfPointer None) ∷ (OfBuffer 3) ∷ []; statements = (on 5 (Statement-F.Append (OwnBuffer 1) (Of (InCell (Held (H.Local 0)))))) ∷ [] } }) ∷ []; operations = []; literals = []; main = 0 }

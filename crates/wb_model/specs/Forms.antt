@@ -7,24 +7,30 @@ use Rattle.wb_model.specs.declared.script_lines.Letter.{Letter}
 use Rattle.wb_model.specs.declared.script_lines.WordKind.{WordKind}
 use Rattle.wb_model.specs.declared.script_lines.WordKind.TheVariants as word
 use Rattle.wb_model.specs.declared.script_lines.Operand.{Operand}
-use Rattle.wb_model.specs.declared.script_lines.Operand.TheVariants.{Name, Number, Size, Literal, Parameter, Keyword}
+use Rattle.wb_model.specs.declared.script_lines.Operand.TheVariants.{Name, Field, Number, Size, Literal, Parameter, Keyword}
 use Rattle.wb_model.specs.declared.script_lines.Form.{Form}
 use Rattle.wb_model.specs.declared.script_lines.Form.TheVariants.{Skip, Unknown, Line}
-use Rattle.wb_model.specs.declared.script.Parameter as model
-use Rattle.wb_model.specs.declared.script.Parameter.TheVariants as kind
+use Rattle.wb_model.specs.declared.script_lines.Taken.{Taken}
+use Rattle.wb_model.specs.declared.script_lines.Taken.TheVariants as taken
 use Rattle.wb_model.specs.declared.script_lines.Role.{Role}
 use Rattle.wb_model.specs.declared.script_lines.Role.TheVariants as role
 use Rattle.wb_model.specs.Lines.{words_of}
-use Rattle.wb_model.specs.Words.{declared_name, used_name, number_spelled, literal_spelled, parameter_name, parameter_kind, text_of_keyword}
+use Rattle.wb_model.specs.Words.{declared_name, used_name, number_spelled, literal_spelled, base_name, field_name, parameter_name, parameter_taken, text_of_keyword}
 use Rattle.wb_model.specs.Keys.{keys, text_of, letters_for, role_of, word_kinds}
 
 -- the same with other names
+abbrev pub renamed_taken : {N M : Type 0} → (N → M) → Taken N → Taken M
+renamed_taken f taken.Pointer = taken.Pointer
+renamed_taken f taken.Number = taken.Number
+renamed_taken f (taken.OfClass class) = taken.OfClass (f class)
+
 abbrev pub renamed_operand : {N M : Type 0} → (N → M) → Operand N → Operand M
 renamed_operand f (Name n) = Name (f n)
+renamed_operand f (Field base field) = Field (f base) (f field)
 renamed_operand f (Number z) = Number z
 renamed_operand f (Size n) = Size n
 renamed_operand f (Literal n) = Literal (f n)
-renamed_operand f (Parameter n p) = Parameter (f n) p
+renamed_operand f (Parameter n t) = Parameter (f n) (renamed_taken f t)
 renamed_operand f Keyword = Keyword
 
 abbrev pub renamed : {N M : Type 0} → (N → M) → Form N → Form M
@@ -46,20 +52,26 @@ abbrev pub size_of : Option ℤ → Option (Operand (List ℕ))
 size_of (Some (pos n)) = Some (Size n)
 size_of _ = None
 
--- a parameter, where there is a name and a kind
-abbrev pub parameter_of : Option (List ℕ) → Option model.Parameter → Option (Operand (List ℕ))
+-- a parameter, where there is a name and what it takes
+abbrev pub parameter_of : Option (List ℕ) → Option (Taken (List ℕ)) → Option (Operand (List ℕ))
 parameter_of (Some name) (Some kind) = Some (Parameter name kind)
 parameter_of _ _ = None
+
+-- a field, where there is what holds a pointer and the field's own name
+abbrev pub field_of : Option (List ℕ) → Option (List ℕ) → Option (Operand (List ℕ))
+field_of (Some base) (Some field) = Some (Field base field)
+field_of _ _ = None
 
 -- the operand that a word of a kind is
 abbrev pub operand_as : WordKind → List ℕ → Option (Operand (List ℕ))
 operand_as word.NewName text = option_map Name (declared_name text)
 operand_as word.Name text = option_map Name (used_name text)
+operand_as word.Field text = field_of (base_name text) (field_name text)
 operand_as word.Number text = option_map Number (number_spelled text)
 operand_as word.Size text = size_of (number_spelled text)
 operand_as word.Literal text = option_map Literal (literal_spelled text)
-operand_as word.Parameter text = parameter_of (parameter_name text) (parameter_kind text)
-operand_as word.NewPointer text = option_map (λ name. Parameter name (kind.OfPointer None)) (declared_name text)
+operand_as word.Parameter text = parameter_of (parameter_name text) (parameter_taken text)
+operand_as word.NewPointer text = option_map (λ name. Parameter name taken.Pointer) (declared_name text)
 operand_as (word.Keyword k) text = if bytes_eq text (text_of_keyword k) then Some Keyword else None
 
 -- the operand by the first of the kinds that the word is of

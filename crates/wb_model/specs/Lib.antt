@@ -1,9 +1,11 @@
 pub mod Account
 pub mod Agreement
 pub mod Attempts
+pub mod Bodies
 pub mod CellRow
 pub mod CleanupCells
 pub mod Debug
+pub mod Destructions
 pub mod Forms
 pub mod Grammar
 pub mod Heap
@@ -17,6 +19,7 @@ pub mod Names
 pub mod ObjectCells
 pub mod Operands
 pub mod Passes
+pub mod Quiet
 pub mod Reading
 pub mod Resolved
 pub mod Rest

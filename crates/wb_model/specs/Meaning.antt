@@ -5,7 +5,8 @@ use Rattle.wb_model.specs.declared.run.Why.TheVariants.{Budget}
 use Rattle.wb_model.specs.declared.script.Script.{Script}
 use Rattle.wb_model.specs.declared.script.Statement.TheViews.{out-Statement}
 use Rattle.wb_model.specs.State.{State, Process, stops, is_cut, then_do, with_some}
-use Rattle.wb_model.specs.Statements.{all, turns, destroy_items, destroy_object, Meaning, done, statement, in_frame, plain, release, class_at, no_body, with_class, newest, drop_newest, destroyed_item}
+use Rattle.wb_model.specs.Statements.{all, turns, destroy_items, destroy_object, Meaning, done, statement, in_frame, plain, release, with_class, newest, drop_newest, destroyed_item}
+use Rattle.wb_model.specs.Bodies.{class_at, no_body}
 
 -- a step is counted and what it begins follows, or the budget cuts the run
 unfoldable pub begun_if : Bool → State → (State → Process) → Process

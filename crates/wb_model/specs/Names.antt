@@ -1,24 +1,26 @@
 -- The names of a script: which lines declare them, what stands declared at a line, and which lines declare a name again or
 -- pass a limit.
-use Rattle.std.specs.Prelude.{ℕ, ◌+◌, ◌-◌, List, [], ◌∷◌, ◌++◌, Option, Some, None, Bool, true, false, ◌||◌, if◌then◌else◌, is_some, nat_le, nat_lt, length, map, take}
+use Rattle.std.specs.Prelude.{ℕ, ◌+◌, ◌-◌, List, [], ◌∷◌, ◌++◌, Option, Some, None, Bool, true, false, ◌||◌, if◌then◌else◌, is_some, nat_le, nat_lt, length, map, slice_get, take}
 use Rattle.std.specs.List.{list_any, flat_map}
 use Rattle.std.specs.Option.{option_map_or}
 use Rattle.std.specs.Str.{bytes_eq}
-use Rattle.wb_model.specs.declared.limits.TheConstants.{MOST_PROCEDURES, MOST_PARAMETERS, MOST_LOCALS, DEEPEST_BLOCK, LARGEST_BUFFER, LONGEST_NAME}
+use Rattle.wb_model.specs.declared.limits.TheConstants.{MOST_CLASSES, MOST_FIELDS, MOST_EXTRA, MOST_PROCEDURES, MOST_PARAMETERS, MOST_LOCALS, DEEPEST_BLOCK, LARGEST_BUFFER, LONGEST_NAME}
 use Rattle.wb_model.specs.declared.script_lines.Key.{Key}
 use Rattle.wb_model.specs.declared.script_lines.Key.TheVariants as key
 use Rattle.wb_model.specs.declared.script_lines.ItemKind.{ItemKind}
 use Rattle.wb_model.specs.declared.script_lines.ItemKind.TheVariants as item
+use Rattle.wb_model.specs.declared.script_lines.BodyKind.{BodyKind}
+use Rattle.wb_model.specs.declared.script_lines.BodyKind.TheVariants as of
+use Rattle.wb_model.specs.declared.script_lines.Taken.{Taken}
+use Rattle.wb_model.specs.declared.script_lines.Taken.TheVariants as taken
 use Rattle.wb_model.specs.declared.script_lines.Kind.{Kind}
 use Rattle.wb_model.specs.declared.script_lines.Kind.TheVariants as kind
 use Rattle.wb_model.specs.declared.script_lines.Operand.{Operand}
-use Rattle.wb_model.specs.declared.script_lines.Operand.TheVariants.{Name, Size, Literal, Parameter}
+use Rattle.wb_model.specs.declared.script_lines.Operand.TheVariants.{Name, Field, Size, Literal, Parameter}
 use Rattle.wb_model.specs.declared.script_lines.Form.{Form}
 use Rattle.wb_model.specs.declared.script_lines.Form.TheVariants.{Line}
 use Rattle.wb_model.specs.declared.script_lines.Role.{Role}
-use Rattle.wb_model.specs.declared.script.Parameter as model
-use Rattle.wb_model.specs.declared.script.Parameter.TheVariants as parameter
-use Rattle.wb_model.specs.declared.script_lines.Role.TheVariants.{Procedure, Declaration, Loop, If, End}
+use Rattle.wb_model.specs.declared.script_lines.Role.TheVariants as role
 use Rattle.wb_model.specs.Forms.{role_of_form}
 use Rattle.wb_model.specs.Passes.{first_bad, first_where}
 
@@ -44,28 +46,31 @@ abbrev pub name_passed : Operand Text → List Text
 name_passed (Parameter name kind) = name ∷ []
 name_passed _ = []
 
-abbrev pub kind_passed : {N : Type 0} → Operand N → List model.Parameter
-kind_passed (Parameter name kind) = kind ∷ []
-kind_passed _ = []
+abbrev pub taken_by : {N : Type 0} → Operand N → List (Taken N)
+taken_by (Parameter name kind) = kind ∷ []
+taken_by _ = []
 
 -- the names of the parameters that a line declares, in order
 abbrev pub parameter_names : Form Text → List Text
 parameter_names (Line key operands) = flat_map name_passed operands
 parameter_names _ = []
 
--- and the parameters
-abbrev pub parameters_in : {N : Type 0} → Form N → List model.Parameter
-parameters_in (Line key operands) = flat_map kind_passed operands
+-- and what each of them takes
+abbrev pub parameters_in : {N : Type 0} → Form N → List (Taken N)
+parameters_in (Line key operands) = flat_map taken_by operands
 parameters_in _ = []
 
--- something of the script's own space: a procedure or an operation
+-- Something of the script's own space: a class, with the names of its fields in order, a procedure or an operation, with what its
+-- parameters take.
 pub record Item : Type 0 where
   pub name : Text
   pub kind : ItemKind
-  pub parameters : List model.Parameter
+  pub parameters : List (Taken Text)
+  pub fields : List Text
 
--- what a line of a key begins
+-- what of the script's own space a line of a key begins
 abbrev pub kind_begun : Key → Option ItemKind
+kind_begun key.Class = Some item.Class
 kind_begun key.Proc = Some item.Procedure
 kind_begun key.Op = Some item.Operation
 kind_begun _ = None
@@ -74,58 +79,85 @@ abbrev pub item_begun : {N : Type 0} → Form N → Option ItemKind
 item_begun (Line key operands) = kind_begun key
 item_begun _ = None
 
-abbrev pub item_declared : Form Text → ItemKind → Text → Item
-item_declared form kind name = record { name = name; kind = kind; parameters = parameters_in form }
+-- the fields that a class has whose first line these follow, by a line's role and what the lines behind it have
+abbrev pub fields_with : Role → Form Text → List Text → List Text
+fields_with role.Field form others = first_name form ++ others
+fields_with role.Skip form others = others
+fields_with _ form others = []
 
-abbrev pub items_of_kind : Form Text → Option ItemKind → List Item
-items_of_kind form (Some kind) = map (item_declared form kind) (first_name form)
-items_of_kind form None = []
+abbrev pub fields_behind : List (Form Text) → List Text
+fields_behind [] = []
+fields_behind (form ∷ forms) = fields_with (role_of_form form) form (fields_behind forms)
 
--- what a line declares in the script's own space
-abbrev pub items_by : Form Text → List Item
-items_by form = items_of_kind form (item_begun form)
+-- only a class has fields
+abbrev pub fields_begun : ItemKind → List (Form Text) → List Text
+fields_begun item.Class behind = fields_behind behind
+fields_begun _ behind = []
+
+abbrev pub item_declared : Form Text → List (Form Text) → ItemKind → Text → Item
+item_declared form behind kind name = record { name = name; kind = kind; parameters = parameters_in form; fields = fields_begun kind behind }
+
+abbrev pub items_of_kind : Form Text → List (Form Text) → Option ItemKind → List Item
+items_of_kind form behind (Some kind) = map (item_declared form behind kind) (first_name form)
+items_of_kind form behind None = []
+
+-- what a line declares in the script's own space, where these lines follow
+abbrev pub items_by : Form Text → List (Form Text) → List Item
+items_by form behind = items_of_kind form behind (item_begun form)
 
 -- the script's own space, from all its lines
 abbrev pub items_of : List (Form Text) → List Item
-items_of forms = flat_map items_by forms
+items_of [] = []
+items_of (form ∷ forms) = items_by form forms ++ items_of forms
 
 abbrev pub names_of : List Item → List Text
 names_of items = map (λ item. item.name) items
 
 abbrev pub is_same_kind : ItemKind → ItemKind → Bool
+is_same_kind item.Class item.Class = true
 is_same_kind item.Procedure item.Procedure = true
 is_same_kind item.Operation item.Operation = true
 is_same_kind _ _ = false
 
--- the parameters of each one of a kind among items
-abbrev pub signatures_among : ItemKind → List Item → List (List model.Parameter)
-signatures_among kind [] = []
-signatures_among kind (i ∷ items) = if is_same_kind i.kind kind then (i.parameters ∷ signatures_among kind items) else signatures_among kind items
+-- those of a kind among items
+abbrev pub of_kind : ItemKind → List Item → List Item
+of_kind kind [] = []
+of_kind kind (i ∷ items) = if is_same_kind i.kind kind then (i ∷ of_kind kind items) else of_kind kind items
+
+-- the one of a kind with an index
+abbrev pub item_of_kind : ItemKind → List Item → ℕ → Option Item
+item_of_kind kind items index = slice_get (of_kind kind items) index
 
 -- how many of a kind stand among items
 abbrev pub count_among : ItemKind → List Item → ℕ
-count_among kind items = length (signatures_among kind items)
+count_among kind items = length (of_kind kind items)
 
 -- the literals of a script, in order
 abbrev pub literals_of : List (Form Text) → List Text
 literals_of forms = flat_map literals_in forms
 
--- what the local holds that a line of a key declares
-abbrev pub kind_declared : Key → Option Kind
-kind_declared key.Ptr = Some kind.Pointer
-kind_declared key.Int = Some kind.Number
-kind_declared key.Buf = Some kind.Buffer
-kind_declared key.View = Some kind.View
-kind_declared _ = None
+abbrev pub second_name : List (Operand Text) → Option Text
+second_name (first ∷ Name name ∷ operands) = Some name
+second_name _ = None
 
-abbrev pub kind_in : Form Text → Option Kind
-kind_in (Line key operands) = kind_declared key
+-- what the local holds that a line declares; a pointer's class is the second word
+abbrev pub kind_declared : Key → List (Operand Text) → Option (Kind Text)
+kind_declared key.Ptr operands = Some (kind.Pointer None)
+kind_declared key.ClassPtr operands = Some (kind.Pointer (second_name operands))
+kind_declared key.Int operands = Some kind.Number
+kind_declared key.Buf operands = Some kind.Buffer
+kind_declared key.View operands = Some kind.View
+kind_declared _ operands = None
+
+abbrev pub kind_in : Form Text → Option (Kind Text)
+kind_in (Line key operands) = kind_declared key operands
 kind_in _ = None
 
 -- what a parameter holds
-abbrev pub kind_of_parameter : model.Parameter → Kind
-kind_of_parameter (parameter.OfPointer class) = kind.Pointer
-kind_of_parameter parameter.OfNumber = kind.Number
+abbrev pub kind_of_parameter : Taken Text → Kind Text
+kind_of_parameter taken.Pointer = kind.Pointer None
+kind_of_parameter taken.Number = kind.Number
+kind_of_parameter (taken.OfClass class) = kind.Pointer (Some class)
 
 abbrev pub with_one : {X : Type 0} → List X → Option X → List X
 with_one xs (Some x) = xs ++ x ∷ []
@@ -138,55 +170,93 @@ abbrev pub key_in : {N : Type 0} → Form N → List Key
 key_in (Line key operands) = key ∷ []
 key_in _ = []
 
--- What stands before a line: how many procedures and operations of the script's own space, how many literals; of what kind the
--- body is that is open or was the last, its locals, its parameters first, each with what it holds; and the keys of the blocks
--- that are open, the innermost last.
+-- What stands before a line: how many classes, procedures and operations of the script's own space, the fields of the class begun
+-- last, how many literals; what the body is of that is open or was the last, its locals, its parameters first, each with what it
+-- holds; and the keys of the blocks that are open, the innermost last.
 pub record Known : Type 0 where
+  pub classes : ℕ
   pub procedures : ℕ
   pub operations : ℕ
+  pub fields : List Text
   pub literals : ℕ
-  pub body : ItemKind
+  pub body : BodyKind
   pub locals : List Text
-  pub kinds : List Kind
+  pub kinds : List (Kind Text)
   pub blocks : List Key
 
 abbrev pub nothing_known : Known
-nothing_known = record { procedures = 0; operations = 0; literals = 0; body = item.Procedure; locals = []; kinds = []; blocks = [] }
+nothing_known = record { classes = 0; procedures = 0; operations = 0; fields = []; literals = 0; body = of.Procedure; locals = []; kinds = []; blocks = [] }
+
+-- how many of a kind a line begins
+abbrev pub count_begun : ItemKind → Form Text → ℕ
+count_begun kind form = count_among kind (items_by form [])
 
 -- the names that a line declares in the space of a body: a procedure's parameters are the first of its own
 abbrev pub locals_by : Role → Form Text → List Text
-locals_by Procedure form = parameter_names form
-locals_by Declaration form = first_name form
+locals_by role.Procedure form = parameter_names form
+locals_by role.Declaration form = first_name form
 locals_by _ form = []
+
+-- a line that begins a body
+abbrev pub begins_body : Role → Bool
+begins_body role.Procedure = true
+begins_body role.Construct = true
+begins_body role.Destroy = true
+begins_body _ = false
 
 -- the locals of the body that is open behind a line
 abbrev pub locals_after : Role → Form Text → List Text → List Text
-locals_after Procedure form locals = locals_by Procedure form
-locals_after role form locals = locals ++ locals_by role form
+locals_after role form locals = if begins_body role then locals_by role form else locals ++ locals_by role form
 
-abbrev pub kinds_after : Role → Form Text → List Kind → List Kind
-kinds_after Procedure form kinds = map kind_of_parameter (parameters_in form)
-kinds_after Declaration form kinds = with_one kinds (kind_in form)
-kinds_after _ form kinds = kinds
+abbrev pub kinds_by : Role → Form Text → List (Kind Text)
+kinds_by role.Procedure form = map kind_of_parameter (parameters_in form)
+kinds_by role.Declaration form = with_one [] (kind_in form)
+kinds_by _ form = []
+
+abbrev pub kinds_after : Role → Form Text → List (Kind Text) → List (Kind Text)
+kinds_after role form kinds = if begins_body role then kinds_by role form else kinds ++ kinds_by role form
+
+-- the fields of the class begun last
+abbrev pub fields_after : Role → Form Text → List Text → List Text
+fields_after role.Class form fields = []
+fields_after role.Field form fields = fields ++ first_name form
+fields_after _ form fields = fields
 
 -- the blocks that are open behind a line
 abbrev pub blocks_after : {N : Type 0} → Role → Form N → List Key → List Key
-blocks_after Procedure form blocks = []
-blocks_after Loop form blocks = blocks ++ key_in form
-blocks_after If form blocks = blocks ++ key_in form
-blocks_after End form blocks = without_last blocks
+blocks_after role.Class form blocks = []
+blocks_after role.Construct form blocks = []
+blocks_after role.Destroy form blocks = []
+blocks_after role.Procedure form blocks = []
+blocks_after role.Loop form blocks = blocks ++ key_in form
+blocks_after role.If form blocks = blocks ++ key_in form
+blocks_after role.End form blocks = without_last blocks
 blocks_after _ form blocks = blocks
 
-abbrev pub body_after : Option ItemKind → ItemKind → ItemKind
+-- what the body is of that a line of a key begins
+abbrev pub body_begun : Key → Option BodyKind
+body_begun key.Proc = Some of.Procedure
+body_begun key.Op = Some of.Operation
+body_begun key.Constructor = Some of.Constructor
+body_begun key.Destructor = Some of.Destructor
+body_begun _ = None
+
+abbrev pub body_in : {N : Type 0} → Form N → Option BodyKind
+body_in (Line key operands) = body_begun key
+body_in _ = None
+
+abbrev pub body_after : Option BodyKind → BodyKind → BodyKind
 body_after (Some kind) body = kind
 body_after None body = body
 
 abbrev pub known_with : Role → Form Text → Known → Known
 known_with role form known = record {
-  procedures = known.procedures + count_among item.Procedure (items_by form);
-  operations = known.operations + count_among item.Operation (items_by form);
+  classes = known.classes + count_begun item.Class form;
+  procedures = known.procedures + count_begun item.Procedure form;
+  operations = known.operations + count_begun item.Operation form;
+  fields = fields_after role form known.fields;
   literals = known.literals + length (literals_in form);
-  body = body_after (item_begun form) known.body;
+  body = body_after (body_in form) known.body;
   locals = locals_after role form known.locals;
   kinds = kinds_after role form known.kinds;
   blocks = blocks_after role form known.blocks;
@@ -201,11 +271,18 @@ abbrev pub first_declaration_of : List Text → Text → Option ℕ
 first_declaration_of names name = first_where (λ n. bytes_eq n name) names
 
 -- how many procedures and operations stand before a line
+abbrev pub bodies_before : Known → ℕ
+bodies_before known = known.procedures + known.operations
+
+-- and how many items of the script's own space
 abbrev pub items_before : Known → ℕ
-items_before known = known.procedures + known.operations
+items_before known = known.classes + bodies_before known
 
 -- how many of its kind stand before what a line of a key declares
 abbrev pub names_before : Key → Known → ℕ
+names_before key.Class known = known.classes
+names_before key.Field known = length known.fields
+names_before key.ClassField known = length known.fields
 names_before key.Proc known = known.procedures
 names_before key.Op known = known.operations
 names_before _ known = length known.locals
@@ -216,8 +293,10 @@ is_item_before items before name = option_map_or (λ index. nat_lt index before)
 
 -- a name that stands declared in the space of a line of this role
 abbrev pub stands_declared : List Text → Known → Role → Text → Bool
-stands_declared items known Procedure name = is_item_before items (items_before known) name
-stands_declared items known Declaration name = is_some (first_declaration_of known.locals name)
+stands_declared items known role.Class name = is_item_before items (items_before known) name
+stands_declared items known role.Procedure name = is_item_before items (items_before known) name
+stands_declared items known role.Field name = is_some (first_declaration_of known.fields name)
+stands_declared items known role.Declaration name = is_some (first_declaration_of known.locals name)
 stands_declared items known _ name = false
 
 abbrev pub is_among : List Text → Text → Bool
@@ -234,15 +313,26 @@ declares_again items known form = list_any (stands_declared items known (role_of
 
 -- a declaration or a block where there are as many as there may be
 abbrev pub is_one_more : Role → Known → Bool
-is_one_more Procedure known = nat_le MOST_PROCEDURES (items_before known)
-is_one_more Declaration known = nat_le MOST_LOCALS (length known.locals)
-is_one_more Loop known = nat_le DEEPEST_BLOCK (length known.blocks)
-is_one_more If known = nat_le DEEPEST_BLOCK (length known.blocks)
+is_one_more role.Class known = nat_le MOST_CLASSES known.classes
+is_one_more role.Field known = nat_le MOST_FIELDS (length known.fields)
+is_one_more role.Procedure known = nat_le MOST_PROCEDURES (bodies_before known)
+is_one_more role.Declaration known = nat_le MOST_LOCALS (length known.locals)
+is_one_more role.Loop known = nat_le DEEPEST_BLOCK (length known.blocks)
+is_one_more role.If known = nat_le DEEPEST_BLOCK (length known.blocks)
 is_one_more _ known = false
 
+abbrev pub is_long_name : Text → Bool
+is_long_name name = nat_lt LONGEST_NAME (length name)
+
+abbrev pub has_long_class : Taken Text → Bool
+has_long_class (taken.OfClass class) = is_long_name class
+has_long_class _ = false
+
+-- each half of a field or of a parameter is a name by itself
 abbrev pub is_long : Operand Text → Bool
-is_long (Name name) = nat_lt LONGEST_NAME (length name)
-is_long (Parameter name kind) = nat_lt LONGEST_NAME (length name)
+is_long (Name name) = is_long_name name
+is_long (Field base field) = is_long_name base || is_long_name field
+is_long (Parameter name kind) = is_long_name name || has_long_class kind
 is_long _ = false
 
 -- a line with a longer name than names may be
@@ -250,8 +340,9 @@ abbrev pub has_long_name : Form Text → Bool
 has_long_name (Line key operands) = list_any is_long operands
 has_long_name _ = false
 
--- a buffer with a larger maximum than buffers may have
+-- a buffer with a larger maximum than buffers may have, or a class with more extra bytes than classes
 abbrev pub is_large : Form Text → Bool
+is_large (Line key.Class (name ∷ Size extra ∷ [])) = nat_lt MOST_EXTRA extra
 is_large (Line key.Buf (name ∷ Size max ∷ [])) = nat_lt LARGEST_BUFFER max
 is_large _ = false
 

@@ -21,7 +21,8 @@ use Rattle.wb_model.specs.Rules.{never}
 use Rattle.wb_model.specs.Heap.{cells_of_all_levels}
 use Rattle.wb_model.specs.State.{State, none, require, Way, goes_on, returns, leaves, panics, is_cut, no_cleanup, Process, ends, stops, and_then, then_do, null, initial}
 use Rattle.wb_model.specs.Attempts.{allocate}
-use Rattle.wb_model.specs.Statements.{all, destroy_items, Where, Meaning, procedure_at, done}
+use Rattle.wb_model.specs.Statements.{all, destroy_items, Where, Meaning, done}
+use Rattle.wb_model.specs.Bodies.{procedure_at}
 use Rattle.wb_model.specs.Meaning.{meaning_of}
 use Rattle.wb_model.specs.Space.{Space, space_of}
 use Rattle.wb_model.specs.Account.{over, stopped, End, Account, Settled, settled}

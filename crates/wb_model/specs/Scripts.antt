@@ -63,7 +63,8 @@ first_wrong forms = first_refused (has_wrong_kind (items_of forms)) forms
 abbrev pub first_leaving : List (Form Text) → Option ℕ
 first_leaving forms = first_refused may_leave forms
 
--- the names of lines are declared, each once, their operands are of the right kinds, and no line of an operation may leave
+-- the names of lines are declared, each once, their operands are of the right kinds, and no line of an operation or of a destructor
+-- may leave
 pub record IsNamed (forms : List (Form Text)) : Type 0 where
   pub known : first_unknown forms ≡ None
   pub once : first_double forms ≡ None
@@ -76,7 +77,6 @@ pub record IsTreeOf (forms : List (Form Text)) (script : Script) : Type 0 where
   pub named : IsNamed forms
   pub main : main_of forms ≡ Some script.main
   pub within : first_refused passes_limit forms ≡ None
-  pub classes : script.classes ≡ []
   pub literals : script.literals ≡ literals_of forms
   pub tree : script_lines script ≡ counted_from 1 (resolved forms)
 

@@ -31,6 +31,7 @@ use Rattle.wb_model.specs.Texts.{at_most, insert_text, delete_text, set_length_t
 use Rattle.wb_model.specs.State.{Content, words, fields, units, Value, pointer, number, initial, State, Way, goes_on, returns, leaves, panics, heap_note, available_note, compress_note, Process, ends, stops, notes, and_then, then_do, require, with_some, unless, set_heap, set_local, local_of, number_in, null}
 use Rattle.wb_model.specs.Operands.{number_of, within, not_negative, with_cell, with_pointer, set_pointer, set_row, raw_words_of, units_of}
 use Rattle.wb_model.specs.Attempts.{allocate, reallocate, push}
+use Rattle.wb_model.specs.Bodies.{no_body, operation_at, procedure_at, class_at}
 use Rattle.wb_model.specs.Reading.{base_of, with_writable, with_readable, with_units, with_room, write, write_view, is_same_base, is_same_pointer, printed}
 
 -- what is still to do: statements, turns of a loop, the destruction of a number of items or of an object that isn't null
@@ -119,21 +120,6 @@ index_in usable (negsuc i) = None
 -- the numbers that an int holds
 abbrev pub in_range : ℤ → Bool
 in_range z = int_le (negsuc 2147483647) z && int_le z (pos 2147483647)
-
--- a body without a line, which stands for one that the script doesn't have
-abbrev pub no_body : Body
-no_body = record { locals = []; statements = [] }
-
--- the body of an operation
-abbrev pub operation_at : Script → ℕ → Body
-operation_at script i = (unwrap_or (slice_get script.operations i) (record { line = 0; body = no_body })).body
-
--- the body of a procedure
-abbrev pub procedure_at : Script → ℕ → Body
-procedure_at script i = (unwrap_or (slice_get script.procedures i) (record { line = 0; parameters = []; body = no_body })).body
-
-abbrev pub class_at : Script → ℕ → Class
-class_at script i = unwrap_or (slice_get script.classes i) (record { line = 0; extra = 0; fields = []; construct = None; destroy = None })
 
 -- a body in a frame of its own, and the caller's frame afterwards; the 129th frame is refused
 unfoldable pub in_frame : Meaning → Where → Ptr → List Value → Body → State → (Way → State → Process) → Process

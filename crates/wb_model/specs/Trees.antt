@@ -7,6 +7,7 @@ use Rattle.wb_model.specs.declared.script_lines.Meant.{Meant}
 use Rattle.wb_model.specs.declared.script_lines.Meant.TheVariants as meant
 use Rattle.wb_model.specs.declared.script_lines.Operand.{Operand}
 use Rattle.wb_model.specs.declared.script_lines.Operand.TheVariants.{Name, Number, Size, Literal, Keyword}
+use Rattle.wb_model.specs.declared.script_lines.Taken.TheVariants as taken
 use Rattle.wb_model.specs.declared.script_lines.Operand.TheVariants as spelled
 use Rattle.wb_model.specs.declared.script_lines.Form.{Form}
 use Rattle.wb_model.specs.declared.script_lines.Form.TheVariants.{Skip, Unknown, Line}
@@ -14,6 +15,7 @@ use Rattle.wb_model.specs.declared.script_lines.Role.{Role}
 use Rattle.wb_model.specs.declared.script_lines.Role.TheVariants as role
 use Rattle.wb_model.specs.declared.script.Script.{Script}
 use Rattle.wb_model.specs.declared.script.Body.{Body}
+use Rattle.wb_model.specs.declared.script.Class.{Class}
 use Rattle.wb_model.specs.declared.script.Procedure.{Procedure}
 use Rattle.wb_model.specs.declared.script.Operation.{Operation}
 use Rattle.wb_model.specs.declared.script.Parameter.{Parameter}
@@ -24,9 +26,10 @@ use Rattle.wb_model.specs.declared.script.Condition.{Condition}
 use Rattle.wb_model.specs.declared.script.Condition.TheVariants.{IsNull, NotNull, Equal, Less}
 use Rattle.wb_model.specs.declared.script.Local.{Local}
 use Rattle.wb_model.specs.declared.script.Local.TheVariants.{OfPointer, OfNumber, OfBuffer, OfView}
+use Rattle.wb_model.specs.declared.script.Holder.{Holder}
 use Rattle.wb_model.specs.declared.script.Holder.TheVariants as H
 use Rattle.wb_model.specs.declared.script.Pointer.{Pointer}
-use Rattle.wb_model.specs.declared.script.Pointer.TheVariants.{Held}
+use Rattle.wb_model.specs.declared.script.Pointer.TheVariants.{Held, Field}
 use Rattle.wb_model.specs.declared.script.Number as N
 use Rattle.wb_model.specs.declared.script.Number.TheVariants.{Constant, Variable}
 use Rattle.wb_model.specs.declared.script.Writable.{Writable}
@@ -71,13 +74,18 @@ abbrev pub counted_from : ℕ → List Indexed → List Marked
 counted_from number [] = []
 counted_from number (line ∷ lines) = counted number line ++ counted_from (suc number) lines
 
--- The operand that spells a pointer, a number, a text, a procedure or a parameter; none where no line spells it.
+-- The operand that spells a pointer, a number, a text, a class, a procedure or a parameter; none where no line spells it.
 abbrev pub Spelled : Type 0
 Spelled = Option (Operand Meant)
 
+-- what a holder of a pointer is named as
+abbrev pub holder_meant : Holder → Meant
+holder_meant (H.Local i) = meant.Pointer i
+holder_meant H.This = meant.This
+
 abbrev pub pointer_operand : Pointer → Spelled
-pointer_operand (Held (H.Local i)) = Some (Name (meant.Pointer i))
-pointer_operand _ = None
+pointer_operand (Held holder) = Some (Name (holder_meant holder))
+pointer_operand (Field holder class i) = Some (spelled.Field (holder_meant holder) (meant.Field class i))
 
 abbrev pub variable_operand : ℕ → Spelled
 variable_operand i = Some (Name (meant.Number i))
@@ -98,6 +106,9 @@ text_operand (Of w) = writable_operand w
 text_operand (ViewOf i) = view_operand i
 text_operand (Quoted i) = Some (Literal (meant.Literal i))
 
+abbrev pub class_operand : ℕ → Spelled
+class_operand i = Some (Name (meant.Class i))
+
 abbrev pub procedure_operand : ℕ → Spelled
 procedure_operand i = Some (Name (meant.Procedure i))
 
@@ -105,9 +116,9 @@ abbrev pub operation_operand : ℕ → Spelled
 operation_operand i = Some (Name (meant.Operation i))
 
 abbrev pub parameter_operand : Parameter → Spelled
-parameter_operand (parameter.OfPointer None) = Some (spelled.Parameter meant.Parameter (parameter.OfPointer None))
-parameter_operand (parameter.OfPointer (Some class)) = None
-parameter_operand parameter.OfNumber = Some (spelled.Parameter meant.Parameter parameter.OfNumber)
+parameter_operand (parameter.OfPointer None) = Some (spelled.Parameter meant.Parameter taken.Pointer)
+parameter_operand (parameter.OfPointer (Some class)) = Some (spelled.Parameter meant.Parameter (taken.OfClass (meant.Class class)))
+parameter_operand parameter.OfNumber = Some (spelled.Parameter meant.Parameter taken.Number)
 
 abbrev pub argument_operand : Argument → Spelled
 argument_operand (Passed p) = pointer_operand p
@@ -131,6 +142,11 @@ line_or_unknown key None = Unknown
 abbrev pub line : Key → List Spelled → Indexed
 line k words = line_or_unknown k (all_spelled words)
 
+-- the key of the line that sets a pointer
+abbrev pub set_key : Pointer → Key
+set_key (Held holder) = key.Set
+set_key (Field holder class i) = key.SetField
+
 -- the line of an `if`
 abbrev pub condition_line : Condition → Indexed
 condition_line (IsNull p) = line key.IfNull (keyword_operand ∷ pointer_operand p ∷ [])
@@ -138,7 +154,7 @@ condition_line (NotNull p) = line key.IfSome (keyword_operand ∷ pointer_operan
 condition_line (Equal v w) = line key.IfEqual (keyword_operand ∷ number_operand v ∷ number_operand w ∷ [])
 condition_line (Less v w) = line key.IfLess (keyword_operand ∷ number_operand v ∷ number_operand w ∷ [])
 
--- The line that a statement begins with, whatever stands inside it. One that no line spells has a line of no script.
+-- The line that a statement begins with, whatever stands inside it.
 abbrev pub statement_line : {A B : Type 0} → Statement-F A B → Indexed
 statement_line (Statement-F.Alloc p v GivesNull) = line key.Alloc (pointer_operand p ∷ number_operand v ∷ [])
 statement_line (Statement-F.Alloc p v Leaves) = line key.AllocL (pointer_operand p ∷ number_operand v ∷ [])
@@ -148,11 +164,16 @@ statement_line (Statement-F.Free p) = line key.Free (pointer_operand p ∷ [])
 statement_line (Statement-F.AllocLen x p) = line key.AllocLen (variable_operand x ∷ pointer_operand p ∷ [])
 statement_line (Statement-F.Store p v w) = line key.Store (pointer_operand p ∷ number_operand v ∷ number_operand w ∷ [])
 statement_line (Statement-F.Load x p v) = line key.Load (variable_operand x ∷ pointer_operand p ∷ number_operand v ∷ [])
-statement_line (Statement-F.Set p q) = line key.Set (pointer_operand p ∷ pointer_operand q ∷ [])
+statement_line (Statement-F.New p class GivesNull) = line key.New (pointer_operand p ∷ class_operand class ∷ [])
+statement_line (Statement-F.New p class Leaves) = line key.NewLeave (pointer_operand p ∷ class_operand class ∷ [])
+statement_line (Statement-F.Construct p) = line key.Construct (pointer_operand p ∷ [])
+statement_line (Statement-F.Delete p) = line key.Delete (pointer_operand p ∷ [])
+statement_line (Statement-F.Set p q) = line (set_key p) (pointer_operand p ∷ pointer_operand q ∷ [])
 statement_line (Statement-F.SetNumber x v) = line key.Set (variable_operand x ∷ number_operand v ∷ [])
 statement_line (Statement-F.SetNull p) = line key.Null (pointer_operand p ∷ [])
 statement_line (Statement-F.Add x v) = line key.Add (variable_operand x ∷ number_operand v ∷ [])
 statement_line (Statement-F.Push p) = line key.Push (pointer_operand p ∷ [])
+statement_line (Statement-F.PushObject p) = line key.PushObj (pointer_operand p ∷ [])
 statement_line (Statement-F.PushOperation p n) = line key.PushOp (pointer_operand p ∷ operation_operand n ∷ [])
 statement_line (Statement-F.Pop v) = line key.Pop (number_operand v ∷ [])
 statement_line (Statement-F.PopDestroy v) = line key.PopDestroy (number_operand v ∷ [])
@@ -193,7 +214,6 @@ statement_line (Statement-F.If c first) = condition_line c
 statement_line (Statement-F.IfElse c first other) = condition_line c
 statement_line (Statement-F.Repeat v body) = line key.Repeat (number_operand v ∷ [])
 statement_line (Statement-F.Trap x body) = line key.Trap (variable_operand x ∷ [])
-statement_line _ = Unknown
 
 abbrev pub end_line : Marked
 end_line = (None, Line key.End [])
@@ -231,10 +251,10 @@ statement_lines statements = flat_map numbered_lines statements
 
 abbrev pub local_line : ℕ → Local → Indexed
 local_line index (OfPointer None) = Line key.Ptr (Name (meant.Declared index) ∷ [])
+local_line index (OfPointer (Some class)) = Line key.ClassPtr (Name (meant.Declared index) ∷ Name (meant.Class class) ∷ [])
 local_line index OfNumber = Line key.Int (Name (meant.Declared index) ∷ [])
 local_line index (OfBuffer max) = Line key.Buf (Name (meant.Declared index) ∷ Size max ∷ [])
 local_line index OfView = Line key.View (Name (meant.Declared index) ∷ [])
-local_line index _ = Unknown
 
 -- the declarations of locals, from an index on
 abbrev pub local_lines : ℕ → List Local → List Marked
@@ -260,10 +280,36 @@ operation_head index o = (Some o.line, line key.Op (Some (Name (meant.Declared i
 abbrev pub operation_lines : ℕ → Operation → List Marked
 operation_lines index o = operation_head index o ∷ (body_lines (length its_parameters) o.body ++ end_line ∷ [])
 
+-- a field without a class, or with one
+abbrev pub field_line : ℕ → Option ℕ → Indexed
+field_line index None = Line key.Field (Name (meant.Declared index) ∷ [])
+field_line index (Some class) = Line key.ClassField (Name (meant.Declared index) ∷ Name (meant.Class class) ∷ [])
+
+-- the fields of a class, from an index on
+abbrev pub field_lines : ℕ → List (Option ℕ) → List Marked
+field_lines index [] = []
+field_lines index (field ∷ fields) = (None, field_line index field) ∷ field_lines (suc index) fields
+
+-- a body of a class, under its head, where the class has it
+abbrev pub own_body_lines : Key → Option Body → List Marked
+own_body_lines begins (Some body) = (None, Line begins []) ∷ (body_lines 0 body ++ end_line ∷ [])
+own_body_lines begins None = []
+
+abbrev pub class_head : ℕ → Class → Marked
+class_head index c = (Some c.line, Line key.Class (Name (meant.Declared index) ∷ Size c.extra ∷ []))
+
+abbrev pub class_lines : ℕ → Class → List Marked
+class_lines index c =
+    class_head index c
+    ∷ (field_lines 0 c.fields ++ (own_body_lines key.Constructor c.construct ++ (own_body_lines key.Destructor c.destroy ++ end_line ∷ [])))
+
 -- the lines of an item, with the number of the first of them
 pub record Lines : Type 0 where
   pub number : ℕ
   pub lines : List Marked
+
+abbrev pub lines_of_class : ℕ → Class → Lines
+lines_of_class index c = record { number = c.line; lines = class_lines index c }
 
 abbrev pub lines_of_procedure : ℕ → Procedure → Lines
 lines_of_procedure index p = record { number = p.line; lines = procedure_lines index p }
@@ -288,5 +334,9 @@ in_order items others = fold (λ found item. in_place item found) others items
 abbrev pub all_lines : List Lines → List Marked
 all_lines items = flat_map (λ item. item.lines) items
 
+-- the procedures and the operations of a script in the order of their lines
+abbrev pub bodies_in_order : Script → List Lines
+bodies_in_order script = in_order (each_from lines_of_procedure 0 script.procedures) (each_from lines_of_operation 0 script.operations)
+
 abbrev pub script_lines : Script → List Marked
-script_lines script = all_lines (in_order (each_from lines_of_procedure 0 script.procedures) (each_from lines_of_operation 0 script.operations))
+script_lines script = all_lines (in_order (each_from lines_of_class 0 script.classes) (bodies_in_order script))

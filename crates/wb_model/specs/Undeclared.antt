@@ -1,23 +1,29 @@
--- What an unknown name is, said of the lines of a script: a line uses a name that no line of its body declares before it, or the
--- name of a procedure or an operation that no line of the script declares. By the grammar no declaration stands behind a line that uses a name,
--- so these are all that the body declares.
-use Rattle.std.specs.Prelude.{◌≡◌, ◌⊎◌, ℕ, suc, ◌<◌, List, [], ◌∷◌, ◌++◌, Bool, true, false, length}
-use Rattle.std.specs.List.{list_all}
+-- What an unknown name is, said of the lines of a script: a line uses a name that no line of its body declares before it, `self`
+-- outside of the bodies of classes, the name of a class, a procedure or an operation that no line of the script declares, or a
+-- field that no line of its class declares. By the grammar no declaration stands behind a line that uses a name, so these are all
+-- that the body declares.
+use Rattle.std.specs.Prelude.{◌≡◌, ◌⊎◌, ℕ, suc, ◌<◌, List, [], ◌∷◌, ◌++◌, Option, Some, None, Bool, true, false, not, if◌then◌else◌, length}
+use Rattle.std.specs.List.{list_all, list_any}
 use Rattle.wb_model.specs.declared.script_lines.Letter.{Letter}
 use Rattle.wb_model.specs.declared.script_lines.Letter.TheVariants as letter
+use Rattle.wb_model.specs.declared.script_lines.Taken.TheVariants.{OfClass}
 use Rattle.wb_model.specs.declared.script_lines.Operand.{Operand}
-use Rattle.wb_model.specs.declared.script_lines.Operand.TheVariants.{Name}
+use Rattle.wb_model.specs.declared.script_lines.Operand.TheVariants.{Name, Field, Parameter}
 use Rattle.wb_model.specs.declared.script_lines.Form.{Form}
 use Rattle.wb_model.specs.declared.script_lines.Form.TheVariants.{Line}
 use Rattle.wb_model.specs.declared.script_lines.Role.{Role}
-use Rattle.wb_model.specs.declared.script_lines.Role.TheVariants.{Procedure}
+use Rattle.wb_model.specs.declared.script_lines.Role.TheVariants.{Construct, Destroy}
 use Rattle.wb_model.specs.Forms.{role_of_form}
 use Rattle.wb_model.specs.Keys.{letters_for}
-use Rattle.wb_model.specs.Names.{Text, is_among, items_of, names_of, locals_by}
+use Rattle.wb_model.specs.Names.{Text, Item, Known, begins_body, is_among, items_of, known_after, names_of, nothing_known, locals_by}
+use Rattle.wb_model.specs.Passes.{state_after}
+use Rattle.wb_model.specs.Resolved.{class_of_base, fields_of_class, is_this}
 
 -- a name that is looked up in the space of the body
 abbrev pub local_used : Letter → Operand Text → List Text
+local_used letter (Field base field) = base ∷ []
 local_used letter.Declared operand = []
+local_used letter.Class operand = []
 local_used letter.Procedure operand = []
 local_used letter.Operation operand = []
 local_used _ (Name name) = name ∷ []
@@ -25,37 +31,63 @@ local_used _ operand = []
 
 -- a name that is looked up in the script's own space
 abbrev pub item_used : Letter → Operand Text → List Text
+item_used letter (Parameter name (OfClass class)) = class ∷ []
+item_used letter.Class (Name name) = name ∷ []
 item_used letter.Procedure (Name name) = name ∷ []
 item_used letter.Operation (Name name) = name ∷ []
 item_used _ operand = []
 
--- the names that operands use, by what one uses
-abbrev pub names_used : (Letter → Operand Text → List Text) → List Letter → List (Operand Text) → List Text
+-- what operands use, by what one uses
+abbrev pub names_used : {X : Type 0} → (Letter → Operand Text → List X) → List Letter → List (Operand Text) → List X
 names_used used (letter ∷ letters) (operand ∷ operands) = used letter operand ++ names_used used letters operands
 names_used used _ _ = []
 
--- the names that a line uses
-abbrev pub used_in : (Letter → Operand Text → List Text) → Form Text → List Text
+-- what a line uses
+abbrev pub used_in : {X : Type 0} → (Letter → Operand Text → List X) → Form Text → List X
 used_in used (Line key operands) = names_used used (letters_for key (length operands)) operands
 used_in used _ = []
 
-abbrev pub is_inside : Role → Bool
-is_inside Procedure = false
-is_inside _ = true
-
 -- a line that begins no body
 abbrev pub stays_inside : Form Text → Bool
-stays_inside form = is_inside (role_of_form form)
+stays_inside form = not (begins_body (role_of_form form))
+
+-- the head of a body of a class
+abbrev pub is_of_object : Role → Bool
+is_of_object Construct = true
+is_of_object Destroy = true
+is_of_object _ = false
+
+-- A line declares a name in the space of a body; the head of a body of a class declares `self`.
+abbrev pub declares : Form Text → Text → Bool
+declares form name = if is_this name then is_of_object (role_of_form form) else is_among (locals_by (role_of_form form) form) name
 
 -- The body that is open behind these lines declares the name: one of them does, and none behind that one begins a body.
 abbrev pub IsDeclared : List (Form Text) → Text → Type 0
-IsDeclared before name = (earlier later : List (Form Text)) × (form : Form Text) × (before ≡ earlier ++ form ∷ later) × (is_among (locals_by (role_of_form form) form) name ≡ true) × (list_all stays_inside later ≡ true)
+IsDeclared before name = (earlier later : List (Form Text)) × (form : Form Text) × (before ≡ earlier ++ form ∷ later) × (declares form name ≡ true) × (list_all stays_inside later ≡ true)
 
 -- a line of a script, behind these, uses a name that its body doesn't declare, or one that the script doesn't
-abbrev pub UsesUndeclared : List (Form Text) → List (Form Text) → Form Text → Type 0
-UsesUndeclared forms before form = (name : Text) ×
+abbrev pub UsesUndeclaredName : List (Form Text) → List (Form Text) → Form Text → Type 0
+UsesUndeclaredName forms before form = (name : Text) ×
     (((is_among (used_in local_used form) name ≡ true) × (IsDeclared before name → ⊥))
     ⊎ ((is_among (used_in item_used form) name ≡ true) × (is_among (names_of (items_of forms)) name ≡ false)))
+
+-- A field isn't one of a class. Where there is no class it isn't looked up.
+abbrev pub is_missing : List Item → Option ℕ → Text → Bool
+is_missing items (Some class) field = not (is_among (fields_of_class items class) field)
+is_missing items None field = false
+
+-- an operand that names a field which isn't one of its base's class
+abbrev pub field_missed : List Item → Known → Letter → Operand Text → List Bool
+field_missed items known letter (Field base field) = is_missing items (class_of_base items known base) field ∷ []
+field_missed items known letter operand = []
+
+-- a line of a script, behind these, uses a field that its class doesn't declare
+abbrev pub uses_undeclared_field : List (Form Text) → List (Form Text) → Form Text → Bool
+uses_undeclared_field forms before form =
+    list_any (λ b. b) (used_in (field_missed (items_of forms) (state_after known_after nothing_known before)) form)
+
+abbrev pub UsesUndeclared : List (Form Text) → List (Form Text) → Form Text → Type 0
+UsesUndeclared forms before form = UsesUndeclaredName forms before form ⊎ (uses_undeclared_field forms before form ≡ true)
 
 -- no line before the one with this index uses such a name
 abbrev pub UsesDeclaredUpTo : List (Form Text) → ℕ → Type 0

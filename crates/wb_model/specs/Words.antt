@@ -1,10 +1,10 @@
 -- What a word behind the key of a line is: a name, a number, a literal, a parameter, a word of the line's own.
-use Rattle.std.specs.Prelude.{ℕ, ℤ, pos, neg_ℤ, ◌+◌, ◌-◌, ◌*◌, List, [], ◌∷◌, Bool, false, not, ◌&&◌, ◌||◌, ◌==◌, nat_le, if◌then◌else◌, Option, Some, None, codes, drop, fold, length, slice_index, slice_range, take}
+use Rattle.std.specs.Prelude.{ℕ, suc, ℤ, pos, neg_ℤ, ◌+◌, ◌-◌, ◌*◌, List, [], ◌∷◌, Bool, false, not, ◌&&◌, ◌||◌, ◌==◌, nat_le, if◌then◌else◌, Option, Some, None, codes, drop, fold, length, slice_index, slice_range, take}
 use Rattle.std.specs.List.{list_all, list_any}
 use Rattle.std.specs.Option.{option_map}
 use Rattle.std.specs.Str.{bytes_eq}
-use Rattle.wb_model.specs.declared.script.Parameter.{Parameter}
-use Rattle.wb_model.specs.declared.script.Parameter.TheVariants.{OfPointer, OfNumber}
+use Rattle.wb_model.specs.declared.script_lines.Taken.{Taken}
+use Rattle.wb_model.specs.declared.script_lines.Taken.TheVariants as taken
 use Rattle.wb_model.specs.declared.script_lines.Keyword as model
 use Rattle.wb_model.specs.declared.script_lines.Keyword.TheVariants as keyword
 use Rattle.wb_model.specs.Sound.{is_quotable}
@@ -34,9 +34,22 @@ is_reserved word = list_any (bytes_eq word) reserved
 abbrev pub declared_name : List ℕ → Option (List ℕ)
 declared_name word = if is_name word && not (is_reserved word) then Some word else None
 
--- a name that a line uses; `self` is none while there are no classes
+-- a name that a line uses; `self` is one
 abbrev pub used_name : List ℕ → Option (List ℕ)
-used_name word = if is_name word && not (bytes_eq word (codes "self")) then Some word else None
+used_name word = if is_name word then Some word else None
+
+-- how many bytes of a word stand before the first that is this one
+abbrev pub length_before : ℕ → List ℕ → ℕ
+length_before byte [] = 0
+length_before byte (b ∷ word) = if b == byte then 0 else suc (length_before byte word)
+
+-- what stands before it
+abbrev pub before_first : ℕ → List ℕ → List ℕ
+before_first byte word = take (length_before byte word) word
+
+-- what stands behind it
+abbrev pub behind_first : ℕ → List ℕ → List ℕ
+behind_first byte word = drop (length_before byte word + 1) word
 
 abbrev pub with_digit : ℕ → ℕ → ℕ
 with_digit n byte = 10 * n + (byte - 48)
@@ -64,16 +77,25 @@ is_literal word =
 abbrev pub literal_spelled : List ℕ → Option (List ℕ)
 literal_spelled word = if is_literal word then Some (inside word) else None
 
--- the kind that a colon and three letters tell
-abbrev pub kind_spelled : List ℕ → Option Parameter
-kind_spelled bytes = if bytes_eq bytes (codes ":ptr") then Some (OfPointer None) else (if bytes_eq bytes (codes ":int") then Some OfNumber else None)
+-- what holds a pointer, before the dot of a field
+abbrev pub base_name : List ℕ → Option (List ℕ)
+base_name word = used_name (before_first 46 word)
 
--- a name that a line declares, without the kind behind it
+-- the name of a field, behind the dot
+abbrev pub field_name : List ℕ → Option (List ℕ)
+field_name word = used_name (behind_first 46 word)
+
+-- what a parameter takes, by the word behind its colon; any name but `ptr` and `int` is that of a class
+abbrev pub taken_spelled : List ℕ → Option (Taken (List ℕ))
+taken_spelled word =
+    if bytes_eq word (codes "ptr") then Some taken.Pointer else (if bytes_eq word (codes "int") then Some taken.Number else option_map taken.OfClass (used_name word))
+
+-- a name that a line declares, before the colon
 abbrev pub parameter_name : List ℕ → Option (List ℕ)
-parameter_name word = declared_name (take (length word - 4) word)
+parameter_name word = declared_name (before_first 58 word)
 
-abbrev pub parameter_kind : List ℕ → Option Parameter
-parameter_kind word = kind_spelled (drop (length word - 4) word)
+abbrev pub parameter_taken : List ℕ → Option (Taken (List ℕ))
+parameter_taken word = taken_spelled (behind_first 58 word)
 
 -- the text of a line's own word
 abbrev pub text_of_keyword : model.Keyword → List ℕ

@@ -1,6 +1,6 @@
 //! Laws of the definitions. Each is the contract of a function that does nothing, so that the gate proves it.
 
-ghost use Rattle.std.specs.Prelude.{◌≡◌, ◌≢◌, ℕ, ℤ, ◌+◌, ◌%◌, ◌<◌, ◌≤◌, ◌↔◌, List, Option, Some, None, nat_eq, length, take, drop, slice_get, slice_index};
+ghost use Rattle.std.specs.Prelude.{◌≡◌, ◌≢◌, ℕ, ℤ, ◌+◌, ◌-◌, ◌%◌, ◌<◌, ◌≤◌, ◌↔◌, List, Option, Some, None, IsTrue, nat_eq, length, take, drop, slice_get, slice_index};
 ghost use Rattle.wb_model.specs.Agreement.{Agrees, RefusesAtLeast, RefusesNoGrant, IsSameRun, IsSameButNotes};
 ghost use Rattle.wb_model.specs.Sizes.{first_refusal, NoneIsRefused, IsFirstRefused, IsGreatestEnd, IsTable};
 ghost use Rattle.wb_model.specs.Throughout.{Throughout, AreCellsAfter, AreLeaksAfter};
@@ -11,10 +11,16 @@ ghost use Rattle.wb_model.specs.Run.{process, run, highest_end, required, rises,
 ghost use Rattle.wb_model.specs.Space.{AreFreeRuns, free_runs};
 ghost use Rattle.wb_model.specs.Sweeps.{run_at, AreAllFine, IsLeastUnfine, least_bad_or_cut};
 ghost use Rattle.wb_model.specs.Texts.{units_of_part};
+ghost use Rattle.wb_model.specs.Destructions.{GoesOnWith};
+ghost use Rattle.wb_model.specs.Meaning.{meaning_of};
+ghost use Rattle.wb_model.specs.Quiet.{is_quiet};
+ghost use Rattle.wb_model.specs.State.{State};
+ghost use Rattle.wb_model.specs.Statements.{Where, destroy_items, destroy_object};
 ghost use Rattle.wb_model.specs.Traces.{asked_for, AreAnsweredLines, TellsSettings};
 ghost use Rattle.wb_model.specs.declared.limits.TheConstants.{CEILING};
 ghost use Rattle.wb_model.specs.declared.heap.Attempt.{Attempt};
 ghost use Rattle.wb_model.specs.declared.heap.Header.{Header};
+ghost use Rattle.wb_model.specs.declared.heap.Ptr.{Ptr};
 ghost use Rattle.wb_model.specs.declared.heap.Rule.{Rule};
 ghost use Rattle.wb_model.specs.declared.heap.Rule.TheVariants.{Unlimited, Limit, Number};
 ghost use Rattle.wb_model.specs.declared.heap.Shape.{Shape};
@@ -119,4 +125,14 @@ pub fn cells_stay_a_row()
 /// The meaning of a piece is its first step, and then the meaning of what that leaves.
 pub fn meaning_unfolds()
     ensures { (script : Script) (budget : ℕ) → Unfolds script budget }
+{}
+
+/// Where no operation and no destructor of a script may do what can leave, the destruction of items, and that of an object, asks
+/// for no attempt, and neither leaves nor returns. It may panic, or be cut at the budget; where it goes on, the items destroyed are
+/// off the cleanup stack, and no others.
+pub fn destructions_never_leave()
+    ensures items { (script : Script) (budget : ℕ) (at : Where) (n : ℕ) (st : State) → IsTrue (is_quiet script) →
+        GoesOnWith (take (length st.items - n) st.items) (meaning_of script budget at (destroy_items n) st) }
+    ensures object { (script : Script) (budget : ℕ) (at : Where) (p : Ptr) (st : State) → IsTrue (is_quiet script) →
+        GoesOnWith st.items (meaning_of script budget at (destroy_object p) st) }
 {}

@@ -52,6 +52,15 @@ pub const NINE_DIGITS: u32 = 999_999_999;
 /// The greatest number of procedures and operations together.
 pub const MOST_PROCEDURES: u32 = 256;
 
+/// The greatest number of classes.
+pub const MOST_CLASSES: u32 = 64;
+
+/// The greatest number of fields of a class.
+pub const MOST_FIELDS: u32 = 16;
+
+/// The greatest number of bytes that objects of a class have behind their fields.
+pub const MOST_EXTRA: u32 = 65_536;
+
 /// The greatest number of parameters of a procedure.
 pub const MOST_PARAMETERS: u32 = 4;
 

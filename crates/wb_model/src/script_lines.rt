@@ -2,14 +2,22 @@
 //! `specs/Keys.antt`.
 
 use crate::items::Items;
-use crate::script::Parameter;
 
 /// What a line is, by the words that say it: the first, and what an `if` asks.
 #[derive(Clone, Copy)]
 pub enum Key {
+    Class,
+    /// A field of no class.
+    Field,
+    /// A field of a class.
+    ClassField,
+    Constructor,
+    Destructor,
     Proc,
     Op,
     Ptr,
+    /// A pointer of a class.
+    ClassPtr,
     Int,
     Buf,
     View,
@@ -21,10 +29,17 @@ pub enum Key {
     AllocLen,
     Store,
     Load,
+    New,
+    NewLeave,
+    Construct,
+    Delete,
     Set,
+    /// A field is set.
+    SetField,
     Null,
     Add,
     Push,
+    PushObj,
     PushOp,
     Pop,
     PopDestroy,
@@ -76,19 +91,25 @@ pub enum Key {
 pub enum Letter {
     /// A name that the line declares.
     Declared,
-    /// The name of a pointer.
+    /// A pointer that is read: its name, or a field.
     Pointer,
+    /// A pointer that the line writes: its name, or a field.
+    Written,
+    /// A pointer local that a call writes: its name, or a field, which isn't right.
+    Receiver,
+    /// A field that a `set` writes.
+    FieldTarget,
     /// A number, or the name of a local that holds one.
     Value,
     /// The name of a local that holds a number.
     Variable,
-    /// What a `set` writes: the name of a pointer, or of a local that holds a number.
+    /// What a `set` writes that is no field: the name of a pointer, or of a local that holds a number.
     Target,
-    /// What a `set` reads: a number, or a name of either kind.
+    /// What such a `set` reads: a number, a name of either kind, or a field.
     Source,
-    /// The greatest length of a text: a number from 0 on.
+    /// The greatest length of a text, or the extra bytes of a class: a number from 0 on.
     Size,
-    /// A text that can be changed: the name of a text of the body's own, or of a pointer to one.
+    /// A text that can be changed: the name of a text of the body's own, or of a pointer to one, or a field.
     Writable,
     /// A text that can be read: the name of one that can be changed or of a view, or a literal.
     Readable,
@@ -96,6 +117,8 @@ pub enum Letter {
     ViewName,
     /// A number, the name of a local that holds one, or a text that can be read.
     Printed,
+    /// The name of a class.
+    Class,
     /// The name of a procedure.
     Procedure,
     /// The name of an operation.
@@ -104,7 +127,7 @@ pub enum Letter {
     Parameter,
     /// The name of the one parameter of an operation, a pointer.
     ItsPointer,
-    /// What a call gives: a number, or the name of a pointer or of a local that holds a number.
+    /// What a call gives: a number, the name of a pointer or of a local that holds a number, or a field.
     Argument,
     /// A word of the line's own.
     Keyword(Keyword),
@@ -119,11 +142,23 @@ pub enum Keyword {
     Less,
 }
 
-/// What something of the script's own space is, and so its body.
+/// What something of the script's own space is.
 #[derive(Clone, Copy)]
 pub enum ItemKind {
+    Class,
     Procedure,
     Operation,
+}
+
+/// What a body is of.
+#[derive(Clone, Copy)]
+pub enum BodyKind {
+    Procedure,
+    Operation,
+    /// The `construct` of a class.
+    Constructor,
+    /// The `destroy` of a class.
+    Destructor,
 }
 
 /// What a word is to the grammar.
@@ -133,6 +168,8 @@ pub enum WordKind {
     NewName,
     /// A name that is used.
     Name,
+    /// A name, a dot, and the name of a field.
+    Field,
     Number,
     /// A number from 0 on.
     Size,
@@ -145,10 +182,20 @@ pub enum WordKind {
     Keyword(Keyword),
 }
 
-/// What a local holds.
+/// What a parameter takes. `N` is the name of a class, or what it stands for.
 #[derive(Clone, Copy)]
-pub enum Kind {
+pub enum Taken<N> {
     Pointer,
+    Number,
+    /// A pointer of a class.
+    OfClass(N),
+}
+
+/// What a local holds. `N` is the name of a class.
+#[derive(Clone, Copy)]
+pub enum Kind<N> {
+    /// A pointer, with its class where it has one.
+    Pointer(Option<N>),
     Number,
     /// A text of its own.
     Buffer,
@@ -159,22 +206,25 @@ pub enum Kind {
 #[derive(Clone, Copy)]
 pub enum Operand<N> {
     Name(N),
+    /// What holds a pointer to an object, and a field of that.
+    Field(N, N),
     Number(i32),
     /// A number where none below 0 is grammatical.
     Size(u32),
     /// Without its quotes.
     Literal(N),
-    /// A parameter's name and kind.
-    Parameter(N, Parameter),
+    /// A parameter's name, and what it takes.
+    Parameter(N, Taken<N>),
     /// A word of the line's own.
     Keyword,
 }
 
-/// What a name or a literal stands for. Locals count from 0 in their body, procedures, operations and literals in the
-/// script.
+/// What a name or a literal stands for. Locals count from 0 in their body, fields in their class, classes, procedures,
+/// operations and literals in the script.
 #[derive(Clone, Copy)]
 pub enum Meant {
-    /// The next one of the procedures, of the operations, or of the locals of the body: the line declares it.
+    /// The next one of the classes, of the procedures, of the operations, of the fields of a class, or of the locals of the
+    /// body: the line declares it.
     Declared(usize),
     /// A local that holds a pointer.
     Pointer(usize),
@@ -184,9 +234,16 @@ pub enum Meant {
     Buffer(usize),
     /// A local that holds a view.
     View(usize),
+    /// `self`, the object that the body is of.
+    This,
     Literal(usize),
+    Class(usize),
     Procedure(usize),
     Operation(usize),
+    /// A field, by its class and its index there.
+    Field(usize, usize),
+    /// The field of something that isn't declared with a class.
+    Classless,
     /// The next parameter of what the line begins: the order of the words tells which.
     Parameter,
     /// Nothing: the name is declared nowhere.
@@ -199,6 +256,10 @@ pub enum Sort {
     Declared,
     /// A local that holds a pointer.
     Pointer,
+    /// `self`.
+    This,
+    /// A field of an object.
+    Field,
     /// A local that holds a number.
     Variable,
     /// A local that holds a text.
@@ -208,11 +269,12 @@ pub enum Sort {
     Number,
     Size,
     Literal,
+    Class,
     Procedure,
     Operation,
     Parameter,
     Keyword,
-    /// A name that is declared nowhere.
+    /// A name that is declared nowhere, or what names a class that is none.
     Nothing,
 }
 

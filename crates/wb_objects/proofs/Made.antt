@@ -17,7 +17,8 @@ use Rattle.wb_model.specs.Rules.{Request}
 use Rattle.wb_model.specs.Heap.{alloc_request, new_cell, after_alloc}
 use Rattle.wb_model.specs.LimitedHeap.{zero_words}
 use Rattle.wb_model.specs.State.{null}
-use Rattle.wb_model.specs.Statements.{class_at, payload_of_object}
+use Rattle.wb_model.specs.Statements.{payload_of_object}
+use Rattle.wb_model.specs.Bodies.{class_at}
 use Rattle.wb_model.specs.Spelling.{fields_in}
 use Rattle.wb_model.specs.ObjectCells.{pointer_words, object_words, IsObject, IsObjectAt}
 use Rattle.wb_model.specs.Debug.{Debug, IsSoundDebug, made_by, answer_in, number_of_next, alloc_made, debug_changed, with_row}

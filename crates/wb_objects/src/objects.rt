@@ -7,7 +7,8 @@ ghost use Rattle.wb_model.specs.Debug.{IsSoundDebug, answer_in};
 ghost use Rattle.wb_model.specs.Heap.{alloc_request};
 ghost use Rattle.wb_model.specs.ObjectCells.{IsObjectAt};
 ghost use Rattle.wb_model.specs.Spelling.{fields_in};
-ghost use Rattle.wb_model.specs.Statements.{class_at, payload_of_object};
+ghost use Rattle.wb_model.specs.Statements.{payload_of_object};
+ghost use Rattle.wb_model.specs.Bodies.{class_at};
 ghost use Rattle.wb_model.specs.Texts.{answer_of};
 ghost use Rattle.wb_objects.specs.Objects.{HasField, IsNewObject, class_found, field_changed, field_of, object_made, words_found};
 

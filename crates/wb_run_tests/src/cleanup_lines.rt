@@ -25,11 +25,10 @@ static READ: [&[u8]; 16] = [
 ];
 
 /// Lines that no script has.
-static NO_LINES: [&[u8]; 23] = [
+static NO_LINES: [&[u8]; 22] = [
     b"push",
     b"push 0",
     b"push \"p\"",
-    b"push self",
     b"push p q",
     b"push p 1",
     b"Push p",

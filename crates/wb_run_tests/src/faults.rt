@@ -17,7 +17,7 @@ static FOREIGN_BYTES: [Judged; 7] = [
 ];
 
 /// Lines that no script has where they stand, and words of a wrong form.
-static MISPLACED: [Judged; 35] = [
+static MISPLACED: [Judged; 33] = [
     // Only an `end` is missing: the number of all lines plus 1.
     (b"proc main", Some(Grammar { line: 2 })),
     (b"proc main\n", Some(Grammar { line: 2 })),
@@ -41,7 +41,6 @@ static MISPLACED: [Judged; 35] = [
     ),
     (b"proc main\nprint \"\t\"\nend", Some(Grammar { line: 2 })),
     (b"proc main\nfree\nend", Some(Grammar { line: 2 })),
-    (b"proc main\nfree self\nend", Some(Grammar { line: 2 })),
     (b"proc null\nend", Some(Grammar { line: 1 })),
     (b"proc some\nend", Some(Grammar { line: 1 })),
     (b"proc eq\nend", Some(Grammar { line: 1 })),
@@ -85,15 +84,22 @@ static MISPLACED: [Judged; 35] = [
     // An `int` is a declaration; what a `set` writes has a name.
     (b"proc main\nmark\nint x\nend", Some(Grammar { line: 3 })),
     (b"proc main\nint x\nset 3 x\nend", Some(Grammar { line: 3 })),
-    (
-        b"proc main\nint x\nset x self\nend",
-        Some(Grammar { line: 3 }),
-    ),
     (b"proc main\nmarkend\nend", Some(Grammar { line: 2 })),
 ];
 
 /// Names that are declared nowhere, or twice.
-static NAMES: [Judged; 16] = [
+static NAMES: [Judged; 21] = [
+    (b"proc main\nfree self\nend", Some(UnknownName { line: 2 })),
+    (b"proc main\nprint self\nend", Some(UnknownName { line: 2 })),
+    (b"proc main\npush self\nend", Some(UnknownName { line: 2 })),
+    (
+        b"proc main\nptr p\nalloc p self\nend",
+        Some(UnknownName { line: 3 }),
+    ),
+    (
+        b"proc main\nint x\nset x self\nend",
+        Some(UnknownName { line: 3 }),
+    ),
     (b"proc main\nfree null\nend", Some(UnknownName { line: 2 })),
     (
         b"proc a\nptr p\nend\nproc main\nfree p\nend",

@@ -112,7 +112,7 @@ static WORDS: [&[u8]; 13] = [
 ];
 
 /// Lines on cells and numbers that no script has.
-static NO_LINES: [&[u8]; 48] = [
+static NO_LINES: [&[u8]; 45] = [
     b"end # done",
     b"End",
     b"ends",
@@ -120,7 +120,6 @@ static NO_LINES: [&[u8]; 48] = [
     b"alloc p",
     b"alloc p 1n",
     b"alloc p \"4\"",
-    b"alloc p self",
     b"store p 1",
     b"store p 1 2 3",
     b"store 0 1 2",
@@ -136,8 +135,6 @@ static NO_LINES: [&[u8]; 48] = [
     b"ptr ptr",
     b"ptr int",
     b"ptr null",
-    b"free self",
-    b"print self",
     b"print p q",
     b"int",
     b"int int",

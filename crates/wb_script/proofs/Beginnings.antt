@@ -1,58 +1,89 @@
--- The line that begins a procedure.
-use Rattle.std.specs.Prelude.{replicate}
-use Rattle.wb_model.specs.declared.script.Local.{Local}
-use Rattle.wb_model.specs.declared.script_lines.Letter.TheVariants as letter
-use Rattle.wb_script.specs.Fitting.{letters_fit}
-use Rattle.std.proofs.Common.{◌≡◌, ℕ, refl, ap, List, [], ◌∷◌, suc, length, map, Some, None, IsTrue}
+-- The parameters that operands declare, and the body behind a first line that has them.
+use Rattle.std.proofs.Common.{◌≡◌, refl, sym, ap, subst, ◌∙◌, ℕ, suc, ◌≤◌, List, [], ◌∷◌, ◌++◌, length, map, Option, Some, None, true, IsTrue, append-nil, arith}
 use Rattle.std.specs.List.{list_all, flat_map}
-use Rattle.wb_model.specs.declared.script.Parameter.TheVariants as kinds
+use Rattle.std.proofs.lemmas.Grind.{flat_map-append}
+use Rattle.std.proofs.lemmas.List.{length-map, map-append}
+use Rattle.std.proofs.lemmas.List.Folds.{list_all-append}
+use Rattle.wb_model.specs.declared.script.Parameter as model
+use Rattle.wb_model.specs.declared.script.Parameter.TheVariants as parameter
 use Rattle.wb_model.specs.declared.script_lines.Meant.{Meant}
 use Rattle.wb_model.specs.declared.script_lines.Meant.TheVariants as meant
 use Rattle.wb_model.specs.declared.script_lines.Operand.{Operand}
-use Rattle.wb_model.specs.declared.script_lines.Operand.TheVariants.{Name, Parameter}
-use Rattle.wb_model.specs.Names.{kind_passed}
-use Rattle.wb_model.specs.Sound.{is_parameter, is_local, local_of_parameter}
+use Rattle.wb_model.specs.declared.script_lines.Operand.TheVariants.{Parameter}
+use Rattle.wb_model.specs.declared.script_lines.Taken.TheVariants as taken
+use Rattle.wb_model.specs.Names.{taken_by}
+use Rattle.wb_model.specs.Sound.{Declared, is_local, is_parameter, local_of_parameter}
 use Rattle.wb_model.specs.Trees.{all_spelled, and_operand, parameter_operand}
-use Rattle.wb_script.specs.Growing.{is_parameter_operand}
+use Rattle.wb_script.specs.Building.{parameter_taking}
+use Rattle.wb_script.specs.Growing.{IsSoundOpen, are_parameters, is_parameter_operand, new_body, parameters_taken}
+use Rattle.wb_script.proofs.Tests.{parts, together}
 
--- parameters are spelled by their operands, and are sound
-pub spelled_parameters : (operands : List (Operand Meant)) → IsTrue (list_all is_parameter_operand operands) → all_spelled (map parameter_operand (flat_map kind_passed operands)) ≡ Some operands
-spelled_parameters [] is = refl
-spelled_parameters (Parameter meant.Parameter (kinds.OfPointer None) ∷ operands) is = ap (and_operand (Some (Parameter meant.Parameter (kinds.OfPointer None)))) (spelled_parameters operands is)
-spelled_parameters (Parameter meant.Parameter kinds.OfNumber ∷ operands) is = ap (and_operand (Some (Parameter meant.Parameter kinds.OfNumber))) (spelled_parameters operands is)
-spelled_parameters (_ ∷ operands) is = let clash : ⊥ = cc in absurd clash
+-- one more operand
+pub taken_more : (operands : List (Operand Meant)) (operand : Operand Meant) → parameters_taken (operands ++ operand ∷ []) ≡ parameters_taken operands ++ parameters_taken (operand ∷ [])
+taken_more operands operand =
+    ap (map parameter_taking) (flat_map-append taken_by operands (operand ∷ []))
+    ∙ map-append parameter_taking (flat_map taken_by operands) (flat_map taken_by (operand ∷ []))
 
-pub sound_parameters : (operands : List (Operand Meant)) → IsTrue (list_all is_parameter_operand operands) → IsTrue (list_all is_parameter (flat_map kind_passed operands))
-sound_parameters [] is = refl
-sound_parameters (Parameter meant.Parameter (kinds.OfPointer None) ∷ operands) is = sound_parameters operands is
-sound_parameters (Parameter meant.Parameter kinds.OfNumber ∷ operands) is = sound_parameters operands is
-sound_parameters (_ ∷ operands) is = let clash : ⊥ = cc in absurd clash
+pub all_more : (classes : ℕ) (operands : List (Operand Meant)) (operand : Operand Meant) → are_parameters classes operands ≡ true → is_parameter_operand classes operand ≡ true → are_parameters classes (operands ++ operand ∷ []) ≡ true
+all_more classes operands operand all one =
+    list_all-append (is_parameter_operand classes) operands (operand ∷ []) ∙ together _ _ all (together _ true one refl)
 
-pub sound_locals : (operands : List (Operand Meant)) → IsTrue (list_all is_parameter_operand operands) → IsTrue (list_all is_local (map local_of_parameter (flat_map kind_passed operands)))
-sound_locals [] is = refl
-sound_locals (Parameter meant.Parameter (kinds.OfPointer None) ∷ operands) is = sound_locals operands is
-sound_locals (Parameter meant.Parameter kinds.OfNumber ∷ operands) is = sound_locals operands is
-sound_locals (_ ∷ operands) is = let clash : ⊥ = cc in absurd clash
+-- what one operand declares, is spelled by it, and is sound
+pub record IsOne (classes : ℕ) (operand : Operand Meant) : Type 0 where
+  pub one : model.Parameter
+  pub taken_is : parameters_taken (operand ∷ []) ≡ one ∷ []
+  pub spelled : parameter_operand one ≡ Some operand
+  pub sound : IsTrue (is_parameter classes one)
 
-pub as_many : (operands : List (Operand Meant)) → IsTrue (list_all is_parameter_operand operands) → length (flat_map kind_passed operands) ≡ length operands
-as_many [] is = refl
-as_many (Parameter meant.Parameter (kinds.OfPointer None) ∷ operands) is = ap suc (as_many operands is)
-as_many (Parameter meant.Parameter kinds.OfNumber ∷ operands) is = ap suc (as_many operands is)
-as_many (_ ∷ operands) is = let clash : ⊥ = cc in absurd clash
+one_of : (classes : ℕ) (operand : Operand Meant) → is_parameter_operand classes operand ≡ true → IsOne classes operand
+one_of classes (Parameter meant.Parameter taken.Pointer) is = record { one = parameter.OfPointer None; taken_is = refl; spelled = refl; sound = refl }
+one_of classes (Parameter meant.Parameter taken.Number) is = record { one = parameter.OfNumber; taken_is = refl; spelled = refl; sound = refl }
+one_of classes (Parameter meant.Parameter (taken.OfClass (meant.Class class))) is = record { one = parameter.OfPointer (Some class); taken_is = refl; spelled = refl; sound = is }
+one_of classes _ is = cc
 
--- where the letters of parameters fit, there are parameters alone
-pub fit_parameters : (literals : ℕ) (locals : List Local) (operands : List (Operand Meant)) → IsTrue (letters_fit literals locals (replicate (length operands) letter.Parameter) operands) → IsTrue (list_all is_parameter_operand operands)
-fit_parameters literals locals [] is = refl
-fit_parameters literals locals (Parameter meant.Parameter (kinds.OfPointer None) ∷ operands) is = fit_parameters literals locals operands is
-fit_parameters literals locals (Parameter meant.Parameter kinds.OfNumber ∷ operands) is = fit_parameters literals locals operands is
-fit_parameters literals locals (Name (meant.Declared i) ∷ operands) is = let clash : ⊥ = cc in absurd clash
-fit_parameters literals locals (Name (meant.Pointer i) ∷ operands) is = let clash : ⊥ = cc in absurd clash
-fit_parameters literals locals (Name (meant.Number i) ∷ operands) is = let clash : ⊥ = cc in absurd clash
-fit_parameters literals locals (Name (meant.Buffer i) ∷ operands) is = let clash : ⊥ = cc in absurd clash
-fit_parameters literals locals (Name (meant.View i) ∷ operands) is = let clash : ⊥ = cc in absurd clash
-fit_parameters literals locals (Name (meant.Literal i) ∷ operands) is = let clash : ⊥ = cc in absurd clash
-fit_parameters literals locals (Name (meant.Procedure i) ∷ operands) is = let clash : ⊥ = cc in absurd clash
-fit_parameters literals locals (Name (meant.Operation i) ∷ operands) is = let clash : ⊥ = cc in absurd clash
-fit_parameters literals locals (Name meant.Parameter ∷ operands) is = let clash : ⊥ = cc in absurd clash
-fit_parameters literals locals (Name meant.Nothing ∷ operands) is = let clash : ⊥ = cc in absurd clash
-fit_parameters literals locals (_ ∷ operands) is = let clash : ⊥ = cc in absurd clash
+split_first : (operand : Operand Meant) (operands : List (Operand Meant)) → parameters_taken (operand ∷ operands) ≡ parameters_taken (operand ∷ []) ++ parameters_taken operands
+split_first operand operands =
+    ap (map parameter_taking) (flat_map-append taken_by (operand ∷ []) operands)
+    ∙ map-append parameter_taking (flat_map taken_by (operand ∷ [])) (flat_map taken_by operands)
+
+-- parameters are spelled by their operands, are sound, and as many
+pub record AreSpelled (classes : ℕ) (operands : List (Operand Meant)) : Type 0 where
+  pub spelled : all_spelled (map parameter_operand (parameters_taken operands)) ≡ Some operands
+  pub sound : IsTrue (list_all (is_parameter classes) (parameters_taken operands))
+  pub many : length (parameters_taken operands) ≡ length operands
+
+pub spelled_parameters : (classes : ℕ) (operands : List (Operand Meant)) → are_parameters classes operands ≡ true → AreSpelled classes operands
+spelled_parameters classes [] is = record { spelled = refl; sound = refl; many = refl }
+spelled_parameters classes (operand ∷ operands) is =
+    let (here, rest) = parts (is_parameter_operand classes operand) (are_parameters classes operands) is in
+    let one = one_of classes operand here in
+    let more = spelled_parameters classes operands rest in
+    let list : parameters_taken (operand ∷ operands) ≡ one.one ∷ parameters_taken operands = split_first operand operands ∙ ap (λ l. l ++ parameters_taken operands) one.taken_is in
+    record {
+      spelled =
+          ap (λ l. all_spelled (map parameter_operand l)) list
+          ∙ ap (λ o. and_operand o (all_spelled (map parameter_operand (parameters_taken operands)))) one.spelled
+          ∙ ap (and_operand (Some operand)) more.spelled;
+      sound = subst (λ l. IsTrue (list_all (is_parameter classes) l)) (sym list) (together _ _ one.sound more.sound);
+      many = ap length list ∙ ap suc more.many;
+    }
+
+-- the locals of sound parameters are sound
+one_local : (classes : ℕ) (p : model.Parameter) → is_local classes (local_of_parameter p) ≡ is_parameter classes p
+one_local classes (parameter.OfPointer class) = refl
+one_local classes parameter.OfNumber = refl
+
+sound_locals : (classes : ℕ) (ps : List model.Parameter) → list_all (is_parameter classes) ps ≡ true → list_all (is_local classes) (map local_of_parameter ps) ≡ true
+sound_locals classes [] is = refl
+sound_locals classes (p ∷ ps) is =
+    let (here, rest) = parts (is_parameter classes p) (list_all (is_parameter classes) ps) is in
+    together _ _ (one_local classes p ∙ here) (sound_locals classes ps rest)
+
+-- the body behind its first line
+pub new_sound : (declared : Declared) (this : Option ℕ) (ps : List model.Parameter) → IsTrue (list_all (is_parameter (length declared.fields)) ps) → length ps ≤ 4 → IsSoundOpen declared (new_body this ps)
+new_sound declared this ps sound few = record {
+  scope = sym (append-nil (map local_of_parameter ps));
+  locals = sound_locals (length declared.fields) ps sound;
+  most = omega (arith, few, length-map ps local_of_parameter);
+  nest = refl;
+}

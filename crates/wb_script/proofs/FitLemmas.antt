@@ -1,9 +1,9 @@
 -- Operands with indexes for names fit where they are of the sorts that their letters take.
-use Rattle.std.proofs.Common.{◌≡◌, ℤ, pos, negsuc, refl, sym, ap, ◌∙◌, ℕ, zero, suc, replicate, take, ◌-◌, ◌+◌, ◌<◌, ◌≤◌, List, [], ◌∷◌, Bool, true, false, ◌&&◌, nat_lt, length, map, Option, Some, None, length-append, arith}
+use Rattle.std.proofs.Common.{◌≡◌, ℤ, pos, negsuc, refl, sym, ap, ◌∙◌, ℕ, zero, suc, replicate, take, ◌-◌, ◌+◌, ◌<◌, ◌≤◌, List, [], ◌∷◌, Bool, true, false, not, ◌&&◌, ◌||◌, nat_eq, nat_lt, length, map, Option, Some, None, length-append, arith}
 use Rattle.std.specs.Prelude.{slice_get, if◌then◌else◌}
 use Rattle.std.specs.Option.{option_map}
 use Rattle.std.specs.List.{list_any, list_all, flat_map}
-use Rattle.std.proofs.lemmas.Option.{slice_get-map, slice_get_within}
+use Rattle.std.proofs.lemmas.Option.{slice_get-map}
 use Rattle.std.proofs.lemmas.Bool.Decides.{nat_tests}
 use Rattle.wb_model.specs.declared.script_lines.Key.{Key}
 use Rattle.wb_model.specs.declared.script_lines.Key.TheVariants as key
@@ -16,47 +16,62 @@ use Rattle.wb_model.specs.declared.script_lines.Letter.TheVariants as letter
 use Rattle.wb_model.specs.declared.script_lines.Meant.{Meant}
 use Rattle.wb_model.specs.declared.script_lines.Meant.TheVariants as meant
 use Rattle.wb_model.specs.declared.script_lines.Operand.{Operand}
-use Rattle.wb_model.specs.declared.script_lines.Operand.TheVariants.{Name, Number, Size, Literal, Parameter, Keyword}
+use Rattle.wb_model.specs.declared.script_lines.Operand.TheVariants.{Name, Field, Number, Size, Literal, Parameter, Keyword}
+use Rattle.wb_model.specs.declared.script_lines.Taken.{Taken}
+use Rattle.wb_model.specs.declared.script_lines.Taken.TheVariants as taken
+use Rattle.wb_model.specs.declared.script_lines.Sort.TheVariants as sort
 use Rattle.wb_model.specs.declared.script_lines.ItemKind.{ItemKind}
 use Rattle.wb_model.specs.declared.script_lines.ItemKind.TheVariants as item
-use Rattle.wb_model.specs.declared.script_lines.Form.TheVariants.{Line}
-use Rattle.wb_model.specs.declared.script.Parameter as model
-use Rattle.wb_model.specs.declared.script.Parameter.TheVariants as parameter
 use Rattle.wb_model.specs.declared.script.Local.{Local}
 use Rattle.wb_model.specs.declared.script.Local.TheVariants.{OfPointer, OfNumber, OfBuffer, OfView}
 use Rattle.wb_model.specs.declared.script.Number.TheVariants.{Constant}
-use Rattle.wb_model.specs.Keys.{letters_for, word_kinds}
-use Rattle.wb_model.specs.Kinds.{is_right, are_right, sides_agree, arguments_agree, is_given, are_given, is_given_to, call_agrees, is_right_line}
-use Rattle.wb_model.specs.Names.{Text, Known, Item, names_of, is_same_kind, signatures_among, count_among, literal_text, literals_in, first_declaration_of}
-use Rattle.wb_model.specs.Resolved.{local_meant, meant_at, kind_meant, item_behind, item_at, item_meant, name_meant, resolved_operand, resolved_operands, resolved_line}
-use Rattle.wb_model.specs.Sound.{is_pointer_local, is_number_local, is_buffer_local, is_view_local, is_number, is_parameter, Declared}
-use Rattle.wb_script.specs.Fitting.{is_local_there, is_there, operand_fits, letters_fit, sides_fit, argument_fits, arguments_fit, fit_signature, call_fits, is_operation_there, item_fits, operands_fit}
+use Rattle.wb_model.specs.Keys.{letters_for, word_kinds, takes}
+use Rattle.wb_model.specs.Kinds.{sort_of_field, sort_of_class, sort_taken, is_right, are_right, is_given, are_given, is_given_to, is_outside}
+use Rattle.wb_model.specs.Names.{Text, Known, Item, names_of, of_kind, item_of_kind, count_among, literal_text, first_declaration_of}
+use Rattle.wb_model.specs.Resolved.{local_meant, meant_at, has_this, is_this, this_meant, own_meant, kind_meant, item_behind, item_at, item_meant, class_if_named, class_of_kind, class_of_local, class_of_this, class_of_base, fields_of_item, fields_of_class, field_at, field_meant, name_meant, resolved_taken, resolved_operand, resolved_operands}
+use Rattle.wb_model.specs.Sound.{Scope, Declared, is_pointer_local, is_number_local, is_buffer_local, is_view_local, is_class, is_index, is_number}
+use Rattle.wb_model.specs.Sound as sound
+use Rattle.wb_script.specs.Fitting.{is_name_there, is_field_there, is_taken_there, is_there, operand_fits, letters_fit, argument_fits, arguments_fit, fit_signature, is_operation_there}
+use Rattle.wb_script.specs.Lent.{parameter_named, signatures_among, fields_among}
 use Rattle.wb_script.specs.Typed.{is_short, is_word_of, is_operand, are_operands}
+use Rattle.wb_script.proofs.KindCounts.{as_many_classes}
 use Rattle.wb_script.proofs.TypedLemmas.{both, either_first}
+use Rattle.wb_script.proofs.FoundItems.{place_within, index_within}
 
-abbrev pub kind_held : Local → Kind
-kind_held (OfPointer class) = kind.Pointer
+-- what a local holds
+abbrev pub kind_held : Local → Kind ℕ
+kind_held (OfPointer class) = kind.Pointer class
 kind_held OfNumber = kind.Number
 kind_held (OfBuffer max) = kind.Buffer
 kind_held OfView = kind.View
 
+-- what a local holds, where classes have their indexes among items
+abbrev pub kind_known : List Item → Kind Text → Kind ℕ
+kind_known items (kind.Pointer class) = kind.Pointer (class_if_named items class)
+kind_known items kind.Number = kind.Number
+kind_known items kind.Buffer = kind.Buffer
+kind_known items kind.View = kind.View
+
 below_test : (a b : ℕ) → a < b → nat_lt a b ≡ true
 below_test a b lt = grind (arith, nat_tests)
+
+same_test : (a : ℕ) → nat_eq a a ≡ true
+same_test a = grind (arith, nat_tests)
 
 pub both_hold : (a b : Bool) → a ≡ true → b ≡ true → (a && b) ≡ true
 both_hold true b here there = there
 both_hold false b here there = let clash : ⊥ = cc in absurd clash
 
-never : (a : Bool) → (a && false) ≡ true → ⊥
+pub never : (a : Bool) → (a && false) ≡ true → ⊥
 never true e = cc
 never false e = cc
 
 -- operands fit only where there are as many as letters
-pub counts_differ : (literals : ℕ) (locals : List Local) (letters : List Letter) (operands : List (Operand Meant)) → (length letters ≡ length operands → ⊥) → letters_fit literals locals letters operands ≡ false
-counts_differ literals locals [] [] differ = absurd (differ refl)
-counts_differ literals locals [] (o ∷ os) differ = refl
-counts_differ literals locals (at ∷ letters) [] differ = refl
-counts_differ literals locals (at ∷ letters) (o ∷ os) differ = neither (operand_fits literals locals at o) (letters_fit literals locals letters os) (counts_differ literals locals letters os (λ e. differ (ap suc e)))
+pub counts_differ : (literals : ℕ) (scope : Scope) (letters : List Letter) (operands : List (Operand Meant)) → (length letters ≡ length operands → ⊥) → letters_fit literals scope letters operands ≡ false
+counts_differ literals scope [] [] differ = absurd (differ refl)
+counts_differ literals scope [] (o ∷ os) differ = refl
+counts_differ literals scope (at ∷ letters) [] differ = refl
+counts_differ literals scope (at ∷ letters) (o ∷ os) differ = neither (operand_fits literals scope at o) (letters_fit literals scope letters os) (counts_differ literals scope letters os (λ e. differ (ap suc e)))
   where
     neither : (a b : Bool) → b ≡ false → (a && b) ≡ false
     neither true b e = e
@@ -72,106 +87,76 @@ short_of [] z is = let clash : ⊥ = cc in absurd clash
 short_of (word.Number ∷ kinds) z is = either_first (is_short z) (list_any (is_word_of (Number z)) kinds) (short_of kinds z) is
 short_of (_ ∷ kinds) z is = short_of kinds z is
 
--- and a parameter has no class
-sound_parameter : (kinds : List WordKind) (name : Text) (p : model.Parameter) → list_any (is_word_of (Parameter name p)) kinds ≡ true → is_parameter p ≡ true
-sound_parameter [] name p is = let clash : ⊥ = cc in absurd clash
-sound_parameter (word.Parameter ∷ kinds) name p is = either_first (is_parameter p) (list_any (is_word_of (Parameter name p)) kinds) (sound_parameter kinds name p) is
-sound_parameter (word.NewPointer ∷ kinds) name (parameter.OfPointer None) is = refl
-sound_parameter (word.NewPointer ∷ kinds) name (parameter.OfPointer (Some class)) is = sound_parameter kinds name (parameter.OfPointer (Some class)) is
-sound_parameter (word.NewPointer ∷ kinds) name parameter.OfNumber is = sound_parameter kinds name parameter.OfNumber is
-sound_parameter (_ ∷ kinds) name p is = sound_parameter kinds name p is
-
-used_there : (locals : List Local) (place : Option ℕ) → is_local_there locals (meant_at (map kind_held locals) place) ≡ true
-used_there locals None = refl
-used_there locals (Some i) = ap (λ o. is_local_there locals (local_meant i o)) (slice_get-map kind_held locals i) ∙ go (slice_get locals i) refl
-  where
-    go : (o : Option Local) → slice_get locals i ≡ o → is_local_there locals (local_meant i (option_map kind_held o)) ≡ true
-    go (Some (OfPointer class)) is = ap is_pointer_local is
-    go (Some OfNumber) is = ap is_number_local is
-    go (Some (OfBuffer max)) is = ap is_buffer_local is
-    go (Some OfView) is = ap is_view_local is
-    go None is = refl
-
-item_there : (locals : List Local) (items : List Item) (name : Text) → is_local_there locals (item_meant items name) ≡ true
-item_there locals items name = found (first_declaration_of (names_of items) name)
-  where
-    of_kind : (kind : ItemKind) (index : ℕ) → is_local_there locals (kind_meant kind index) ≡ true
-    of_kind item.Procedure index = refl
-    of_kind item.Operation index = refl
-
-    behind : (before : List Item) (o : Option Item) → is_local_there locals (item_behind before o) ≡ true
-    behind before None = refl
-    behind before (Some i) = of_kind i.kind (count_among i.kind before)
-
-    found : (place : Option ℕ) → is_local_there locals (item_at items place) ≡ true
-    found None = refl
-    found (Some index) = behind (take index items) (slice_get items index)
-
--- an argument that is given fits
-argument_fits_given : (literals : ℕ) (locals : List Local) (p : model.Parameter) (operand : Operand Meant) → is_given p operand ≡ true → is_there literals locals operand ≡ true → argument_fits literals locals p operand ≡ true
-argument_fits_given literals locals (parameter.OfPointer class) operand right there = both_hold _ _ right there
-argument_fits_given literals locals parameter.OfNumber operand right there = both_hold _ _ right there
-
-arguments_fit_given : (literals : ℕ) (locals : List Local) (ps : List model.Parameter) (operands : List (Operand Meant)) → are_given ps operands ≡ true → list_all (is_there literals locals) operands ≡ true → arguments_fit literals locals ps operands ≡ true
-arguments_fit_given literals locals [] [] right there = refl
-arguments_fit_given literals locals [] (o ∷ os) right there = let clash : ⊥ = cc in absurd clash
-arguments_fit_given literals locals (p ∷ ps) [] right there = let clash : ⊥ = cc in absurd clash
-arguments_fit_given literals locals (p ∷ ps) (o ∷ os) right there =
-    let (right_here, right_rest) = both (is_given p o) (are_given ps os) right in
-    let (there_here, there_rest) = both (is_there literals locals o) (list_all (is_there literals locals) os) there in
-    both_hold _ _ (argument_fits_given literals locals p o right_here there_here) (arguments_fit_given literals locals ps os right_rest there_rest)
-
 -- what the statements of a script with these items may name
 abbrev pub declared_among : ℕ → List Item → Declared
 declared_among literals items = record {
   literals = literals;
-  signatures = signatures_among item.Procedure items;
+  fields = fields_among items;
+  signatures = signatures_among items;
   operations = count_among item.Operation items;
 }
 
--- and so does a call of a procedure with a signature
-signature_fits : (literals : ℕ) (locals : List Local) (signature : Option (List model.Parameter)) (operands : List (Operand Meant)) → is_given_to signature operands ≡ true → list_all (is_there literals locals) operands ≡ true →
-    fit_signature literals locals signature operands ≡ true
-signature_fits literals locals (Some parameters) operands right there = arguments_fit_given literals locals parameters operands right there
-signature_fits literals locals None operands right there = let clash : ⊥ = cc in absurd clash
-
-same_as_itself : (kind : ItemKind) → is_same_kind kind kind ≡ true
-same_as_itself item.Procedure = refl
-same_as_itself item.Operation = refl
-
--- the parameters of an item stand among those of its kind, behind the ones of the items before it
-pub signature_here : (kind : ItemKind) (items : List Item) (n : ℕ) (i : Item) → slice_get items n ≡ Some i → is_same_kind i.kind kind ≡ true → slice_get (signatures_among kind items) (count_among kind (take n items)) ≡ Some i.parameters
-signature_here kind [] n i is same = let clash : ⊥ = cc in absurd clash
-signature_here kind (x ∷ xs) zero i is same =
-    let here : x ≡ i = cc in
-    ap (λ (b : Bool). slice_get (if b then (x.parameters ∷ signatures_among kind xs) else signatures_among kind xs) 0) (ap (λ (y : Item). is_same_kind y.kind kind) here ∙ same)
-    ∙ ap (λ (y : Item). Some y.parameters) here
-signature_here kind (x ∷ xs) (suc n) i is same = go (is_same_kind x.kind kind) (signature_here kind xs n i is same)
-  where
-    go : (b : Bool) → slice_get (signatures_among kind xs) (count_among kind (take n xs)) ≡ Some i.parameters →
-        slice_get (if b then (x.parameters ∷ signatures_among kind xs) else signatures_among kind xs) (length (if b then (x.parameters ∷ signatures_among kind (take n xs)) else signatures_among kind (take n xs))) ≡ Some i.parameters
-    go true later = later
-    go false later = later
-
 -- a name of an operation is that of one that the script has
-operation_there : (literals : ℕ) (items : List Item) (name : Text) → is_right letter.Operation (Name (item_meant items name)) ≡ true → is_operation_there (declared_among literals items) (Name (item_meant items name)) ≡ true
+pub operation_there : (literals : ℕ) (items : List Item) (name : Text) → is_right letter.Operation (Name (item_meant items name)) ≡ true → is_operation_there (declared_among literals items) (Name (item_meant items name)) ≡ true
 operation_there literals items name = found (first_declaration_of (names_of items) name)
   where
-    of_kind : (kind : ItemKind) (index : ℕ) → index < count_among kind items → is_right letter.Operation (Name (kind_meant kind index)) ≡ true → is_operation_there (declared_among literals items) (Name (kind_meant kind index)) ≡ true
-    of_kind item.Procedure index lt right = let clash : ⊥ = cc in absurd clash
-    of_kind item.Operation index lt right = below_test index (count_among item.Operation items) lt
+    by_kind : (kind : ItemKind) (index : ℕ) → index < count_among kind items → is_right letter.Operation (Name (kind_meant kind index)) ≡ true → is_operation_there (declared_among literals items) (Name (kind_meant kind index)) ≡ true
+    by_kind item.Class index lt right = let clash : ⊥ = cc in absurd clash
+    by_kind item.Procedure index lt right = let clash : ⊥ = cc in absurd clash
+    by_kind item.Operation index lt right = below_test index (count_among item.Operation items) lt
 
     behind : (before : List Item) (o : Option Item) → ((i : Item) → o ≡ Some i → count_among i.kind before < count_among i.kind items) → is_right letter.Operation (Name (item_behind before o)) ≡ true →
         is_operation_there (declared_among literals items) (Name (item_behind before o)) ≡ true
     behind before None lt right = let clash : ⊥ = cc in absurd clash
-    behind before (Some i) lt right = of_kind i.kind (count_among i.kind before) (lt i refl) right
+    behind before (Some i) lt right = by_kind i.kind (count_among i.kind before) (lt i refl) right
 
     found : (place : Option ℕ) → is_right letter.Operation (Name (item_at items place)) ≡ true → is_operation_there (declared_among literals items) (Name (item_at items place)) ≡ true
     found None right = let clash : ⊥ = cc in absurd clash
-    found (Some index) right =
-        behind (take index items) (slice_get items index)
-        (λ i is. slice_get_within (signatures_among i.kind items) (count_among i.kind (take index items)) i.parameters (signature_here i.kind items index i is (same_as_itself i.kind)))
-        right
+    found (Some index) right = behind (take index items) (slice_get items index) (index_within items index) right
+
+-- what a name of the script's own space stands for is there
+item_there : (scope : Scope) (items : List Item) → length scope.fields ≡ count_among item.Class items → (name : Text) → is_name_there scope (item_meant items name) ≡ true
+item_there scope items many name = found (first_declaration_of (names_of items) name)
+  where
+    by_kind : (kind : ItemKind) (index : ℕ) → index < count_among kind items → is_name_there scope (kind_meant kind index) ≡ true
+    by_kind item.Class index lt = below_test index (length scope.fields) (omega (arith, lt, many))
+    by_kind item.Procedure index lt = refl
+    by_kind item.Operation index lt = refl
+
+    behind : (before : List Item) (o : Option Item) → ((i : Item) → o ≡ Some i → count_among i.kind before < count_among i.kind items) → is_name_there scope (item_behind before o) ≡ true
+    behind before None lt = refl
+    behind before (Some i) lt = by_kind i.kind (count_among i.kind before) (lt i refl)
+
+    found : (place : Option ℕ) → is_name_there scope (item_at items place) ≡ true
+    found None = refl
+    found (Some index) = behind (take index items) (slice_get items index) (index_within items index)
+
+-- an argument that is given fits
+argument_fits_given : (literals : ℕ) (scope : Scope) (items : List Item) (p : Taken Text) (operand : Operand Meant) → is_given p operand ≡ true → is_there literals scope operand ≡ true → argument_fits literals scope (parameter_named items p) operand ≡ true
+argument_fits_given literals scope items taken.Pointer operand right there = both_hold _ _ right there
+argument_fits_given literals scope items taken.Number operand right there = both_hold _ _ right there
+argument_fits_given literals scope items (taken.OfClass class) operand right there = both_hold _ _ right there
+
+arguments_fit_given : (literals : ℕ) (scope : Scope) (items : List Item) (ps : List (Taken Text)) (operands : List (Operand Meant)) → are_given ps operands ≡ true → list_all (is_there literals scope) operands ≡ true →
+    arguments_fit literals scope (map (parameter_named items) ps) operands ≡ true
+arguments_fit_given literals scope items [] [] right there = refl
+arguments_fit_given literals scope items [] (o ∷ os) right there = let clash : ⊥ = cc in absurd clash
+arguments_fit_given literals scope items (p ∷ ps) [] right there = let clash : ⊥ = cc in absurd clash
+arguments_fit_given literals scope items (p ∷ ps) (o ∷ os) right there =
+    let (right_here, right_rest) = both (is_given p o) (are_given ps os) right in
+    let (there_here, there_rest) = both (is_there literals scope o) (list_all (is_there literals scope) os) there in
+    both_hold _ _ (argument_fits_given literals scope items p o right_here there_here) (arguments_fit_given literals scope items ps os right_rest there_rest)
+
+-- and so does a call of a procedure with a signature
+pub signature_fits : (literals : ℕ) (scope : Scope) (items : List Item) (index : ℕ) (operands : List (Operand Meant)) → is_given_to (item_of_kind item.Procedure items index) operands ≡ true → list_all (is_there literals scope) operands ≡ true →
+    fit_signature literals scope (slice_get (signatures_among items) index) operands ≡ true
+signature_fits literals scope items index operands right there =
+    ap (λ o. fit_signature literals scope o operands) (slice_get-map (λ (i : Item). map (parameter_named items) i.parameters) (of_kind item.Procedure items) index)
+    ∙ go (item_of_kind item.Procedure items index) right
+  where
+    go : (o : Option Item) → is_given_to o operands ≡ true → fit_signature literals scope (option_map (λ (i : Item). map (parameter_named items) i.parameters) o) operands ≡ true
+    go (Some i) right = arguments_fit_given literals scope items i.parameters operands right there
+    go None right = let clash : ⊥ = cc in absurd clash
 
 -- as many as before
 pub resolved_many : (own : List Item) (known : Known) (key : Key) (letters : List Letter) (operands : List (Operand Text)) → are_operands letters operands ≡ true → length (resolved_operands own known key letters operands) ≡ length operands
@@ -180,142 +165,196 @@ resolved_many own known key [] (o ∷ os) typed = let clash : ⊥ = cc in absurd
 resolved_many own known key (at ∷ letters) [] typed = refl
 resolved_many own known key (at ∷ letters) (o ∷ os) typed = ap suc (resolved_many own known key letters os (both (is_operand at o) (are_operands letters os) typed).1)
 
-module _ (literals : ℕ) (items : List Item) (known : Known) (locals : List Local) (kinds_are : known.kinds ≡ map kind_held locals) (own : Key) where
-  meant_there : (name : Text) → is_local_there locals (meant_at known.kinds (first_declaration_of known.locals name)) ≡ true
-  meant_there name = ap (λ k. is_local_there locals (meant_at k (first_declaration_of known.locals name))) kinds_are ∙ used_there locals (first_declaration_of known.locals name)
+-- what is found nowhere is right nowhere
+never_right : (at : Letter) → takes at sort.Nothing ≡ true → ⊥
+never_right letter.Declared e = cc
+never_right _ e = cc
 
-  name_there : (at : Letter) (name : Text) → is_local_there locals (name_meant items known own at name) ≡ true
-  name_there letter.Declared name = refl
-  name_there letter.Procedure name = item_there locals items name
-  name_there letter.Operation name = item_there locals items name
-  name_there _ name = meant_there name
+-- a letter where no name is looked up in the space of a body
+abbrev pub is_apart : Letter → Bool
+is_apart letter.Declared = true
+is_apart letter.Size = true
+is_apart letter.Class = true
+is_apart letter.Parameter = true
+is_apart letter.ItsPointer = true
+is_apart _ = false
 
-  resolved_there : (at : Letter) (operand : Operand Text) → is_operand at operand ≡ true → known.literals + length (literal_text operand) ≤ literals → is_there literals locals (resolved_operand items known own at operand) ≡ true
-  resolved_there at (Name name) typed room = name_there at name
-  resolved_there at (Number z) typed room = short_number locals z (short_of (word_kinds at) z typed)
-  resolved_there at (Size n) typed room = refl
-  resolved_there at (Literal text) typed room = below_test known.literals literals (omega arith)
-  resolved_there at (Parameter name p) typed room = sound_parameter (word_kinds at) name p typed
-  resolved_there at Keyword typed room = refl
+-- a letter of a line that stands apart from bodies
+abbrev pub may_be : Bool → Letter → Bool
+may_be apart at = not apart || is_apart at
 
-  all_there : (letters : List Letter) (operands : List (Operand Text)) → are_operands letters operands ≡ true → known.literals + length (flat_map literal_text operands) ≤ literals → list_all (is_there literals locals) (resolved_operands items known own letters operands) ≡ true
-  all_there [] [] typed room = refl
-  all_there [] (o ∷ os) typed room = let clash : ⊥ = cc in absurd clash
-  all_there (at ∷ letters) [] typed room = let clash : ⊥ = cc in absurd clash
-  all_there (at ∷ letters) (o ∷ os) typed room =
+inside_body : (apart : Bool) → (not apart || false) ≡ true → apart ≡ false
+inside_body true e = let clash : ⊥ = cc in absurd clash
+inside_body false e = refl
+
+-- what a line of a body has of its letters
+pub letters_inside : (letters : List Letter) → list_all (may_be false) letters ≡ true
+letters_inside [] = refl
+letters_inside (at ∷ letters) = letters_inside letters
+
+parameters_apart : (n : ℕ) → list_all (may_be true) (replicate n letter.Parameter) ≡ true
+parameters_apart zero = refl
+parameters_apart (suc n) = parameters_apart n
+
+-- a line that names nothing in the space of a body
+abbrev pub stands_apart : Key → Bool
+stands_apart key.Else = true
+stands_apart key.End = true
+stands_apart k = is_outside k
+
+pub letters_apart : (k : Key) (n : ℕ) → list_all (may_be (stands_apart k)) (letters_for k n) ≡ true
+letters_apart key.Class n = refl
+letters_apart key.Field n = refl
+letters_apart key.ClassField n = refl
+letters_apart key.Constructor n = refl
+letters_apart key.Destructor n = refl
+letters_apart key.Proc n = parameters_apart (n - 1)
+letters_apart key.Op n = refl
+letters_apart key.Else n = refl
+letters_apart key.End n = refl
+letters_apart k n = letters_inside (letters_for k n)
+
+module _ (literals : ℕ) (items : List Item) (known : Known) (scope : Scope) (kinds_are : map (kind_known items) known.kinds ≡ map kind_held scope.locals) (fields_are : scope.fields ≡ fields_among items) (own : Key) (apart : Bool) (this_is : apart ≡ false → scope.this ≡ class_of_this known) where
+  as_many : length scope.fields ≡ count_among item.Class items
+  as_many = ap length fields_are ∙ as_many_classes items
+
+  -- a local and what is known of it
+  parallel : (i : ℕ) → option_map (kind_known items) (slice_get known.kinds i) ≡ option_map kind_held (slice_get scope.locals i)
+  parallel i = sym (slice_get-map (kind_known items) known.kinds i) ∙ ap (λ l. slice_get l i) kinds_are ∙ slice_get-map kind_held scope.locals i
+
+  local_there : (i : ℕ) (k : Option (Kind Text)) (o : Option Local) → slice_get scope.locals i ≡ o → option_map (kind_known items) k ≡ option_map kind_held o → is_name_there scope (local_meant i k) ≡ true
+  local_there i None o is e = refl
+  local_there i (Some (kind.Pointer class)) (Some (OfPointer c)) is e = ap is_pointer_local is
+  local_there i (Some kind.Number) (Some OfNumber) is e = ap is_number_local is
+  local_there i (Some kind.Buffer) (Some (OfBuffer max)) is e = ap is_buffer_local is
+  local_there i (Some kind.View) (Some OfView) is e = ap is_view_local is
+  local_there i (Some _) _ is e = let clash : ⊥ = cc in absurd clash
+
+  meant_there : (place : Option ℕ) → is_name_there scope (meant_at known.kinds place) ≡ true
+  meant_there None = refl
+  meant_there (Some i) = local_there i (slice_get known.kinds i) (slice_get scope.locals i) refl (parallel i)
+
+  this_there : (b : Bool) → scope.this ≡ (if b then Some (known.classes - 1) else None) → is_name_there scope (if b then meant.This else meant.Nothing) ≡ true
+  this_there true is = rw is refl
+  this_there false is = refl
+
+  pub own_there : (name : Text) → apart ≡ false → is_name_there scope (own_meant known name) ≡ true
+  own_there name inside = go (is_this name)
+    where
+      go : (b : Bool) → is_name_there scope (if b then this_meant known.body else meant_at known.kinds (first_declaration_of known.locals name)) ≡ true
+      go true = this_there (has_this known.body) (this_is inside)
+      go false = meant_there (first_declaration_of known.locals name)
+
+  name_there : (at : Letter) (name : Text) → is_operand at (Name name) ≡ true → may_be apart at ≡ true → is_name_there scope (name_meant items known own at name) ≡ true
+  name_there letter.Declared name typed seen = refl
+  name_there letter.Class name typed seen = item_there scope items as_many name
+  name_there letter.Procedure name typed seen = item_there scope items as_many name
+  name_there letter.Operation name typed seen = item_there scope items as_many name
+  name_there letter.Size name typed seen = let clash : ⊥ = cc in absurd clash
+  name_there letter.Parameter name typed seen = let clash : ⊥ = cc in absurd clash
+  name_there letter.ItsPointer name typed seen = let clash : ⊥ = cc in absurd clash
+  name_there _ name typed seen = own_there name (inside_body apart seen)
+
+  -- a field of what has a class is one of that class
+  by_this : (class index : ℕ) (b : Bool) → scope.this ≡ (if b then Some (known.classes - 1) else None) → (if b then Some (known.classes - 1) else None) ≡ Some class →
+      is_field_there scope (if b then meant.This else meant.Nothing) (meant.Field class index) ≡ is_index index (slice_get scope.fields class)
+  by_this class index true this is = ap (λ o. is_class class o && is_index index (slice_get scope.fields class)) (this ∙ is) ∙ ap (λ b. b && is_index index (slice_get scope.fields class)) (same_test class)
+  by_this class index false this is = let clash : ⊥ = cc in absurd clash
+
+  by_local : (class index i : ℕ) (k : Option (Kind Text)) (o : Option Local) → slice_get scope.locals i ≡ o → option_map (kind_known items) k ≡ option_map kind_held o → class_of_kind items k ≡ Some class →
+      is_field_there scope (local_meant i k) (meant.Field class index) ≡ is_index index (slice_get scope.fields class)
+  by_local class index i (Some (kind.Pointer name)) (Some (OfPointer c)) at e is =
+      let known_class : kind.Pointer (class_if_named items name) ≡ kind.Pointer c = cc in
+      let same : class_if_named items name ≡ c = cc in
+      ap (λ l. is_class class (sound.class_of_local l) && is_index index (slice_get scope.fields class)) at
+      ∙ ap (λ l. is_class class l && is_index index (slice_get scope.fields class)) (sym same ∙ is)
+      ∙ ap (λ b. b && is_index index (slice_get scope.fields class)) (same_test class)
+  by_local class index i (Some (kind.Pointer name)) _ at e is = let clash : ⊥ = cc in absurd clash
+  by_local class index i _ o at e is = let clash : ⊥ = cc in absurd clash
+
+  by_place : (class index : ℕ) (place : Option ℕ) → class_of_local items known.kinds place ≡ Some class → is_field_there scope (meant_at known.kinds place) (meant.Field class index) ≡ is_index index (slice_get scope.fields class)
+  by_place class index None is = let clash : ⊥ = cc in absurd clash
+  by_place class index (Some i) is = by_local class index i (slice_get known.kinds i) (slice_get scope.locals i) refl (parallel i) is
+
+  by_base : (class index : ℕ) (base : Text) → apart ≡ false → class_of_base items known base ≡ Some class → is_field_there scope (own_meant known base) (meant.Field class index) ≡ is_index index (slice_get scope.fields class)
+  by_base class index base inside is = go (is_this base) is
+    where
+      go : (b : Bool) → (if b then class_of_this known else class_of_local items known.kinds (first_declaration_of known.locals base)) ≡ Some class →
+          is_field_there scope (if b then this_meant known.body else meant_at known.kinds (first_declaration_of known.locals base)) (meant.Field class index) ≡ is_index index (slice_get scope.fields class)
+      go true is = by_this class index (has_this known.body) (this_is inside) is
+      go false is = by_place class index (first_declaration_of known.locals base) is
+
+  index_there : (class index : ℕ) → index < length (fields_of_class items class) → is_index index (slice_get scope.fields class) ≡ true
+  index_there class index lt =
+      ap (λ l. is_index index (slice_get l class)) fields_are
+      ∙ ap (is_index index) (slice_get-map (λ (i : Item). length i.fields) (of_kind item.Class items) class)
+      ∙ go (item_of_kind item.Class items class) lt
+    where
+      go : (o : Option Item) → index < length (fields_of_item o) → is_index index (option_map (λ (i : Item). length i.fields) o) ≡ true
+      go (Some i) lt = below_test index (length i.fields) lt
+      go None lt = absurd (omega arith)
+
+  field_there : (at : Letter) (base field : Text) → apart ≡ false → takes at (sort_of_field (field_meant items (class_of_base items known base) field)) ≡ true →
+      is_field_there scope (own_meant known base) (field_meant items (class_of_base items known base) field) ≡ true
+  field_there at base field inside right = by_class (class_of_base items known base) refl right
+    where
+      by_index : (class : ℕ) (place : Option ℕ) → class_of_base items known base ≡ Some class → first_declaration_of (fields_of_class items class) field ≡ place → takes at (sort_of_field (field_at class place)) ≡ true →
+          is_field_there scope (own_meant known base) (field_at class place) ≡ true
+      by_index class None is found right = absurd (never_right at right)
+      by_index class (Some index) is found right = by_base class index base inside is ∙ index_there class index (place_within (fields_of_class items class) field index found)
+
+      by_class : (o : Option ℕ) → class_of_base items known base ≡ o → takes at (sort_of_field (field_meant items o field)) ≡ true → is_field_there scope (own_meant known base) (field_meant items o field) ≡ true
+      by_class None is right = absurd (never_right at right)
+      by_class (Some class) is right = by_index class (first_declaration_of (fields_of_class items class) field) is refl right
+
+  -- a field stands only inside a body
+  field_inside : (at : Letter) (base field : Text) → is_operand at (Field base field) ≡ true → may_be apart at ≡ true → apart ≡ false
+  field_inside letter.Declared base field typed seen = let clash : ⊥ = cc in absurd clash
+  field_inside letter.Class base field typed seen = let clash : ⊥ = cc in absurd clash
+  field_inside letter.Size base field typed seen = let clash : ⊥ = cc in absurd clash
+  field_inside letter.Parameter base field typed seen = let clash : ⊥ = cc in absurd clash
+  field_inside letter.ItsPointer base field typed seen = let clash : ⊥ = cc in absurd clash
+  field_inside _ base field typed seen = inside_body apart seen
+
+  taken_there : (at : Letter) (kind : Taken Text) → takes at (sort_taken (resolved_taken items kind)) ≡ true → is_taken_there scope (resolved_taken items kind) ≡ true
+  taken_there at taken.Pointer right = refl
+  taken_there at taken.Number right = refl
+  taken_there at (taken.OfClass class) right = by_meant (item_meant items class) (item_there scope items as_many class) right
+    where
+      by_meant : (m : Meant) → is_name_there scope m ≡ true → takes at (sort_of_class m) ≡ true → is_taken_there scope (taken.OfClass m) ≡ true
+      by_meant (meant.Class index) there right = there
+      by_meant _ there right = absurd (never_right at right)
+
+  pub resolved_there : (at : Letter) (operand : Operand Text) → is_operand at operand ≡ true → may_be apart at ≡ true → is_right at (resolved_operand items known own at operand) ≡ true →
+      known.literals + length (literal_text operand) ≤ literals → is_there literals scope (resolved_operand items known own at operand) ≡ true
+  resolved_there at (Name name) typed seen right room = name_there at name typed seen
+  resolved_there at (Field base field) typed seen right room = field_there at base field (field_inside at base field typed seen) right
+  resolved_there at (Number z) typed seen right room = short_number scope.locals z (short_of (word_kinds at) z typed)
+  resolved_there at (Size n) typed seen right room = refl
+  resolved_there at (Literal text) typed seen right room = below_test known.literals literals (omega arith)
+  resolved_there at (Parameter name kind) typed seen right room = taken_there at kind right
+  resolved_there at Keyword typed seen right room = refl
+
+  pub all_there : (letters : List Letter) (operands : List (Operand Text)) → are_operands letters operands ≡ true → list_all (may_be apart) letters ≡ true → are_right letters (resolved_operands items known own letters operands) ≡ true →
+      known.literals + length (flat_map literal_text operands) ≤ literals → list_all (is_there literals scope) (resolved_operands items known own letters operands) ≡ true
+  all_there [] [] typed seen right room = refl
+  all_there [] (o ∷ os) typed seen right room = let clash : ⊥ = cc in absurd clash
+  all_there (at ∷ letters) [] typed seen right room = let clash : ⊥ = cc in absurd clash
+  all_there (at ∷ letters) (o ∷ os) typed seen right room =
       let (typed_here, typed_rest) = both (is_operand at o) (are_operands letters os) typed in
-      let parts : length (flat_map literal_text (o ∷ os)) ≡ length (literal_text o) + length (flat_map literal_text os) = simp length-append in
-      both_hold _ _ (resolved_there at o typed_here (omega arith)) (all_there letters os typed_rest (omega arith))
-
-  letters_fit_resolved : (letters : List Letter) (operands : List (Operand Text)) → are_operands letters operands ≡ true → are_right letters (resolved_operands items known own letters operands) ≡ true →
-      known.literals + length (flat_map literal_text operands) ≤ literals → letters_fit literals locals letters (resolved_operands items known own letters operands) ≡ true
-  letters_fit_resolved [] [] typed right room = refl
-  letters_fit_resolved [] (o ∷ os) typed right room = let clash : ⊥ = cc in absurd clash
-  letters_fit_resolved (at ∷ letters) [] typed right room = let clash : ⊥ = cc in absurd clash
-  letters_fit_resolved (at ∷ letters) (o ∷ os) typed right room =
-      let (typed_here, typed_rest) = both (is_operand at o) (are_operands letters os) typed in
+      let (seen_here, seen_rest) = both (may_be apart at) (list_all (may_be apart) letters) seen in
       let (right_here, right_rest) = both (is_right at (resolved_operand items known own at o)) (are_right letters (resolved_operands items known own letters os)) right in
       let parts : length (flat_map literal_text (o ∷ os)) ≡ length (literal_text o) + length (flat_map literal_text os) = simp length-append in
-      both_hold _ _ (both_hold _ _ right_here (resolved_there at o typed_here (omega arith))) (letters_fit_resolved letters os typed_rest right_rest (omega arith))
+      both_hold _ _ (resolved_there at o typed_here seen_here right_here (omega arith)) (all_there letters os typed_rest seen_rest right_rest (omega arith))
 
-  -- the sides of a `set`: two pointers, or a number's name and a number
-  sides_fit_resolved : (target source : Operand Text) → are_operands (letters_for key.Set 2) (target ∷ source ∷ []) ≡ true →
-      is_right_line items (Line key.Set (resolved_operands items known own (letters_for key.Set 2) (target ∷ source ∷ []))) ≡ true →
-      sides_fit literals locals (resolved_operand items known own letter.Target target) (resolved_operand items known own letter.Source source) ≡ true
-  sides_fit_resolved (Name n) (Number z) typed right = by_target (meant_at known.kinds (first_declaration_of known.locals n)) (meant_there n) right
-    where
-      by_target : (m : Meant) → is_local_there locals m ≡ true → is_right_line items (Line key.Set (Name m ∷ Number z ∷ [])) ≡ true → sides_fit literals locals (Name m) (Number z) ≡ true
-      by_target (meant.Number i) there right = both_hold _ _ there (short_number locals z (short_of (word_kinds letter.Source) z (both _ true typed).0))
-      by_target _ there right = let clash : ⊥ = cc in absurd clash
-  sides_fit_resolved (Name n) (Name s) typed right = by_both (meant_at known.kinds (first_declaration_of known.locals n)) (meant_at known.kinds (first_declaration_of known.locals s)) (meant_there n) (meant_there s) right
-    where
-      by_both : (m o : Meant) → is_local_there locals m ≡ true → is_local_there locals o ≡ true → is_right_line items (Line key.Set (Name m ∷ Name o ∷ [])) ≡ true → sides_fit literals locals (Name m) (Name o) ≡ true
-      by_both (meant.Pointer i) (meant.Pointer j) here there right = rw here there
-      by_both (meant.Pointer i) _ here there right = let clash : ⊥ = cc in absurd clash
-      by_both (meant.Number i) (meant.Number j) here there right = rw here there
-      by_both (meant.Number i) _ here there right = let clash : ⊥ = cc in absurd clash
-      by_both _ o here there right = let clash : ⊥ = cc in absurd clash
-  sides_fit_resolved (Name n) _ typed right = let clash : ⊥ = cc in absurd clash
-  sides_fit_resolved _ source typed right = let clash : ⊥ = cc in absurd clash
-
-  -- a call of a procedure that is there, with arguments that its parameters take
-  call_fits_resolved : (letters : List Letter) (operands : List (Operand Text)) → are_operands (letter.Procedure ∷ letters) operands ≡ true → are_right (letter.Procedure ∷ letters) (resolved_operands items known own (letter.Procedure ∷ letters) operands) ≡ true →
-      call_agrees items (resolved_operands items known own (letter.Procedure ∷ letters) operands) ≡ true → known.literals + length (flat_map literal_text operands) ≤ literals →
-      call_fits (declared_among literals items) locals (resolved_operands items known own (letter.Procedure ∷ letters) operands) ≡ true
-  call_fits_resolved letters [] typed right call room = let clash : ⊥ = cc in absurd clash
-  call_fits_resolved letters (Name name ∷ operands) typed right call room =
-      let there = all_there letters operands (both (is_operand letter.Procedure (Name name)) (are_operands letters operands) typed).1 room in
-      by_meant (item_meant items name) (resolved_operands items known own letters operands) right call there
-    where
-      by_meant : (m : Meant) (rest : List (Operand Meant)) → are_right (letter.Procedure ∷ letters) (Name m ∷ rest) ≡ true → call_agrees items (Name m ∷ rest) ≡ true → list_all (is_there literals locals) rest ≡ true →
-          call_fits (declared_among literals items) locals (Name m ∷ rest) ≡ true
-      by_meant (meant.Procedure index) rest right call there = signature_fits literals locals (slice_get (signatures_among item.Procedure items) index) rest call there
-      by_meant _ rest right call there = let clash : ⊥ = cc in absurd clash
-  call_fits_resolved letters (_ ∷ operands) typed right call room = let clash : ⊥ = cc in absurd clash
-
-  -- a pointer, and an operation that is there
-  item_fits_resolved : (pointer operation : Operand Text) → are_operands (letter.Pointer ∷ letter.Operation ∷ []) (pointer ∷ operation ∷ []) ≡ true →
-      are_right (letter.Pointer ∷ letter.Operation ∷ []) (resolved_operands items known own (letter.Pointer ∷ letter.Operation ∷ []) (pointer ∷ operation ∷ [])) ≡ true →
-      known.literals + length (flat_map literal_text (pointer ∷ operation ∷ [])) ≤ literals →
-      item_fits (declared_among literals items) locals (resolved_operands items known own (letter.Pointer ∷ letter.Operation ∷ []) (pointer ∷ operation ∷ [])) ≡ true
-  item_fits_resolved pointer (Name name) typed right room =
-      let (typed_here, typed_rest) = both (is_operand letter.Pointer pointer) true typed in
-      let (right_here, right_rest) = both (is_right letter.Pointer (resolved_operand items known own letter.Pointer pointer)) (are_right (letter.Operation ∷ []) (Name (item_meant items name) ∷ [])) right in
-      let parts : length (flat_map literal_text (pointer ∷ Name name ∷ [])) ≡ length (literal_text pointer) + 0 = simp length-append in
-      both_hold _ _
-      (both_hold _ _ right_here (resolved_there letter.Pointer pointer typed_here (omega (arith, parts, room))))
-      (operation_there literals items name (both (is_right letter.Operation (Name (item_meant items name))) true right_rest).0)
-  item_fits_resolved pointer _ typed right room = absurd (never (is_operand letter.Pointer pointer) typed)
-
-module _ (literals : ℕ) (items : List Item) (known : Known) (locals : List Local) (kinds_are : known.kinds ≡ map kind_held locals) where
-  abbrev declared : Declared
-  declared = declared_among literals items
-
-  abbrev line_resolved : Key → List (Operand Text) → List (Operand Meant)
-  line_resolved k operands = resolved_operands items known k (letters_for k (length operands)) operands
-
-  right_sorts : (k : Key) (operands : List (Operand Text)) → are_operands (letters_for k (length operands)) operands ≡ true → is_right_line items (resolved_line items known (Line k operands)) ≡ true → are_right (letters_for k (length operands)) (line_resolved k operands) ≡ true
-  right_sorts k operands typed right =
-      ap (λ n. are_right (letters_for k n) (line_resolved k operands)) (sym (resolved_many items known k (letters_for k (length operands)) operands typed))
-      ∙ (both (are_right (letters_for k (length (line_resolved k operands))) (line_resolved k operands)) (sides_agree k (line_resolved k operands) && arguments_agree items k (line_resolved k operands)) right).0
-
-  call_fits_line : (operands : List (Operand Text)) → are_operands (letters_for key.Call (length operands)) operands ≡ true → is_right_line items (resolved_line items known (Line key.Call operands)) ≡ true →
-      known.literals + length (literals_in (Line key.Call operands)) ≤ literals → operands_fit declared locals key.Call (line_resolved key.Call operands) ≡ true
-  call_fits_line [] typed right room = let clash : ⊥ = cc in absurd clash
-  call_fits_line (o ∷ os) typed right room =
-      let line = line_resolved key.Call (o ∷ os) in
-      let call = (both (are_right (letters_for key.Call (length line)) line) (call_agrees items line) right).1 in
-      call_fits_resolved literals items known locals kinds_are key.Call (replicate (length (o ∷ os) - 1) letter.Argument) (o ∷ os) typed (right_sorts key.Call (o ∷ os) typed right) call room
-
-  callto_fits_line : (operands : List (Operand Text)) → are_operands (letters_for key.CallTo (length operands)) operands ≡ true → is_right_line items (resolved_line items known (Line key.CallTo operands)) ≡ true →
-      known.literals + length (literals_in (Line key.CallTo operands)) ≤ literals → operands_fit declared locals key.CallTo (line_resolved key.CallTo operands) ≡ true
-  callto_fits_line [] typed right room = let clash : ⊥ = cc in absurd clash
-  callto_fits_line (t ∷ []) typed right room = absurd (never (is_operand letter.Pointer t) typed)
-  callto_fits_line (t ∷ o ∷ os) typed right room =
-      let more = replicate (length (t ∷ o ∷ os) - 2) letter.Argument in
-      let line = line_resolved key.CallTo (t ∷ o ∷ os) in
-      let rest = resolved_operands items known key.CallTo (letter.Procedure ∷ more) (o ∷ os) in
-      let call = (both (are_right (letters_for key.CallTo (length line)) line) (call_agrees items rest) right).1 in
-      let (typed_here, typed_rest) = both (is_operand letter.Pointer t) (are_operands (letter.Procedure ∷ more) (o ∷ os)) typed in
-      let (right_here, right_rest) = both (is_right letter.Pointer (resolved_operand items known key.CallTo letter.Pointer t)) (are_right (letter.Procedure ∷ more) rest) (right_sorts key.CallTo (t ∷ o ∷ os) typed right) in
-      let parts : length (flat_map literal_text (t ∷ o ∷ os)) ≡ length (literal_text t) + length (flat_map literal_text (o ∷ os)) = simp length-append in
-      both_hold _ _
-      (both_hold _ _ right_here (resolved_there literals items known locals kinds_are key.CallTo letter.Pointer t typed_here (omega (arith, parts, room))))
-      (call_fits_resolved literals items known locals kinds_are key.CallTo more (o ∷ os) typed_rest right_rest call (omega (arith, parts, room)))
-
-  pub operands_fit_resolved : (k : Key) (operands : List (Operand Text)) → are_operands (letters_for k (length operands)) operands ≡ true → is_right_line items (resolved_line items known (Line k operands)) ≡ true →
-      known.literals + length (literals_in (Line k operands)) ≤ literals → operands_fit declared locals k (line_resolved k operands) ≡ true
-  operands_fit_resolved key.Set [] typed right room = let clash : ⊥ = cc in absurd clash
-  operands_fit_resolved key.Set (target ∷ []) typed right room = absurd (never (is_operand letter.Target target) typed)
-  operands_fit_resolved key.Set (target ∷ source ∷ []) typed right room = sides_fit_resolved literals items known locals kinds_are key.Set target source typed right
-  operands_fit_resolved key.Set (target ∷ source ∷ o ∷ os) typed right room = absurd (never (is_operand letter.Source source) (both (is_operand letter.Target target) _ typed).1)
-  operands_fit_resolved key.PushOp [] typed right room = let clash : ⊥ = cc in absurd clash
-  operands_fit_resolved key.PushOp (pointer ∷ []) typed right room = absurd (never (is_operand letter.Pointer pointer) typed)
-  operands_fit_resolved key.PushOp (pointer ∷ operation ∷ []) typed right room =
-      item_fits_resolved literals items known locals kinds_are key.PushOp pointer operation typed (right_sorts key.PushOp (pointer ∷ operation ∷ []) typed right) room
-  operands_fit_resolved key.PushOp (pointer ∷ operation ∷ o ∷ os) typed right room = absurd (never (is_operand letter.Operation operation) (both (is_operand letter.Pointer pointer) _ typed).1)
-  operands_fit_resolved key.Call operands typed right room = call_fits_line operands typed right room
-  operands_fit_resolved key.CallTo operands typed right room = callto_fits_line operands typed right room
-  operands_fit_resolved k operands typed right room =
-      ap (λ n. letters_fit literals locals (letters_for k n) (line_resolved k operands)) (resolved_many items known k (letters_for k (length operands)) operands typed)
-      ∙ letters_fit_resolved literals items known locals kinds_are k (letters_for k (length operands)) operands typed (right_sorts k operands typed right) room
+  pub letters_fit_resolved : (letters : List Letter) (operands : List (Operand Text)) → are_operands letters operands ≡ true → list_all (may_be apart) letters ≡ true → are_right letters (resolved_operands items known own letters operands) ≡ true →
+      known.literals + length (flat_map literal_text operands) ≤ literals → letters_fit literals scope letters (resolved_operands items known own letters operands) ≡ true
+  letters_fit_resolved [] [] typed seen right room = refl
+  letters_fit_resolved [] (o ∷ os) typed seen right room = let clash : ⊥ = cc in absurd clash
+  letters_fit_resolved (at ∷ letters) [] typed seen right room = let clash : ⊥ = cc in absurd clash
+  letters_fit_resolved (at ∷ letters) (o ∷ os) typed seen right room =
+      let (typed_here, typed_rest) = both (is_operand at o) (are_operands letters os) typed in
+      let (seen_here, seen_rest) = both (may_be apart at) (list_all (may_be apart) letters) seen in
+      let (right_here, right_rest) = both (is_right at (resolved_operand items known own at o)) (are_right letters (resolved_operands items known own letters os)) right in
+      let parts : length (flat_map literal_text (o ∷ os)) ≡ length (literal_text o) + length (flat_map literal_text os) = simp length-append in
+      both_hold _ _ (both_hold _ _ right_here (resolved_there at o typed_here seen_here right_here (omega arith))) (letters_fit_resolved letters os typed_rest seen_rest right_rest (omega arith))

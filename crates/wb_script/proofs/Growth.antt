@@ -1,229 +1,293 @@
--- One more line of the tree.
-use Rattle.std.proofs.Common.{◌≡◌, refl, sym, ap, subst, ◌∙◌, ℕ, suc, ◌+◌, ◌<◌, ◌≤◌, List, [], ◌∷◌, ◌++◌, length, map, Option, Some, None, true, nat_le, nat_lt, IsTrue, append_assoc, append-nil, zero-add, length-append, arith}
-use Rattle.std.proofs.lemmas.List.{map-append, length-map}
+-- One more line of the tree, inside a body and behind one.
+use Rattle.std.proofs.Common.{◌≡◌, refl, sym, ap, subst, ◌∙◌, ℕ, ◌+◌, ◌<◌, ◌≤◌, List, [], ◌∷◌, ◌++◌, length, Option, Some, None, true, ◌&&◌, nat_lt, IsTrue, append_assoc, append-nil, zero-add, length-append, arith}
+use Rattle.std.proofs.lemmas.List.{map-append}
 use Rattle.std.proofs.lemmas.List.Folds.{list_all-append}
-use Rattle.std.proofs.lemmas.Bool.Decides.{nat_tests}
-use Rattle.wb_model.specs.declared.limits.TheConstants.{MOST_PROCEDURES}
 use Rattle.wb_model.specs.declared.script.Body.{Body}
-use Rattle.wb_model.specs.declared.script.Local.{Local}
+use Rattle.wb_model.specs.declared.script.Class.{Class}
 use Rattle.wb_model.specs.declared.script.Parameter.{Parameter}
 use Rattle.wb_model.specs.declared.script.Procedure.{Procedure}
 use Rattle.wb_model.specs.declared.script.Operation.{Operation}
-use Rattle.wb_model.specs.declared.script_lines.ItemKind.{ItemKind}
-use Rattle.wb_model.specs.declared.script_lines.ItemKind.TheVariants as item
 use Rattle.wb_model.specs.declared.script_lines.Key.{Key}
 use Rattle.wb_model.specs.declared.script_lines.Key.TheVariants as key
 use Rattle.wb_model.specs.declared.script_lines.Meant.{Meant}
-use Rattle.wb_model.specs.declared.script_lines.Meant.TheVariants as meant
 use Rattle.wb_model.specs.declared.script_lines.Operand.{Operand}
-use Rattle.wb_model.specs.declared.script_lines.Operand.TheVariants.{Name}
 use Rattle.wb_model.specs.declared.script_lines.Form.TheVariants.{Skip, Line}
 use Rattle.wb_model.specs.Keys.{role_of}
-use Rattle.wb_model.specs.Names.{parameters_in}
-use Rattle.wb_model.specs.Sound.{Declared, is_body, is_procedure, is_operation, signatures_of, local_of_parameter, locals_of}
-use Rattle.wb_model.specs.Trees.{Indexed, Marked, Lines, mark, number_kept, line_or_unknown, and_operand, end_line, body_lines, each_from, lines_of_procedure, lines_of_operation, in_order, all_lines}
-use Rattle.wb_script.specs.declared.checks.nesting.Open.{Open}
-use Rattle.wb_script.specs.declared.tree.WholeBodies.{WholeBodies}
-use Rattle.wb_script.specs.declared.tree.Building.{Building}
-use Rattle.wb_script.specs.declared.tree.bodies.Opening.{Opening}
+use Rattle.wb_model.specs.Sound.{Declared, is_body, is_own_body, is_procedure, is_operation, its_parameters, scope_of}
+use Rattle.wb_model.specs.Trees.{Marked, Lines, mark, class_head, field_lines, own_body_lines, end_line, body_lines, each_from, lines_of_class, lines_of_procedure, lines_of_operation, in_order, all_lines}
+use Rattle.wb_script.specs.declared.checks.nesting.Open.TheVariants.{Made}
+use Rattle.wb_script.specs.declared.tree.whole.WholeItems.{WholeItems}
+use Rattle.wb_script.specs.declared.tree.whole.Owner.{Owner}
+use Rattle.wb_script.specs.declared.tree.whole.Owner.TheVariants as of
+use Rattle.wb_script.specs.declared.tree.whole.Stage.{Stage}
+use Rattle.wb_script.specs.declared.tree.whole.Stage.TheVariants.{Outside, InClass, InBody}
+use Rattle.wb_script.specs.declared.tree.whole.Building.{Building}
 use Rattle.wb_script.specs.declared.tree.bodies.OpenBody.{OpenBody}
 use Rattle.wb_script.specs.declared.tree.bodies.Left.TheVariants.{Inside, Done}
-use Rattle.wb_script.specs.Building.{Counts, counts_after, nest_places, next_index}
-use Rattle.wb_script.specs.Growing.{Adds, Grows, HasParametersOf, IsBegun, IsSoundWhole, IsSoundWhere, IsSound, IsBelow, building_lines, AreSound, AreBelow, IsBelowWhere, AreCountsWhere, are_of_kind, counts_begun, counts_in, inside_lines, items_in_order, key_of_kind, left_lines, next_among, opening_line, with_body}
+use Rattle.wb_script.specs.Building.{Counts, counts_after, nest_places}
+use Rattle.wb_script.specs.Growing.{Adds, AreBelow, AreCounts, AreSound, Grows, IsBelow, IsBelowWhere, IsOwned, IsSound, IsSoundClass, IsSoundWhere, building_lines, building_places, class_place, counts_in, counts_owned, counts_whole, finished, has_room, in_body, in_class, inside_lines, items_in_order, left_counts, line_of_owner, outside, owner_lines, owner_places, with_operation, with_procedure}
 use Rattle.wb_script.specs.Machine.{step, after_line}
-use Rattle.wb_script.proofs.Beginnings.{spelled_parameters, sound_locals, as_many}
-use Rattle.wb_script.proofs.Begun.{kind_parts}
 use Rattle.wb_script.proofs.Nests.{flat_map-last}
-use Rattle.wb_script.proofs.Orders.{first_last, second_last, each_from-last, each_below, all_below, below_test}
-use Rattle.wb_script.proofs.Wholes.{both}
+use Rattle.wb_script.proofs.OpenPlaces.{inner_step}
+use Rattle.wb_script.proofs.Orders.{are_before, first_last, second_last, in_order_below, each_from-last, each_below, all_below}
+use Rattle.wb_script.proofs.Tests.{parts, together, below_of, below_test}
 
-within_test : (a b : ℕ) → a ≤ b → nat_le a b ≡ true
-within_test a b le = grind (arith, nat_tests)
-
-pub same_step : (k : Key) (stack : List Open) → after_line stack (role_of k) ≡ step stack (role_of k)
+pub same_step : (k : Key) (stack : List Rattle.wb_script.specs.declared.checks.nesting.Open.Open) → after_line stack (role_of k) ≡ step stack (role_of k)
 same_step key.Proc stack = refl
 same_step key.Ptr stack = refl
 same_step _ stack = refl
 
--- one more whole body, by the parts of its first line
-module _ (whole : WholeBodies) (number : ℕ) (parameters : List Parameter) (body : Body) where
-  abbrev opening : ItemKind → Opening
-  opening kind = record { kind = kind; line = number; parameters = parameters }
+-- the counts in an open body don't look at the locals before it
+same_owned : (b : WholeItems) (owner : Owner) (ps : List Parameter) (before after : Counts) (p : OpenBody) → counts_in (counts_owned b owner ps before) p ≡ counts_in (counts_owned b owner ps after) p
+same_owned b (of.Procedure number) ps before after p = refl
+same_owned b (of.Operation number) ps before after p = refl
+same_owned b (of.Constructor c) ps before after p = refl
+same_owned b (of.Destructor c) ps before after p = refl
 
-  abbrev next : ItemKind → WholeBodies
-  next kind = with_body whole (opening kind) body
-
-  abbrev procedures : List Lines
-  procedures = each_from lines_of_procedure 0 whole.procedures
-
-  abbrev operations : List Lines
-  operations = each_from lines_of_operation 0 whole.operations
-
-  body_order : (kind : ItemKind) → AreBelow number whole → HasParametersOf kind parameters →
-      all_lines (items_in_order (next kind)) ≡ all_lines (items_in_order whole) ++ (opening_line (next_among kind whole) (opening kind) ∷ (body_lines (length parameters) body ++ end_line ∷ []))
-  body_order item.Procedure below own =
-      let p : Procedure = record { line = number; parameters = parameters; body = body } in
-      let last : Lines = lines_of_procedure (length whole.procedures) p in
-      ap (λ l. all_lines (in_order l operations)) (each_from-last lines_of_procedure 0 whole.procedures p ∙ ap (λ i. procedures ++ lines_of_procedure i p ∷ []) (zero-add (length whole.procedures)))
-      ∙ ap all_lines (first_last procedures operations last (each_below lines_of_procedure (λ q. q.line) (λ i q. refl) number 0 whole.procedures below.procedures) (each_below lines_of_operation (λ q. q.line) (λ i q. refl) number 0 whole.operations below.operations))
-      ∙ flat_map-last (λ (i : Lines). i.lines) (items_in_order whole) last
-  body_order item.Operation below own =
-      let o : Operation = record { line = number; body = body } in
-      let last : Lines = lines_of_operation (length whole.operations) o in
-      ap (λ l. all_lines (in_order procedures l)) (each_from-last lines_of_operation 0 whole.operations o ∙ ap (λ i. operations ++ lines_of_operation i o ∷ []) (zero-add (length whole.operations)))
-      ∙ ap all_lines (second_last procedures operations last (each_below lines_of_procedure (λ q. q.line) (λ i q. refl) number 0 whole.procedures below.procedures))
-      ∙ flat_map-last (λ (i : Lines). i.lines) (items_in_order whole) last
-      ∙ ap (λ ps. all_lines (items_in_order whole) ++ (opening_line (length whole.operations) (record { kind = item.Operation; line = number; parameters = ps }) ∷ (body_lines (length ps) body ++ end_line ∷ []))) (sym own)
-
-  body_sound : (kind : ItemKind) (declared : Declared) → AreSound declared whole → IsSoundWhole declared (opening kind) body → AreSound declared (next kind)
-  body_sound item.Procedure declared sound one = record {
-    procedures =
-        let p : Procedure = record { line = number; parameters = parameters; body = body } in
-        let fine : IsTrue (is_procedure declared p) = both _ _ (both _ _ one.parameters.0 (within_test (length parameters) 4 one.parameters.1)) one.inside in
-        list_all-append (is_procedure declared) whole.procedures (p ∷ []) ∙ both _ _ sound.procedures (both _ true fine refl);
-    operations = sound.operations;
-  }
-  body_sound item.Operation declared sound one = record {
-    procedures = sound.procedures;
-    operations =
-        let o : Operation = record { line = number; body = body } in
-        let fine : IsTrue (is_operation declared o) = subst (λ ps. IsTrue (is_body declared (locals_of ps body.locals) body.statements)) one.parameters one.inside in
-        list_all-append (is_operation declared) whole.operations (o ∷ []) ∙ both _ _ sound.operations (both _ true fine refl);
-  }
-
-  body_count : (kind : ItemKind) → length (next kind).procedures + length (next kind).operations ≡ suc (length whole.procedures + length whole.operations)
-  body_count item.Procedure = omega (arith, length-append whole.procedures ((record { line = number; parameters = parameters; body = body }) ∷ []))
-  body_count item.Operation = omega (arith, length-append whole.operations ((record { line = number; body = body }) ∷ []))
-
-  body_below : (kind : ItemKind) (later : ℕ) → number < later → AreBelow number whole → AreBelow later (next kind)
-  body_below item.Procedure later lt below = record {
-    procedures = list_all-append (λ (p : Procedure). nat_lt p.line later) whole.procedures ((record { line = number; parameters = parameters; body = body }) ∷ []) ∙ both _ _ (all_below (λ (p : Procedure). p.line) number later (omega (arith, lt)) whole.procedures below.procedures) (both _ true (below_test number later lt) refl);
-    operations = all_below (λ (o : Operation). o.line) number later (omega (arith, lt)) whole.operations below.operations;
-  }
-  body_below item.Operation later lt below = record {
-    procedures = all_below (λ (p : Procedure). p.line) number later (omega (arith, lt)) whole.procedures below.procedures;
-    operations = list_all-append (λ (o : Operation). nat_lt o.line later) whole.operations ((record { line = number; body = body }) ∷ []) ∙ both _ _ (all_below (λ (o : Operation). o.line) number later (omega (arith, lt)) whole.operations below.operations) (both _ true (below_test number later lt) refl);
-  }
-
-  body_counts : (kind : ItemKind) (locals : List Local) → record (counts_begun whole (opening kind)) { locals = locals; blocks = [] } ≡ record { procedures = signatures_of (next kind).procedures; operations = length (next kind).operations; locals = locals; blocks = [] }
-  body_counts item.Procedure locals = ap (λ l. record { procedures = l; operations = length whole.operations; locals = locals; blocks = [] }) (sym (map-append (λ (p : Procedure). p.parameters) whole.procedures ((record { line = number; parameters = parameters; body = body }) ∷ [])))
-  body_counts item.Operation locals = ap (λ n. record { procedures = signatures_of whole.procedures; operations = n; locals = locals; blocks = [] }) (sym (length-append whole.operations ((record { line = number; body = body }) ∷ [])))
-
-module _ (declared : Declared) (number : ℕ) (k : Key) (operands : List (Operand Meant)) (whole : WholeBodies) (current : OpenBody) (sound : IsSoundWhere declared whole (Some current)) (below : IsBelowWhere number whole (Some current)) where
+module _ (declared : Declared) (number : ℕ) (k : Key) (operands : List (Operand Meant)) (b : WholeItems) (owner : Owner) (p : OpenBody) (sound : IsSoundWhere declared b (InBody owner p)) (below : IsBelowWhere number b (InBody owner p)) where
   abbrev line : Marked
   line = mark number (Line k operands)
 
   abbrev front : List Marked
-  front = all_lines (items_in_order whole)
+  front = all_lines (items_in_order b)
 
-  abbrev before : Building
-  before = record { whole = whole; «open» = Some current }
+  -- a line more in what is around and inside the body
+  line_more : (inside : List Marked) → front ++ (owner_lines b owner p.parameters ++ (inside ++ line ∷ [])) ≡ (front ++ (owner_lines b owner p.parameters ++ inside)) ++ line ∷ []
+  line_more inside =
+      ap (λ l. front ++ l) (sym (append_assoc (owner_lines b owner p.parameters) inside (line ∷ [])))
+      ∙ sym (append_assoc front (owner_lines b owner p.parameters ++ inside) (line ∷ []))
 
-  pub inside_grows : (p : OpenBody) → Adds declared number (Line k operands) current (Inside p) → Grows declared number (Line k operands) before (record { whole = whole; «open» = Some p })
-  inside_grows p adds = record {
+  pub inside_grows : (next : OpenBody) → Adds declared number (Line k operands) p (Inside next) → Grows declared number (Line k operands) (in_body b owner p) (in_body b owner next)
+  inside_grows next adds = record {
     lines =
-        ap (λ (o : Opening). front ++ (opening_line (next_among o.kind whole) o ∷ inside_lines p)) adds.opening
-        ∙ ap (λ l. front ++ (opening_line (next_among current.opening.kind whole) current.opening ∷ l)) adds.lines
-        ∙ sym (append_assoc front (opening_line (next_among current.opening.kind whole) current.opening ∷ inside_lines current) (line ∷ []));
-    sound = record { stands = (sound.0, sound.1, adds.sound) };
-    below = record {
-      stands = (subst (λ (o : Opening). AreBelow o.line whole) (sym adds.opening) below.0, omega (arith, below.1, ap (λ (o : Opening). o.line) adds.opening));
+        ap (λ ps. front ++ (owner_lines b owner ps ++ inside_lines next)) adds.same.0
+        ∙ ap (λ l. front ++ (owner_lines b owner p.parameters ++ l)) adds.lines
+        ∙ line_more (inside_lines p);
+    sound = record {
+      stands = (sound.0, subst (λ t. IsOwned declared b owner t next.parameters) (sym adds.same.1) (subst (λ ps. IsOwned declared b owner p.this ps) (sym adds.same.0) sound.1), adds.sound);
     };
+    below = record { stands = (below.0, omega (arith, below.1)) };
     counts = λ counts are.
-        ap (λ c. counts_after c (Line k operands)) are ∙ sym (adds.counts (counts_begun whole current.opening)) ∙ ap (λ o. counts_in (counts_begun whole o) p) (sym adds.opening);
-    places = same_step k (nest_places current.nest) ∙ adds.places;
+        let after = counts_after counts (Line k operands) in
+        ap (λ c. counts_after c (Line k operands)) are
+        ∙ sym (adds.counts (counts_owned b owner p.parameters counts))
+        ∙ ap (λ ps. counts_in (counts_owned b owner ps counts) next) (sym adds.same.0)
+        ∙ same_owned b owner next.parameters counts after next;
+    places = same_step k (nest_places p.nest ++ owner_places owner) ∙ inner_step p.nest (owner_places owner) (role_of k) (nest_places next.nest) adds.places;
   }
 
-  pub done_grows : (o : Opening) (body : Body) → Adds declared number (Line k operands) current (Done o body) → Grows declared number (Line k operands) before (record { whole = with_body whole o body; «open» = None })
-  done_grows o body adds =
-      let its_below : AreBelow o.line whole = subst (λ (q : Opening). AreBelow q.line whole) (sym adds.opening) below.0 in
-      let later : o.line < number + 1 = omega (arith, below.1, ap (λ (q : Opening). q.line) adds.opening) in
-      let locals = locals_of o.parameters body.locals in
+-- the lines of a whole body behind those of what it is of
+abbrev closed_lines : List Parameter → Body → List Marked
+closed_lines ps body = body_lines (length ps) body ++ end_line ∷ []
+
+-- A class with one more body.
+constructor_lines : (head : Marked) (fields : List Marked) (begins : Marked) (inner : List Marked) (construct destroy : Option Body) → construct ≡ None → destroy ≡ None →
+    head ∷ (fields ++ ((begins ∷ inner) ++ own_body_lines key.Destructor destroy)) ≡ ((head ∷ (fields ++ (own_body_lines key.Constructor construct ++ own_body_lines key.Destructor destroy))) ++ begins ∷ []) ++ inner
+constructor_lines head fields begins inner None None first second =
+    ap (λ l. head ∷ (fields ++ l)) (append-nil (begins ∷ inner))
+    ∙ sym (append_assoc (head ∷ fields) (begins ∷ []) inner)
+    ∙ ap (λ l. ((head ∷ l) ++ begins ∷ []) ++ inner) (sym (append-nil fields))
+constructor_lines head fields begins inner (Some body) destroy first second = let clash : ⊥ = cc in absurd clash
+constructor_lines head fields begins inner None (Some body) first second = let clash : ⊥ = cc in absurd clash
+
+destructor_lines : (head : Marked) (fields made : List Marked) (begins : Marked) (inner : List Marked) (destroy : Option Body) → destroy ≡ None →
+    head ∷ (fields ++ (made ++ (begins ∷ inner))) ≡ ((head ∷ (fields ++ (made ++ own_body_lines key.Destructor destroy))) ++ begins ∷ []) ++ inner
+destructor_lines head fields made begins inner None is =
+    ap (λ l. head ∷ l) (sym (append_assoc fields made (begins ∷ inner)))
+    ∙ sym (append_assoc (head ∷ (fields ++ made)) (begins ∷ []) inner)
+    ∙ ap (λ l. ((head ∷ (fields ++ l)) ++ begins ∷ []) ++ inner) (sym (append-nil made))
+destructor_lines head fields made begins inner (Some body) is = let clash : ⊥ = cc in absurd clash
+
+-- one more whole body, by the number of its first line
+module _ (b : WholeItems) (number : ℕ) where
+  abbrev classes : List Lines
+  classes = each_from lines_of_class 0 b.classes
+
+  abbrev procedures : List Lines
+  procedures = each_from lines_of_procedure 0 b.procedures
+
+  abbrev operations : List Lines
+  operations = each_from lines_of_operation 0 b.operations
+
+  pub classes_before : AreBelow number b → are_before number classes ≡ true
+  classes_before below = each_below lines_of_class (λ c. c.line) (λ i c. refl) number 0 b.classes below.classes
+
+  procedures_before : AreBelow number b → are_before number procedures ≡ true
+  procedures_before below = each_below lines_of_procedure (λ q. q.line) (λ i q. refl) number 0 b.procedures below.procedures
+
+  operations_before : AreBelow number b → are_before number operations ≡ true
+  operations_before below = each_below lines_of_operation (λ q. q.line) (λ i q. refl) number 0 b.operations below.operations
+
+  pub bodies_before : AreBelow number b → are_before number (in_order procedures operations) ≡ true
+  bodies_before below = in_order_below number procedures operations (procedures_before below) (operations_before below)
+
+  procedure_order : (ps : List Parameter) (body : Body) → AreBelow number b →
+      all_lines (items_in_order (with_procedure b number ps body)) ≡ all_lines (items_in_order b) ++ (owner_lines b (of.Procedure number) ps ++ closed_lines ps body)
+  procedure_order ps body below =
+      let p : Procedure = record { line = number; parameters = ps; body = body } in
+      let last : Lines = lines_of_procedure (length b.procedures) p in
+      ap (λ l. all_lines (in_order classes (in_order l operations))) (each_from-last lines_of_procedure 0 b.procedures p ∙ ap (λ i. procedures ++ lines_of_procedure i p ∷ []) (zero-add (length b.procedures)))
+      ∙ ap (λ l. all_lines (in_order classes l)) (first_last procedures operations last (procedures_before below) (operations_before below))
+      ∙ ap all_lines (second_last classes (in_order procedures operations) last (classes_before below))
+      ∙ flat_map-last (λ (i : Lines). i.lines) (items_in_order b) last
+
+  operation_order : (ps : List Parameter) (body : Body) → AreBelow number b → ps ≡ its_parameters →
+      all_lines (items_in_order (with_operation b number body)) ≡ all_lines (items_in_order b) ++ (owner_lines b (of.Operation number) ps ++ closed_lines ps body)
+  operation_order ps body below own =
+      let o : Operation = record { line = number; body = body } in
+      let last : Lines = lines_of_operation (length b.operations) o in
+      ap (λ l. all_lines (in_order classes (in_order procedures l))) (each_from-last lines_of_operation 0 b.operations o ∙ ap (λ i. operations ++ lines_of_operation i o ∷ []) (zero-add (length b.operations)))
+      ∙ ap (λ l. all_lines (in_order classes l)) (second_last procedures operations last (procedures_before below))
+      ∙ ap all_lines (second_last classes (in_order procedures operations) last (classes_before below))
+      ∙ flat_map-last (λ (i : Lines). i.lines) (items_in_order b) last
+      ∙ ap (λ l. all_lines (items_in_order b) ++ (owner_lines b (of.Operation number) ps ++ closed_lines l body)) (sym own)
+
+-- What a whole body leaves.
+module _ (declared : Declared) (b : WholeItems) (body : Body) (ps : List Parameter) where
+  done_lines : (owner : Owner) (this : Option ℕ) → IsOwned declared b owner this ps → AreBelow (line_of_owner owner) b →
+      building_lines (finished b owner ps body) ≡ all_lines (items_in_order b) ++ (owner_lines b owner ps ++ closed_lines ps body)
+  done_lines (of.Procedure number) this owned below = append-nil (all_lines (items_in_order (with_procedure b number ps body))) ∙ procedure_order b number ps body below
+  done_lines (of.Operation number) this owned below = append-nil (all_lines (items_in_order (with_operation b number body))) ∙ operation_order b number ps body below owned.2
+  done_lines (of.Constructor c) this owned below =
+      let head = class_head (length b.classes) c in
+      let fields = field_lines 0 c.fields in
+      let begins : Marked = (None, Line key.Constructor []) in
+      ap (λ l. all_lines (items_in_order b) ++ l) (constructor_lines head fields begins (body_lines 0 body ++ end_line ∷ []) c.construct c.destroy owned.3 owned.4)
+      ∙ ap (λ l. all_lines (items_in_order b) ++ (owner_lines b (of.Constructor c) ps ++ closed_lines l body)) (sym owned.2)
+  done_lines (of.Destructor c) this owned below =
+      let head = class_head (length b.classes) c in
+      let fields = field_lines 0 c.fields in
+      let begins : Marked = (None, Line key.Destructor []) in
+      ap (λ l. all_lines (items_in_order b) ++ l) (destructor_lines head fields (own_body_lines key.Constructor c.construct) begins (body_lines 0 body ++ end_line ∷ []) c.destroy owned.3)
+      ∙ ap (λ l. all_lines (items_in_order b) ++ (owner_lines b (of.Destructor c) ps ++ closed_lines l body)) (sym owned.2)
+
+  own_sound : (index : ℕ) (this : Option ℕ) → this ≡ Some index → ps ≡ [] → IsTrue (is_body declared (scope_of declared this ps body) body.statements) → IsTrue (is_own_body declared index (Some body))
+  own_sound index this same own inside = subst (λ l. IsTrue (is_body declared (scope_of declared (Some index) l body) body.statements)) own (subst (λ t. IsTrue (is_body declared (scope_of declared t ps body) body.statements)) same inside)
+
+  done_sound : (owner : Owner) (this : Option ℕ) → AreSound declared b → IsOwned declared b owner this ps → IsTrue (is_body declared (scope_of declared this ps body) body.statements) →
+      IsSoundWhere declared (finished b owner ps body).whole (finished b owner ps body).stage
+  done_sound (of.Procedure number) this sound owned inside =
+      let p : Procedure = record { line = number; parameters = ps; body = body } in
+      let here = subst (λ t. IsTrue (is_body declared (scope_of declared t ps body) body.statements)) owned.1 inside in
+      let fine : IsTrue (is_procedure declared p) = together _ _ owned.2 here in
+      record {
+        classes = sound.classes;
+        procedures = list_all-append (is_procedure declared) b.procedures (p ∷ []) ∙ together _ _ sound.procedures (together _ true fine refl);
+        operations = sound.operations;
+        few_classes = sound.few_classes;
+        few = omega (arith, length-append b.procedures (p ∷ []), below_of (length b.procedures + length b.operations) 256 owned.0);
+      }
+  done_sound (of.Operation number) this sound owned inside =
+      let o : Operation = record { line = number; body = body } in
+      let here = subst (λ t. IsTrue (is_body declared (scope_of declared t ps body) body.statements)) owned.1 inside in
+      let fine : IsTrue (is_operation declared o) = subst (λ l. IsTrue (is_body declared (scope_of declared None l body) body.statements)) owned.2 here in
+      record {
+        classes = sound.classes;
+        procedures = sound.procedures;
+        operations = list_all-append (is_operation declared) b.operations (o ∷ []) ∙ together _ _ sound.operations (together _ true fine refl);
+        few_classes = sound.few_classes;
+        few = omega (arith, length-append b.operations (o ∷ []), below_of (length b.procedures + length b.operations) 256 owned.0);
+      }
+  done_sound (of.Constructor c) this sound owned inside =
+      let index = length b.classes in
+      let (front, bodies) = parts _ (is_own_body declared index c.construct && is_own_body declared index c.destroy) owned.0.sound in
+      let (construct, destroy) = parts (is_own_body declared index c.construct) (is_own_body declared index c.destroy) bodies in
+      (sound, record { room = owned.0.room; sound = together _ _ front (together _ _ (own_sound index this owned.1 owned.2 inside) destroy) })
+  done_sound (of.Destructor c) this sound owned inside =
+      let index = length b.classes in
+      let (front, bodies) = parts _ (is_own_body declared index c.construct && is_own_body declared index c.destroy) owned.0.sound in
+      let (construct, destroy) = parts (is_own_body declared index c.construct) (is_own_body declared index c.destroy) bodies in
+      (sound, record { room = owned.0.room; sound = together _ _ front (together _ _ construct (own_sound index this owned.1 owned.2 inside)) })
+
+-- what is before a line is before a later one
+pub still_below : (b : WholeItems) (number later : ℕ) → number ≤ later → AreBelow number b → AreBelow later b
+still_below b number later le below = record {
+  classes = all_below (λ (c : Class). c.line) number later le b.classes below.classes;
+  procedures = all_below (λ (p : Procedure). p.line) number later le b.procedures below.procedures;
+  operations = all_below (λ (o : Operation). o.line) number later le b.operations below.operations;
+}
+
+done_below : (b : WholeItems) (body : Body) (ps : List Parameter) (owner : Owner) (later : ℕ) → line_of_owner owner < later → AreBelow (line_of_owner owner) b → IsBelowWhere later (finished b owner ps body).whole (finished b owner ps body).stage
+done_below b body ps (of.Procedure number) later lt below =
+    let still = still_below b number later (omega (arith, lt)) below in
+    let p : Procedure = record { line = number; parameters = ps; body = body } in
+    record {
+      classes = still.classes;
+      procedures = list_all-append (λ (q : Procedure). nat_lt q.line later) b.procedures (p ∷ []) ∙ together _ _ still.procedures (together _ true (below_test number later lt) refl);
+      operations = still.operations;
+    }
+done_below b body ps (of.Operation number) later lt below =
+    let still = still_below b number later (omega (arith, lt)) below in
+    let o : Operation = record { line = number; body = body } in
+    record {
+      classes = still.classes;
+      procedures = still.procedures;
+      operations = list_all-append (λ (q : Operation). nat_lt q.line later) b.operations (o ∷ []) ∙ together _ _ still.operations (together _ true (below_test number later lt) refl);
+    }
+done_below b body ps (of.Constructor c) later lt below = (below, lt)
+done_below b body ps (of.Destructor c) later lt below = (below, lt)
+
+-- the counts behind a whole body
+done_counts : (b : WholeItems) (body : Body) (p : OpenBody) (owner : Owner) (before : Counts) → AreCounts (finished b owner p.parameters body) (left_counts (counts_owned b owner p.parameters before) p (Done p.parameters body))
+done_counts b body p (of.Procedure number) before =
+    let q : Procedure = record { line = number; parameters = p.parameters; body = body } in
+    let left = left_counts (counts_owned b (of.Procedure number) p.parameters before) p (Done p.parameters body) in
+    ap (λ l. record left { procedures = l }) (sym (map-append (λ (q : Procedure). q.parameters) b.procedures (q ∷ [])))
+done_counts b body p (of.Operation number) before =
+    let o : Operation = record { line = number; body = body } in
+    let left = left_counts (counts_owned b (of.Operation number) p.parameters before) p (Done p.parameters body) in
+    ap (λ n. record left { operations = n }) (sym (length-append b.operations (o ∷ [])))
+done_counts b body p (of.Constructor c) before = refl
+done_counts b body p (of.Destructor c) before = refl
+
+behind_destroy : (construct : Option Body) (body : Body) → Rattle.wb_script.specs.Growing.place_behind construct (Some body) ≡ Rattle.wb_script.specs.declared.checks.nesting.Open.TheVariants.Destroyed
+behind_destroy None body = refl
+behind_destroy (Some construct) body = refl
+
+done_places : (declared : Declared) (b : WholeItems) (body : Body) (ps : List Parameter) (owner : Owner) (this : Option ℕ) → IsOwned declared b owner this ps → owner_places owner ≡ building_places (finished b owner ps body)
+done_places declared b body ps (of.Procedure number) this owned = refl
+done_places declared b body ps (of.Operation number) this owned = refl
+done_places declared b body ps (of.Constructor c) this owned = ap (λ d. Rattle.wb_script.specs.Growing.place_behind (Some body) d ∷ []) (sym owned.4)
+done_places declared b body ps (of.Destructor c) this owned = ap (λ place. place ∷ []) (sym (behind_destroy c.construct body))
+
+module _ (declared : Declared) (number : ℕ) (k : Key) (operands : List (Operand Meant)) (b : WholeItems) (owner : Owner) (p : OpenBody) (sound : IsSoundWhere declared b (InBody owner p)) (below : IsBelowWhere number b (InBody owner p)) where
+  pub done_grows : (ps : List Parameter) (body : Body) → Adds declared number (Line k operands) p (Done ps body) → Grows declared number (Line k operands) (in_body b owner p) (finished b owner ps body)
+  done_grows ps body adds =
+      let line : Marked = mark number (Line k operands) in
+      let front : List Marked = all_lines (items_in_order b) in
+      let owned = subst (IsOwned declared b owner p.this) (sym adds.same) sound.1 in
       record {
         lines =
-            body_order whole o.line o.parameters body o.kind its_below adds.sound.parameters
-            ∙ ap (λ (q : Opening). front ++ (opening_line (next_among q.kind whole) q ∷ left_lines (Done o body))) adds.opening
-            ∙ ap (λ l. front ++ (opening_line (next_among current.opening.kind whole) current.opening ∷ l)) adds.lines
-            ∙ sym (append_assoc front (opening_line (next_among current.opening.kind whole) current.opening ∷ inside_lines current) (line ∷ []));
-        sound = record {
-          stands = (body_sound whole o.line o.parameters body o.kind declared sound.0 adds.sound, omega (arith, sound.1, body_count whole o.line o.parameters body o.kind));
-        };
-        below = record { stands = body_below whole o.line o.parameters body o.kind (number + 1) later its_below };
+            done_lines declared b body ps owner p.this owned below.0
+            ∙ ap (λ l. front ++ (owner_lines b owner l ++ closed_lines ps body)) adds.same
+            ∙ ap (λ l. front ++ (owner_lines b owner p.parameters ++ l)) adds.lines
+            ∙ line_more declared number k operands b owner p sound below (inside_lines p);
+        sound = record { stands = done_sound declared b body ps owner p.this sound.0 owned adds.sound };
+        below = record { stands = done_below b body ps owner (number + 1) (omega (arith, below.1)) below.0 };
         counts = λ counts are.
-            let after = counts_after counts (Line k operands) in
-            let is : after ≡ record (counts_begun whole current.opening) { locals = locals; blocks = [] } = ap (λ c. counts_after c (Line k operands)) are ∙ sym (adds.counts (counts_begun whole current.opening)) in
-            let next = with_body whole o body in
-            is ∙ ap (λ q. record (counts_begun whole q) { locals = locals; blocks = [] }) (sym adds.opening)
-            ∙ body_counts whole o.line o.parameters body o.kind locals
-            ∙ ap (λ (c : Counts). record { procedures = signatures_of next.procedures; operations = length next.operations; locals = c.locals; blocks = [] }) (sym is);
-        places = same_step k (nest_places current.nest) ∙ adds.places;
+            let after : counts_after counts (Line k operands) ≡ left_counts (counts_owned b owner p.parameters counts) p (Done ps body) =
+            ap (λ c. counts_after c (Line k operands)) are ∙ sym (adds.counts (counts_owned b owner p.parameters counts)) in
+            let same : left_counts (counts_owned b owner p.parameters counts) p (Done ps body) ≡ left_counts (counts_owned b owner p.parameters counts) p (Done p.parameters body) =
+            ap (λ l. left_counts (counts_owned b owner p.parameters counts) p (Done l body)) adds.same in
+            subst (λ l. AreCounts (finished b owner l body) (counts_after counts (Line k operands))) (sym adds.same)
+            (subst (AreCounts (finished b owner p.parameters body)) (sym (after ∙ same)) (done_counts b body p owner counts));
+        places =
+            same_step k (nest_places p.nest ++ owner_places owner)
+            ∙ inner_step p.nest (owner_places owner) (role_of k) [] adds.places
+            ∙ ap Some (done_places declared b body ps owner p.this owned);
       }
 
 -- a line that counts nothing leaves the tree as it is
-still_below : (number : ℕ) (whole : WholeBodies) (o : Option OpenBody) → IsBelowWhere number whole o → IsBelowWhere (number + 1) whole o
-still_below number whole None below = record {
-  procedures = all_below (λ (p : Procedure). p.line) number (number + 1) (omega arith) whole.procedures below.procedures;
-  operations = all_below (λ (o : Operation). o.line) number (number + 1) (omega arith) whole.operations below.operations;
-}
-still_below number whole (Some p) below = (below.0, omega (arith, below.1))
+later_below : (number : ℕ) (b : WholeItems) (s : Stage) → IsBelowWhere number b s → IsBelowWhere (number + 1) b s
+later_below number b Outside below = still_below b number (number + 1) (omega arith) below
+later_below number b (InClass c) below = (below.0, omega (arith, below.1))
+later_below number b (InBody owner p) below = (below.0, omega (arith, below.1))
 
 pub skip_grows : (declared : Declared) (number : ℕ) (b : Building) → IsSound declared b → IsBelow number b → Grows declared number Skip b b
 skip_grows declared number b sound below = record {
   lines = sym (append-nil (building_lines b));
   sound = sound;
-  below = record { stands = still_below number b.whole b.open below.stands };
+  below = record { stands = later_below number b.whole b.stage below.stands };
   counts = λ counts are. are;
   places = refl;
 }
-
--- where no body is open, the next of a kind has its index by the counts
-pub same_index : (whole : WholeBodies) (counts : Counts) (kind : ItemKind) → AreCountsWhere whole None counts → next_index (Some kind) counts ≡ next_among kind whole
-same_index whole counts item.Procedure are = ap (λ (c : Counts). length c.procedures) are ∙ length-map whole.procedures (λ p. p.parameters)
-same_index whole counts item.Operation are = ap (λ (c : Counts). c.operations) are
-
-number_of_kind : (kind : ItemKind) (number : ℕ) → number_kept (role_of (key_of_kind kind)) number ≡ Some number
-number_of_kind item.Procedure number = refl
-number_of_kind item.Operation number = refl
-
-pub begun_grows : (declared : Declared) (number name : ℕ) (rest : List (Operand Meant)) (whole : WholeBodies) (kind : ItemKind) (p : OpenBody) → IsSoundWhere declared whole None → AreBelow number whole →
-    name ≡ next_among kind whole → length whole.procedures + length whole.operations < MOST_PROCEDURES → are_of_kind kind rest ≡ true →
-    IsBegun kind number (Line (key_of_kind kind) (Name (meant.Declared name) ∷ rest)) p →
-    Grows declared number (Line (key_of_kind kind) (Name (meant.Declared name) ∷ rest)) (record { whole = whole; «open» = None }) (record { whole = whole; «open» = Some p })
-begun_grows declared number name rest whole kind p sound below named room own begun =
-    let line : Indexed = Line (key_of_kind kind) (Name (meant.Declared name) ∷ rest) in
-    let made : OpenBody = record { opening = record { kind = kind; line = number; parameters = parameters_in line }; locals = []; scope = map local_of_parameter (parameters_in line); nest = record { blocks = []; statements = [] } } in
-    let parts = kind_parts kind rest own in
-    let front : List Marked = all_lines (items_in_order whole) in
-    subst (λ q. Grows declared number line (record { whole = whole; «open» = None }) (record { whole = whole; «open» = Some q })) (sym begun) record {
-      lines =
-          ap (λ o. front ++ (Some number, line_or_unknown (key_of_kind kind) (and_operand (Some (Name (meant.Declared (next_among kind whole)))) o)) ∷ []) (spelled_parameters rest parts.all)
-          ∙ ap (λ n. front ++ (Some number, Line (key_of_kind kind) (Name (meant.Declared n) ∷ rest)) ∷ []) (sym named)
-          ∙ ap (λ n. front ++ (n, line) ∷ []) (sym (number_of_kind kind number));
-      sound = record {
-        stands = (
-          sound.0,
-          room,
-          record {
-            parameters = parts.own;
-            scope = sym (append-nil (map local_of_parameter (parameters_in line)));
-            locals = sound_locals rest parts.all;
-            most = omega (arith, parts.few, as_many rest parts.all, length-map (parameters_in line) local_of_parameter);
-            nest = refl;
-          },
-        );
-      };
-      below = record { stands = (below, omega arith) };
-      counts = λ counts are. ap (λ c. counts_after c line) are ∙ counts_of_kind kind counts;
-      places = place_of_kind kind;
-    }
-  where
-    counts_of_kind : (k : ItemKind) (counts : Counts) →
-        let line : Indexed = Line (key_of_kind k) (Name (meant.Declared name) ∷ rest) in
-        counts_after (record { procedures = signatures_of whole.procedures; operations = length whole.operations; locals = counts.locals; blocks = [] }) line
-        ≡ record (counts_begun whole (record { kind = k; line = number; parameters = parameters_in line })) { locals = map local_of_parameter (parameters_in line); blocks = [] }
-    counts_of_kind item.Procedure counts = refl
-    counts_of_kind item.Operation counts = refl
-
-    place_of_kind : (k : ItemKind) → after_line [] (role_of (key_of_kind k)) ≡ Some (nest_places (record { blocks = []; statements = [] }))
-    place_of_kind item.Procedure = refl
-    place_of_kind item.Operation = refl

@@ -31,7 +31,7 @@ is_told m = is_known m.1
 abbrev role_marked : Marked → Role
 role_marked m = role_of_form m.1
 
-never_unknown : (stack : List Open) → step stack role.Unknown ≡ None
+pub never_unknown : (stack : List Open) → step stack role.Unknown ≡ None
 never_unknown [] = refl
 never_unknown (Fields ∷ below) = refl
 never_unknown (Made ∷ below) = refl

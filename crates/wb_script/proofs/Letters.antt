@@ -5,11 +5,11 @@ use Rattle.std.specs.Borrow.{Bor}
 use Rattle.std.specs.Option.{option_map}
 use Rattle.std.proofs.lemmas.List.{drop_all}
 use Rattle.std.proofs.lemmas.Option.{slice_get_within, get_or_from_slice_get}
-use Rattle.wb_model.specs.declared.script.Parameter.{Parameter}
 use Rattle.wb_model.specs.declared.script_lines.Letter.{Letter}
 use Rattle.wb_model.specs.declared.script_lines.Meant.{Meant}
 use Rattle.wb_model.specs.declared.script_lines.Operand.{Operand}
 use Rattle.wb_model.specs.declared.script_lines.Key.{Key}
+use Rattle.wb_model.specs.declared.script_lines.Taken.{Taken}
 use Rattle.wb_model.specs.Forms.{operand_of, operands_of, onto}
 use Rattle.wb_model.specs.Kinds.{is_right, are_right, is_given, are_given}
 use Rattle.wb_model.specs.Names.{Text, Item, Known}
@@ -100,7 +100,7 @@ module _ {V : Type 0} (view : V → Operand Text) (items : List Item) (known : K
       nothing_resolved (l ∷ ls) = refl
 
 -- arguments are given only where there are as many as parameters
-pub given_differ : (parameters : List Parameter) (operands : List (Operand Meant)) → (length parameters ≡ length operands → ⊥) → are_given parameters operands ≡ false
+pub given_differ : (parameters : List (Taken Text)) (operands : List (Operand Meant)) → (length parameters ≡ length operands → ⊥) → are_given parameters operands ≡ false
 given_differ [] [] differ = absurd (differ refl)
 given_differ [] (o ∷ os) differ = refl
 given_differ (p ∷ ps) [] differ = refl

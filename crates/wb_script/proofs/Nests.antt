@@ -1,25 +1,22 @@
 -- Blocks inside one another, with one more statement, block, `else` or end.
-use Rattle.std.proofs.Common.{◌≡◌, ◌⊎◌, inl, inr, refl, sym, ap, subst, ◌∙◌, ℕ, zero, suc, ◌-◌, ◌<◌, List, [], ◌∷◌, ◌++◌, length, take, get_or, Some, None, Bool, true, false, IsTrue, append_assoc, append-nil, length-append, arith}
+use Rattle.std.proofs.Common.{◌≡◌, refl, sym, ap, subst, ◌∙◌, ℕ, zero, suc, ◌-◌, ◌<◌, List, [], ◌∷◌, ◌++◌, length, take, get_or, Some, None, Bool, true, false, IsTrue, append_assoc, append-nil, length-append, arith}
 use Rattle.std.specs.Prelude.{◌||◌, fold}
 use Rattle.std.specs.List.{flat_map, list_all, list_any}
 use Rattle.std.proofs.lemmas.Grind.{flat_map-append, fold-append}
 use Rattle.std.proofs.lemmas.List.{map-append}
 use Rattle.std.proofs.lemmas.List.Folds.{list_all-append}
 use Rattle.wb_model.specs.declared.script.Condition.{Condition}
-use Rattle.wb_model.specs.declared.script.Local.{Local}
 use Rattle.wb_model.specs.declared.script.Numbered.{Numbered}
 use Rattle.wb_model.specs.declared.script.Statement.{Statement}
 use Rattle.wb_model.specs.declared.script.Statement.TheViews.{out-Statement}
+use Rattle.wb_model.specs.declared.script_lines.Role.{Role}
 use Rattle.wb_model.specs.declared.script_lines.Role.TheVariants as role
-use Rattle.wb_model.specs.declared.script_lines.Key.{Key}
-use Rattle.wb_model.specs.declared.script_lines.Key.TheVariants as key
-use Rattle.wb_model.specs.Keys.{role_of}
 use Rattle.wb_model.specs.Kinds.{is_trap}
 use Rattle.wb_model.specs.Names.{without_last}
-use Rattle.wb_model.specs.Sound.{Declared, is_condition, is_nested, are_within}
+use Rattle.wb_model.specs.Sound.{Declared, Scope, is_condition, is_nested, are_within}
 use Rattle.wb_model.specs.Trees.{Marked, condition_line, numbered_lines, statement_lines, else_line, end_line}
 use Rattle.wb_script.specs.declared.checks.nesting.Open.{Open}
-use Rattle.wb_script.specs.declared.checks.nesting.Open.TheVariants.{Statements, Branch, Block}
+use Rattle.wb_script.specs.declared.checks.nesting.Open.TheVariants.{Declarations, Statements, Branch, Block}
 use Rattle.wb_script.specs.declared.tree.blocks.Head.{Head}
 use Rattle.wb_script.specs.declared.tree.blocks.Head.TheVariants as head
 use Rattle.wb_script.specs.declared.tree.blocks.OpenBlock.{OpenBlock}
@@ -79,42 +76,42 @@ closed_lines below b statements s whole =
     ∙ sym (append_assoc (flat_map block_lines (below ++ b ∷ [])) (statement_lines statements) (end_line ∷ []))
 
 -- what is sound
-module _ (declared : Declared) (locals : List Local) where
-  within_one : (depth : ℕ) (trapped : Bool) (statements : List Numbered) (s : Numbered) → IsTrue (are_within declared locals (suc depth) trapped statements) → IsTrue (is_nested declared locals trapped (are_within declared locals depth) (out-Statement s.statement)) →
-      IsTrue (are_within declared locals (suc depth) trapped (statements ++ s ∷ []))
+module _ (declared : Declared) (scope : Scope) where
+  within_one : (depth : ℕ) (trapped : Bool) (statements : List Numbered) (s : Numbered) → IsTrue (are_within declared scope (suc depth) trapped statements) → IsTrue (is_nested declared scope trapped (are_within declared scope depth) (out-Statement s.statement)) →
+      IsTrue (are_within declared scope (suc depth) trapped (statements ++ s ∷ []))
   within_one depth trapped statements s before sound =
-      let one : Numbered → Bool = λ t. is_nested declared locals trapped (are_within declared locals depth) (out-Statement t.statement) in
+      let one : Numbered → Bool = λ t. is_nested declared scope trapped (are_within declared scope depth) (out-Statement t.statement) in
       list_all-append one statements (s ∷ []) ∙ both (list_all one statements) (list_all one (s ∷ [])) before (both (one s) true sound refl)
 
-  pub stated_open : (depth : ℕ) (trapped : Bool) (blocks : List OpenBlock) (statements : List Numbered) (s : Numbered) → AreOpen declared locals depth trapped blocks statements →
-      ((inside : Bool → List Numbered → Bool) → IsTrue (is_nested declared locals (in_trap trapped blocks) inside (out-Statement s.statement))) →
-      AreOpen declared locals depth trapped blocks (statements ++ s ∷ [])
+  pub stated_open : (depth : ℕ) (trapped : Bool) (blocks : List OpenBlock) (statements : List Numbered) (s : Numbered) → AreOpen declared scope depth trapped blocks statements →
+      ((inside : Bool → List Numbered → Bool) → IsTrue (is_nested declared scope (in_trap trapped blocks) inside (out-Statement s.statement))) →
+      AreOpen declared scope depth trapped blocks (statements ++ s ∷ [])
   stated_open zero trapped [] statements s before sound = let clash : ⊥ = cc in absurd clash
-  stated_open (suc depth) trapped [] statements s before sound = within_one depth trapped statements s before (sound (are_within declared locals depth))
+  stated_open (suc depth) trapped [] statements s before sound = within_one depth trapped statements s before (sound (are_within declared scope depth))
   stated_open zero trapped (b ∷ blocks) statements s before sound = absurd before
   stated_open (suc depth) trapped (b ∷ blocks) statements s before sound = (before.0, before.1, stated_open depth (trapped || is_trap (head_key b.head)) blocks statements s before.2 sound)
 
-  pub entered_open : (depth : ℕ) (trapped : Bool) (blocks : List OpenBlock) (statements : List Numbered) (n : ℕ) (h : Head) → AreOpen declared locals depth trapped blocks statements → suc (length blocks) < depth →
-      ((deep : ℕ) (inner : Bool) → IsTrue (is_head declared locals deep inner h)) → AreOpen declared locals depth trapped (blocks ++ (record { before = statements; line = n; head = h }) ∷ []) []
+  pub entered_open : (depth : ℕ) (trapped : Bool) (blocks : List OpenBlock) (statements : List Numbered) (n : ℕ) (h : Head) → AreOpen declared scope depth trapped blocks statements → suc (length blocks) < depth →
+      ((deep : ℕ) (inner : Bool) → IsTrue (is_head declared scope deep inner h)) → AreOpen declared scope depth trapped (blocks ++ (record { before = statements; line = n; head = h }) ∷ []) []
   entered_open zero trapped blocks statements n h before lt sound = absurd (omega arith)
   entered_open (suc zero) trapped [] statements n h before lt sound = absurd (omega arith)
   entered_open (suc (suc depth)) trapped [] statements n h before lt sound = (before, sound (suc depth) trapped, refl)
   entered_open (suc depth) trapped (b ∷ blocks) statements n h before lt sound = (before.0, before.1, entered_open depth (trapped || is_trap (head_key b.head)) blocks statements n h before.2 (omega arith) sound)
 
   pub else_open : (depth : ℕ) (trapped : Bool) (below : List OpenBlock) (before statements : List Numbered) (n : ℕ) (c : Condition) →
-      AreOpen declared locals depth trapped (below ++ (record { before = before; line = n; head = head.If c }) ∷ []) statements →
-      AreOpen declared locals depth trapped (below ++ (record { before = before; line = n; head = head.Else c statements }) ∷ []) []
+      AreOpen declared scope depth trapped (below ++ (record { before = before; line = n; head = head.If c }) ∷ []) statements →
+      AreOpen declared scope depth trapped (below ++ (record { before = before; line = n; head = head.Else c statements }) ∷ []) []
   else_open zero trapped [] before statements n c is = absurd is
   else_open (suc zero) trapped [] before statements n c is = let clash : ⊥ = cc (is.2) in absurd clash
   else_open (suc (suc depth)) trapped [] before statements n c is =
-      (is.0, both (is_condition locals c) (are_within declared locals (suc depth) trapped statements) is.1 (subst (λ t. IsTrue (are_within declared locals (suc depth) t statements)) (no_trap trapped c) is.2), refl)
+      (is.0, both (is_condition scope c) (are_within declared scope (suc depth) trapped statements) is.1 (subst (λ t. IsTrue (are_within declared scope (suc depth) t statements)) (no_trap trapped c) is.2), refl)
   else_open zero trapped (b ∷ below) before statements n c is = absurd is
   else_open (suc depth) trapped (b ∷ below) before statements n c is = (is.0, is.1, else_open depth (trapped || is_trap (head_key b.head)) below before statements n c is.2)
 
   pub closed_open : (depth : ℕ) (trapped : Bool) (below : List OpenBlock) (b : OpenBlock) (statements : List Numbered) (s : Statement) → IsWhole b.head statements s →
-      AreOpen declared locals depth trapped (below ++ b ∷ []) statements → AreOpen declared locals depth trapped below (b.before ++ (record { line = b.line; statement = s }) ∷ [])
+      AreOpen declared scope depth trapped (below ++ b ∷ []) statements → AreOpen declared scope depth trapped below (b.before ++ (record { line = b.line; statement = s }) ∷ [])
   closed_open zero trapped [] b statements s whole is = absurd is
-  closed_open (suc depth) trapped [] b statements s whole is = within_one depth trapped b.before (record { line = b.line; statement = s }) is.0 (whole.sound declared locals depth trapped is.1 is.2)
+  closed_open (suc depth) trapped [] b statements s whole is = within_one depth trapped b.before (record { line = b.line; statement = s }) is.0 (whole.sound declared scope depth trapped is.1 is.2)
   closed_open zero trapped (c ∷ below) b statements s whole is = absurd is
   closed_open (suc depth) trapped (c ∷ below) b statements s whole is = (is.0, is.1, closed_open depth (trapped || is_trap (head_key c.head)) below b statements s whole is.2)
 
@@ -145,6 +142,14 @@ trap_found (b ∷ blocks) (suc i) d lt is = later (is_trap (head_key b.head)) (l
 
 pub keys-last : (blocks : List OpenBlock) (b : OpenBlock) → keys_of_blocks (blocks ++ b ∷ []) ≡ keys_of_blocks blocks ++ head_key b.head ∷ []
 keys-last blocks b = map-append (λ c. head_key c.head) blocks (b ∷ [])
+
+-- a place in a body
+abbrev pub is_inner : Open → Bool
+is_inner Declarations = true
+is_inner Statements = true
+is_inner Branch = true
+is_inner Block = true
+is_inner _ = false
 
 -- places: behind one statement
 abbrev pub around : List OpenBlock → List Open
@@ -240,23 +245,51 @@ step-outer_end (s ∷ statements) = refl
 pub step-else : (below : List OpenBlock) (before statements : List Numbered) (n : ℕ) (c : Condition) → step (places (below ++ (record { before = before; line = n; head = head.If c }) ∷ []) statements) role.Else ≡ Some (Block ∷ around below)
 step-else below before statements n c = ap (λ l. step l role.Else) (places-block below (record { before = before; line = n; head = head.If c }) statements)
 
--- no body begins in another, and no declaration stands behind a statement or in a block
-no_body : (blocks : List OpenBlock) (statements : List Numbered) → step (places blocks statements) role.Procedure ≡ None
-no_body [] [] = refl
-no_body [] (s ∷ statements) = refl
-no_body (b ∷ blocks) statements =
-    let last = last_of b blocks in
-    ap (λ l. step (places l statements) role.Procedure) last.2 ∙ ap (λ l. step l role.Procedure) (places-block last.0 last.1 statements) ∙ on last.1 (around last.0) last.1.head
-  where
-    on : (c : OpenBlock) (below : List Open) (h : Head) → step (place_in_block (record c { head = h }) ∷ below) role.Procedure ≡ None
-    on c below (head.If x) = refl
-    on c below (head.Else x first) = refl
-    on c below (head.Repeat v) = refl
-    on c below (head.Trap x) = refl
+-- what begins an item, or a part of one
+abbrev pub opens : Role → Bool
+opens role.Class = true
+opens role.Field = true
+opens role.Construct = true
+opens role.Destroy = true
+opens role.Procedure = true
+opens _ = false
 
-pub no_body_inside : (k : Key) (blocks : List OpenBlock) (statements : List Numbered) → (k ≡ key.Proc) ⊎ (k ≡ key.Op) → step (places blocks statements) (role_of k) ≡ None
-no_body_inside k blocks statements (inl is) = ap (λ q. step (places blocks statements) (role_of q)) is ∙ no_body blocks statements
-no_body_inside k blocks statements (inr is) = ap (λ q. step (places blocks statements) (role_of q)) is ∙ no_body blocks statements
+none_opens : (place : Open) (below : List Open) (r : Role) → is_inner place ≡ true → opens r ≡ true → step (place ∷ below) r ≡ None
+none_opens Declarations below role.Class inner is = refl
+none_opens Declarations below role.Field inner is = refl
+none_opens Declarations below role.Construct inner is = refl
+none_opens Declarations below role.Destroy inner is = refl
+none_opens Declarations below role.Procedure inner is = refl
+none_opens Statements below role.Class inner is = refl
+none_opens Statements below role.Field inner is = refl
+none_opens Statements below role.Construct inner is = refl
+none_opens Statements below role.Destroy inner is = refl
+none_opens Statements below role.Procedure inner is = refl
+none_opens Branch below role.Class inner is = refl
+none_opens Branch below role.Field inner is = refl
+none_opens Branch below role.Construct inner is = refl
+none_opens Branch below role.Destroy inner is = refl
+none_opens Branch below role.Procedure inner is = refl
+none_opens Block below role.Class inner is = refl
+none_opens Block below role.Field inner is = refl
+none_opens Block below role.Construct inner is = refl
+none_opens Block below role.Destroy inner is = refl
+none_opens Block below role.Procedure inner is = refl
+none_opens place below r inner is = cc
+
+block_inner : (h : Head) (b : OpenBlock) → is_inner (place_in_block (record b { head = h })) ≡ true
+block_inner (head.If x) b = refl
+block_inner (head.Else x first) b = refl
+block_inner (head.Repeat v) b = refl
+block_inner (head.Trap x) b = refl
+
+-- no item begins in a body, and no part of one, and no declaration stands behind a statement or in a block
+pub no_body_inside : (blocks : List OpenBlock) (statements : List Numbered) (r : Role) → opens r ≡ true → step (places blocks statements) r ≡ None
+no_body_inside [] [] r is = none_opens Declarations [] r refl is
+no_body_inside [] (s ∷ statements) r is = none_opens Statements [] r refl is
+no_body_inside (b ∷ blocks) statements r is =
+    let last = last_of b blocks in
+    ap (λ l. step (places l statements) r) last.2 ∙ ap (λ l. step l r) (places-block last.0 last.1 statements) ∙ none_opens (place_in_block last.1) (around last.0) r (block_inner last.1.head last.1) is
 
 pub late_declaration : (blocks : List OpenBlock) (statements : List Numbered) → (0 < length blocks) → step (places blocks statements) role.Declaration ≡ None
 late_declaration [] statements lt = absurd (omega arith)

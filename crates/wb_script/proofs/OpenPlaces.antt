@@ -1,15 +1,68 @@
--- A body that is open has a place.
-use Rattle.std.proofs.Common.{◌≡◌, sym, ap, ◌∙◌, List, [], ◌∷◌, fold, Some}
+-- A body that is open has a place, and what is below it stays.
+use Rattle.std.proofs.Common.{◌≡◌, refl, sym, ap, subst, ◌∙◌, List, [], ◌∷◌, ◌++◌, fold, Option, Some, None}
+use Rattle.wb_model.specs.declared.script_lines.Role.{Role}
+use Rattle.wb_script.specs.declared.checks.nesting.Move.{Move}
+use Rattle.wb_script.specs.declared.checks.nesting.Move.TheVariants.{Close, Stay, Enter}
 use Rattle.wb_script.specs.declared.checks.nesting.Open.{Open}
-use Rattle.wb_script.specs.declared.tree.Building.{Building}
-use Rattle.wb_script.specs.declared.tree.blocks.OpenBlock.{OpenBlock}
+use Rattle.wb_model.specs.declared.script.Class.{Class}
 use Rattle.wb_script.specs.declared.tree.bodies.OpenBody.{OpenBody}
-use Rattle.wb_script.specs.Building.{place_in_block, place_in_body}
-use Rattle.wb_script.specs.Growing.{building_places, places_where}
+use Rattle.wb_script.specs.declared.tree.whole.Building.{Building}
+use Rattle.wb_script.specs.declared.tree.whole.Owner.{Owner}
+use Rattle.wb_script.specs.declared.tree.whole.Stage.TheVariants.{InBody, InClass}
+use Rattle.wb_script.specs.declared.tree.blocks.Nest.{Nest}
+use Rattle.wb_script.specs.declared.tree.blocks.OpenBlock.{OpenBlock}
+use Rattle.wb_script.specs.Building.{nest_places, place_in_block, place_in_body}
+use Rattle.wb_script.specs.Growing.{building_places, class_place, owner_places, stage_places}
+use Rattle.wb_script.specs.Machine.{move_of, moved, step}
 
-some_place : (blocks : List OpenBlock) (place : Open) (below : List Open) → fold (λ below b. place_in_block b ∷ below) (place ∷ below) blocks ≡ [] → ⊥
-some_place [] place below none = let clash : ⊥ = cc in clash
-some_place (b ∷ blocks) place below none = some_place blocks (place_in_block b) (place ∷ below) none
+pub record HasPlace (places : List Open) : Type 0 where
+  pub place : Open
+  pub below : List Open
+  pub is : places ≡ place ∷ below
 
-pub never_open : (b : Building) (p : OpenBody) → b.open ≡ Some p → building_places b ≡ [] → ⊥
-never_open b p is none = some_place p.nest.blocks (place_in_body p.nest.blocks p.nest.statements) [] (sym (ap places_where is) ∙ none)
+some_place : (blocks : List OpenBlock) (place : Open) (below : List Open) → HasPlace (fold (λ below b. place_in_block b ∷ below) (place ∷ below) blocks)
+some_place [] place below = record { place = place; below = below; is = refl }
+some_place (b ∷ blocks) place below = some_place blocks (place_in_block b) (place ∷ below)
+
+pub nest_place : (n : Nest) → HasPlace (nest_places n)
+nest_place n = some_place n.blocks (place_in_body n.blocks n.statements) []
+
+module _ (place : Open) (rest below : List Open) (r : Role) where
+  step_above : (next : List Open) → step (place ∷ rest) r ≡ Some next → step (place ∷ (rest ++ below)) r ≡ Some (next ++ below)
+  step_above next is = go (move_of (Some place) r) is
+    where
+      go : (m : Option Move) → moved m rest ≡ Some next → moved m (rest ++ below) ≡ Some (next ++ below)
+      go None e = let clash : ⊥ = cc in absurd clash
+      go (Some Close) e = let same : rest ≡ next = cc in ap (λ l. Some (l ++ below)) same
+      go (Some (Stay inner)) e = let same : inner ∷ rest ≡ next = cc in ap (λ l. Some (l ++ below)) same
+      go (Some (Enter outer inner)) e = let same : inner ∷ (outer ∷ rest) ≡ next = cc in ap (λ l. Some (l ++ below)) same
+
+  stuck_above : step (place ∷ rest) r ≡ None → step (place ∷ (rest ++ below)) r ≡ None
+  stuck_above is = go (move_of (Some place) r) is
+    where
+      go : (m : Option Move) → moved m rest ≡ None → moved m (rest ++ below) ≡ None
+      go None e = refl
+      go (Some m) e = let clash : ⊥ = cc in absurd clash
+
+-- a line inside a body, whatever is around it
+pub inner_step : (n : Nest) (below : List Open) (r : Role) (next : List Open) → step (nest_places n) r ≡ Some next → step (nest_places n ++ below) r ≡ Some (next ++ below)
+inner_step n below r next is =
+    let at = nest_place n in
+    subst (λ l. step (l ++ below) r ≡ Some (next ++ below)) (sym at.is) (step_above at.place at.below below r next (subst (λ l. step l r ≡ Some next) at.is is))
+
+pub inner_stuck : (n : Nest) (below : List Open) (r : Role) → step (nest_places n) r ≡ None → step (nest_places n ++ below) r ≡ None
+inner_stuck n below r is =
+    let at = nest_place n in
+    subst (λ l. step (l ++ below) r ≡ None) (sym at.is) (stuck_above at.place at.below below r (subst (λ l. step l r ≡ None) at.is is))
+
+never_outside : (n : Nest) (below : List Open) → nest_places n ++ below ≡ [] → ⊥
+never_outside n below none =
+    let at = nest_place n in
+    let clash : at.place ∷ (at.below ++ below) ≡ [] = ap (λ l. l ++ below) (sym at.is) ∙ none in
+    cc
+
+pub never_in_body : (b : Building) (owner : Owner) (p : OpenBody) → b.stage ≡ InBody owner p → building_places b ≡ [] → ⊥
+never_in_body b owner p is none = never_outside p.nest (owner_places owner) (sym (ap stage_places is) ∙ none)
+
+pub never_in_class : (b : Building) (c : Class) → b.stage ≡ InClass c → building_places b ≡ [] → ⊥
+never_in_class b c is none = let clash : class_place c ∷ [] ≡ [] = sym (ap stage_places is) ∙ none in cc

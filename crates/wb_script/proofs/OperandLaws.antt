@@ -1,31 +1,36 @@
 -- An operand that is spelled tells what it spells.
-use Rattle.std.proofs.Common.{◌≡◌, refl, ap, subst, ◌∙◌, ℕ, List, [], ◌∷◌, ◌++◌, Option, Some, None, map}
+use Rattle.std.proofs.Common.{◌≡◌, refl, sym, ap, subst, ◌∙◌, ℕ, List, [], ◌∷◌, ◌++◌, Option, Some, None, map, append-nil}
 use Rattle.std.specs.List.{flat_map}
+use Rattle.std.proofs.lemmas.List.{map-append}
 use Rattle.wb_model.specs.declared.script_lines.Meant.{Meant}
 use Rattle.wb_model.specs.declared.script_lines.Meant.TheVariants as meant
 use Rattle.wb_model.specs.declared.script_lines.Operand.{Operand}
 use Rattle.wb_model.specs.declared.script_lines.Operand.TheVariants.{Name, Number, Literal}
 use Rattle.wb_model.specs.declared.script_lines.Operand.TheVariants as spelled
+use Rattle.wb_model.specs.declared.script_lines.Taken.TheVariants as taken
 use Rattle.wb_model.specs.declared.script.Parameter.{Parameter}
 use Rattle.wb_model.specs.declared.script.Parameter.TheVariants as parameter
 use Rattle.wb_model.specs.declared.script.Argument.{Argument}
 use Rattle.wb_model.specs.declared.script.Argument.TheVariants.{Passed, Given}
 use Rattle.wb_model.specs.declared.script.Holder.TheVariants as H
 use Rattle.wb_model.specs.declared.script.Pointer.{Pointer}
-use Rattle.wb_model.specs.declared.script.Pointer.TheVariants.{Held}
+use Rattle.wb_model.specs.declared.script.Pointer.TheVariants as P
 use Rattle.wb_model.specs.declared.script.Number as N
 use Rattle.wb_model.specs.declared.script.Number.TheVariants.{Constant, Variable}
 use Rattle.wb_model.specs.declared.script.Writable.{Writable}
 use Rattle.wb_model.specs.declared.script.Writable.TheVariants.{OwnBuffer, InCell}
 use Rattle.wb_model.specs.declared.script.Readable.{Readable}
 use Rattle.wb_model.specs.declared.script.Readable.TheVariants.{Of, ViewOf, Quoted}
-use Rattle.wb_model.specs.Names.{kind_passed}
-use Rattle.wb_model.specs.Trees.{Spelled, pointer_operand, variable_operand, number_operand, writable_operand, view_operand, text_operand, procedure_operand, operation_operand, parameter_operand, argument_operand, and_operand, all_spelled}
+use Rattle.wb_model.specs.Names.{taken_by}
+use Rattle.wb_model.specs.Trees.{Spelled, pointer_operand, variable_operand, number_operand, writable_operand, view_operand, text_operand, class_operand, procedure_operand, operation_operand, parameter_operand, argument_operand, and_operand, all_spelled}
+use Rattle.wb_script.specs.Building.{parameter_taking}
 
 -- the pointer, the number or the local that an operand spells
 abbrev pub pointer_in : Operand Meant → Pointer
-pointer_in (Name (meant.Pointer i)) = Held (H.Local i)
-pointer_in _ = Held H.This
+pointer_in (Name (meant.Pointer i)) = P.Held (H.Local i)
+pointer_in (spelled.Field (meant.Pointer i) (meant.Field class index)) = P.Field (H.Local i) class index
+pointer_in (spelled.Field meant.This (meant.Field class index)) = P.Field H.This class index
+pointer_in _ = P.Held H.This
 
 abbrev pub variable_in : Operand Meant → ℕ
 variable_in (Name (meant.Number i)) = i
@@ -58,6 +63,10 @@ abbrev pub local_in : Operand Meant → ℕ
 local_in (Name (meant.Pointer i)) = i
 local_in _ = 0
 
+abbrev pub class_in : Operand Meant → ℕ
+class_in (Name (meant.Class i)) = i
+class_in _ = 0
+
 abbrev pub procedure_in : Operand Meant → ℕ
 procedure_in (Name (meant.Procedure i)) = i
 procedure_in _ = 0
@@ -68,8 +77,26 @@ operation_in _ = 0
 
 -- an operand that is spelled tells what it spells
 pub pointer_back : (p : Pointer) (a : Operand Meant) → pointer_operand p ≡ Some a → pointer_in a ≡ p
-pointer_back (Held (H.Local i)) a is = let same : Name (meant.Pointer i) ≡ a = cc in subst (λ o. pointer_in o ≡ Held (H.Local i)) same refl
-pointer_back _ a is = let clash : ⊥ = cc in absurd clash
+pointer_back (P.Held (H.Local i)) a is = let same : Name (meant.Pointer i) ≡ a = cc in subst (λ o. pointer_in o ≡ P.Held (H.Local i)) same refl
+pointer_back (P.Held H.This) a is = let same : Name meant.This ≡ a = cc in subst (λ o. pointer_in o ≡ P.Held H.This) same refl
+pointer_back (P.Field (H.Local i) class index) a is =
+    let same : spelled.Field (meant.Pointer i) (meant.Field class index) ≡ a = cc in
+    subst (λ o. pointer_in o ≡ P.Field (H.Local i) class index) same refl
+pointer_back (P.Field H.This class index) a is =
+    let same : spelled.Field meant.This (meant.Field class index) ≡ a = cc in
+    subst (λ o. pointer_in o ≡ P.Field H.This class index) same refl
+
+-- a pointer is spelled neither as a number nor as a text of the body's own
+spelled_otherwise : {A : Type 0} (read : Operand Meant → A) (make : Pointer → A) → ((i : ℕ) → read (Name (meant.Pointer i)) ≡ make (P.Held (H.Local i))) → read (Name meant.This) ≡ make (P.Held H.This) →
+    ((base field : Meant) → read (spelled.Field base field) ≡ make (pointer_in (spelled.Field base field))) → (p : Pointer) (a : Operand Meant) → pointer_operand p ≡ Some a → read a ≡ make p
+spelled_otherwise read make local this field (P.Held (H.Local i)) a is = let same : Name (meant.Pointer i) ≡ a = cc in subst (λ o. read o ≡ make (P.Held (H.Local i))) same (local i)
+spelled_otherwise read make local this field (P.Held H.This) a is = let same : Name meant.This ≡ a = cc in subst (λ o. read o ≡ make (P.Held H.This)) same this
+spelled_otherwise read make local this field (P.Field (H.Local i) class index) a is =
+    let same : spelled.Field (meant.Pointer i) (meant.Field class index) ≡ a = cc in
+    subst (λ o. read o ≡ make (P.Field (H.Local i) class index)) same (field (meant.Pointer i) (meant.Field class index))
+spelled_otherwise read make local this field (P.Field H.This class index) a is =
+    let same : spelled.Field meant.This (meant.Field class index) ≡ a = cc in
+    subst (λ o. read o ≡ make (P.Field H.This class index)) same (field meant.This (meant.Field class index))
 
 pub variable_back : (x : ℕ) (a : Operand Meant) → variable_operand x ≡ Some a → variable_in a ≡ x
 variable_back x a is = let same : Name (meant.Number x) ≡ a = cc in subst (λ o. variable_in o ≡ x) same refl
@@ -80,21 +107,22 @@ number_back (Variable i) a is = let same : Name (meant.Number i) ≡ a = cc in s
 
 pub writable_back : (d : Writable) (a : Operand Meant) → writable_operand d ≡ Some a → writable_in a ≡ d
 writable_back (OwnBuffer i) a is = let same : Name (meant.Buffer i) ≡ a = cc in subst (λ o. writable_in o ≡ OwnBuffer i) same refl
-writable_back (InCell (Held (H.Local i))) a is = let same : Name (meant.Pointer i) ≡ a = cc in subst (λ o. writable_in o ≡ InCell (Held (H.Local i))) same refl
-writable_back (InCell _) a is = let clash : ⊥ = cc in absurd clash
+writable_back (InCell p) a is = spelled_otherwise writable_in InCell (λ i. refl) refl (λ base field. refl) p a is
 
 pub view_back : (y : ℕ) (a : Operand Meant) → view_operand y ≡ Some a → view_in a ≡ y
 view_back y a is = let same : Name (meant.View y) ≡ a = cc in subst (λ o. view_in o ≡ y) same refl
 
 pub text_back : (t : Readable) (a : Operand Meant) → text_operand t ≡ Some a → text_in a ≡ t
 text_back (Of (OwnBuffer i)) a is = let same : Name (meant.Buffer i) ≡ a = cc in subst (λ o. text_in o ≡ Of (OwnBuffer i)) same refl
-text_back (Of (InCell (Held (H.Local i)))) a is = let same : Name (meant.Pointer i) ≡ a = cc in subst (λ o. text_in o ≡ Of (InCell (Held (H.Local i)))) same refl
-text_back (Of (InCell _)) a is = let clash : ⊥ = cc in absurd clash
+text_back (Of (InCell p)) a is = spelled_otherwise text_in (λ p. Of (InCell p)) (λ i. refl) refl (λ base field. refl) p a is
 text_back (ViewOf i) a is = let same : Name (meant.View i) ≡ a = cc in subst (λ o. text_in o ≡ ViewOf i) same refl
 text_back (Quoted i) a is = let same : Literal (meant.Literal i) ≡ a = cc in subst (λ o. text_in o ≡ Quoted i) same refl
 
-pub local_back : (x : ℕ) (a : Operand Meant) → pointer_operand (Held (H.Local x)) ≡ Some a → local_in a ≡ x
+pub local_back : (x : ℕ) (a : Operand Meant) → pointer_operand (P.Held (H.Local x)) ≡ Some a → local_in a ≡ x
 local_back x a is = let same : Name (meant.Pointer x) ≡ a = cc in subst (λ o. local_in o ≡ x) same refl
+
+pub class_back : (n : ℕ) (a : Operand Meant) → class_operand n ≡ Some a → class_in a ≡ n
+class_back n a is = let same : Name (meant.Class n) ≡ a = cc in subst (λ o. class_in o ≡ n) same refl
 
 pub procedure_back : (n : ℕ) (a : Operand Meant) → procedure_operand n ≡ Some a → procedure_in a ≡ n
 procedure_back n a is = let same : Name (meant.Procedure n) ≡ a = cc in subst (λ o. procedure_in o ≡ n) same refl
@@ -111,8 +139,7 @@ begun None rest operands is = let clash : ⊥ = cc in absurd clash
 pub argument_back : (argument : Argument) (a : Operand Meant) → argument_operand argument ≡ Some a → argument_in a ≡ argument
 argument_back (Given (Constant z)) a is = let e : Number z ≡ a = cc in subst (λ o. argument_in o ≡ Given (Constant z)) e refl
 argument_back (Given (Variable i)) a is = let e : Name (meant.Number i) ≡ a = cc in subst (λ o. argument_in o ≡ Given (Variable i)) e refl
-argument_back (Passed (Held (H.Local i))) a is = let e : Name (meant.Pointer i) ≡ a = cc in subst (λ o. argument_in o ≡ Passed (Held (H.Local i))) e refl
-argument_back (Passed _) a is = let clash : ⊥ = cc in absurd clash
+argument_back (Passed p) a is = spelled_otherwise argument_in Passed (λ i. refl) refl (λ base field. refl) p a is
 
 pub arguments_back : (arguments : List Argument) (operands : List (Operand Meant)) → all_spelled (map argument_operand arguments) ≡ Some operands → map argument_in operands ≡ arguments
 arguments_back [] operands is = let same : [] ≡ operands = cc in subst (λ l. map argument_in l ≡ []) same refl
@@ -120,14 +147,24 @@ arguments_back (argument ∷ arguments) operands is =
     let (a, more, first, rest, parts) = begun (argument_operand argument) (all_spelled (map argument_operand arguments)) operands is in
     subst (λ l. map argument_in l ≡ argument ∷ arguments) parts (ap (λ z. z ∷ map argument_in more) (argument_back argument a first) ∙ ap (λ l. argument ∷ l) (arguments_back arguments more rest))
 
-parameter_back : (p : Parameter) (a : Operand Meant) → parameter_operand p ≡ Some a → kind_passed a ≡ p ∷ []
-parameter_back (parameter.OfPointer None) a is = let e : spelled.Parameter meant.Parameter (parameter.OfPointer None) ≡ a = cc in subst (λ o. kind_passed o ≡ parameter.OfPointer None ∷ []) e refl
-parameter_back (parameter.OfPointer (Some class)) a is = let clash : ⊥ = cc in absurd clash
-parameter_back parameter.OfNumber a is = let e : spelled.Parameter meant.Parameter parameter.OfNumber ≡ a = cc in subst (λ o. kind_passed o ≡ parameter.OfNumber ∷ []) e refl
+-- the parameters that operands declare
+abbrev pub parameters_in : List (Operand Meant) → List Parameter
+parameters_in operands = map parameter_taking (flat_map taken_by operands)
+
+parameter_back : (p : Parameter) (a : Operand Meant) → parameter_operand p ≡ Some a → parameters_in (a ∷ []) ≡ p ∷ []
+parameter_back (parameter.OfPointer None) a is = let e : spelled.Parameter meant.Parameter taken.Pointer ≡ a = cc in subst (λ o. parameters_in (o ∷ []) ≡ parameter.OfPointer None ∷ []) e refl
+parameter_back (parameter.OfPointer (Some class)) a is =
+    let e : spelled.Parameter meant.Parameter (taken.OfClass (meant.Class class)) ≡ a = cc in
+    subst (λ o. parameters_in (o ∷ []) ≡ parameter.OfPointer (Some class) ∷ []) e refl
+parameter_back parameter.OfNumber a is = let e : spelled.Parameter meant.Parameter taken.Number ≡ a = cc in subst (λ o. parameters_in (o ∷ []) ≡ parameter.OfNumber ∷ []) e refl
+
+parameters-append : (a : Operand Meant) (more : List (Operand Meant)) → parameters_in (a ∷ more) ≡ parameters_in (a ∷ []) ++ parameters_in more
+parameters-append a more =
+    map-append parameter_taking (taken_by a) (flat_map taken_by more) ∙ ap (λ l. map parameter_taking l ++ parameters_in more) (sym (append-nil (taken_by a)))
 
 -- a head tells its parameters
-pub parameters_back : (parameters : List Parameter) (operands : List (Operand Meant)) → all_spelled (map parameter_operand parameters) ≡ Some operands → flat_map kind_passed operands ≡ parameters
-parameters_back [] operands is = let same : [] ≡ operands = cc in subst (λ l. flat_map kind_passed l ≡ []) same refl
+pub parameters_back : (parameters : List Parameter) (operands : List (Operand Meant)) → all_spelled (map parameter_operand parameters) ≡ Some operands → parameters_in operands ≡ parameters
+parameters_back [] operands is = let same : [] ≡ operands = cc in subst (λ l. parameters_in l ≡ []) same refl
 parameters_back (p ∷ ps) operands is =
     let (a, more, first, rest, parts) = begun (parameter_operand p) (all_spelled (map parameter_operand ps)) operands is in
-    subst (λ l. flat_map kind_passed l ≡ p ∷ ps) parts (ap (λ l. l ++ flat_map kind_passed more) (parameter_back p a first) ∙ ap (λ l. p ∷ l) (parameters_back ps more rest))
+    subst (λ l. parameters_in l ≡ p ∷ ps) parts (parameters-append a more ∙ ap (λ l. l ++ parameters_in more) (parameter_back p a first) ∙ ap (λ l. p ∷ l) (parameters_back ps more rest))

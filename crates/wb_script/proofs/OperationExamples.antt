@@ -4,7 +4,7 @@ use Rattle.std.specs.Prelude.{◌≡◌, ℕ, List, [], ◌∷◌, ◌++◌, Opt
 use Rattle.wb_model.specs.declared.script_lines.Key.TheVariants.{Proc, Op, Ptr, Free, PushOp, Call, Print, End}
 use Rattle.wb_model.specs.declared.script_lines.Meant.TheVariants as meant
 use Rattle.wb_model.specs.declared.script_lines.Operand.TheVariants.{Name, Parameter}
-use Rattle.wb_model.specs.declared.script.Parameter.TheVariants.{OfPointer}
+use Rattle.wb_model.specs.declared.script_lines.Taken.TheVariants as taken
 use Rattle.wb_model.specs.declared.script_lines.Form.{Form}
 use Rattle.wb_model.specs.declared.script_lines.Form.TheVariants.{Line}
 use Rattle.wb_model.specs.Forms.{forms_of}
@@ -43,11 +43,11 @@ they_are_lines =
 
 -- Procedures and operations count each among their kind. The parameter of an operation is its first local.
 what_they_mean : counted_from 1 (resolved (forms_in mixed_items)) ≡
-    (Some 1, Line Op (Name (meant.Declared 0) ∷ Parameter meant.Parameter (OfPointer None) ∷ [])) ∷ (Some 2, Line Free (Name (meant.Pointer 0) ∷ [])) ∷ (None, Line End [])
+    (Some 1, Line Op (Name (meant.Declared 0) ∷ Parameter meant.Parameter taken.Pointer ∷ [])) ∷ (Some 2, Line Free (Name (meant.Pointer 0) ∷ [])) ∷ (None, Line End [])
     ∷ (Some 4, Line Proc (Name (meant.Declared 0) ∷ [])) ∷ (None, Line Ptr (Name (meant.Declared 0) ∷ []))
     ∷ (Some 6, Line PushOp (Name (meant.Pointer 0) ∷ Name (meant.Operation 1) ∷ [])) ∷ (Some 7, Line PushOp (Name (meant.Pointer 0) ∷ Name (meant.Operation 0) ∷ []))
     ∷ (Some 8, Line Call (Name (meant.Procedure 1) ∷ [])) ∷ (None, Line End [])
-    ∷ (Some 10, Line Op (Name (meant.Declared 1) ∷ Parameter meant.Parameter (OfPointer None) ∷ [])) ∷ (Some 11, Line Print (Name (meant.Pointer 0) ∷ [])) ∷ (None, Line End [])
+    ∷ (Some 10, Line Op (Name (meant.Declared 1) ∷ Parameter meant.Parameter taken.Pointer ∷ [])) ∷ (Some 11, Line Print (Name (meant.Pointer 0) ∷ [])) ∷ (None, Line End [])
     ∷ (Some 13, Line Proc (Name (meant.Declared 1) ∷ [])) ∷ (None, Line End []) ∷ []
 unfolding keys
 what_they_mean = refl

@@ -1,15 +1,31 @@
 -- Arguments, one more at a time, which operands are none, and operands that are two.
 use Rattle.std.proofs.Common.{◌≡◌, refl, sym, ap, ◌∙◌, ℕ, zero, suc, ◌<◌, ◌≤◌, List, [], ◌∷◌, ◌++◌, length, map, get_or, Option, Some, None, Bool, true, false, ◌&&◌, IsTrue, arith}
-use Rattle.std.proofs.lemmas.List.{map-append}
+use Rattle.std.specs.Borrow.{Bor}
+use Rattle.std.specs.Option.{option_map}
+use Rattle.std.specs.Prelude.{slice_get}
+use Rattle.std.proofs.lemmas.List.{map-append, length-map}
+use Rattle.std.proofs.lemmas.Option.{slice_get-map, slice_get_within}
 use Rattle.wb_model.specs.declared.script.Argument.{Argument}
-use Rattle.wb_model.specs.declared.script.Local.{Local}
 use Rattle.wb_model.specs.declared.script.Parameter.{Parameter}
 use Rattle.wb_model.specs.declared.script_lines.Meant.{Meant}
 use Rattle.wb_model.specs.declared.script_lines.Operand as model
-use Rattle.wb_model.specs.Sound.{is_passed, are_passed}
+use Rattle.std.specs.List.{list_any}
+use Rattle.wb_model.specs.declared.script.Statement.{Statement}
+use Rattle.wb_model.specs.declared.script_lines.Key.{Key}
+use Rattle.wb_model.specs.Kinds.{is_trap}
+use Rattle.wb_model.specs.Forms.{renamed_taken}
+use Rattle.wb_model.specs.declared.script_lines.ItemKind.TheVariants as kind
+use Rattle.wb_model.specs.declared.limits.TheConstants.{LONGEST_SCRIPT}
+use Rattle.wb_model.specs.Names as names
+use Rattle.wb_model.specs.Names.{item_of_kind, of_kind}
+use Rattle.wb_model.specs.Sound.{Declared, Scope, is_passed, are_passed}
 use Rattle.wb_model.specs.Trees.{Spelled, and_operand, all_spelled, argument_operand}
 use Rattle.wb_script.specs.Fitting.{argument_fits, arguments_fit}
-use Rattle.wb_script.proofs.Wholes.{both}
+use Rattle.wb_script.specs.Lent.{lent_text, lent_item, lent_items, parameter_named, signatures_among}
+use Rattle.wb_script.specs.Building.{may_stand}
+use Rattle.wb_script.specs.Stated.{IsNestedOf, IsStatedWhereFit, lent_parameter}
+use Rattle.wb_script.specs.declared.checks.items.Item.{Item}
+use Rattle.wb_script.proofs.Indexes.{index_fits}
 
 abbrev Operand : Type 0
 Operand = model.Operand Meant
@@ -38,32 +54,61 @@ parts : (a b : Bool) → IsTrue (a && b) → IsTrue a × IsTrue b
 parts true b is = (refl, is)
 parts false b is = let clash : ⊥ = cc in absurd clash
 
-pub passed_more : (locals : List Local) (parameters : List Parameter) (given : List Argument) (p : Parameter) (a : Argument) → IsTrue (are_passed locals parameters given) → IsTrue (is_passed locals p a) → IsTrue (are_passed locals (parameters ++ p ∷ []) (given ++ a ∷ []))
-passed_more locals [] [] p a before is = both (is_passed locals p a) true is refl
-passed_more locals [] (b ∷ given) p a before is = let clash : ⊥ = cc in absurd clash
-passed_more locals (q ∷ parameters) [] p a before is = let clash : ⊥ = cc in absurd clash
-passed_more locals (q ∷ parameters) (b ∷ given) p a before is =
-    let split = parts (is_passed locals q b) (are_passed locals parameters given) before in
-    both (is_passed locals q b) (are_passed locals (parameters ++ p ∷ []) (given ++ a ∷ [])) split.0 (passed_more locals parameters given p a split.1 is)
+both : (a b : Bool) → IsTrue a → IsTrue b → IsTrue (a && b)
+both true b here there = there
+both false b here there = let clash : ⊥ = cc in absurd clash
 
 never : (a b : Bool) → b ≡ false → (a && b) ≡ false
 never true b e = e
 never false b e = refl
 
-pub arguments_differ : (literals : ℕ) (locals : List Local) (parameters : List Parameter) (operands : List Operand) → (length parameters ≡ length operands → ⊥) → arguments_fit literals locals parameters operands ≡ false
-arguments_differ literals locals [] [] differ = absurd (differ refl)
-arguments_differ literals locals [] (o ∷ operands) differ = refl
-arguments_differ literals locals (p ∷ parameters) [] differ = refl
-arguments_differ literals locals (p ∷ parameters) (o ∷ operands) differ = never (argument_fits literals locals p o) (arguments_fit literals locals parameters operands) (arguments_differ literals locals parameters operands (λ e. differ (ap suc e)))
+-- what is taken stands for parameters
+module _ {A : Type 0} (parameter_of : A → Parameter) where
+  pub passed_more : (scope : Scope) (taken : List A) (given : List Argument) (t : A) (a : Argument) → IsTrue (are_passed scope (map parameter_of taken) given) → IsTrue (is_passed scope (parameter_of t) a) → IsTrue (are_passed scope (map parameter_of (taken ++ t ∷ [])) (given ++ a ∷ []))
+  passed_more scope [] [] t a before is = both (is_passed scope (parameter_of t) a) true is refl
+  passed_more scope [] (b ∷ given) t a before is = let clash : ⊥ = cc in absurd clash
+  passed_more scope (q ∷ taken) [] t a before is = let clash : ⊥ = cc in absurd clash
+  passed_more scope (q ∷ taken) (b ∷ given) t a before is =
+      let split = parts (is_passed scope (parameter_of q) b) (are_passed scope (map parameter_of taken) given) before in
+      both (is_passed scope (parameter_of q) b) (are_passed scope (map parameter_of (taken ++ t ∷ [])) (given ++ a ∷ [])) split.0 (passed_more scope taken given t a split.1 is)
 
-pub one_differs : (literals : ℕ) (locals : List Local) (parameters : List Parameter) (operands : List Operand) (i : ℕ) (p : Parameter) (d : Operand) → i < length parameters → i < length operands →
-    p ≡ get_or parameters i p → argument_fits literals locals p (get_or operands i d) ≡ false → arguments_fit literals locals parameters operands ≡ false
-one_differs literals locals [] operands i p d lt below here misfit = absurd (omega arith)
-one_differs literals locals (q ∷ parameters) [] i p d lt below here misfit = absurd (omega arith)
-one_differs literals locals (q ∷ parameters) (r ∷ operands) zero p d lt below here misfit =
-    ap (λ b. b && arguments_fit literals locals parameters operands) (ap (λ x. argument_fits literals locals x r) (sym here) ∙ misfit)
-one_differs literals locals (q ∷ parameters) (r ∷ operands) (suc i) p d lt below here misfit =
-    never (argument_fits literals locals q r) (arguments_fit literals locals parameters operands) (one_differs literals locals parameters operands i p d (omega arith) (omega arith) here misfit)
+  pub arguments_differ : (literals : ℕ) (scope : Scope) (taken : List A) (operands : List Operand) → (length taken ≡ length operands → ⊥) → arguments_fit literals scope (map parameter_of taken) operands ≡ false
+  arguments_differ literals scope [] [] differ = absurd (differ refl)
+  arguments_differ literals scope [] (o ∷ operands) differ = refl
+  arguments_differ literals scope (t ∷ taken) [] differ = refl
+  arguments_differ literals scope (t ∷ taken) (o ∷ operands) differ =
+      never (argument_fits literals scope (parameter_of t) o) (arguments_fit literals scope (map parameter_of taken) operands) (arguments_differ literals scope taken operands (λ e. differ (ap suc e)))
+
+  pub one_differs : (literals : ℕ) (scope : Scope) (taken : List A) (operands : List Operand) (i : ℕ) (t : A) (d : Operand) → i < length taken → i < length operands →
+      t ≡ get_or taken i t → argument_fits literals scope (parameter_of t) (get_or operands i d) ≡ false → arguments_fit literals scope (map parameter_of taken) operands ≡ false
+  one_differs literals scope [] operands i t d lt below here misfit = absurd (omega arith)
+  one_differs literals scope (q ∷ taken) [] i t d lt below here misfit = absurd (omega arith)
+  one_differs literals scope (q ∷ taken) (r ∷ operands) zero t d lt below here misfit =
+      ap (λ b. b && arguments_fit literals scope (map parameter_of taken) operands) (ap (λ x. argument_fits literals scope (parameter_of x) r) (sym here) ∙ misfit)
+  one_differs literals scope (q ∷ taken) (r ∷ operands) (suc i) t d lt below here misfit =
+      never (argument_fits literals scope (parameter_of q) r) (arguments_fit literals scope (map parameter_of taken) operands) (one_differs literals scope taken operands i t d (omega arith) (omega arith) here misfit)
+
+mapped_twice : {A B C : Type 0} (g : B → C) (f : A → B) (xs : List A) → map g (map f xs) ≡ map (λ x. g (f x)) xs
+mapped_twice g f [] = refl
+mapped_twice g f (x ∷ xs) = ap (λ l. g (f x) ∷ l) (mapped_twice g f xs)
+
+-- what a procedure takes, by the one that has its index
+pub signature_there : (items : List Item) (index : ℕ) (o : Option (Bor Item)) → option_map (λ i. lent_item i.now) o ≡ item_of_kind kind.Procedure (lent_items items) index →
+    option_map (λ i. map (lent_parameter (lent_items items)) i.now.parameters) o ≡ slice_get (signatures_among (lent_items items)) index
+signature_there items index o is = lent o ∙ ap (option_map signature) is ∙ sym (slice_get-map signature (of_kind kind.Procedure (lent_items items)) index)
+  where
+    signature : names.Item → List Parameter
+    signature i = map (parameter_named (lent_items items)) i.parameters
+
+    lent : (o : Option (Bor Item)) → option_map (λ i. map (lent_parameter (lent_items items)) i.now.parameters) o ≡ option_map signature (option_map (λ i. lent_item i.now) o)
+    lent None = refl
+    lent (Some i) = ap Some (sym (mapped_twice (parameter_named (lent_items items)) (renamed_taken lent_text) i.now.parameters))
+
+-- no more than so many procedures
+pub signature_within : (items : List Item) (index : ℕ) (parameters : List Parameter) → length items ≤ LONGEST_SCRIPT → Some parameters ≡ slice_get (signatures_among (lent_items items)) index → index < 65536
+signature_within items index parameters few is =
+    index_fits kind.Procedure items index few
+    (omega (arith, slice_get_within (signatures_among (lent_items items)) index parameters (sym is), length-map (of_kind kind.Procedure (lent_items items)) (λ i. map (parameter_named (lent_items items)) i.parameters)))
 
 -- a list of two is its elements
 pub two_items : {X : Type 0} (xs : List X) (d : X) → 2 ≤ length xs → length xs < 3 → xs ≡ get_or xs 0 d ∷ get_or xs 1 d ∷ []
@@ -71,3 +116,8 @@ two_items [] d least below = absurd (omega arith)
 two_items (x ∷ []) d least below = absurd (omega arith)
 two_items (x ∷ y ∷ []) d least below = refl
 two_items (x ∷ y ∷ z ∷ xs) d least below = absurd (omega arith)
+
+-- a statement that may stand anywhere stands inside these blocks
+pub stands_inside : (declared : Declared) (scope : Scope) (blocks : List Key) (k : Key) (operands : List Operand) (result : Option Statement) → may_stand blocks k ≡ true → IsNestedOf declared scope k operands result → IsStatedWhereFit declared scope blocks k operands result
+stands_inside declared scope blocks k operands None stands misfit = ap (λ b. b && may_stand blocks k) misfit
+stands_inside declared scope blocks k operands (Some s) stands line = line (list_any is_trap blocks)

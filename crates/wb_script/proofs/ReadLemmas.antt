@@ -1,6 +1,7 @@
 -- What the checks of lines tell of the tree.
 use Rattle.std.proofs.Common.{◌≡◌, refl, sym, ap, subst, ◌∙◌, ℕ, suc, List, [], ◌∷◌, Bool, true, false, not, ◌&&◌, ◌||◌, map, take, Option, Some, None}
 use Rattle.std.proofs.lemmas.List.Folds.{list_all-append}
+use Rattle.std.proofs.lemmas.Option.{slice_get-map}
 use Rattle.std.specs.Prelude.{codes, slice_get, if◌then◌else◌}
 use Rattle.std.specs.List.{list_all}
 use Rattle.std.specs.Option.{option_map}
@@ -11,21 +12,24 @@ use Rattle.wb_model.specs.declared.script_lines.ItemKind.TheVariants as item
 use Rattle.wb_model.specs.declared.script_lines.Operand.TheVariants.{Name}
 use Rattle.wb_model.specs.declared.script_lines.Form.{Form}
 use Rattle.wb_model.specs.declared.script_lines.Form.TheVariants.{Skip, Unknown, Line}
+use Rattle.wb_model.specs.declared.script_lines.Taken.{Taken}
 use Rattle.wb_model.specs.declared.script.Parameter.{Parameter}
 use Rattle.wb_model.specs.declared.fault.ScriptFault.{ScriptFault}
 use Rattle.wb_model.specs.declared.fault.ScriptFault.TheVariants.{UnknownName, DoubleName, WrongKind, MayLeave, NoMain, TooMany}
 use Rattle.wb_model.specs.Forms.{role_of_form, renamed}
-use Rattle.wb_model.specs.Kinds.{is_nothing, is_right_line, gives_main_parameters, returns_in_trap, returns_outside, has_wrong_kind}
-use Rattle.wb_model.specs.Names.{Text, Known, Item, nothing_known, known_after, names_of, first_declaration_of, is_same_kind, signatures_among, count_among, items_by, items_of, parameters_in}
+use Rattle.wb_model.specs.Kinds.{is_nothing, is_right_line, misuses_main, returns_in_trap, returns_outside, has_wrong_kind}
+use Rattle.wb_model.specs.Names.{Text, Known, Item, nothing_known, known_after, names_of, first_declaration_of, is_same_kind, of_kind, count_among, items_by, items_of, parameters_in}
 use Rattle.wb_model.specs.Passes.{first_bad, first_where}
 use Rattle.wb_model.specs.Resolved.{resolved, resolved_line, kind_meant, item_behind, item_at, item_meant}
 use Rattle.wb_model.specs.Scripts.{main_of, procedure_meant, number_of_line, first_wrong, IsNamed, IsLinesFault}
 use Rattle.wb_model.specs.Sound.{is_entry}
 use Rattle.wb_script.specs.Building.{counts_of}
 use Rattle.wb_script.specs.Checks.{AreChecked, AreNamed, IsFirstFault}
+use Rattle.wb_script.specs.Lent.{parameter_named, signatures_among}
 use Rattle.wb_script.specs.Typed.{AreTyped}
 use Rattle.wb_script.specs.declared.checks.Checked.{Checked}
-use Rattle.wb_script.proofs.FitLemmas.{both_hold, signature_here}
+use Rattle.wb_script.proofs.FitLemmas.{both_hold}
+use Rattle.wb_script.proofs.FoundItems.{item_here}
 use Rattle.wb_script.proofs.Steps.{good_first}
 use Rattle.wb_script.proofs.TypedLemmas.{both}
 use Rattle.wb_script.proofs.ResolvedLemmas.{procedures-resolved, none_wrong}
@@ -64,22 +68,26 @@ named_nothing p (one ∷ items) i is nothing = go (p one.name) (first_where p (n
         let (named, at, nothing) = more j later all in
         (named, subst (λ n. slice_get (one ∷ items) n ≡ Some named) same at, nothing)
 
-taken : (ps : List Parameter) → is_nothing ps ≡ true → is_entry (Some ps) ≡ true
-taken [] e = refl
-taken (q ∷ qs) e = let clash : ⊥ = cc in absurd clash
+taken : (items : List Item) (ts : List (Taken Text)) → is_nothing ts ≡ true → is_entry (Some (map (parameter_named items) ts)) ≡ true
+taken items [] e = refl
+taken items (t ∷ ts) e = let clash : ⊥ = cc in absurd clash
 
-entry_found : (items : List Item) (name : Text) (main : ℕ) → procedure_meant (item_meant items name) ≡ Some main → list_all (takes_nothing (λ n. bytes_eq n name)) items ≡ true → is_entry (slice_get (signatures_among item.Procedure items) main) ≡ true
+entry_found : (items : List Item) (name : Text) (main : ℕ) → procedure_meant (item_meant items name) ≡ Some main → list_all (takes_nothing (λ n. bytes_eq n name)) items ≡ true → is_entry (slice_get (signatures_among items) main) ≡ true
 entry_found items name main is all = found (first_declaration_of (names_of items) name) refl is
   where
     by_kind : (index : ℕ) (named : Item) (kind : ItemKind) → slice_get items index ≡ Some named → is_nothing named.parameters ≡ true → named.kind ≡ kind → procedure_meant (kind_meant kind (count_among kind (take index items))) ≡ Some main →
-        is_entry (slice_get (signatures_among item.Procedure items) main) ≡ true
+        is_entry (slice_get (signatures_among items) main) ≡ true
+    by_kind index named item.Class at nothing e is = let clash : ⊥ = cc in absurd clash
     by_kind index named item.Operation at nothing e is = let clash : ⊥ = cc in absurd clash
     by_kind index named item.Procedure at nothing e is =
         let same : count_among item.Procedure (take index items) ≡ main = cc in
-        subst (λ n. is_entry (slice_get (signatures_among item.Procedure items) n) ≡ true) same
-        (ap is_entry (signature_here item.Procedure items index named at (ap (λ k. is_same_kind k item.Procedure) e)) ∙ taken named.parameters nothing)
+        let signature : Item → List Parameter = λ i. map (parameter_named items) i.parameters in
+        subst (λ n. is_entry (slice_get (signatures_among items) n) ≡ true) same
+        (ap is_entry (slice_get-map signature (of_kind item.Procedure items) (count_among item.Procedure (take index items)))
+        ∙ ap (λ o. is_entry (option_map signature o)) (item_here item.Procedure items index named at (ap (λ k. is_same_kind k item.Procedure) e))
+        ∙ taken items named.parameters nothing)
 
-    found : (place : Option ℕ) → first_declaration_of (names_of items) name ≡ place → procedure_meant (item_at items place) ≡ Some main → is_entry (slice_get (signatures_among item.Procedure items) main) ≡ true
+    found : (place : Option ℕ) → first_declaration_of (names_of items) name ≡ place → procedure_meant (item_at items place) ≡ Some main → is_entry (slice_get (signatures_among items) main) ≡ true
     found None e is = let clash : ⊥ = cc in absurd clash
     found (Some index) e is =
         let (named, at, nothing) = named_nothing (λ n. bytes_eq n name) items index e all in
@@ -88,28 +96,31 @@ entry_found items name main is all = found (first_declaration_of (names_of items
 abbrev is_main : Text → Bool
 is_main name = bytes_eq name (codes "main")
 
-given_nothing : (named nothing : Bool) → ((named || false) && not nothing) ≡ false → ((not named || nothing) && true) ≡ true
-given_nothing true true e = refl
-given_nothing true false e = let clash : ⊥ = cc in absurd clash
-given_nothing false nothing e = refl
+given_nothing : (named nothing class : Bool) → ((named || false) && (not nothing || class)) ≡ false → ((not named || nothing) && true) ≡ true
+given_nothing true true class e = refl
+given_nothing true false class e = let clash : ⊥ = cc in absurd clash
+given_nothing false nothing class e = refl
 
-line_entry : (form : Form Text) → gives_main_parameters form ≡ false → list_all (takes_nothing is_main) (items_by form) ≡ true
-line_entry Skip none = refl
-line_entry Unknown none = refl
-line_entry (Line key.Proc (Name n ∷ os)) none = given_nothing (is_main n) (is_nothing (parameters_in (Line key.Proc (Name n ∷ os)))) none
-line_entry (Line key.Proc []) none = refl
-line_entry (Line key.Proc (_ ∷ os)) none = refl
-line_entry (Line key.Op (Name n ∷ os)) none = given_nothing (is_main n) (is_nothing (parameters_in (Line key.Op (Name n ∷ os)))) none
-line_entry (Line key.Op []) none = refl
-line_entry (Line key.Op (_ ∷ os)) none = refl
-line_entry (Line _ operands) none = refl
+line_entry : (form : Form Text) (behind : List (Form Text)) → misuses_main form ≡ false → list_all (takes_nothing is_main) (items_by form behind) ≡ true
+line_entry Skip behind none = refl
+line_entry Unknown behind none = refl
+line_entry (Line key.Class (Name n ∷ os)) behind none = given_nothing (is_main n) (is_nothing (parameters_in (Line key.Class (Name n ∷ os)))) true none
+line_entry (Line key.Class []) behind none = refl
+line_entry (Line key.Class (_ ∷ os)) behind none = refl
+line_entry (Line key.Proc (Name n ∷ os)) behind none = given_nothing (is_main n) (is_nothing (parameters_in (Line key.Proc (Name n ∷ os)))) false none
+line_entry (Line key.Proc []) behind none = refl
+line_entry (Line key.Proc (_ ∷ os)) behind none = refl
+line_entry (Line key.Op (Name n ∷ os)) behind none = given_nothing (is_main n) (is_nothing (parameters_in (Line key.Op (Name n ∷ os)))) false none
+line_entry (Line key.Op []) behind none = refl
+line_entry (Line key.Op (_ ∷ os)) behind none = refl
+line_entry (Line _ operands) behind none = refl
 
 lines_entry : (items : List Item) (forms : List (Form Text)) (known : Known) → first_bad known_after (has_wrong_kind items) known forms ≡ None → list_all (takes_nothing is_main) (items_of forms) ≡ true
 lines_entry items [] known right = refl
 lines_entry items (form ∷ forms) known right =
     let (here, later) = good_first (has_wrong_kind items known form) (first_bad known_after (has_wrong_kind items) (known_after known form) forms) right in
-    let (fine, main, trapped, outside) = none_wrong (is_right_line items (resolved_line items known form)) (gives_main_parameters form) (returns_in_trap known form) (returns_outside known form) here in
-    list_all-append (takes_nothing is_main) (items_by form) (items_of forms) ∙ both_hold _ _ (line_entry form main) (lines_entry items forms (known_after known form) later)
+    let (fine, main, trapped, outside) = none_wrong (is_right_line items (resolved_line items known form)) (misuses_main form) (returns_in_trap known form) (returns_outside known form) here in
+    list_all-append (takes_nothing is_main) (items_by form forms) (items_of forms) ∙ both_hold _ _ (line_entry form forms main) (lines_entry items forms (known_after known form) later)
 
 -- `main` is one of the procedures, and takes nothing
 pub main_entry : (forms : List (Form Text)) (main : ℕ) → AreTyped forms → main_of forms ≡ Some main → first_wrong forms ≡ None → is_entry (slice_get (counts_of (resolved forms)).procedures main) ≡ true

@@ -1,9 +1,6 @@
 -- What lines say of a script, read from the last to the first.
 use Rattle.std.proofs.Common.{◌≡◌, refl, ap, ℕ, List, [], ◌∷◌, ◌++◌, Option, Some, None, map}
-use Rattle.std.specs.List.{flat_map}
 use Rattle.std.specs.Prelude.{unwrap_or}
-use Rattle.wb_model.specs.declared.script_lines.ItemKind.{ItemKind}
-use Rattle.wb_model.specs.declared.script_lines.ItemKind.TheVariants as item
 use Rattle.wb_model.specs.declared.script_lines.Key.TheVariants as key
 use Rattle.wb_model.specs.declared.script_lines.Meant.{Meant}
 use Rattle.wb_model.specs.declared.script_lines.Meant.TheVariants as meant
@@ -11,7 +8,9 @@ use Rattle.wb_model.specs.declared.script_lines.Operand.{Operand}
 use Rattle.wb_model.specs.declared.script_lines.Operand.TheVariants.{Name, Number, Size}
 use Rattle.wb_model.specs.declared.script_lines.Form.TheVariants.{Line}
 use Rattle.wb_model.specs.declared.script.Body.{Body}
-use Rattle.wb_model.specs.declared.script.Parameter.{Parameter}
+use Rattle.wb_model.specs.declared.script.Class.{Class}
+use Rattle.wb_model.specs.declared.script.Procedure.{Procedure}
+use Rattle.wb_model.specs.declared.script.Operation.{Operation}
 use Rattle.wb_model.specs.declared.script.Condition.{Condition}
 use Rattle.wb_model.specs.declared.script.Condition.TheVariants.{IsNull, NotNull, Equal, Less}
 use Rattle.wb_model.specs.declared.script.Local.{Local}
@@ -22,9 +21,10 @@ use Rattle.wb_model.specs.declared.script.Numbered.{Numbered}
 use Rattle.wb_model.specs.declared.script.Statement.{Statement}
 use Rattle.wb_model.specs.declared.script.Statement.TheOpen.{Statement-F}
 use Rattle.wb_model.specs.declared.script.Statement.TheViews.{roll-Statement}
-use Rattle.wb_model.specs.Names.{kind_passed}
+use Rattle.wb_model.specs.Resolved.{class_in}
 use Rattle.wb_model.specs.Trees.{Indexed, Marked, line}
-use Rattle.wb_script.proofs.OperandLaws.{pointer_in, variable_in, number_in, writable_in, view_in, text_in, argument_in, local_in, procedure_in, operation_in}
+use Rattle.wb_script.proofs.OperandLaws.{pointer_in, variable_in, number_in, writable_in, view_in, text_in, argument_in, local_in, procedure_in, operation_in, parameters_in}
+use Rattle.wb_script.proofs.OperandLaws as operand
 
 -- the statements of a block that were read, and those behind its `else`
 pub record Level : Type 0 where
@@ -34,23 +34,30 @@ pub record Level : Type 0 where
 abbrev pub no_statements : Level
 no_statements = record { here = []; other = None }
 
--- a procedure or an operation as its lines tell it, with the index that its first line has
-pub record Told : Type 0 where
-  pub kind : ItemKind
-  pub index : ℕ
-  pub line : ℕ
-  pub parameters : List Parameter
-  pub body : Body
+-- a class, a procedure or an operation
+pub data Item : Type 0 where
+  class : Class → Item
+  procedure : Procedure → Item
+  operation : Operation → Item
 
--- What lines say, read from the last to the first: an `end` opens a block, and the block's head closes it.
+-- an item as its lines tell it, with the index that its first line has
+pub record Told : Type 0 where
+  pub index : ℕ
+  pub item : Item
+
+-- What lines say, read from the last to the first: an `end` opens a block, and the block's head closes it. What is read of a class
+-- stands in its own places until the first line of the class.
 pub record Part : Type 0 where
   pub locals : List Local
   pub inner : Level
   pub outer : List Level
+  pub fields : List (Option ℕ)
+  pub construct : Option Body
+  pub destroy : Option Body
   pub items : List Told
 
 abbrev pub nothing : Part
-nothing = record { locals = []; inner = no_statements; outer = []; items = [] }
+nothing = record { locals = []; inner = no_statements; outer = []; fields = []; construct = None; destroy = None; items = [] }
 
 -- a `set`, by what its target is
 abbrev pub set_in : Operand Meant → Operand Meant → Statement-F Statement Numbered
@@ -107,7 +114,13 @@ statement_in (Line key.Right (a ∷ b ∷ c ∷ [])) = Statement-F.Right (view_i
 statement_in (Line key.Mid (a ∷ b ∷ c ∷ e ∷ [])) = Statement-F.Mid (view_in a) (text_in b) (number_in c) (number_in e)
 statement_in (Line key.GetLen (a ∷ b ∷ [])) = Statement-F.GetLength (variable_in a) (text_in b)
 statement_in (Line key.GetMax (a ∷ b ∷ [])) = Statement-F.GetMaximum (variable_in a) (writable_in b)
+statement_in (Line key.New (a ∷ b ∷ [])) = Statement-F.New (pointer_in a) (operand.class_in b) GivesNull
+statement_in (Line key.NewLeave (a ∷ b ∷ [])) = Statement-F.New (pointer_in a) (operand.class_in b) Leaves
+statement_in (Line key.Construct (a ∷ [])) = Statement-F.Construct (pointer_in a)
+statement_in (Line key.Delete (a ∷ [])) = Statement-F.Delete (pointer_in a)
+statement_in (Line key.PushObj (a ∷ [])) = Statement-F.PushObject (pointer_in a)
 statement_in (Line key.Set (a ∷ b ∷ [])) = set_in a b
+statement_in (Line key.SetField (a ∷ b ∷ [])) = Statement-F.Set (pointer_in a) (pointer_in b)
 statement_in (Line key.Print (a ∷ [])) = print_in a
 statement_in _ = Statement-F.Return
 
@@ -138,19 +151,45 @@ abbrev pub index_in : List (Operand Meant) → ℕ
 index_in (Name (meant.Declared index) ∷ operands) = index
 index_in _ = 0
 
--- the body that was read, by its first line
-abbrev pub begun : ItemKind → ℕ → List (Operand Meant) → Part → Part
-begun kind number operands part = record {
+-- the body that was read
+abbrev pub body_read : Part → Body
+body_read part = record { locals = part.locals; statements = part.inner.here }
+
+-- out of a body, by its first line
+abbrev pub out_of_body : Part → Part
+out_of_body part = record (closed part) { locals = [] }
+
+-- the item that was read, by its first line
+abbrev pub begun : ℕ → Item → Part → Part
+begun index item part = record {
   locals = [];
   inner = (closed part).inner;
   outer = (closed part).outer;
-  items = record { kind = kind; index = index_in operands; line = number; parameters = flat_map kind_passed operands; body = record { locals = part.locals; statements = part.inner.here } } ∷ part.items;
+  fields = [];
+  construct = None;
+  destroy = None;
+  items = record { index = index; item = item } ∷ part.items;
 }
 
+abbrev pub class_read : ℕ → ℕ → Part → Item
+class_read number extra part = Item.class (record { line = number; extra = extra; fields = part.fields; construct = part.construct; destroy = part.destroy })
+
+abbrev pub procedure_read : ℕ → List (Operand Meant) → Part → Item
+procedure_read number operands part = Item.procedure (record { line = number; parameters = parameters_in operands; body = body_read part })
+
+abbrev pub operation_read : ℕ → Part → Item
+operation_read number part = Item.operation (record { line = number; body = body_read part })
+
 abbrev pub with_line : ℕ → Indexed → Part → Part
-with_line number (Line key.Proc operands) part = begun item.Procedure number operands part
-with_line number (Line key.Op operands) part = begun item.Operation number operands part
+with_line number (Line key.Class (Name (meant.Declared index) ∷ Size extra ∷ [])) part = begun index (class_read number extra part) part
+with_line number (Line key.Field operands) part = record part { fields = None ∷ part.fields }
+with_line number (Line key.ClassField (name ∷ Name owner ∷ [])) part = record part { fields = class_in owner ∷ part.fields }
+with_line number (Line key.Constructor operands) part = record (out_of_body part) { construct = Some (body_read part) }
+with_line number (Line key.Destructor operands) part = record (out_of_body part) { destroy = Some (body_read part) }
+with_line number (Line key.Proc operands) part = begun (index_in operands) (procedure_read number operands part) part
+with_line number (Line key.Op operands) part = begun (index_in operands) (operation_read number part) part
 with_line number (Line key.Ptr operands) part = record part { locals = OfPointer None ∷ part.locals }
+with_line number (Line key.ClassPtr (name ∷ Name owner ∷ [])) part = record part { locals = OfPointer (class_in owner) ∷ part.locals }
 with_line number (Line key.Int operands) part = record part { locals = OfNumber ∷ part.locals }
 with_line number (Line key.Buf (name ∷ Size max ∷ [])) part = record part { locals = OfBuffer max ∷ part.locals }
 with_line number (Line key.View operands) part = record part { locals = OfView ∷ part.locals }

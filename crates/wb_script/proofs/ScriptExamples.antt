@@ -4,7 +4,7 @@ use Rattle.std.specs.Prelude.{codes}
 use Rattle.wb_model.specs.declared.script_lines.Key.TheVariants.{Proc, Ptr, Int, Alloc, AllocL, Leave, CallTo, ReturnPointer, Print, IfNull, Else, Trap, End}
 use Rattle.wb_model.specs.declared.script_lines.Meant.TheVariants as meant
 use Rattle.wb_model.specs.declared.script_lines.Operand.TheVariants.{Name, Number, Literal, Parameter, Keyword}
-use Rattle.wb_model.specs.declared.script.Parameter.TheVariants.{OfPointer, OfNumber}
+use Rattle.wb_model.specs.declared.script_lines.Taken.TheVariants as taken
 use Rattle.wb_model.specs.declared.script_lines.Form.{Form}
 use Rattle.wb_model.specs.declared.script_lines.Form.TheVariants.{Line}
 use Rattle.wb_model.specs.Forms.{forms_of}
@@ -128,7 +128,7 @@ what_later_means : counted_from 1 (resolved (forms_in later_call)) ≡
     ∷ (Some 4, Line Trap (Name (meant.Number 1) ∷ [])) ∷ (Some 5, Line IfNull (Keyword ∷ Name (meant.Pointer 0) ∷ []))
     ∷ (Some 6, Line CallTo (Name (meant.Pointer 0) ∷ Name (meant.Procedure 1) ∷ Name (meant.Pointer 0) ∷ Number (pos 3) ∷ [])) ∷ (None, Line Else []) ∷ (Some 8, Line Leave (Number (negsuc 0) ∷ []))
     ∷ (None, Line End []) ∷ (None, Line End []) ∷ (None, Line End [])
-    ∷ (Some 12, Line Proc (Name (meant.Declared 1) ∷ Parameter meant.Parameter (OfPointer None) ∷ Parameter meant.Parameter OfNumber ∷ []))
+    ∷ (Some 12, Line Proc (Name (meant.Declared 1) ∷ Parameter meant.Parameter taken.Pointer ∷ Parameter meant.Parameter taken.Number ∷ []))
     ∷ (Some 13, Line AllocL (Name (meant.Pointer 0) ∷ Name (meant.Number 1) ∷ [])) ∷ (Some 14, Line ReturnPointer (Name (meant.Pointer 0) ∷ [])) ∷ (None, Line End []) ∷ []
 unfolding keys
 what_later_means = refl

@@ -9,9 +9,9 @@ use Rattle.wb_model.specs.declared.script_lines.Operand.TheVariants.{Name}
 use Rattle.wb_model.specs.declared.script_lines.Form.TheVariants.{Unknown, Line}
 use Rattle.wb_model.specs.declared.script.Condition.{Condition}
 use Rattle.wb_model.specs.declared.script.Condition.TheVariants.{IsNull, NotNull, Equal, Less}
+use Rattle.wb_model.specs.declared.script.Holder.{Holder}
 use Rattle.wb_model.specs.declared.script.Holder.TheVariants as H
-use Rattle.wb_model.specs.declared.script.Pointer.{Pointer}
-use Rattle.wb_model.specs.declared.script.Pointer.TheVariants.{Held}
+use Rattle.wb_model.specs.declared.script.Pointer.TheVariants.{Held, Field}
 use Rattle.wb_model.specs.declared.script.Number as N
 use Rattle.wb_model.specs.declared.script.Number.TheVariants.{Constant, Variable}
 use Rattle.wb_model.specs.declared.script.Writable.TheVariants.{OwnBuffer, InCell}
@@ -20,9 +20,9 @@ use Rattle.wb_model.specs.declared.script.Refusal.TheVariants.{GivesNull, Leaves
 use Rattle.wb_model.specs.declared.script.Numbered.{Numbered}
 use Rattle.wb_model.specs.declared.script.Statement.{Statement}
 use Rattle.wb_model.specs.declared.script.Statement.TheOpen.{Statement-F}
-use Rattle.wb_model.specs.Trees.{Indexed, Spelled, pointer_operand, variable_operand, number_operand, writable_operand, view_operand, text_operand, procedure_operand, operation_operand, argument_operand, and_operand, all_spelled, line, line_or_unknown, condition_line, statement_line}
+use Rattle.wb_model.specs.Trees.{Indexed, Spelled, pointer_operand, variable_operand, number_operand, writable_operand, view_operand, text_operand, class_operand, procedure_operand, operation_operand, argument_operand, and_operand, all_spelled, line, line_or_unknown, condition_line, statement_line}
 use Rattle.wb_script.proofs.KnownLines.{is_known}
-use Rattle.wb_script.proofs.OperandLaws.{pointer_in, variable_in, number_in, writable_in, view_in, text_in, operation_in, operation_back, pointer_back, variable_back, number_back, writable_back, view_back, text_back, arguments_back}
+use Rattle.wb_script.proofs.OperandLaws.{pointer_in, variable_in, number_in, writable_in, view_in, text_in, class_in, operation_in, class_back, operation_back, pointer_back, variable_back, number_back, writable_back, view_back, text_back, arguments_back}
 use Rattle.wb_script.proofs.Said.{Part, set_in, choice, with_statement, closed, with_line}
 
 -- A line whose operands are spelled has the statement that these tell.
@@ -195,14 +195,38 @@ statement_said number (Statement-F.GetMaximum x d) part known =
     two_said number key.GetMax (Statement-F.GetMaximum x d) part (λ a b. Statement-F.GetMaximum (variable_in a) (writable_in b)) (variable_operand x) (writable_operand d) (λ a b. refl)
     (λ a b ea eb. ap (λ z. Statement-F.GetMaximum z (writable_in b)) (variable_back x a ea) ∙ ap (λ z. Statement-F.GetMaximum x z) (writable_back d b eb))
     known
-statement_said number (Statement-F.Set p q) part known =
-    two_said number key.Set (Statement-F.Set p q) part set_in (pointer_operand p) (pointer_operand q) (λ a b. refl)
-    (λ a b ea eb. set_back p a b ea ∙ ap (λ z. Statement-F.Set p z) (pointer_back q b eb))
+statement_said number (Statement-F.New p n GivesNull) part known =
+    two_said number key.New (Statement-F.New p n GivesNull) part (λ a b. Statement-F.New (pointer_in a) (class_in b) GivesNull) (pointer_operand p) (class_operand n) (λ a b. refl)
+    (λ a b ea eb. ap (λ z. Statement-F.New z (class_in b) GivesNull) (pointer_back p a ea) ∙ ap (λ z. Statement-F.New p z GivesNull) (class_back n b eb))
+    known
+statement_said number (Statement-F.New p n Leaves) part known =
+    two_said number key.NewLeave (Statement-F.New p n Leaves) part (λ a b. Statement-F.New (pointer_in a) (class_in b) Leaves) (pointer_operand p) (class_operand n) (λ a b. refl)
+    (λ a b ea eb. ap (λ z. Statement-F.New z (class_in b) Leaves) (pointer_back p a ea) ∙ ap (λ z. Statement-F.New p z Leaves) (class_back n b eb))
+    known
+statement_said number (Statement-F.Construct p) part known =
+    one_said number key.Construct (Statement-F.Construct p) part (λ a. Statement-F.Construct (pointer_in a)) (pointer_operand p) (λ a. refl)
+    (λ a ea. ap (λ z. Statement-F.Construct z) (pointer_back p a ea))
+    known
+statement_said number (Statement-F.Delete p) part known =
+    one_said number key.Delete (Statement-F.Delete p) part (λ a. Statement-F.Delete (pointer_in a)) (pointer_operand p) (λ a. refl)
+    (λ a ea. ap (λ z. Statement-F.Delete z) (pointer_back p a ea))
+    known
+statement_said number (Statement-F.PushObject p) part known =
+    one_said number key.PushObj (Statement-F.PushObject p) part (λ a. Statement-F.PushObject (pointer_in a)) (pointer_operand p) (λ a. refl)
+    (λ a ea. ap (λ z. Statement-F.PushObject z) (pointer_back p a ea))
+    known
+statement_said number (Statement-F.Set (Held holder) q) part known =
+    two_said number key.Set (Statement-F.Set (Held holder) q) part set_in (pointer_operand (Held holder)) (pointer_operand q) (λ a b. refl)
+    (λ a b ea eb. set_back holder a b ea ∙ ap (λ z. Statement-F.Set (Held holder) z) (pointer_back q b eb))
     known
   where
-    set_back : (p : Pointer) (a b : Operand Meant) → pointer_operand p ≡ Some a → set_in a b ≡ Statement-F.Set p (pointer_in b)
-    set_back (Held (H.Local i)) a b is = let same : Name (meant.Pointer i) ≡ a = cc in subst (λ o. set_in o b ≡ Statement-F.Set (Held (H.Local i)) (pointer_in b)) same refl
-    set_back _ a b is = let clash : ⊥ = cc in absurd clash
+    set_back : (holder : Holder) (a b : Operand Meant) → pointer_operand (Held holder) ≡ Some a → set_in a b ≡ Statement-F.Set (Held holder) (pointer_in b)
+    set_back (H.Local i) a b is = let same : Name (meant.Pointer i) ≡ a = cc in subst (λ o. set_in o b ≡ Statement-F.Set (Held (H.Local i)) (pointer_in b)) same refl
+    set_back H.This a b is = let same : Name meant.This ≡ a = cc in subst (λ o. set_in o b ≡ Statement-F.Set (Held H.This) (pointer_in b)) same refl
+statement_said number (Statement-F.Set (Field holder class i) q) part known =
+    two_said number key.SetField (Statement-F.Set (Field holder class i) q) part (λ a b. Statement-F.Set (pointer_in a) (pointer_in b)) (pointer_operand (Field holder class i)) (pointer_operand q) (λ a b. refl)
+    (λ a b ea eb. ap (λ z. Statement-F.Set z (pointer_in b)) (pointer_back (Field holder class i) a ea) ∙ ap (λ z. Statement-F.Set (Field holder class i) z) (pointer_back q b eb))
+    known
 statement_said number (Statement-F.SetNumber x v) part known =
     one_said_of_set (number_operand v) (λ b e. number_back v b e) known
   where
@@ -215,6 +239,9 @@ statement_said number (Statement-F.PrintText (Quoted i)) part known = refl
 statement_said number (Statement-F.PrintText (ViewOf i)) part known = refl
 statement_said number (Statement-F.PrintText (Of (OwnBuffer i))) part known = refl
 statement_said number (Statement-F.PrintText (Of (InCell (Held (H.Local i))))) part known = refl
+statement_said number (Statement-F.PrintText (Of (InCell (Held H.This)))) part known = refl
+statement_said number (Statement-F.PrintText (Of (InCell (Field (H.Local i) class n)))) part known = refl
+statement_said number (Statement-F.PrintText (Of (InCell (Field H.This class n)))) part known = refl
 statement_said number (Statement-F.Leave v) part known =
     one_said number key.Leave (Statement-F.Leave v) part (λ a. Statement-F.Leave (number_in a)) (number_operand v) (λ a. refl) (λ a ea. ap (λ z. Statement-F.Leave z) (number_back v a ea)) known
 statement_said number (Statement-F.LeaveIfError v) part known =
@@ -245,7 +272,13 @@ statement_said number _ part known = let clash : ⊥ = cc in absurd clash
 -- a statement with others inside it takes them out of its block
 pub choice_said : (number : ℕ) (c : Condition) (part : Part) → is_known (condition_line c) ≡ true → with_line number (condition_line c) part ≡ with_statement number (choice c part.inner) (closed part)
 choice_said number (IsNull (Held (H.Local i))) part known = refl
+choice_said number (IsNull (Held H.This)) part known = refl
+choice_said number (IsNull (Field (H.Local i) class n)) part known = refl
+choice_said number (IsNull (Field H.This class n)) part known = refl
 choice_said number (NotNull (Held (H.Local i))) part known = refl
+choice_said number (NotNull (Held H.This)) part known = refl
+choice_said number (NotNull (Field (H.Local i) class n)) part known = refl
+choice_said number (NotNull (Field H.This class n)) part known = refl
 choice_said number (Equal (Constant y) (Constant z)) part known = refl
 choice_said number (Equal (Constant y) (Variable i)) part known = refl
 choice_said number (Equal (Variable i) (Constant z)) part known = refl
@@ -254,7 +287,6 @@ choice_said number (Less (Constant y) (Constant z)) part known = refl
 choice_said number (Less (Constant y) (Variable i)) part known = refl
 choice_said number (Less (Variable i) (Constant z)) part known = refl
 choice_said number (Less (Variable i) (Variable j)) part known = refl
-choice_said number _ part known = let clash : ⊥ = cc in absurd clash
 
 pub loop_said : (number : ℕ) (v : N.Number) (part : Part) → with_line number (line key.Repeat (number_operand v ∷ [])) part ≡ with_statement number (Statement-F.Repeat v part.inner.here) (closed part)
 loop_said number (Constant z) part = refl

@@ -1,27 +1,35 @@
--- Which procedures and operations stand in an order of both: those of the two lists, whichever order it is. So they tell the lists.
+-- Which classes, procedures and operations stand in an order of all: those of the three lists, whichever order it is. So they tell the lists.
 use Rattle.std.proofs.Common.{◌≡◌, ◌⊎◌, inl, inr, refl, sym, ap, subst, ◌∙◌, ℕ, zero, suc, ◌+◌, List, [], ◌∷◌, map, Some, Bool, true, false, nat_lt, add-zero, zero-add, arith}
 use Rattle.std.specs.Prelude.{if◌then◌else◌, fold, slice_get}
+use Rattle.wb_model.specs.declared.script.Class.{Class}
 use Rattle.wb_model.specs.declared.script.Procedure.{Procedure}
 use Rattle.wb_model.specs.declared.script.Operation.{Operation}
-use Rattle.wb_model.specs.declared.script_lines.ItemKind.TheVariants as item
-use Rattle.wb_model.specs.Sound.{its_parameters}
 use Rattle.wb_model.specs.Trees.{Lines, each_from, in_place, in_order}
-use Rattle.wb_script.proofs.Said.{Told}
+use Rattle.wb_script.proofs.Said.{Item, Told}
+
+-- the number of the first line of an item
+abbrev pub line_of : Item → ℕ
+line_of (Item.class c) = c.line
+line_of (Item.procedure p) = p.line
+line_of (Item.operation o) = o.line
+
+abbrev pub line_told : Told → ℕ
+line_told t = line_of t.item
 
 -- the order of items, by the numbers of their first lines
 abbrev placed : Told → List Told → List Told
 placed t [] = t ∷ []
-placed t (o ∷ os) = if nat_lt o.line t.line then (o ∷ placed t os) else (t ∷ o ∷ os)
+placed t (o ∷ os) = if nat_lt (line_told o) (line_told t) then (o ∷ placed t os) else (t ∷ o ∷ os)
 
 abbrev pub ordered : List Told → List Told → List Told
 ordered ts os = fold (λ found t. placed t found) os ts
 
 -- their lines stand in the same order
-module _ (lines : Told → Lines) (its_number : (t : Told) → (lines t).number ≡ t.line) where
+module _ (lines : Told → Lines) (its_number : (t : Told) → (lines t).number ≡ line_told t) where
   lines_placed : (t : Told) (os : List Told) → map lines (placed t os) ≡ in_place (lines t) (map lines os)
   lines_placed t [] = refl
   lines_placed t (o ∷ os) =
-      on (nat_lt o.line t.line) (lines_placed t os) ∙ ap (λ n. if nat_lt n t.line then (lines o ∷ in_place (lines t) (map lines os)) else (lines t ∷ lines o ∷ map lines os)) (sym (its_number o))
+      on (nat_lt (line_told o) (line_told t)) (lines_placed t os) ∙ ap (λ n. if nat_lt n (line_told t) then (lines o ∷ in_place (lines t) (map lines os)) else (lines t ∷ lines o ∷ map lines os)) (sym (its_number o))
       ∙ ap (λ n. if nat_lt (lines o).number n then (lines o ∷ in_place (lines t) (map lines os)) else (lines t ∷ lines o ∷ map lines os)) (sym (its_number t))
     where
       on : (b : Bool) → map lines (placed t os) ≡ in_place (lines t) (map lines os) → map lines (if b then (o ∷ placed t os) else (t ∷ o ∷ os)) ≡ (if b then (lines o ∷ in_place (lines t) (map lines os)) else (lines t ∷ lines o ∷ map lines os))
@@ -39,7 +47,7 @@ Among t (o ∷ os) = (o ≡ t) ⊎ Among t os
 
 out_of_placed : (t s : Told) (os : List Told) → Among t (placed s os) → (s ≡ t) ⊎ Among t os
 out_of_placed t s [] is = is
-out_of_placed t s (o ∷ os) is = on (nat_lt o.line s.line) (out_of_placed t s os) is
+out_of_placed t s (o ∷ os) is = on (nat_lt (line_told o) (line_told s)) (out_of_placed t s os) is
   where
     behind : (s ≡ t) ⊎ Among t os → (s ≡ t) ⊎ ((o ≡ t) ⊎ Among t os)
     behind (inl e) = inl e
@@ -52,7 +60,7 @@ out_of_placed t s (o ∷ os) is = on (nat_lt o.line s.line) (out_of_placed t s o
 
 into_placed : (t s : Told) (os : List Told) → (s ≡ t) ⊎ Among t os → Among t (placed s os)
 into_placed t s [] is = is
-into_placed t s (o ∷ os) is = on (nat_lt o.line s.line) (into_placed t s os) is
+into_placed t s (o ∷ os) is = on (nat_lt (line_told o) (line_told s)) (into_placed t s os) is
   where
     on : (b : Bool) → ((s ≡ t) ⊎ Among t os → Among t (placed s os)) → (s ≡ t) ⊎ ((o ≡ t) ⊎ Among t os) → Among t (if b then (o ∷ placed s os) else (s ∷ o ∷ os))
     on true rest (inl e) = inr (rest (inl e))
@@ -117,56 +125,136 @@ same_lists (a ∷ xs) (b ∷ bs) there back =
     let same : b ≡ a = cc in
     ap (λ l. a ∷ l) (same_lists xs bs (λ k. there (suc k)) (λ k. back (suc k))) ∙ ap (λ x. x ∷ bs) (sym same)
 
+abbrev pub told_class : ℕ → Class → Told
+told_class index c = record { index = index; item = Item.class c }
+
 abbrev pub told_procedure : ℕ → Procedure → Told
-told_procedure index p = record { kind = item.Procedure; index = index; line = p.line; parameters = p.parameters; body = p.body }
+told_procedure index p = record { index = index; item = Item.procedure p }
 
 abbrev pub told_operation : ℕ → Operation → Told
-told_operation index o = record { kind = item.Operation; index = index; line = o.line; parameters = its_parameters; body = o.body }
+told_operation index o = record { index = index; item = Item.operation o }
 
-abbrev pub all_told : List Procedure → List Operation → List Told
-all_told ps os = ordered (told_from told_procedure 0 ps) (told_from told_operation 0 os)
+-- the items of a script
+pub record Items : Type 0 where
+  pub classes : List Class
+  pub procedures : List Procedure
+  pub operations : List Operation
 
--- what tells a procedure is no operation, and tells one procedure; and the other way round
-abbrev procedure_of : Told → Procedure
-procedure_of t = record { line = t.line; parameters = t.parameters; body = t.body }
+abbrev bodies_told : Items → List Told
+bodies_told items = ordered (told_from told_procedure 0 items.procedures) (told_from told_operation 0 items.operations)
 
-abbrev operation_of : Told → Operation
-operation_of t = record { line = t.line; body = t.body }
+abbrev pub all_told : Items → List Told
+all_told items = ordered (told_from told_class 0 items.classes) (bodies_told items)
 
-kinds_differ : (i j : ℕ) (p : Procedure) (o : Operation) → told_operation j o ≡ told_procedure i p → ⊥
-kinds_differ i j p o e = let same : item.Operation ≡ item.Procedure = ap (λ t. t.kind) e in let clash : ⊥ = cc in clash
+-- an item of the order is one of a kind
+data IsOf (items : Items) (t : Told) : Type 0 where
+  class : Among t (told_from told_class 0 items.classes) → IsOf items t
+  procedure : Among t (told_from told_procedure 0 items.procedures) → IsOf items t
+  operation : Among t (told_from told_operation 0 items.operations) → IsOf items t
 
-procedures_there : (ps others : List Procedure) (os more : List Operation) → all_told ps os ≡ all_told others more → (k : ℕ) (p : Procedure) → slice_get ps k ≡ Some p → slice_get others k ≡ Some p
-procedures_there ps others os more same k p is =
+out_of_all : (items : Items) (t : Told) → Among t (all_told items) → IsOf items t
+out_of_all items t is = on (out_of_ordered t (told_from told_class 0 items.classes) (bodies_told items) is)
+  where
+    bodies : Among t (told_from told_procedure 0 items.procedures) ⊎ Among t (told_from told_operation 0 items.operations) → IsOf items t
+    bodies (inl found) = IsOf.procedure found
+    bodies (inr found) = IsOf.operation found
+
+    on : Among t (told_from told_class 0 items.classes) ⊎ Among t (bodies_told items) → IsOf items t
+    on (inl found) = IsOf.class found
+    on (inr found) = bodies (out_of_ordered t (told_from told_procedure 0 items.procedures) (told_from told_operation 0 items.operations) found)
+
+into_all : (items : Items) (t : Told) → IsOf items t → Among t (all_told items)
+into_all items t (IsOf.class found) = into_ordered t (told_from told_class 0 items.classes) (bodies_told items) (inl found)
+into_all items t (IsOf.procedure found) =
+    into_ordered t (told_from told_class 0 items.classes) (bodies_told items)
+    (inr (into_ordered t (told_from told_procedure 0 items.procedures) (told_from told_operation 0 items.operations) (inl found)))
+into_all items t (IsOf.operation found) =
+    into_ordered t (told_from told_class 0 items.classes) (bodies_told items)
+    (inr (into_ordered t (told_from told_procedure 0 items.procedures) (told_from told_operation 0 items.operations) (inr found)))
+
+-- What tells an item of one kind tells none of another, and tells one item.
+abbrev is_class : Item → Bool
+is_class (Item.class c) = true
+is_class _ = false
+
+abbrev is_procedure : Item → Bool
+is_procedure (Item.procedure p) = true
+is_procedure _ = false
+
+classes_there : (items others : Items) → all_told items ≡ all_told others → (k : ℕ) (c : Class) → slice_get items.classes k ≡ Some c → slice_get others.classes k ≡ Some c
+classes_there items others same k c is =
+    let t = told_class k c in
+    on (out_of_all others t (subst (Among t) same (into_all items t (IsOf.class (told_here told_class k items.classes c is)))))
+  where
+    on : IsOf others (told_class k c) → slice_get others.classes k ≡ Some c
+    on (IsOf.class found) =
+        let (j, d, at, e) = out_of_told told_class 0 others.classes (told_class k c) found in
+        let index : j ≡ k = sym (zero-add j) ∙ ap (λ (t : Told). t.index) e in
+        subst (λ n. slice_get others.classes n ≡ Some c) index (at ∙ ap (λ (t : Told). Some (class_of t.item)) e)
+      where
+        class_of : Item → Class
+        class_of (Item.class d) = d
+        class_of _ = c
+    on (IsOf.procedure found) =
+        let (j, p, at, e) = out_of_told told_procedure 0 others.procedures (told_class k c) found in
+        let clash : false ≡ true = ap (λ (t : Told). is_class t.item) e in
+        absurd (let never : ⊥ = cc in never)
+    on (IsOf.operation found) =
+        let (j, o, at, e) = out_of_told told_operation 0 others.operations (told_class k c) found in
+        let clash : false ≡ true = ap (λ (t : Told). is_class t.item) e in
+        absurd (let never : ⊥ = cc in never)
+
+procedures_there : (items others : Items) → all_told items ≡ all_told others → (k : ℕ) (p : Procedure) → slice_get items.procedures k ≡ Some p → slice_get others.procedures k ≡ Some p
+procedures_there items others same k p is =
     let t = told_procedure k p in
-    let here : Among t (all_told ps os) = into_ordered t (told_from told_procedure 0 ps) (told_from told_operation 0 os) (inl (told_here told_procedure k ps p is)) in
-    on (out_of_ordered t (told_from told_procedure 0 others) (told_from told_operation 0 more) (subst (Among t) same here))
+    on (out_of_all others t (subst (Among t) same (into_all items t (IsOf.procedure (told_here told_procedure k items.procedures p is)))))
   where
-    on : Among (told_procedure k p) (told_from told_procedure 0 others) ⊎ Among (told_procedure k p) (told_from told_operation 0 more) → slice_get others k ≡ Some p
-    on (inl found) =
-        let (j, q, at, e) = out_of_told told_procedure 0 others (told_procedure k p) found in
+    on : IsOf others (told_procedure k p) → slice_get others.procedures k ≡ Some p
+    on (IsOf.procedure found) =
+        let (j, q, at, e) = out_of_told told_procedure 0 others.procedures (told_procedure k p) found in
         let index : j ≡ k = sym (zero-add j) ∙ ap (λ (t : Told). t.index) e in
-        subst (λ n. slice_get others n ≡ Some p) index (at ∙ ap (λ t. Some (procedure_of t)) e)
-    on (inr found) =
-        let (j, o, at, e) = out_of_told told_operation 0 more (told_procedure k p) found in
-        absurd (kinds_differ k (0 + j) p o e)
+        subst (λ n. slice_get others.procedures n ≡ Some p) index (at ∙ ap (λ (t : Told). Some (procedure_of t.item)) e)
+      where
+        procedure_of : Item → Procedure
+        procedure_of (Item.procedure q) = q
+        procedure_of _ = p
+    on (IsOf.class found) =
+        let (j, c, at, e) = out_of_told told_class 0 others.classes (told_procedure k p) found in
+        let clash : true ≡ false = ap (λ (t : Told). is_class t.item) e in
+        absurd (let never : ⊥ = cc in never)
+    on (IsOf.operation found) =
+        let (j, o, at, e) = out_of_told told_operation 0 others.operations (told_procedure k p) found in
+        let clash : false ≡ true = ap (λ (t : Told). is_procedure t.item) e in
+        absurd (let never : ⊥ = cc in never)
 
-operations_there : (ps others : List Procedure) (os more : List Operation) → all_told ps os ≡ all_told others more → (k : ℕ) (o : Operation) → slice_get os k ≡ Some o → slice_get more k ≡ Some o
-operations_there ps others os more same k o is =
+operations_there : (items others : Items) → all_told items ≡ all_told others → (k : ℕ) (o : Operation) → slice_get items.operations k ≡ Some o → slice_get others.operations k ≡ Some o
+operations_there items others same k o is =
     let t = told_operation k o in
-    let here : Among t (all_told ps os) = into_ordered t (told_from told_procedure 0 ps) (told_from told_operation 0 os) (inr (told_here told_operation k os o is)) in
-    on (out_of_ordered t (told_from told_procedure 0 others) (told_from told_operation 0 more) (subst (Among t) same here))
+    on (out_of_all others t (subst (Among t) same (into_all items t (IsOf.operation (told_here told_operation k items.operations o is)))))
   where
-    on : Among (told_operation k o) (told_from told_procedure 0 others) ⊎ Among (told_operation k o) (told_from told_operation 0 more) → slice_get more k ≡ Some o
-    on (inl found) =
-        let (j, p, at, e) = out_of_told told_procedure 0 others (told_operation k o) found in
-        absurd (kinds_differ (0 + j) k p o (sym e))
-    on (inr found) =
-        let (j, q, at, e) = out_of_told told_operation 0 more (told_operation k o) found in
+    on : IsOf others (told_operation k o) → slice_get others.operations k ≡ Some o
+    on (IsOf.operation found) =
+        let (j, q, at, e) = out_of_told told_operation 0 others.operations (told_operation k o) found in
         let index : j ≡ k = sym (zero-add j) ∙ ap (λ (t : Told). t.index) e in
-        subst (λ n. slice_get more n ≡ Some o) index (at ∙ ap (λ t. Some (operation_of t)) e)
+        subst (λ n. slice_get others.operations n ≡ Some o) index (at ∙ ap (λ (t : Told). Some (operation_of t.item)) e)
+      where
+        operation_of : Item → Operation
+        operation_of (Item.operation q) = q
+        operation_of _ = o
+    on (IsOf.class found) =
+        let (j, c, at, e) = out_of_told told_class 0 others.classes (told_operation k o) found in
+        let clash : true ≡ false = ap (λ (t : Told). is_class t.item) e in
+        absurd (let never : ⊥ = cc in never)
+    on (IsOf.procedure found) =
+        let (j, p, at, e) = out_of_told told_procedure 0 others.procedures (told_operation k o) found in
+        let clash : true ≡ false = ap (λ (t : Told). is_procedure t.item) e in
+        absurd (let never : ⊥ = cc in never)
 
--- so the order tells both lists
-pub one_list_each : (ps others : List Procedure) (os more : List Operation) → all_told ps os ≡ all_told others more → (ps ≡ others) × (os ≡ more)
-one_list_each ps others os more same =
-    (same_lists ps others (procedures_there ps others os more same) (procedures_there others ps more os (sym same)), same_lists os more (operations_there ps others os more same) (operations_there others ps more os (sym same)))
+-- so the order tells the lists
+pub one_list_each : (items others : Items) → all_told items ≡ all_told others → items ≡ others
+one_list_each items others same =
+    let back = sym same in
+    let classes = same_lists items.classes others.classes (classes_there items others same) (classes_there others items back) in
+    let procedures = same_lists items.procedures others.procedures (procedures_there items others same) (procedures_there others items back) in
+    let operations = same_lists items.operations others.operations (operations_there items others same) (operations_there others items back) in
+    ap (λ l. record items { classes = l }) classes ∙ ap (λ l. record items { classes = others.classes; procedures = l }) procedures ∙ ap (λ l. record others { operations = l }) operations

@@ -1,26 +1,27 @@
 -- The form of a line has operands of the letters of its key.
 use Rattle.std.proofs.Common.{◌≡◌, ◌∙◌, refl, sym, ap, subst, ℕ, ℤ, zero, suc, pos, neg_ℤ, ◌+◌, ◌-◌, ◌^◌, ◌<◌, ◌≤◌, List, [], ◌∷◌, Bool, true, false, ◌&&◌, ◌||◌, nat_eq, nat_lt, nat_le, length, drop, Option, Some, None, fold, arith, length-drop}
-use Rattle.std.specs.Prelude.{if◌then◌else◌, codes}
+use Rattle.std.specs.Prelude.{if◌then◌else◌}
 use Rattle.std.specs.Option.{option_map}
 use Rattle.std.specs.List.{list_all, list_any}
 use Rattle.std.specs.Str.{bytes_eq}
 use Rattle.std.proofs.lemmas.Bool.{le-leb}
 use Rattle.std.proofs.lemmas.Bool.Decides.{nat_tests}
 use Rattle.std.proofs.lemmas.List.{length-take}
-use Rattle.wb_model.specs.declared.script.Parameter as model
 use Rattle.wb_model.specs.declared.script_lines.Key.{Key}
 use Rattle.wb_model.specs.declared.script_lines.Letter.{Letter}
+use Rattle.wb_model.specs.declared.script_lines.Taken.{Taken}
+use Rattle.wb_model.specs.declared.script_lines.Taken.TheVariants as taken
 use Rattle.wb_model.specs.declared.script_lines.WordKind.{WordKind}
 use Rattle.wb_model.specs.declared.script_lines.WordKind.TheVariants as word
 use Rattle.wb_model.specs.declared.script_lines.Operand.{Operand}
-use Rattle.wb_model.specs.declared.script_lines.Operand.TheVariants.{Name, Number, Size, Literal, Parameter, Keyword}
+use Rattle.wb_model.specs.declared.script_lines.Operand.TheVariants.{Name, Field, Number, Size, Literal, Parameter, Keyword}
 use Rattle.wb_model.specs.declared.script_lines.Form.{Form}
-use Rattle.wb_model.specs.Forms.{operand_as, operand_among, operand_of, operands_of, onto, operands_if, line_or, form_in, form_of, skipped_or, begins_comment, forms_of, either, size_of, parameter_of}
+use Rattle.wb_model.specs.Forms.{operand_as, operand_among, operand_of, operands_of, onto, operands_if, line_or, form_in, form_of, skipped_or, begins_comment, forms_of, either, size_of, parameter_of, field_of}
 use Rattle.wb_model.specs.Keys.{keys, letters_for, text_of, word_kinds}
 use Rattle.wb_model.specs.Lines.{words_of}
 use Rattle.wb_model.specs.Names.{Text}
-use Rattle.wb_model.specs.Sound.{is_quotable, is_literal_text, is_parameter}
-use Rattle.wb_model.specs.Words.{is_digit, with_digit, digits_of, number_spelled, declared_name, used_name, literal_spelled, is_literal, inside, kind_spelled, parameter_name, parameter_kind, text_of_keyword}
+use Rattle.wb_model.specs.Sound.{is_quotable, is_literal_text}
+use Rattle.wb_model.specs.Words.{is_digit, with_digit, digits_of, number_spelled, declared_name, used_name, literal_spelled, is_literal, inside, base_name, field_name, parameter_name, parameter_taken, text_of_keyword}
 use Rattle.wb_script.specs.Typed.{is_short, is_word_of, is_operand, are_operands, is_typed, AreTyped}
 use Rattle.wb_script.proofs.Cuts.{AreWithin, words_within}
 use Rattle.wb_script.proofs.Digits.{digit_at_most_nine, one_more_digit, nine_digits}
@@ -101,28 +102,25 @@ size_typed : (number : Option ℤ) (operand : Operand Text) → size_of number �
 size_typed (Some (pos n)) operand is = let same : Size n ≡ operand = cc in subst (λ o. is_word_of o word.Size ≡ true) same refl
 size_typed _ operand is = let clash : ⊥ = cc in absurd clash
 
--- a kind that is told has no class
-kind_sound : (bytes : Text) (kind : model.Parameter) → kind_spelled bytes ≡ Some kind → is_parameter kind ≡ true
-kind_sound bytes kind is = go (bytes_eq bytes (codes ":ptr")) (bytes_eq bytes (codes ":int")) is
-  where
-    go : (a b : Bool) → (if a then Some (model.TheVariants.OfPointer None) else (if b then Some model.TheVariants.OfNumber else None)) ≡ Some kind → is_parameter kind ≡ true
-    go true b e = let same : model.TheVariants.OfPointer None ≡ kind = cc in subst (λ k. is_parameter k ≡ true) same refl
-    go false true e = let same : model.TheVariants.OfNumber ≡ kind = cc in subst (λ k. is_parameter k ≡ true) same refl
-    go false false e = let clash : ⊥ = cc in absurd clash
+parameter_typed : (name : Option Text) (kind : Option (Taken Text)) (operand : Operand Text) → parameter_of name kind ≡ Some operand → is_word_of operand word.Parameter ≡ true
+parameter_typed (Some name) (Some kind) operand is = let same : Parameter name kind ≡ operand = cc in subst (λ o. is_word_of o word.Parameter ≡ true) same refl
+parameter_typed (Some name) None operand is = let clash : ⊥ = cc in absurd clash
+parameter_typed None kind operand is = let clash : ⊥ = cc in absurd clash
 
-parameter_typed : (name : Option Text) (kind : Option model.Parameter) (operand : Operand Text) → ((k : model.Parameter) → kind ≡ Some k → is_parameter k ≡ true) → parameter_of name kind ≡ Some operand → is_word_of operand word.Parameter ≡ true
-parameter_typed (Some name) (Some kind) operand sound is = let same : Parameter name kind ≡ operand = cc in subst (λ o. is_word_of o word.Parameter ≡ true) same (sound kind refl)
-parameter_typed (Some name) None operand sound is = let clash : ⊥ = cc in absurd clash
-parameter_typed None kind operand sound is = let clash : ⊥ = cc in absurd clash
+field_typed : (base field : Option Text) (operand : Operand Text) → field_of base field ≡ Some operand → is_word_of operand word.Field ≡ true
+field_typed (Some base) (Some field) operand is = let same : Field base field ≡ operand = cc in subst (λ o. is_word_of o word.Field ≡ true) same refl
+field_typed (Some base) None operand is = let clash : ⊥ = cc in absurd clash
+field_typed None field operand is = let clash : ⊥ = cc in absurd clash
 
 kind_typed : (kind : WordKind) (text : Text) (operand : Operand Text) → length text ≤ 65536 → operand_as kind text ≡ Some operand → is_word_of operand kind ≡ true
 kind_typed word.NewName text operand short is = mapped (λ o. is_word_of o word.NewName ≡ true) Name (declared_name text) operand (λ n e. refl) is
 kind_typed word.Name text operand short is = mapped (λ o. is_word_of o word.Name ≡ true) Name (used_name text) operand (λ n e. refl) is
+kind_typed word.Field text operand short is = field_typed (base_name text) (field_name text) operand is
 kind_typed word.Number text operand short is = mapped (λ o. is_word_of o word.Number ≡ true) Number (number_spelled text) operand (λ z e. number_bounded text z e) is
 kind_typed word.Size text operand short is = size_typed (number_spelled text) operand is
 kind_typed word.Literal text operand short is = mapped (λ o. is_word_of o word.Literal ≡ true) Literal (literal_spelled text) operand (λ t e. literal_sound text t short e) is
-kind_typed word.Parameter text operand short is = parameter_typed (parameter_name text) (parameter_kind text) operand (λ k e. kind_sound (drop (length text - 4) text) k e) is
-kind_typed word.NewPointer text operand short is = mapped (λ o. is_word_of o word.NewPointer ≡ true) (λ n. Parameter n (model.TheVariants.OfPointer None)) (declared_name text) operand (λ n e. refl) is
+kind_typed word.Parameter text operand short is = parameter_typed (parameter_name text) (parameter_taken text) operand is
+kind_typed word.NewPointer text operand short is = mapped (λ o. is_word_of o word.NewPointer ≡ true) (λ n. Parameter n taken.Pointer) (declared_name text) operand (λ n e. refl) is
 kind_typed (word.Keyword k) text operand short is = subst (λ o. is_word_of o (word.Keyword k) ≡ true) (given (bytes_eq text (text_of_keyword k)) Keyword operand is).1 refl
 
 -- a word of one of some kinds

@@ -7,7 +7,6 @@ use Rattle.wb_model.specs.declared.script_lines.Key.{Key}
 use Rattle.wb_model.specs.declared.script_lines.Meant.{Meant}
 use Rattle.wb_model.specs.declared.script_lines.Operand.{Operand}
 use Rattle.wb_model.specs.declared.script_lines.Form.TheVariants.{Line}
-use Rattle.wb_model.specs.declared.script.Local.{Local}
 use Rattle.wb_model.specs.declared.script.Argument.{Argument}
 use Rattle.wb_model.specs.declared.script.Holder.TheVariants as H
 use Rattle.wb_model.specs.declared.script.Pointer.{Pointer}
@@ -19,10 +18,10 @@ use Rattle.wb_model.specs.declared.script.Numbered.{Numbered}
 use Rattle.wb_model.specs.declared.script.Statement.{Statement}
 use Rattle.wb_model.specs.declared.script.Statement.TheOpen.{Statement-F}
 use Rattle.wb_model.specs.declared.script.Statement.TheFolds.{map-Statement}
-use Rattle.wb_model.specs.declared.script.Statement.TheViews.{out-Statement, outs-If, outs-IfElse, outs-Repeat, outs-Trap, outs-Call, outs-CallTo, outs-PushOperation, If, IfElse, Repeat, Trap}
-use Rattle.wb_model.specs.declared.script.Statement.TheVariants.{Call, CallTo, PushOperation, rolls-If, rolls-IfElse, rolls-Repeat, rolls-Trap}
+use Rattle.wb_model.specs.declared.script.Statement.TheViews.{out-Statement, outs-If, outs-IfElse, outs-Repeat, outs-Trap, outs-Call, outs-CallTo, outs-PushOperation, outs-Construct, outs-Delete, If, IfElse, Repeat, Trap}
+use Rattle.wb_model.specs.declared.script.Statement.TheVariants.{Call, CallTo, Construct, Delete, PushOperation, rolls-If, rolls-IfElse, rolls-Repeat, rolls-Trap}
 use Rattle.wb_model.specs.declared.script.Statement.TheFolds.{fold-Numbered, fold_out-Numbered, fold_out-Statement, fold-roll-Statement}
-use Rattle.wb_model.specs.Sound.{Declared, is_condition, is_number, is_variable, is_pointer, is_pointer_local, is_call, is_statement, is_simple, is_nested, are_within}
+use Rattle.wb_model.specs.Sound.{Declared, Scope, is_condition, is_number, is_variable, is_pointer, is_pointer_local, is_call, is_statement, is_simple, is_nested, are_within}
 use Rattle.wb_model.specs.Kinds.{is_trap}
 use Rattle.wb_model.specs.Trees.{Marked, lines_joined, layer_lines, numbered_layer, numbered_lines, lines_of_statement, statement_lines, statement_line, condition_line, end_line, else_line, line_or_unknown, and_operand, all_spelled, argument_operand, pointer_operand, procedure_operand, operation_operand}
 use Rattle.wb_script.specs.declared.tree.blocks.Head.TheVariants as head
@@ -92,33 +91,33 @@ no_trap trapped (Less v w) = never_or trapped
 pub whole_if : (c : Condition) (ss : List Numbered) → IsWhole (head.If c) ss (If c ss)
 whole_if c ss = record {
   lines = if_lines c ss;
-  sound = λ declared locals depth trapped is inner.
-      subst (λ layer. IsTrue (is_nested declared locals trapped (are_within declared locals depth) layer)) (sym (outs-If c ss))
-      (both (is_condition locals c) (are_within declared locals depth trapped ss) is (subst (λ t. IsTrue (are_within declared locals depth t ss)) (no_trap trapped c) inner));
+  sound = λ declared scope depth trapped is inner.
+      subst (λ layer. IsTrue (is_nested declared scope trapped (are_within declared scope depth) layer)) (sym (outs-If c ss))
+      (both (is_condition scope c) (are_within declared scope depth trapped ss) is (subst (λ t. IsTrue (are_within declared scope depth t ss)) (no_trap trapped c) inner));
 }
 
 pub whole_else : (c : Condition) (first ss : List Numbered) → IsWhole (head.Else c first) ss (IfElse c first ss)
 whole_else c first ss = record {
   lines = if_else_lines c first ss;
-  sound = λ declared locals depth trapped is inner.
-      subst (λ layer. IsTrue (is_nested declared locals trapped (are_within declared locals depth) layer)) (sym (outs-IfElse c first ss))
-      (three (is_condition locals c) (are_within declared locals depth trapped first) (are_within declared locals depth trapped ss) is (subst (λ t. IsTrue (are_within declared locals depth t ss)) (no_trap trapped c) inner));
+  sound = λ declared scope depth trapped is inner.
+      subst (λ layer. IsTrue (is_nested declared scope trapped (are_within declared scope depth) layer)) (sym (outs-IfElse c first ss))
+      (three (is_condition scope c) (are_within declared scope depth trapped first) (are_within declared scope depth trapped ss) is (subst (λ t. IsTrue (are_within declared scope depth t ss)) (no_trap trapped c) inner));
 }
 
 pub whole_repeat : (v : Number) (ss : List Numbered) → IsWhole (head.Repeat v) ss (Repeat v ss)
 whole_repeat v ss = record {
   lines = repeat_lines v ss;
-  sound = λ declared locals depth trapped is inner.
-      subst (λ layer. IsTrue (is_nested declared locals trapped (are_within declared locals depth) layer)) (sym (outs-Repeat v ss))
-      (both (is_number locals v) (are_within declared locals depth trapped ss) is (subst (λ t. IsTrue (are_within declared locals depth t ss)) (never_or trapped) inner));
+  sound = λ declared scope depth trapped is inner.
+      subst (λ layer. IsTrue (is_nested declared scope trapped (are_within declared scope depth) layer)) (sym (outs-Repeat v ss))
+      (both (is_number scope.locals v) (are_within declared scope depth trapped ss) is (subst (λ t. IsTrue (are_within declared scope depth t ss)) (never_or trapped) inner));
 }
 
 pub whole_trap : (x : ℕ) (ss : List Numbered) → IsWhole (head.Trap x) ss (Trap x ss)
 whole_trap x ss = record {
   lines = trap_lines x ss;
-  sound = λ declared locals depth trapped is inner.
-      subst (λ layer. IsTrue (is_nested declared locals trapped (are_within declared locals depth) layer)) (sym (outs-Trap x ss))
-      (both (is_variable locals x) (are_within declared locals depth true ss) is (subst (λ t. IsTrue (are_within declared locals depth t ss)) (always_or trapped) inner));
+  sound = λ declared scope depth trapped is inner.
+      subst (λ layer. IsTrue (is_nested declared scope trapped (are_within declared scope depth) layer)) (sym (outs-Trap x ss))
+      (both (is_variable scope.locals x) (are_within declared scope depth true ss) is (subst (λ t. IsTrue (are_within declared scope depth t ss)) (always_or trapped) inner));
 }
 
 -- a statement that nothing stands inside
@@ -138,6 +137,8 @@ flat_layer n (Statement-F.Alloc p v GivesNull) flat = refl
 flat_layer n (Statement-F.Alloc p v Leaves) flat = refl
 flat_layer n (Statement-F.Realloc p q v GivesNull) flat = refl
 flat_layer n (Statement-F.Realloc p q v Leaves) flat = refl
+flat_layer n (Statement-F.New p class GivesNull) flat = refl
+flat_layer n (Statement-F.New p class Leaves) flat = refl
 flat_layer n (Statement-F.NewText p v GivesNull) flat = refl
 flat_layer n (Statement-F.NewText p v Leaves) flat = refl
 flat_layer n _ flat = refl
@@ -146,57 +147,75 @@ flat_layer n _ flat = refl
 one_line : (s : Statement) (n : ℕ) → IsTrue (is_flat (out-Statement s)) → lines_of_statement s n ≡ (Some n, statement_line (out-Statement s)) ∷ []
 one_line s n flat = ap (λ f. f n) (fold_out-Statement (ℕ → List Marked) (List Marked) layer_lines numbered_layer s) ∙ flat_layer n (out-Statement s) flat
 
-flat_simple : (literals : ℕ) (locals : List Local) (trapped : Bool) (layer : Statement-F Statement Numbered) → IsTrue (is_simple literals locals trapped layer) → IsTrue (is_flat layer)
-flat_simple literals locals trapped (Statement-F.If c first) is = let clash : ⊥ = cc in absurd clash
-flat_simple literals locals trapped (Statement-F.IfElse c first other) is = let clash : ⊥ = cc in absurd clash
-flat_simple literals locals trapped (Statement-F.Repeat v body) is = let clash : ⊥ = cc in absurd clash
-flat_simple literals locals trapped (Statement-F.Trap x body) is = let clash : ⊥ = cc in absurd clash
-flat_simple literals locals trapped _ is = refl
+flat_simple : (literals : ℕ) (scope : Scope) (trapped : Bool) (layer : Statement-F Statement Numbered) → IsTrue (is_simple literals scope trapped layer) → IsTrue (is_flat layer)
+flat_simple literals scope trapped (Statement-F.If c first) is = let clash : ⊥ = cc in absurd clash
+flat_simple literals scope trapped (Statement-F.IfElse c first other) is = let clash : ⊥ = cc in absurd clash
+flat_simple literals scope trapped (Statement-F.Repeat v body) is = let clash : ⊥ = cc in absurd clash
+flat_simple literals scope trapped (Statement-F.Trap x body) is = let clash : ⊥ = cc in absurd clash
+flat_simple literals scope trapped _ is = refl
 
-simple_plain : (literals : ℕ) (locals : List Local) (trapped : Bool) (layer : Statement-F Statement Numbered) → IsTrue (is_statement literals locals layer) → IsTrue (is_simple literals locals trapped layer)
-simple_plain literals locals trapped Statement-F.Return is = let clash : ⊥ = cc in absurd clash
-simple_plain literals locals trapped (Statement-F.ReturnPointer p) is = let clash : ⊥ = cc in absurd clash
-simple_plain literals locals trapped _ is = is
+simple_plain : (literals : ℕ) (scope : Scope) (trapped : Bool) (layer : Statement-F Statement Numbered) → IsTrue (is_statement literals scope layer) → IsTrue (is_simple literals scope trapped layer)
+simple_plain literals scope trapped Statement-F.Return is = let clash : ⊥ = cc in absurd clash
+simple_plain literals scope trapped (Statement-F.ReturnPointer p) is = let clash : ⊥ = cc in absurd clash
+simple_plain literals scope trapped _ is = is
 
-nested_simple : (declared : Declared) (locals : List Local) (trapped : Bool) (inside : Bool → List Numbered → Bool) (layer : Statement-F Statement Numbered) → IsTrue (is_simple declared.literals locals trapped layer) → IsTrue (is_nested declared locals trapped inside layer)
-nested_simple declared locals trapped inside (Statement-F.Call p arguments) is = let clash : ⊥ = cc in absurd clash
-nested_simple declared locals trapped inside (Statement-F.CallTo x p arguments) is = let clash : ⊥ = cc in absurd clash
-nested_simple declared locals trapped inside (Statement-F.PushOperation p n) is = let clash : ⊥ = cc in absurd clash
-nested_simple declared locals trapped inside (Statement-F.If c first) is = let clash : ⊥ = cc in absurd clash
-nested_simple declared locals trapped inside (Statement-F.IfElse c first other) is = let clash : ⊥ = cc in absurd clash
-nested_simple declared locals trapped inside (Statement-F.Repeat v body) is = let clash : ⊥ = cc in absurd clash
-nested_simple declared locals trapped inside (Statement-F.Trap x body) is = let clash : ⊥ = cc in absurd clash
-nested_simple declared locals trapped inside _ is = is
+nested_simple : (declared : Declared) (scope : Scope) (trapped : Bool) (inside : Bool → List Numbered → Bool) (layer : Statement-F Statement Numbered) → IsTrue (is_simple declared.literals scope trapped layer) → IsTrue (is_nested declared scope trapped inside layer)
+nested_simple declared scope trapped inside (Statement-F.Call p arguments) is = let clash : ⊥ = cc in absurd clash
+nested_simple declared scope trapped inside (Statement-F.CallTo x p arguments) is = let clash : ⊥ = cc in absurd clash
+nested_simple declared scope trapped inside (Statement-F.Construct p) is = let clash : ⊥ = cc in absurd clash
+nested_simple declared scope trapped inside (Statement-F.Delete p) is = let clash : ⊥ = cc in absurd clash
+nested_simple declared scope trapped inside (Statement-F.PushOperation p n) is = let clash : ⊥ = cc in absurd clash
+nested_simple declared scope trapped inside (Statement-F.If c first) is = let clash : ⊥ = cc in absurd clash
+nested_simple declared scope trapped inside (Statement-F.IfElse c first other) is = let clash : ⊥ = cc in absurd clash
+nested_simple declared scope trapped inside (Statement-F.Repeat v body) is = let clash : ⊥ = cc in absurd clash
+nested_simple declared scope trapped inside (Statement-F.Trap x body) is = let clash : ⊥ = cc in absurd clash
+nested_simple declared scope trapped inside _ is = is
 
-pub simple_line : (declared : Declared) (locals : List Local) (trapped : Bool) (k : Key) (operands : List (Operand Meant)) (s : Statement) → statement_line (out-Statement s) ≡ Line k operands → IsTrue (is_simple declared.literals locals trapped (out-Statement s)) → IsOneLine declared locals trapped k operands s
-simple_line declared locals trapped k operands s is sound = record {
-  lines = λ n. one_line s n (flat_simple declared.literals locals trapped (out-Statement s) sound) ∙ ap (λ l. (Some n, l) ∷ []) is;
-  sound = λ inside. nested_simple declared locals trapped inside (out-Statement s) sound;
+pub simple_line : (declared : Declared) (scope : Scope) (trapped : Bool) (k : Key) (operands : List (Operand Meant)) (s : Statement) → statement_line (out-Statement s) ≡ Line k operands → IsTrue (is_simple declared.literals scope trapped (out-Statement s)) → IsOneLine declared scope trapped k operands s
+simple_line declared scope trapped k operands s is sound = record {
+  lines = λ n. one_line s n (flat_simple declared.literals scope trapped (out-Statement s) sound) ∙ ap (λ l. (Some n, l) ∷ []) is;
+  sound = λ inside. nested_simple declared scope trapped inside (out-Statement s) sound;
 }
 
-pub plain_line : (declared : Declared) (locals : List Local) (trapped : Bool) (k : Key) (operands : List (Operand Meant)) (s : Statement) → statement_line (out-Statement s) ≡ Line k operands → IsTrue (is_statement declared.literals locals (out-Statement s)) → IsOneLine declared locals trapped k operands s
-plain_line declared locals trapped k operands s is sound = simple_line declared locals trapped k operands s is (simple_plain declared.literals locals trapped (out-Statement s) sound)
+pub plain_line : (declared : Declared) (scope : Scope) (trapped : Bool) (k : Key) (operands : List (Operand Meant)) (s : Statement) → statement_line (out-Statement s) ≡ Line k operands → IsTrue (is_statement declared.literals scope (out-Statement s)) → IsOneLine declared scope trapped k operands s
+plain_line declared scope trapped k operands s is sound = simple_line declared scope trapped k operands s is (simple_plain declared.literals scope trapped (out-Statement s) sound)
 
-pub call_line : (declared : Declared) (locals : List Local) (trapped : Bool) (operands : List (Operand Meant)) (index : ℕ) (arguments : List Argument) → all_spelled (procedure_operand index ∷ map argument_operand arguments) ≡ Some operands → IsTrue (is_call declared.signatures locals index arguments) → IsOneLine declared locals trapped key.Call operands (Call index arguments)
-call_line declared locals trapped operands index arguments is sound = record {
+pub call_line : (declared : Declared) (scope : Scope) (trapped : Bool) (operands : List (Operand Meant)) (index : ℕ) (arguments : List Argument) → all_spelled (procedure_operand index ∷ map argument_operand arguments) ≡ Some operands → IsTrue (is_call declared.signatures scope index arguments) → IsOneLine declared scope trapped key.Call operands (Call index arguments)
+call_line declared scope trapped operands index arguments is sound = record {
   lines = λ n. one_line (Call index arguments) n (subst (λ l. IsTrue (is_flat l)) (sym (outs-Call index arguments)) refl) ∙ ap (λ l. (Some n, statement_line l) ∷ []) (outs-Call index arguments) ∙ ap (λ o. (Some n, line_or_unknown key.Call o) ∷ []) is;
-  sound = λ inside. subst (λ l. IsTrue (is_nested declared locals trapped inside l)) (sym (outs-Call index arguments)) sound;
+  sound = λ inside. subst (λ l. IsTrue (is_nested declared scope trapped inside l)) (sym (outs-Call index arguments)) sound;
 }
 
-pub call_to_line : (declared : Declared) (locals : List Local) (trapped : Bool) (operand : Operand Meant) (operands : List (Operand Meant)) (x index : ℕ) (arguments : List Argument) → pointer_operand (Held (H.Local x)) ≡ Some operand → IsTrue (is_pointer_local (slice_get locals x)) → all_spelled (procedure_operand index ∷ map argument_operand arguments) ≡ Some operands → IsTrue (is_call declared.signatures locals index arguments) → IsOneLine declared locals trapped key.CallTo (operand ∷ operands) (CallTo x index arguments)
-call_to_line declared locals trapped operand operands x index arguments first pointer is sound = record {
+pub call_to_line : (declared : Declared) (scope : Scope) (trapped : Bool) (operand : Operand Meant) (operands : List (Operand Meant)) (x index : ℕ) (arguments : List Argument) → pointer_operand (Held (H.Local x)) ≡ Some operand → IsTrue (is_pointer_local (slice_get scope.locals x)) → all_spelled (procedure_operand index ∷ map argument_operand arguments) ≡ Some operands → IsTrue (is_call declared.signatures scope index arguments) → IsOneLine declared scope trapped key.CallTo (operand ∷ operands) (CallTo x index arguments)
+call_to_line declared scope trapped operand operands x index arguments first pointer is sound = record {
   lines = λ n.
       one_line (CallTo x index arguments) n (subst (λ l. IsTrue (is_flat l)) (sym (outs-CallTo x index arguments)) refl) ∙ ap (λ l. (Some n, statement_line l) ∷ []) (outs-CallTo x index arguments)
       ∙ ap (λ o. (Some n, line_or_unknown key.CallTo (and_operand (pointer_operand (Held (H.Local x))) o)) ∷ []) is
       ∙ ap (λ o. (Some n, line_or_unknown key.CallTo (and_operand o (Some operands))) ∷ []) first;
-  sound = λ inside. subst (λ l. IsTrue (is_nested declared locals trapped inside l)) (sym (outs-CallTo x index arguments)) (both (is_pointer_local (slice_get locals x)) (is_call declared.signatures locals index arguments) pointer sound);
+  sound = λ inside. subst (λ l. IsTrue (is_nested declared scope trapped inside l)) (sym (outs-CallTo x index arguments)) (both (is_pointer_local (slice_get scope.locals x)) (is_call declared.signatures scope index arguments) pointer sound);
 }
 
-pub push_operation_line : (declared : Declared) (locals : List Local) (trapped : Bool) (operand named : Operand Meant) (p : Pointer) (index : ℕ) → pointer_operand p ≡ Some operand → IsTrue (is_pointer locals p) → operation_operand index ≡ Some named → IsTrue (nat_lt index declared.operations) → IsOneLine declared locals trapped key.PushOp (operand ∷ named ∷ []) (PushOperation p index)
-push_operation_line declared locals trapped operand named p index first pointer second there = record {
+pub push_operation_line : (declared : Declared) (scope : Scope) (trapped : Bool) (operand named : Operand Meant) (p : Pointer) (index : ℕ) → pointer_operand p ≡ Some operand → IsTrue (is_pointer scope p) → operation_operand index ≡ Some named → IsTrue (nat_lt index declared.operations) → IsOneLine declared scope trapped key.PushOp (operand ∷ named ∷ []) (PushOperation p index)
+push_operation_line declared scope trapped operand named p index first pointer second there = record {
   lines = λ n.
       one_line (PushOperation p index) n (subst (λ l. IsTrue (is_flat l)) (sym (outs-PushOperation p index)) refl) ∙ ap (λ l. (Some n, statement_line l) ∷ []) (outs-PushOperation p index)
       ∙ ap (λ o. (Some n, line_or_unknown key.PushOp (and_operand o (and_operand (operation_operand index) (Some [])))) ∷ []) first
       ∙ ap (λ o. (Some n, line_or_unknown key.PushOp (and_operand (Some operand) (and_operand o (Some [])))) ∷ []) second;
-  sound = λ inside. subst (λ l. IsTrue (is_nested declared locals trapped inside l)) (sym (outs-PushOperation p index)) (both (is_pointer locals p) (nat_lt index declared.operations) pointer there);
+  sound = λ inside. subst (λ l. IsTrue (is_nested declared scope trapped inside l)) (sym (outs-PushOperation p index)) (both (is_pointer scope p) (nat_lt index declared.operations) pointer there);
+}
+
+pub construct_line : (declared : Declared) (scope : Scope) (trapped : Bool) (operands : List (Operand Meant)) (p : Pointer) → all_spelled (pointer_operand p ∷ []) ≡ Some operands → IsTrue (is_pointer scope p) → IsOneLine declared scope trapped key.Construct operands (Construct p)
+construct_line declared scope trapped operands p is pointer = record {
+  lines = λ n.
+      one_line (Construct p) n (subst (λ l. IsTrue (is_flat l)) (sym (outs-Construct p)) refl) ∙ ap (λ l. (Some n, statement_line l) ∷ []) (outs-Construct p)
+      ∙ ap (λ o. (Some n, line_or_unknown key.Construct o) ∷ []) is;
+  sound = λ inside. subst (λ l. IsTrue (is_nested declared scope trapped inside l)) (sym (outs-Construct p)) pointer;
+}
+
+pub delete_line : (declared : Declared) (scope : Scope) (trapped : Bool) (operands : List (Operand Meant)) (p : Pointer) → all_spelled (pointer_operand p ∷ []) ≡ Some operands → IsTrue (is_pointer scope p) → IsOneLine declared scope trapped key.Delete operands (Delete p)
+delete_line declared scope trapped operands p is pointer = record {
+  lines = λ n.
+      one_line (Delete p) n (subst (λ l. IsTrue (is_flat l)) (sym (outs-Delete p)) refl) ∙ ap (λ l. (Some n, statement_line l) ∷ []) (outs-Delete p)
+      ∙ ap (λ o. (Some n, line_or_unknown key.Delete o) ∷ []) is;
+  sound = λ inside. subst (λ l. IsTrue (is_nested declared scope trapped inside l)) (sym (outs-Delete p)) pointer;
 }

@@ -1,7 +1,7 @@
 -- What a tree in the making stands for, and which lines can be added to it.
-use Rattle.std.specs.Prelude.{◌≡◌, ℕ, zero, suc, ◌+◌, List, [], ◌∷◌, ◌++◌, Bool, true, false, not, ◌&&◌, ◌||◌, nat_eq, nat_lt, nat_le, Option, Some, None, IsTrue, MatchOption, fold, length, map}
+use Rattle.std.specs.Prelude.{◌≡◌, ℕ, zero, suc, ◌+◌, ◌-◌, List, [], ◌∷◌, ◌++◌, Bool, true, false, not, ◌&&◌, ◌||◌, nat_eq, nat_lt, nat_le, Option, Some, None, IsTrue, MatchOption, fold, length, map}
 use Rattle.std.specs.List.{list_any, flat_map}
-use Rattle.wb_model.specs.declared.limits.TheConstants.{LARGEST_BUFFER, MOST_LOCALS, MOST_PARAMETERS, MOST_PROCEDURES, DEEPEST_BLOCK}
+use Rattle.wb_model.specs.declared.limits.TheConstants.{LARGEST_BUFFER, MOST_CLASSES, MOST_FIELDS, MOST_EXTRA, MOST_LOCALS, MOST_PARAMETERS, MOST_PROCEDURES, DEEPEST_BLOCK}
 use Rattle.wb_model.specs.declared.script_lines.ItemKind.{ItemKind}
 use Rattle.wb_model.specs.declared.script_lines.ItemKind.TheVariants as item
 use Rattle.wb_model.specs.declared.script_lines.Key.{Key}
@@ -10,12 +10,15 @@ use Rattle.wb_model.specs.declared.script_lines.Meant.{Meant}
 use Rattle.wb_model.specs.declared.script_lines.Meant.TheVariants as meant
 use Rattle.wb_model.specs.declared.script_lines.Operand.{Operand}
 use Rattle.wb_model.specs.declared.script_lines.Operand.TheVariants.{Name, Size}
+use Rattle.wb_model.specs.declared.script_lines.Taken.{Taken}
+use Rattle.wb_model.specs.declared.script_lines.Taken.TheVariants as taken
 use Rattle.wb_model.specs.declared.script_lines.Form.TheVariants.{Line}
 use Rattle.wb_model.specs.declared.script_lines.Role.{Role}
-use Rattle.wb_model.specs.declared.script_lines.Role.TheVariants.{Procedure, Declaration, Loop, If, Else}
+use Rattle.wb_model.specs.declared.script_lines.Role.TheVariants.{Class, Field, Construct, Destroy, Procedure, Declaration, Loop, If, Else}
 use Rattle.wb_model.specs.declared.script.Condition.{Condition}
 use Rattle.wb_model.specs.declared.script.Condition.TheVariants.{IsNull, NotNull, Equal, Less}
 use Rattle.wb_model.specs.declared.script.Parameter as kinds
+use Rattle.wb_model.specs.declared.script.Parameter.TheVariants as parameter
 use Rattle.wb_model.specs.declared.script.Local.{Local}
 use Rattle.wb_model.specs.declared.script.Local.TheVariants.{OfPointer, OfNumber, OfBuffer, OfView}
 use Rattle.wb_model.specs.declared.script.Numbered.{Numbered}
@@ -24,9 +27,10 @@ use Rattle.wb_model.specs.declared.script.Statement.TheViews.{out-Statement}
 use Rattle.wb_model.specs.Forms.{role_of_form}
 use Rattle.wb_model.specs.Keys.{role_of}
 use Rattle.wb_model.specs.Kinds.{ends_body, is_trap}
+use Rattle.wb_model.specs.Resolved.{class_in}
 use Rattle.wb_model.specs.Names.{with_one, item_begun, parameters_in, blocks_after}
 use Rattle.wb_model.specs.Passes.{first_bad, state_after}
-use Rattle.wb_model.specs.Sound.{Declared, is_condition, is_number, is_variable, is_nested, are_within, local_of_parameter}
+use Rattle.wb_model.specs.Sound.{Declared, Scope, is_condition, is_number, is_variable, is_nested, are_within, local_of_parameter}
 use Rattle.wb_model.specs.Trees.{Indexed, Marked, lines_of_statement, line, number_operand, variable_operand, condition_line, statement_lines, else_line, end_line}
 use Rattle.wb_script.specs.declared.checks.nesting.Open.{Open}
 use Rattle.wb_script.specs.declared.checks.nesting.Open.TheVariants.{Declarations, Statements, Branch, Block}
@@ -42,6 +46,7 @@ use Rattle.wb_script.specs.Machine.{step}
 -- the local that a line of a key declares
 abbrev pub local_of : Key → List (Operand Meant) → Option Local
 local_of key.Ptr operands = Some (OfPointer None)
+local_of key.ClassPtr (name ∷ Name class ∷ []) = Some (OfPointer (class_in class))
 local_of key.Int operands = Some OfNumber
 local_of key.Buf (name ∷ Size max ∷ []) = Some (OfBuffer max)
 local_of key.View operands = Some OfView
@@ -51,34 +56,79 @@ abbrev pub local_in : Indexed → Option Local
 local_in (Line key operands) = local_of key operands
 local_in _ = None
 
--- the procedures so far, each by its parameters, and how many operations; the locals of the body that stands open or was the
--- last, its parameters first; and the keys of the blocks that stand open in it, the innermost last
+-- the parameter that takes this
+abbrev pub parameter_taking : Taken Meant → kinds.Parameter
+parameter_taking taken.Pointer = parameter.OfPointer None
+parameter_taking taken.Number = parameter.OfNumber
+parameter_taking (taken.OfClass class) = parameter.OfPointer (class_in class)
+
+-- the parameters that a line declares
+abbrev pub parameters_of : Indexed → List kinds.Parameter
+parameters_of line = map parameter_taking (parameters_in line)
+
+-- The classes so far, each by how many fields it has so far, the procedures, each by its parameters, and how many operations; the
+-- class of `self` in the body that stands open or was the last, its locals, its parameters first; and the keys of the blocks that
+-- stand open in it, the innermost last.
 pub record Counts : Type 0 where
+  pub classes : List ℕ
   pub procedures : List (List kinds.Parameter)
   pub operations : ℕ
+  pub this : Option ℕ
   pub locals : List Local
   pub blocks : List Key
 
 abbrev pub nothing_counted : Counts
-nothing_counted = record { procedures = []; operations = 0; locals = []; blocks = [] }
+nothing_counted = record { classes = []; procedures = []; operations = 0; this = None; locals = []; blocks = [] }
+
+-- the scope in which a line stands
+abbrev pub scope_at : Declared → Counts → Scope
+scope_at declared counts = record { locals = counts.locals; this = counts.this; fields = declared.fields }
+
+-- the last one has one more
+abbrev pub with_field : List ℕ → List ℕ
+with_field [] = []
+with_field (count ∷ []) = suc count ∷ []
+with_field (count ∷ next ∷ counts) = count ∷ with_field (next ∷ counts)
+
+-- how many the last one has
+abbrev pub last_count : List ℕ → ℕ
+last_count [] = 0
+last_count (count ∷ []) = count
+last_count (count ∷ next ∷ counts) = last_count (next ∷ counts)
+
+abbrev pub classes_after : Role → List ℕ → List ℕ
+classes_after Class classes = classes ++ 0 ∷ []
+classes_after Field classes = with_field classes
+classes_after _ classes = classes
 
 abbrev pub procedures_after : Option ItemKind → Indexed → List (List kinds.Parameter) → List (List kinds.Parameter)
-procedures_after (Some item.Procedure) line procedures = procedures ++ parameters_in line ∷ []
+procedures_after (Some item.Procedure) line procedures = procedures ++ parameters_of line ∷ []
 procedures_after _ line procedures = procedures
 
 abbrev pub operations_after : Option ItemKind → ℕ → ℕ
 operations_after (Some item.Operation) operations = operations + 1
 operations_after _ operations = operations
 
+-- `self` is of the last class
+abbrev pub this_after : Role → List ℕ → Option ℕ → Option ℕ
+this_after Construct classes this = Some (length classes - 1)
+this_after Destroy classes this = Some (length classes - 1)
+this_after Procedure classes this = None
+this_after _ classes this = this
+
 abbrev pub locals_after : Role → Indexed → List Local → List Local
-locals_after Procedure line locals = map local_of_parameter (parameters_in line)
+locals_after Construct line locals = []
+locals_after Destroy line locals = []
+locals_after Procedure line locals = map local_of_parameter (parameters_of line)
 locals_after Declaration line locals = with_one locals (local_in line)
 locals_after _ line locals = locals
 
 abbrev pub counts_with : Role → Indexed → Counts → Counts
 counts_with role line counts = record {
+  classes = classes_after role counts.classes;
   procedures = procedures_after (item_begun line) line counts.procedures;
   operations = operations_after (item_begun line) counts.operations;
+  this = this_after role counts.classes counts.this;
   locals = locals_after role line counts.locals;
   blocks = blocks_after role line counts.blocks;
 }
@@ -91,28 +141,30 @@ abbrev pub declares : ℕ → List (Operand Meant) → Bool
 declares index (Name (meant.Declared name) ∷ operands) = nat_eq name index
 declares index _ = false
 
--- a text no larger than texts may be, where a size is told
-abbrev pub is_small : List (Operand Meant) → Bool
-is_small (name ∷ Size max ∷ []) = nat_le max LARGEST_BUFFER
-is_small _ = true
+-- a size within a greatest one, where a size is told
+abbrev pub is_small : ℕ → List (Operand Meant) → Bool
+is_small greatest (name ∷ Size size ∷ []) = nat_le size greatest
+is_small greatest _ = true
 
--- the index of the next item of a kind
+-- the index of the next procedure or operation
 abbrev pub next_index : Option ItemKind → Counts → ℕ
 next_index (Some item.Operation) counts = counts.operations
 next_index _ counts = length counts.procedures
 
 -- what one of a kind may take: an operation its one pointer
 abbrev pub takes_its : Option ItemKind → List kinds.Parameter → Bool
-takes_its (Some item.Operation) (kinds.TheVariants.OfPointer None ∷ []) = true
+takes_its (Some item.Operation) (parameter.OfPointer None ∷ []) = true
 takes_its (Some item.Operation) _ = false
 takes_its _ parameters = true
 
 -- a declaration is the next of its kind, and neither it nor a block is one more than there may be
 abbrev pub is_due : Role → Counts → Indexed → List (Operand Meant) → Bool
+is_due Class counts line operands = declares (length counts.classes) operands && (nat_lt (length counts.classes) MOST_CLASSES && is_small MOST_EXTRA operands)
+is_due Field counts line operands = declares (last_count counts.classes) operands && nat_lt (last_count counts.classes) MOST_FIELDS
 is_due Procedure counts line operands =
     declares (next_index (item_begun line) counts) operands
-    && (nat_lt (length counts.procedures + counts.operations) MOST_PROCEDURES && (nat_le (length (parameters_in line)) MOST_PARAMETERS && takes_its (item_begun line) (parameters_in line)))
-is_due Declaration counts line operands = declares (length counts.locals) operands && (nat_lt (length counts.locals) MOST_LOCALS && is_small operands)
+    && (nat_lt (length counts.procedures + counts.operations) MOST_PROCEDURES && (nat_le (length (parameters_of line)) MOST_PARAMETERS && takes_its (item_begun line) (parameters_of line)))
+is_due Declaration counts line operands = declares (length counts.locals) operands && (nat_lt (length counts.locals) MOST_LOCALS && is_small LARGEST_BUFFER operands)
 is_due Loop counts line operands = nat_lt (length counts.blocks) DEEPEST_BLOCK
 is_due If counts line operands = nat_lt (length counts.blocks) DEEPEST_BLOCK
 is_due _ counts line operands = true
@@ -124,7 +176,7 @@ may_stand blocks k = not (ends_body k && list_any is_trap blocks)
 -- a line has the operands of its key and keeps the limits, behind lines with these counts
 abbrev pub fits : Declared → Counts → Indexed → Bool
 fits declared counts (Line key operands) =
-    operands_fit declared counts.locals key operands && (is_due (role_of key) counts (Line key operands) operands && may_stand counts.blocks key)
+    operands_fit declared (scope_at declared counts) key operands && (is_due (role_of key) counts (Line key operands) operands && may_stand counts.blocks key)
 fits declared counts _ = true
 
 abbrev pub unfit : Declared → Counts → Indexed → Bool
@@ -198,19 +250,19 @@ in_trap trapped [] = trapped
 in_trap trapped (b ∷ blocks) = in_trap (trapped || is_trap (head_key b.head)) blocks
 
 -- what a block begins with is sound, with fewer blocks inside one another than this
-abbrev pub is_head : Declared → List Local → ℕ → Bool → Head → Bool
-is_head declared locals depth trapped (head.If c) = is_condition locals c
-is_head declared locals depth trapped (head.Else c first) = is_condition locals c && are_within declared locals depth trapped first
-is_head declared locals depth trapped (head.Repeat v) = is_number locals v
-is_head declared locals depth trapped (head.Trap x) = is_variable locals x
+abbrev pub is_head : Declared → Scope → ℕ → Bool → Head → Bool
+is_head declared scope depth trapped (head.If c) = is_condition scope c
+is_head declared scope depth trapped (head.Else c first) = is_condition scope c && are_within declared scope depth trapped first
+is_head declared scope depth trapped (head.Repeat v) = is_number scope.locals v
+is_head declared scope depth trapped (head.Trap x) = is_variable scope.locals x
 
 -- statements and the blocks around them are sound, with fewer blocks inside one another than this
-abbrev pub AreOpen : Declared → List Local → ℕ → Bool → List OpenBlock → List Numbered → Type 0
-AreOpen declared locals depth trapped [] statements = IsTrue (are_within declared locals depth trapped statements)
-AreOpen declared locals zero trapped (b ∷ blocks) statements = ⊥
-AreOpen declared locals (suc depth) trapped (b ∷ blocks) statements =
-    IsTrue (are_within declared locals (suc depth) trapped b.before) × IsTrue (is_head declared locals depth trapped b.head)
-    × AreOpen declared locals depth (trapped || is_trap (head_key b.head)) blocks statements
+abbrev pub AreOpen : Declared → Scope → ℕ → Bool → List OpenBlock → List Numbered → Type 0
+AreOpen declared scope depth trapped [] statements = IsTrue (are_within declared scope depth trapped statements)
+AreOpen declared scope zero trapped (b ∷ blocks) statements = ⊥
+AreOpen declared scope (suc depth) trapped (b ∷ blocks) statements =
+    IsTrue (are_within declared scope (suc depth) trapped b.before) × IsTrue (is_head declared scope depth trapped b.head)
+    × AreOpen declared scope depth (trapped || is_trap (head_key b.head)) blocks statements
 
 abbrev pub begins : Role → Bool
 begins Loop = true
@@ -223,8 +275,8 @@ begins_block k = begins (role_of k)
 -- the statement of a block: it has the block's lines, and is sound where the block is
 pub record IsWhole (head : Head) (statements : List Numbered) (statement : Statement) : Type 0 where
   pub lines : (number : ℕ) → lines_of_statement statement number ≡ head_lines number head ++ (statement_lines statements ++ end_line ∷ [])
-  pub sound : (declared : Declared) (locals : List Local) (depth : ℕ) (trapped : Bool) → IsTrue (is_head declared locals depth trapped head) → IsTrue (are_within declared locals depth (trapped || is_trap (head_key head)) statements) →
-      IsTrue (is_nested declared locals trapped (are_within declared locals depth) (out-Statement statement))
+  pub sound : (declared : Declared) (scope : Scope) (depth : ℕ) (trapped : Bool) → IsTrue (is_head declared scope depth trapped head) → IsTrue (are_within declared scope depth (trapped || is_trap (head_key head)) statements) →
+      IsTrue (is_nested declared scope trapped (are_within declared scope depth) (out-Statement statement))
 
 -- the innermost block is a statement of what is around it
 pub record ClosesBlock (nest next : Nest) : Type 0 where

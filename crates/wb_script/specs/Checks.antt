@@ -1,5 +1,5 @@
 -- What the lines so far are found to be.
-use Rattle.std.specs.Prelude.{◌≡◌, ◌<◌, ℕ, ◌+◌, ◌^◌, List, length, Bool, true, false, Option, Some, None, codes}
+use Rattle.std.specs.Prelude.{◌≡◌, ◌<◌, ℕ, ◌+◌, ◌^◌, List, length, map, Bool, true, false, Option, Some, None, codes}
 use Rattle.wb_model.specs.declared.fault.ScriptFault.{ScriptFault}
 use Rattle.wb_model.specs.declared.fault.ScriptFault.TheVariants.{UnknownName, DoubleName, WrongKind, MayLeave, NoMain, TooMany}
 use Rattle.wb_model.specs.declared.script_lines.Form.{Form}
@@ -9,7 +9,7 @@ use Rattle.wb_model.specs.Passes.{state_after}
 use Rattle.wb_model.specs.Kinds.{has_wrong_kind, may_leave}
 use Rattle.wb_model.specs.Resolved.{resolved_among, item_meant, uses_unknown}
 use Rattle.wb_model.specs.Scripts.{number_of_line, procedure_meant}
-use Rattle.wb_script.specs.Lent.{lent_texts}
+use Rattle.wb_script.specs.Lent.{lent_texts, lent_kind}
 use Rattle.wb_script.specs.declared.checks.known.Known.{Known}
 use Rattle.wb_script.specs.declared.checks.Checked.{Checked}
 use Rattle.wb_script.specs.declared.checks.FirstLines.{FirstLines}
@@ -17,24 +17,27 @@ use Rattle.wb_script.specs.declared.checks.FirstLines.{FirstLines}
 -- what is known, without the references
 abbrev pub known_in : Known → model.Known
 known_in known = record {
+  classes = known.classes;
   procedures = known.procedures;
   operations = known.operations;
+  fields = lent_texts known.fields.items;
   literals = length known.literals.items;
   body = known.body;
   locals = lent_texts known.locals.items;
-  kinds = known.kinds.items;
+  kinds = map lent_kind known.kinds.items;
   blocks = known.blocks.items;
 }
 
 -- the counts of the script's own space are the same, and so is the kind of the body
 pub record AreSameItems (old new : Known) : Type 0 where
+  pub classes : new.classes ≡ old.classes
   pub procedures : new.procedures ≡ old.procedures
   pub operations : new.operations ≡ old.operations
   pub body : new.body ≡ old.body
 
--- one more procedure or operation can be counted
+-- one more class, procedure or operation can be counted
 abbrev pub IsFew : Known → Type 0
-IsFew known = known.procedures + known.operations < 2 ^ 32
+IsFew known = known.classes + known.procedures + known.operations < 2 ^ 32
 
 -- the first line that a check refuses, with one more line
 abbrev pub or_here : Option ℕ → ℕ → Bool → Option ℕ

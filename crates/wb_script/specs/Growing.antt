@@ -1,112 +1,108 @@
 -- What an open body and the whole tree in the making stand for, and which lines can be added to them.
 use Rattle.std.specs.Prelude.{◌≡◌, ℕ, suc, ◌+◌, List, [], ◌∷◌, ◌++◌, Bool, true, false, ◌&&◌, ◌<◌, ◌≤◌, nat_eq, nat_lt, nat_le, Option, Some, None, IsTrue, MatchOption, length, map}
-use Rattle.std.specs.List.{list_all}
-use Rattle.wb_model.specs.declared.limits.TheConstants.{MOST_LOCALS, MOST_PARAMETERS, MOST_PROCEDURES, DEEPEST_BLOCK}
-use Rattle.wb_model.specs.declared.script_lines.ItemKind.{ItemKind}
-use Rattle.wb_model.specs.declared.script_lines.ItemKind.TheVariants.{Procedure, Operation}
+use Rattle.std.specs.List.{list_all, flat_map}
+use Rattle.wb_model.specs.declared.limits.TheConstants.{MOST_CLASSES, MOST_LOCALS, MOST_PARAMETERS, MOST_PROCEDURES, DEEPEST_BLOCK}
 use Rattle.wb_model.specs.declared.script_lines.Key.{Key}
 use Rattle.wb_model.specs.declared.script_lines.Key.TheVariants as key
 use Rattle.wb_model.specs.declared.script_lines.Meant.{Meant}
 use Rattle.wb_model.specs.declared.script_lines.Meant.TheVariants as meant
 use Rattle.wb_model.specs.declared.script_lines.Operand.{Operand}
 use Rattle.wb_model.specs.declared.script_lines.Operand.TheVariants.{Name, Parameter}
+use Rattle.wb_model.specs.declared.script_lines.Taken.TheVariants as taken
 use Rattle.wb_model.specs.declared.script_lines.Form.TheVariants.{Line}
 use Rattle.wb_model.specs.declared.script_lines.Role.TheVariants.{Declaration}
 use Rattle.wb_model.specs.declared.script.Body.{Body}
+use Rattle.wb_model.specs.declared.script.Class.{Class}
 use Rattle.wb_model.specs.declared.script.Parameter as kinds
-use Rattle.wb_model.specs.declared.script.Parameter.TheVariants as parameter
 use Rattle.wb_model.specs.declared.script.Local.{Local}
 use Rattle.wb_model.specs.Forms.{role_of_form}
-use Rattle.wb_model.specs.Names.{parameters_in}
-use Rattle.wb_model.specs.Sound.{Declared, is_local, is_parameter, is_body, is_procedure, is_operation, its_parameters, local_of_parameter, locals_of, signatures_of}
-use Rattle.wb_model.specs.Trees.{Indexed, Marked, Lines, mark, counted, line, local_line, local_lines, end_line, body_lines, parameter_operand, each_from, lines_of_procedure, lines_of_operation, in_order, all_lines}
+use Rattle.wb_model.specs.Names.{taken_by}
+use Rattle.wb_model.specs.Sound.{Declared, Scope, is_local, is_parameter, is_body, is_class_of, are_classes, is_procedure, is_operation, its_parameters, local_of_parameter, locals_of, scope_of, fields_declared, signatures_of}
+use Rattle.wb_model.specs.Trees.{Indexed, Marked, Lines, mark, counted, line, head_line, local_line, local_lines, field_lines, own_body_lines, class_head, end_line, body_lines, parameter_operand, each_from, lines_of_class, lines_of_procedure, lines_of_operation, in_order, all_lines}
 use Rattle.wb_script.specs.declared.checks.nesting.Open.{Open}
-use Rattle.wb_script.specs.declared.tree.WholeBodies.{WholeBodies}
-use Rattle.wb_script.specs.declared.tree.Building.{Building}
-use Rattle.wb_script.specs.declared.tree.bodies.Opening.{Opening}
+use Rattle.wb_script.specs.declared.checks.nesting.Open.TheVariants.{Fields, Made, Destroyed}
+use Rattle.wb_script.specs.declared.tree.space.Space.{Space}
+use Rattle.wb_script.specs.declared.tree.whole.WholeItems.{WholeItems}
+use Rattle.wb_script.specs.declared.tree.whole.Owner.{Owner}
+use Rattle.wb_script.specs.declared.tree.whole.Owner.TheVariants as of
+use Rattle.wb_script.specs.declared.tree.whole.Stage.{Stage}
+use Rattle.wb_script.specs.declared.tree.whole.Stage.TheVariants.{Outside, InClass, InBody}
+use Rattle.wb_script.specs.declared.tree.whole.Building.{Building}
 use Rattle.wb_script.specs.declared.tree.bodies.OpenBody.{OpenBody}
 use Rattle.wb_script.specs.declared.tree.bodies.Left.{Left}
 use Rattle.wb_script.specs.declared.tree.bodies.Left.TheVariants.{Inside, Done}
-use Rattle.wb_script.specs.Building.{Counts, AreOpen, counts_after, fits, keys_of_blocks, local_of, nest_lines, nest_places}
+use Rattle.wb_script.specs.Building.{Counts, AreOpen, counts_after, fits, keys_of_blocks, local_of, nest_lines, nest_places, parameter_taking}
+use Rattle.wb_script.specs.Lent.{declared_by}
 use Rattle.wb_script.specs.Machine.{step, after_line}
 
--- the key of the line that begins a body of a kind
-abbrev pub key_of_kind : ItemKind → Key
-key_of_kind Procedure = key.Proc
-key_of_kind Operation = key.Op
+-- what the statements of a script may name, whichever body they stand in
+abbrev pub declared_in_space : Space → Declared
+declared_in_space space = declared_by space.literals space.items.now
 
--- the first line of the body of its kind with this index
-abbrev pub opening_line : ℕ → Opening → Marked
-opening_line index o = (Some o.line, line (key_of_kind o.kind) (Some (Name (meant.Declared index)) ∷ map parameter_operand o.parameters))
+-- An open body.
+
+abbrev pub scope_in_body : Declared → OpenBody → Scope
+scope_in_body declared p = record { locals = p.scope; this = p.this; fields = declared.fields }
 
 -- the lines of an open body behind its first
 abbrev pub inside_lines : OpenBody → List Marked
-inside_lines p = local_lines (length p.opening.parameters) p.locals ++ nest_lines p.nest
+inside_lines p = local_lines (length p.parameters) p.locals ++ nest_lines p.nest
 
--- the counts in an open body, by those at its first line
+-- the counts in an open body, by those of what is whole and around it
 abbrev pub counts_in : Counts → OpenBody → Counts
-counts_in before p = record before { locals = p.scope; blocks = keys_of_blocks p.nest.blocks }
+counts_in before p = record before { this = p.this; locals = p.scope; blocks = keys_of_blocks p.nest.blocks }
 
--- parameters that a body of this kind may have
-abbrev pub HasParametersOf : ItemKind → List kinds.Parameter → Type 0
-HasParametersOf Procedure parameters = IsTrue (list_all is_parameter parameters) × (length parameters ≤ MOST_PARAMETERS)
-HasParametersOf Operation parameters = parameters ≡ its_parameters
-
+-- what an open body keeps
 pub record IsSoundOpen (declared : Declared) (p : OpenBody) : Type 0 where
-  pub parameters : HasParametersOf p.opening.kind p.opening.parameters
-  pub scope : p.scope ≡ locals_of p.opening.parameters p.locals
-  pub locals : IsTrue (list_all is_local p.scope)
+  pub scope : p.scope ≡ locals_of p.parameters p.locals
+  pub locals : IsTrue (list_all (is_local (length declared.fields)) p.scope)
   pub most : length p.scope ≤ MOST_LOCALS
-  pub nest : AreOpen declared p.scope (suc DEEPEST_BLOCK) false p.nest.blocks p.nest.statements
+  pub nest : AreOpen declared (scope_in_body declared p) (suc DEEPEST_BLOCK) false p.nest.blocks p.nest.statements
 
 -- a body takes one more local by this line: before its first statement, by its index, and below the limit
-pub record TakesLocal (p : OpenBody) (key : Key) (operands : List (Operand Meant)) (local : Local) : Type 0 where
+pub record TakesLocal (declared : Declared) (p : OpenBody) (key : Key) (operands : List (Operand Meant)) (local : Local) : Type 0 where
   pub outside : p.nest.blocks ≡ []
   pub first : p.nest.statements ≡ []
   pub line : local_line (length p.scope) local ≡ Line key operands
-  pub declared : local_of key operands ≡ Some local
-  pub sound : IsTrue (is_local local)
+  pub declared_as : local_of key operands ≡ Some local
+  pub sound : IsTrue (is_local (length declared.fields) local)
   pub room : length p.scope < MOST_LOCALS
 
 -- the next local, or none, where a line that fits has no place
-abbrev pub TakesWhereFit : OpenBody → Key → List (Operand Meant) → Option Local → Type 0
-TakesWhereFit p key operands result =
+abbrev pub TakesWhereFit : Declared → OpenBody → Key → List (Operand Meant) → Option Local → Type 0
+TakesWhereFit declared p key operands result =
     MatchOption result
-    ((declared : Declared) (before : Counts) → IsTrue (fits declared (counts_in before p) (Line key operands)) → step (nest_places p.nest) Declaration ≡ None)
-    (TakesLocal p key operands)
+    ((before : Counts) → IsTrue (fits declared (counts_in before p) (Line key operands)) → step (nest_places p.nest) Declaration ≡ None)
+    (TakesLocal declared p key operands)
 
 -- what a line of an open body leaves: the body, open or whole
 abbrev pub left_lines : Left → List Marked
 left_lines (Inside p) = inside_lines p
-left_lines (Done o body) = body_lines (length o.parameters) body ++ end_line ∷ []
-
-abbrev pub left_opening : Left → Opening
-left_opening (Inside p) = p.opening
-left_opening (Done o body) = o
+left_lines (Done parameters body) = body_lines (length parameters) body ++ end_line ∷ []
 
 abbrev pub left_places : Left → List Open
 left_places (Inside p) = nest_places p.nest
-left_places (Done o body) = []
+left_places (Done parameters body) = []
 
-abbrev pub left_counts : Counts → Left → Counts
-left_counts before (Inside p) = counts_in before p
-left_counts before (Done o body) = record before { locals = locals_of o.parameters body.locals; blocks = [] }
+abbrev pub left_counts : Counts → OpenBody → Left → Counts
+left_counts before p (Inside next) = counts_in before next
+left_counts before p (Done parameters body) = record before { this = p.this; locals = locals_of parameters body.locals; blocks = [] }
 
--- a whole body that a script may have
-pub record IsSoundWhole (declared : Declared) (o : Opening) (body : Body) : Type 0 where
-  pub parameters : HasParametersOf o.kind o.parameters
-  pub inside : IsTrue (is_body declared (locals_of o.parameters body.locals) body.statements)
+-- a body of the same parameters, in the same class
+abbrev pub IsOfSame : OpenBody → Left → Type 0
+IsOfSame p (Inside next) = (next.parameters ≡ p.parameters) × (next.this ≡ p.this)
+IsOfSame p (Done parameters body) = parameters ≡ p.parameters
 
-abbrev pub IsSoundLeft : Declared → Left → Type 0
-IsSoundLeft declared (Inside p) = IsSoundOpen declared p
-IsSoundLeft declared (Done o body) = IsSoundWhole declared o body
+abbrev pub IsSoundLeft : Declared → OpenBody → Left → Type 0
+IsSoundLeft declared p (Inside next) = IsSoundOpen declared next
+IsSoundLeft declared p (Done parameters body) = IsTrue (is_body declared (scope_of declared p.this parameters body) body.statements)
 
 -- an open body with one more line
 pub record Adds (declared : Declared) (number : ℕ) (line : Indexed) (p : OpenBody) (left : Left) : Type 0 where
   pub lines : left_lines left ≡ inside_lines p ++ mark number line ∷ []
-  pub opening : left_opening left ≡ p.opening
-  pub sound : IsSoundLeft declared left
-  pub counts : (before : Counts) → left_counts before left ≡ counts_after (counts_in before p) line
+  pub same : IsOfSame p left
+  pub sound : IsSoundLeft declared p left
+  pub counts : (before : Counts) → left_counts before p left ≡ counts_after (counts_in before p) line
   pub places : step (nest_places p.nest) (role_of_form line) ≡ Some (left_places left)
 
 -- the same, or nothing, where a line that fits has no place
@@ -116,113 +112,209 @@ AddsWhereFit declared number line p next =
     ((before : Counts) → IsTrue (fits declared (counts_in before p) line) → step (nest_places p.nest) (role_of_form line) ≡ None)
     (Adds declared number line p)
 
+-- the body behind its first line
+abbrev pub new_body : Option ℕ → List kinds.Parameter → OpenBody
+new_body this parameters =
+    record { parameters = parameters; this = this; locals = []; scope = map local_of_parameter parameters; nest = record { blocks = []; statements = [] } }
+
+-- The first lines of items.
+
 -- a parameter as trees have them
-abbrev pub is_parameter_operand : Operand Meant → Bool
-is_parameter_operand (Parameter meant.Parameter kind) = is_parameter kind
-is_parameter_operand _ = false
+abbrev pub is_parameter_operand : ℕ → Operand Meant → Bool
+is_parameter_operand classes (Parameter meant.Parameter taken.Pointer) = true
+is_parameter_operand classes (Parameter meant.Parameter taken.Number) = true
+is_parameter_operand classes (Parameter meant.Parameter (taken.OfClass (meant.Class class))) = nat_lt class classes
+is_parameter_operand classes _ = false
 
--- operands that are parameters of a body of this kind
-abbrev pub are_of_kind : ItemKind → List (Operand Meant) → Bool
-are_of_kind Procedure operands = nat_le (length operands) MOST_PARAMETERS && list_all is_parameter_operand operands
-are_of_kind Operation (Parameter meant.Parameter (parameter.OfPointer None) ∷ []) = true
-are_of_kind Operation _ = false
+abbrev pub are_parameters : ℕ → List (Operand Meant) → Bool
+are_parameters classes operands = list_all (is_parameter_operand classes) operands
 
--- what a line begins that declares the body of this kind with this index
-abbrev pub is_head_of : ItemKind → ℕ → List (Operand Meant) → Bool
-is_head_of kind index (Name (meant.Declared name) ∷ operands) = nat_eq name index && are_of_kind kind operands
-is_head_of kind index _ = false
+abbrev pub parameters_taken : List (Operand Meant) → List kinds.Parameter
+parameters_taken operands = map parameter_taking (flat_map taken_by operands)
 
--- the body of a kind that a line begins
-abbrev pub IsBegun : ItemKind → ℕ → Indexed → OpenBody → Type 0
-IsBegun kind number line p =
-    p ≡ record {
-      opening = record { kind = kind; line = number; parameters = parameters_in line };
-      locals = [];
-      scope = map local_of_parameter (parameters_in line);
-      nest = record { blocks = []; statements = [] };
-    }
+-- the parameter that an operand declares
+abbrev pub IsTaken : ℕ → Operand Meant → Option kinds.Parameter → Type 0
+IsTaken classes operand result =
+    MatchOption result
+    (is_parameter_operand classes operand ≡ false)
+    (λ one. (is_parameter_operand classes operand ≡ true) × (parameters_taken (operand ∷ []) ≡ one ∷ []))
 
-abbrev pub is_line : Indexed → Bool
-is_line (Line key operands) = true
-is_line _ = false
+-- the parameters that operands declare
+abbrev pub AreTaken : ℕ → List (Operand Meant) → Option (List kinds.Parameter) → Type 0
+AreTaken classes operands result =
+    MatchOption result
+    (are_parameters classes operands ≡ false)
+    (λ found. (are_parameters classes operands ≡ true) × (found ≡ parameters_taken operands))
 
--- how many whole bodies there are of a kind
-abbrev pub next_among : ItemKind → WholeBodies → ℕ
-next_among Procedure b = length b.procedures
-next_among Operation b = length b.operations
+-- operands that declare the procedure with an index
+abbrev pub is_procedure_head : ℕ → ℕ → List (Operand Meant) → Bool
+is_procedure_head classes index (Name (meant.Declared name) ∷ operands) = nat_eq name index && (nat_le (length operands) MOST_PARAMETERS && are_parameters classes operands)
+is_procedure_head classes index _ = false
 
--- the bodies with one more, whose first line is this
-abbrev pub with_body : WholeBodies → Opening → Body → WholeBodies
-with_body b o body = with_one_of o.kind b
-  where
-    with_one_of : ItemKind → WholeBodies → WholeBodies
-    with_one_of Procedure b = record b { procedures = b.procedures ++ (record { line = o.line; parameters = o.parameters; body = body }) ∷ [] }
-    with_one_of Operation b = record b { operations = b.operations ++ (record { line = o.line; body = body }) ∷ [] }
+abbrev pub AreParametersOf : ℕ → ℕ → List (Operand Meant) → Option (List kinds.Parameter) → Type 0
+AreParametersOf classes index operands result =
+    MatchOption result
+    (is_procedure_head classes index operands ≡ false)
+    (λ found. (is_procedure_head classes index operands ≡ true) × (found ≡ parameters_taken operands))
 
--- the whole bodies in the order of their lines
-abbrev pub items_in_order : WholeBodies → List Lines
-items_in_order b = in_order (each_from lines_of_procedure 0 b.procedures) (each_from lines_of_operation 0 b.operations)
+-- the operation
+abbrev pub is_operation_head : ℕ → List (Operand Meant) → Bool
+is_operation_head index (Name (meant.Declared name) ∷ Parameter meant.Parameter taken.Pointer ∷ []) = nat_eq name index
+is_operation_head index _ = false
+
+-- What is whole.
+
+abbrev pub with_class : WholeItems → Class → WholeItems
+with_class b c = record b { classes = b.classes ++ c ∷ [] }
+
+abbrev pub with_procedure : WholeItems → ℕ → List kinds.Parameter → Body → WholeItems
+with_procedure b line parameters body = record b { procedures = b.procedures ++ (record { line = line; parameters = parameters; body = body }) ∷ [] }
+
+abbrev pub with_operation : WholeItems → ℕ → Body → WholeItems
+with_operation b line body = record b { operations = b.operations ++ (record { line = line; body = body }) ∷ [] }
+
+abbrev pub outside : WholeItems → Building
+outside b = record { whole = b; stage = Outside }
+
+abbrev pub in_class : WholeItems → Class → Building
+in_class b c = record { whole = b; stage = InClass c }
+
+abbrev pub in_body : WholeItems → Owner → OpenBody → Building
+in_body b owner p = record { whole = b; stage = InBody owner p }
+
+-- a body is whole
+abbrev pub finished : WholeItems → Owner → List kinds.Parameter → Body → Building
+finished b (of.Procedure line) parameters body = outside (with_procedure b line parameters body)
+finished b (of.Operation line) parameters body = outside (with_operation b line body)
+finished b (of.Constructor c) parameters body = in_class b (record c { construct = Some body })
+finished b (of.Destructor c) parameters body = in_class b (record c { destroy = Some body })
+
+-- whole items in the order of their lines
+abbrev pub items_in_order : WholeItems → List Lines
+items_in_order b = in_order (each_from lines_of_class 0 b.classes) (in_order (each_from lines_of_procedure 0 b.procedures) (each_from lines_of_operation 0 b.operations))
+
+-- a class without its end
+abbrev pub open_class_lines : ℕ → Class → List Marked
+open_class_lines index c = class_head index c ∷ (field_lines 0 c.fields ++ (own_body_lines key.Constructor c.construct ++ own_body_lines key.Destructor c.destroy))
+
+-- what stands before an open body, its first line among them
+abbrev pub owner_lines : WholeItems → Owner → List kinds.Parameter → List Marked
+owner_lines b (of.Procedure number) parameters = (Some number, head_line (length b.procedures) parameters) ∷ []
+owner_lines b (of.Operation number) parameters = (Some number, line key.Op (Some (Name (meant.Declared (length b.operations))) ∷ map parameter_operand its_parameters)) ∷ []
+owner_lines b (of.Constructor c) parameters = open_class_lines (length b.classes) c ++ (None, Line key.Constructor []) ∷ []
+owner_lines b (of.Destructor c) parameters = open_class_lines (length b.classes) c ++ (None, Line key.Destructor []) ∷ []
 
 -- The tree so far.
-abbrev pub lines_where : WholeBodies → Option OpenBody → List Marked
-lines_where b None = all_lines (items_in_order b)
-lines_where b (Some p) = all_lines (items_in_order b) ++ (opening_line (next_among p.opening.kind b) p.opening ∷ inside_lines p)
+abbrev pub stage_lines : WholeItems → Stage → List Marked
+stage_lines b Outside = []
+stage_lines b (InClass c) = open_class_lines (length b.classes) c
+stage_lines b (InBody owner p) = owner_lines b owner p.parameters ++ inside_lines p
 
 abbrev pub building_lines : Building → List Marked
-building_lines b = lines_where b.whole b.open
+building_lines b = all_lines (items_in_order b.whole) ++ stage_lines b.whole b.stage
 
-abbrev pub places_where : Option OpenBody → List Open
-places_where None = []
-places_where (Some p) = nest_places p.nest
+-- the place behind these bodies of a class
+abbrev pub place_behind : Option Body → Option Body → Open
+place_behind construct (Some destroy) = Destroyed
+place_behind (Some construct) None = Made
+place_behind None None = Fields
+
+abbrev pub class_place : Class → Open
+class_place c = place_behind c.construct c.destroy
+
+abbrev pub owner_places : Owner → List Open
+owner_places (of.Procedure number) = []
+owner_places (of.Operation number) = []
+owner_places (of.Constructor c) = Made ∷ []
+owner_places (of.Destructor c) = Destroyed ∷ []
+
+abbrev pub stage_places : Stage → List Open
+stage_places Outside = []
+stage_places (InClass c) = class_place c ∷ []
+stage_places (InBody owner p) = nest_places p.nest ++ owner_places owner
 
 abbrev pub building_places : Building → List Open
-building_places b = places_where b.open
+building_places b = stage_places b.stage
 
--- the counts behind the first line of a body
-abbrev pub counts_begun : WholeBodies → Opening → Counts
-counts_begun b o = record { procedures = procedures_with o.kind; operations = operations_with o.kind; locals = []; blocks = [] }
-  where
-    procedures_with : ItemKind → List (List kinds.Parameter)
-    procedures_with Procedure = signatures_of b.procedures ++ o.parameters ∷ []
-    procedures_with Operation = signatures_of b.procedures
+-- the counts of whole items
+abbrev pub counts_whole : WholeItems → Counts → Counts
+counts_whole b counts = record counts { classes = fields_declared b.classes; procedures = signatures_of b.procedures; operations = length b.operations; blocks = [] }
 
-    operations_with : ItemKind → ℕ
-    operations_with Procedure = length b.operations
-    operations_with Operation = length b.operations + 1
+-- with a class that is open
+abbrev pub counts_of_class : WholeItems → Class → Counts → Counts
+counts_of_class b c counts = record (counts_whole b counts) { classes = fields_declared b.classes ++ length c.fields ∷ [] }
 
--- The counts so far. Where no body is open, the locals are those of the last, whichever that is.
-abbrev pub AreCountsWhere : WholeBodies → Option OpenBody → Counts → Type 0
-AreCountsWhere b None counts = counts ≡ record { procedures = signatures_of b.procedures; operations = length b.operations; locals = counts.locals; blocks = [] }
-AreCountsWhere b (Some p) counts = counts ≡ counts_in (counts_begun b p.opening) p
+-- with what an open body is of
+abbrev pub counts_owned : WholeItems → Owner → List kinds.Parameter → Counts → Counts
+counts_owned b (of.Procedure number) parameters counts = record (counts_whole b counts) { procedures = signatures_of b.procedures ++ parameters ∷ [] }
+counts_owned b (of.Operation number) parameters counts = record (counts_whole b counts) { operations = length b.operations + 1 }
+counts_owned b (of.Constructor c) parameters counts = counts_of_class b c counts
+counts_owned b (of.Destructor c) parameters counts = counts_of_class b c counts
+
+-- The counts so far. Where no body is open, `self` and the locals are those of the last, whichever that is.
+abbrev pub AreCountsWhere : WholeItems → Stage → Counts → Type 0
+AreCountsWhere b Outside counts = counts ≡ counts_whole b counts
+AreCountsWhere b (InClass c) counts = counts ≡ counts_of_class b c counts
+AreCountsWhere b (InBody owner p) counts = counts ≡ counts_in (counts_owned b owner p.parameters counts) p
 
 abbrev pub AreCounts : Building → Counts → Type 0
-AreCounts b counts = AreCountsWhere b.whole b.open counts
+AreCounts b counts = AreCountsWhere b.whole b.stage counts
 
--- whole bodies keep what a script's have to keep
-pub record AreSound (declared : Declared) (b : WholeBodies) : Type 0 where
+-- whole items keep what a script's have to keep
+pub record AreSound (declared : Declared) (b : WholeItems) : Type 0 where
+  pub classes : IsTrue (are_classes declared 0 b.classes)
   pub procedures : IsTrue (list_all (is_procedure declared) b.procedures)
   pub operations : IsTrue (list_all (is_operation declared) b.operations)
+  pub few_classes : length b.classes ≤ MOST_CLASSES
+  pub few : length b.procedures + length b.operations ≤ MOST_PROCEDURES
+
+-- there is room for one more procedure or operation
+abbrev pub has_room : WholeItems → Bool
+has_room b = nat_lt (length b.procedures + length b.operations) MOST_PROCEDURES
+
+-- an open class, the next one
+pub record IsSoundClass (declared : Declared) (b : WholeItems) (c : Class) : Type 0 where
+  pub room : length b.classes < MOST_CLASSES
+  pub sound : IsTrue (is_class_of declared (length b.classes) c)
+
+-- what an open body is of can have a body with these parameters where `self` is of this class
+abbrev pub IsOwned : Declared → WholeItems → Owner → Option ℕ → List kinds.Parameter → Type 0
+IsOwned declared b (of.Procedure number) this parameters =
+    IsTrue (has_room b) × (this ≡ None) × IsTrue (list_all (is_parameter (length declared.fields)) parameters && nat_le (length parameters) MOST_PARAMETERS)
+IsOwned declared b (of.Operation number) this parameters = IsTrue (has_room b) × (this ≡ None) × (parameters ≡ its_parameters)
+IsOwned declared b (of.Constructor c) this parameters =
+    IsSoundClass declared b c × (this ≡ Some (length b.classes)) × (parameters ≡ []) × (c.construct ≡ None) × (c.destroy ≡ None)
+IsOwned declared b (of.Destructor c) this parameters = IsSoundClass declared b c × (this ≡ Some (length b.classes)) × (parameters ≡ []) × (c.destroy ≡ None)
 
 -- what stands so far keeps what a script's tree has to keep
-abbrev pub IsSoundWhere : Declared → WholeBodies → Option OpenBody → Type 0
-IsSoundWhere declared b None = AreSound declared b × (length b.procedures + length b.operations ≤ MOST_PROCEDURES)
-IsSoundWhere declared b (Some p) = AreSound declared b × (length b.procedures + length b.operations < MOST_PROCEDURES) × IsSoundOpen declared p
+abbrev pub IsSoundWhere : Declared → WholeItems → Stage → Type 0
+IsSoundWhere declared b Outside = AreSound declared b
+IsSoundWhere declared b (InClass c) = AreSound declared b × IsSoundClass declared b c
+IsSoundWhere declared b (InBody owner p) = AreSound declared b × IsOwned declared b owner p.this p.parameters × IsSoundOpen declared p
 
 pub record IsSound (declared : Declared) (b : Building) : Type 0 where
-  pub stands : IsSoundWhere declared b.whole b.open
+  pub stands : IsSoundWhere declared b.whole b.stage
 
--- the first lines of whole bodies stand before the line with this number
-pub record AreBelow (number : ℕ) (b : WholeBodies) : Type 0 where
+-- the first lines of whole items stand before the line with this number
+pub record AreBelow (number : ℕ) (b : WholeItems) : Type 0 where
+  pub classes : IsTrue (list_all (λ c. nat_lt c.line number) b.classes)
   pub procedures : IsTrue (list_all (λ p. nat_lt p.line number) b.procedures)
   pub operations : IsTrue (list_all (λ o. nat_lt o.line number) b.operations)
 
--- the same of the open body too, which is the last
-abbrev pub IsBelowWhere : ℕ → WholeBodies → Option OpenBody → Type 0
-IsBelowWhere number b None = AreBelow number b
-IsBelowWhere number b (Some p) = AreBelow p.opening.line b × (p.opening.line < number)
+abbrev pub line_of_owner : Owner → ℕ
+line_of_owner (of.Procedure number) = number
+line_of_owner (of.Operation number) = number
+line_of_owner (of.Constructor c) = c.line
+line_of_owner (of.Destructor c) = c.line
+
+-- the same of the open item too, which is the last
+abbrev pub IsBelowWhere : ℕ → WholeItems → Stage → Type 0
+IsBelowWhere number b Outside = AreBelow number b
+IsBelowWhere number b (InClass c) = AreBelow c.line b × (c.line < number)
+IsBelowWhere number b (InBody owner p) = AreBelow (line_of_owner owner) b × (line_of_owner owner < number)
 
 pub record IsBelow (number : ℕ) (b : Building) : Type 0 where
-  pub stands : IsBelowWhere number b.whole b.open
+  pub stands : IsBelowWhere number b.whole b.stage
 
 -- the tree with one more line
 pub record Grows (declared : Declared) (number : ℕ) (line : Indexed) (b next : Building) : Type 0 where

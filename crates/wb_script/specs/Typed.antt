@@ -1,18 +1,18 @@
 -- Forms whose operands are of the letters of their keys, as each line's is that is no longer than a script.
-use Rattle.std.specs.Prelude.{ℤ, pos, negsuc, nat_le, nat_lt, List, [], ◌∷◌, Bool, true, false, ◌&&◌, None, IsTrue, length}
+use Rattle.std.specs.Prelude.{ℤ, pos, negsuc, nat_le, nat_lt, List, [], ◌∷◌, Bool, true, false, ◌&&◌, IsTrue, length}
 use Rattle.std.specs.List.{list_all, list_any}
 use Rattle.wb_model.specs.declared.limits.TheConstants.{NINE_DIGITS}
 use Rattle.wb_model.specs.declared.script_lines.Letter.{Letter}
-use Rattle.wb_model.specs.declared.script.Parameter.TheVariants as kind
+use Rattle.wb_model.specs.declared.script_lines.Taken.TheVariants as taken
 use Rattle.wb_model.specs.declared.script_lines.Operand.{Operand}
-use Rattle.wb_model.specs.declared.script_lines.Operand.TheVariants.{Name, Number, Size, Literal, Parameter, Keyword}
+use Rattle.wb_model.specs.declared.script_lines.Operand.TheVariants.{Name, Field, Number, Size, Literal, Parameter, Keyword}
 use Rattle.wb_model.specs.declared.script_lines.Form.{Form}
 use Rattle.wb_model.specs.declared.script_lines.Form.TheVariants.{Line}
 use Rattle.wb_model.specs.declared.script_lines.WordKind.{WordKind}
 use Rattle.wb_model.specs.declared.script_lines.WordKind.TheVariants as word
 use Rattle.wb_model.specs.Keys.{letters_for, word_kinds}
 use Rattle.wb_model.specs.Names.{Text}
-use Rattle.wb_model.specs.Sound.{is_literal_text, is_parameter}
+use Rattle.wb_model.specs.Sound.{is_literal_text}
 
 -- at most nine digits
 abbrev pub is_short : ℤ → Bool
@@ -23,11 +23,12 @@ is_short (negsuc n) = nat_lt n NINE_DIGITS
 abbrev pub is_word_of : Operand Text → WordKind → Bool
 is_word_of (Name name) word.NewName = true
 is_word_of (Name name) word.Name = true
+is_word_of (Field base field) word.Field = true
 is_word_of (Number z) word.Number = is_short z
 is_word_of (Size n) word.Size = true
 is_word_of (Literal text) word.Literal = is_literal_text text
-is_word_of (Parameter name kind) word.Parameter = is_parameter kind
-is_word_of (Parameter name (kind.OfPointer None)) word.NewPointer = true
+is_word_of (Parameter name kind) word.Parameter = true
+is_word_of (Parameter name taken.Pointer) word.NewPointer = true
 is_word_of Keyword (word.Keyword k) = true
 is_word_of _ _ = false
 

@@ -25,12 +25,12 @@ pub fn script_or_fault()
     ensures { (bytes : List ℕ) → (script : Script) → (fault : ScriptFault) → IsScriptOf bytes script → IsFaultOf bytes fault → ⊥ }
 {}
 
-/// An unknown name is one that its body doesn't declare, in the first line that uses such a one.
+/// An unknown name is one that its body, its class or the script doesn't declare, in the first line that uses such a one.
 pub fn unknown_is_undeclared()
     ensures { (bytes : List ℕ) → (n : ℕ) → IsFaultOf bytes (UnknownName n) → IsFirstUndeclaredLine (forms_of (lines_of bytes)) n }
 {}
 
-/// The lines of a script use no name that their body doesn't declare.
+/// The lines of a script use no name that their body, its class or the script doesn't declare.
 pub fn names_are_declared()
     ensures { (bytes : List ℕ) → (script : Script) → IsScriptOf bytes script → UsesDeclaredUpTo (forms_of (lines_of bytes)) (length (forms_of (lines_of bytes))) }
 {}

@@ -5,7 +5,7 @@ ghost use Rattle.std.specs.List.{list_all};
 ghost use Rattle.wb_model.specs.Forms.{role_of_form};
 ghost use Rattle.wb_model.specs.Grammar.{IsGrammatical, IsFirstMisfit};
 ghost use Rattle.wb_model.specs.Scripts.{IsPlainText, IsScriptOf, IsFaultOf, IsTreeOf, IsLinesFault};
-ghost use Rattle.wb_model.specs.Sound.{is_script, is_entry, is_literal_text};
+ghost use Rattle.wb_model.specs.Sound.{is_script, is_sound_script, is_entry, is_literal_text};
 ghost use Rattle.wb_model.specs.Trees.{script_lines, counted_from};
 ghost use Rattle.wb_script.specs.Building.{AllFit, counts_of};
 ghost use Rattle.wb_script.specs.Checks.{IsMain, IsFirstFault};
@@ -76,6 +76,7 @@ fn script_of(
 ) -> Result<Script, AllocError>
     requires grammar { IsGrammatical (map role_of_form lines.now) }
     requires fit { AllFit (declared_by (length literals.now) items.now) lines.now }
+    requires classes { (counts_of lines.now).classes ≡ (declared_by (length literals.now) items.now).fields }
     requires procedures { (counts_of lines.now).procedures ≡ (declared_by (length literals.now) items.now).signatures }
     requires operations { (counts_of lines.now).operations ≡ (declared_by (length literals.now) items.now).operations }
     requires few { (length literals.now < 2 ^ 32) × (length lines.now ≤ LONGEST_SCRIPT) }
@@ -84,14 +85,13 @@ fn script_of(
     ensures tree { IfOk result (λ s. script_lines s ≡ counted_from 1 lines.now) }
     ensures literals { IfOk result (λ s. s.literals ≡ lent_texts literals.now) }
     ensures main { IfOk result (λ s. s.main ≡ main) }
-    ensures classes { IfOk result (λ s. s.classes ≡ []) }
-    ensures sound { IfOk result (λ s. IsTrue (is_script s)) }
+    ensures sound { IfOk result (λ s. IsTrue (is_sound_script s)) }
 {
-    let bodies = bodies_of(alloc, literals.len() as u32, items, lines)?;
+    let whole = bodies_of(alloc, literals.len() as u32, items, lines)?;
     Ok(Script {
-        classes: Items::new(alloc),
-        procedures: bodies.procedures,
-        operations: bodies.operations,
+        classes: whole.classes,
+        procedures: whole.procedures,
+        operations: whole.operations,
         literals: literals_of(alloc, literals)?,
         main: main as u16,
     })

@@ -2,7 +2,7 @@
 
 ghost use Rattle.std.specs.Prelude.{◌≡◌, ◌+◌, ◌^◌, ◌<◌, ◌∷◌, [], ℕ, IsTrue, OnOk};
 ghost use Rattle.std.specs.List.{list_all};
-ghost use Rattle.wb_model.specs.Sound.{is_script, is_local};
+ghost use Rattle.wb_model.specs.Sound.{is_script};
 ghost use Rattle.wb_model.specs.Statements.{destroy_items, destroy_object, destroyed_item, destroyed_object, is_null};
 ghost use Rattle.wb_model.specs.Meaning.{meaning_of};
 ghost use Rattle.wb_model.specs.Rest.{doing};
@@ -67,7 +67,15 @@ impl<'a> Control<'a> {
             Item::Delete(ptr) => self.begin_delete(at, ptr),
             Item::Call(ptr, operation) => {
                 let body = operation_at(script, operation);
-                self.begin_body(at, NULL, Handed::Item(ptr), body, After::Nothing, state)
+                self.begin_body(
+                    script,
+                    at,
+                    NULL,
+                    Handed::Item(ptr),
+                    body,
+                    After::Nothing,
+                    state,
+                )
             }
         }
     }
@@ -128,6 +136,7 @@ impl<'a> Control<'a> {
             Ok(class) => {
                 let body = destroy_at(script, class);
                 self.begin_body(
+                    script,
                     at,
                     ptr,
                     Handed::Arguments(&[]),

@@ -1,17 +1,17 @@
 //! What the head of a statement leaves: it is carried out, or leaves pieces.
 
-ghost use Rattle.std.specs.Prelude.{◌≡◌, ◌+◌, ◌^◌, ◌<◌, [], ℕ, List, IsTrue, OnOk};
+ghost use Rattle.std.specs.Prelude.{◌≡◌, ◌+◌, ◌^◌, ◌<◌, [], ◌∷◌, ℕ, None, IsTrue, OnOk};
 ghost use Rattle.std.specs.List.{list_all};
-ghost use Rattle.wb_model.specs.Sound.{is_script, is_condition, is_local, is_pointer};
+ghost use Rattle.wb_model.specs.Sound.{is_script};
 ghost use Rattle.wb_model.specs.declared.heap.Rule.{Rule};
 ghost use Rattle.wb_model.specs.declared.script.Script.{Script};
-ghost use Rattle.wb_model.specs.declared.script.Local.{Local};
 ghost use Rattle.wb_model.specs.declared.script.Body.{Body};
 ghost use Rattle.wb_model.specs.declared.script.Statement.TheOpen.{Statement-F};
 ghost use Rattle.wb_model.specs.declared.script.Statement.TheViews.{out-Statement};
 ghost use Rattle.wb_machine.specs.declared.pieces.Ending.TheVariants.{GoesOn};
 ghost use Rattle.wb_machine.specs.Bodies.{IsBody};
-ghost use Rattle.wb_machine.specs.LocalValues.{values_handed};
+ghost use Rattle.wb_machine.specs.LocalValues.{is_small, values_handed};
+ghost use Rattle.wb_machine.specs.PointerOperands.{first_refusal, of_condition, operands_refused};
 ghost use Rattle.wb_machine.specs.Flow.{where_of, afterwards, AreOwn, IsOwn, AreSound, FitsStep, rest_from, rest_of_statement, rest_of_body};
 ghost use Rattle.wb_machine.specs.Owed.{HasStack, MayAttempt, KeepsSteps, IsQuiet};
 
@@ -35,17 +35,22 @@ impl<'a> Control<'a> {
         condition: Condition,
         first: &'a [Numbered],
         other: &'a [Numbered],
+        script: &Script,
         state: &State,
     ) -> Result<(), NoMemory>
         requires { self.old.ending ≡ GoesOn }
-        ensures kept { OnOk result ((script : Script) (r : Rule) (budget : ℕ) (locals : List Local) → IsTrue (is_condition locals condition) →
-            rest_from script budget r self.new.ending self.new.pieces.items state.now
-            ≡ rest_of_statement script budget r (where_of at) (Statement-F.IfElse condition first.now other.now) self.old.pieces.items state.now) }
+        ensures kept { OnOk result ((r : Rule) (budget : ℕ) → first_refusal state.now (of_condition condition) ≡ None →
+            rest_from script.now budget r self.new.ending self.new.pieces.items state.now
+            ≡ rest_of_statement script.now budget r (where_of at) (Statement-F.IfElse condition first.now other.now) self.old.pieces.items state.now) }
         ensures sound { OnOk result ((script : Script) → AreOwn script first.now → AreOwn script other.now → AreSound script self.old.pieces.items → AreSound script self.new.pieces.items) }
         ensures ending { OnOk result (self.new.ending ≡ GoesOn) }
         ensures line { self.new.line ≡ self.old.line }
     {
-        let part = if state.holds(condition) { first } else { other };
+        let part = if state.holds(script, condition) {
+            first
+        } else {
+            other
+        };
         self.push(Piece::Code(at, part))?;
         Ok(())
     }
@@ -127,18 +132,19 @@ impl<'a> Control<'a> {
     ) -> Result<(), NoMemory>
         requires script { IsTrue (is_script script.now) }
         requires going { self.old.ending ≡ GoesOn }
-        ensures kept { OnOk result ((r : Rule) (budget : ℕ) (locals : List Local) → IsTrue (is_pointer locals object) →
+        ensures kept { OnOk result ((r : Rule) (budget : ℕ) → first_refusal state.old (object ∷ []) ≡ None →
             rest_from script.now budget r self.new.ending self.new.pieces.items state.new
             ≡ rest_of_statement script.now budget r (where_of at) (Statement-F.Construct object) self.old.pieces.items state.old) }
         ensures sound { OnOk result (AreSound script.now self.old.pieces.items → AreSound script.now self.new.pieces.items) }
         ensures quiet { IsQuiet state.old state.new }
         ensures line { self.new.line ≡ self.old.line }
     {
-        let this = state.pointer(object);
+        let this = state.pointer(script, object);
         match state.class(this) {
             Ok(class) => {
                 let body = construct_at(script, class);
                 self.begin_body(
+                    script,
                     at,
                     this,
                     Handed::Arguments(&[]),
@@ -158,6 +164,7 @@ impl<'a> Control<'a> {
     /// many is refused.
     pub fn begin_body(
         &mut self,
+        script: &Script,
         at: Standing,
         this: Ptr,
         handed: Handed,
@@ -166,10 +173,10 @@ impl<'a> Control<'a> {
         state: &mut State,
     ) -> Result<(), NoMemory>
         requires going { self.old.ending ≡ GoesOn }
-        requires locals { IsTrue (list_all is_local body.locals.now) }
-        ensures kept { OnOk result ((script : Script) (r : Rule) (budget : ℕ) (b : Body) → IsBody body.entry b →
-            rest_from script budget r self.new.ending self.new.pieces.items state.new
-            ≡ rest_of_body script budget r (where_of at) this (values_handed state.old.locals handed.entry) b (afterwards after) self.old.pieces.items state.old) }
+        requires locals { IsTrue (list_all is_small body.locals.now) }
+        ensures kept { OnOk result ((r : Rule) (budget : ℕ) (b : Body) → IsBody body.entry b →
+            rest_from script.now budget r self.new.ending self.new.pieces.items state.new
+            ≡ rest_of_body script.now budget r (where_of at) this (values_handed script.now state.old handed.entry) b (afterwards after) self.old.pieces.items state.old) }
         ensures sound { OnOk result ((script : Script) → AreOwn script body.entry.statements.now → AreSound script self.old.pieces.items → AreSound script self.new.pieces.items) }
         ensures quiet { IsQuiet state.old state.new }
         ensures line { self.new.line ≡ self.old.line }
@@ -179,7 +186,7 @@ impl<'a> Control<'a> {
             return Ok(());
         }
         let caller = state.this();
-        let base = state.call(this, handed, body.locals)?;
+        let base = state.call(script, this, handed, body.locals)?;
         self.push(Piece::Call(base, caller, after))?;
         let inside = Standing {
             depth: at.depth + 1,
@@ -189,8 +196,69 @@ impl<'a> Control<'a> {
         Ok(())
     }
 
-    /// A statement begins: one that no other stands inside is carried out, and of any other its pieces are left.
+    /// A statement begins whose operands aren't refused: one that no other stands inside is carried out, and of any other its
+    /// pieces are left.
     pub fn begin_statement(
+        &mut self,
+        script: &'a Script,
+        at: Standing,
+        statement: &'a Statement,
+        state: &mut State,
+    ) -> Result<(), NoMemory>
+        requires script { IsTrue (is_script script.now) }
+        requires going { self.old.ending ≡ GoesOn }
+        requires own { IsOwn script.now (out-Statement statement.now) }
+        requires operands { operands_refused state.old (out-Statement statement.now) ≡ None }
+        requires sound { AreSound script.now self.old.pieces.items }
+        requires number { MayAttempt state.old }
+        requires level { state.old.debug.heap.level + 1 < 2 ^ 32 }
+        requires stack { HasStack state.old }
+        ensures kept { OnOk result ((r : Rule) (budget : ℕ) → FitsStep r state.old self.new.ending state.new →
+            rest_from script.now budget r self.new.ending self.new.pieces.items state.new
+            ≡ rest_of_statement script.now budget r (where_of at) (out-Statement statement.now) self.old.pieces.items state.old) }
+        ensures sound { OnOk result (AreSound script.now self.new.pieces.items) }
+        ensures keeps { KeepsSteps state.old state.new }
+        ensures line { self.new.line ≡ self.old.line }
+    {
+        match statement {
+            Statement::If(condition, first) => {
+                self.begin_if(at, *condition, first.as_slice(), &[], script, state)
+            }
+            Statement::IfElse(condition, first, other) => {
+                self.begin_if(
+                    at,
+                    *condition,
+                    first.as_slice(),
+                    other.as_slice(),
+                    script,
+                    state,
+                )
+            }
+            Statement::Repeat(count, body) => {
+                self.begin_repeat(at, *count, body.as_slice(), state)
+            }
+            Statement::Trap(local, body) => self.begin_trap(at, *local, body.as_slice(), state),
+            Statement::PopDestroy(count) => self.begin_pop(at, *count, state),
+            Statement::Construct(object) => self.begin_construct(script, at, *object, state),
+            Statement::Delete(object) => self.begin_delete(at, state.pointer(script, *object)),
+            Statement::Call(index, arguments) => {
+                let body = lines_of(procedure_at(script, *index));
+                let handed = Handed::Arguments(arguments.as_slice());
+                self.begin_body(script, at, NULL, handed, body, After::Nothing, state)
+            }
+            Statement::CallTo(target, index, arguments) => {
+                let body = lines_of(procedure_at(script, *index));
+                let handed = Handed::Arguments(arguments.as_slice());
+                self.begin_body(script, at, NULL, handed, body, After::Gives(*target), state)
+            }
+            _ => {
+                self.ending = state.carry_out(script, at.floor, statement)?;
+                Ok(())
+            }
+        }
+    }
+    /// A statement begins, unless it is refused for an operand, which is asked before any cell and any range.
+    pub fn begin_unless_refused(
         &mut self,
         script: &'a Script,
         at: Standing,
@@ -211,34 +279,12 @@ impl<'a> Control<'a> {
         ensures keeps { KeepsSteps state.old state.new }
         ensures line { self.new.line ≡ self.old.line }
     {
-        match statement {
-            Statement::If(condition, first) => {
-                self.begin_if(at, *condition, first.as_slice(), &[], state)
-            }
-            Statement::IfElse(condition, first, other) => {
-                self.begin_if(at, *condition, first.as_slice(), other.as_slice(), state)
-            }
-            Statement::Repeat(count, body) => {
-                self.begin_repeat(at, *count, body.as_slice(), state)
-            }
-            Statement::Trap(local, body) => self.begin_trap(at, *local, body.as_slice(), state),
-            Statement::PopDestroy(count) => self.begin_pop(at, *count, state),
-            Statement::Construct(object) => self.begin_construct(script, at, *object, state),
-            Statement::Delete(object) => self.begin_delete(at, state.pointer(*object)),
-            Statement::Call(index, arguments) => {
-                let body = lines_of(procedure_at(script, *index));
-                let handed = Handed::Arguments(arguments.as_slice());
-                self.begin_body(at, NULL, handed, body, After::Nothing, state)
-            }
-            Statement::CallTo(target, index, arguments) => {
-                let body = lines_of(procedure_at(script, *index));
-                let handed = Handed::Arguments(arguments.as_slice());
-                self.begin_body(at, NULL, handed, body, After::Gives(*target), state)
-            }
-            _ => {
-                self.ending = state.carry_out(script, at.floor, statement)?;
+        match state.operands_refused(statement) {
+            Some(panic) => {
+                self.ending = Ending::Panics(panic);
                 Ok(())
             }
+            None => self.begin_statement(script, at, statement, state),
         }
     }
 }

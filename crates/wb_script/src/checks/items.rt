@@ -1,31 +1,34 @@
 //! The script's own space: what all its lines declare there.
 
-ghost use Rattle.std.specs.Prelude.{◌≡◌, IfOk, OnOk, ◌++◌, slice_get};
+ghost use Rattle.std.specs.Prelude.{◌≡◌, IfOk, OnOk, ◌++◌, map};
 ghost use Rattle.std.specs.List.{flat_map};
 ghost use Rattle.std.specs.Option.{option_map};
-ghost use Rattle.wb_model.specs.declared.script_lines.ItemKind.TheVariants as kind;
-ghost use Rattle.wb_model.specs.Names.{count_among, first_declaration_of, is_same_kind, item_begun, items_by, items_of, kind_begun, kind_passed, names_of, parameters_in, signatures_among};
-ghost use Rattle.wb_script.specs.Lent.{lent_form, lent_forms, lent_items};
+ghost use Rattle.wb_model.specs.Forms.{renamed_taken};
+ghost use Rattle.wb_model.specs.Names.{count_among, fields_begun, fields_behind, first_declaration_of, is_same_kind, item_begun, item_of_kind, items_by, items_of, kind_begun, names_of, parameters_in, taken_by};
+ghost use Rattle.wb_script.specs.Lent.{lent_form, lent_forms, lent_item, lent_items, lent_operands, lent_text, lent_texts};
 
 use crate::checks::known::first_name;
+use crate::lines::forms::role;
 use std::alloc::{AllocError, Global};
 use wb_model::items::Items;
-use wb_model::script::Parameter;
-use wb_model::script_lines::{Form, ItemKind, Key, Operand};
+use wb_model::script_lines::{Form, ItemKind, Key, Operand, Role, Taken};
 
-/// Something of the script's own space: a procedure or an operation, by its name and its parameters.
+/// Something of the script's own space: a class with the names of its fields, a procedure or an operation with what its
+/// parameters take.
 #[derive(Drop)]
 pub(crate) struct Item<'a> {
     pub name: &'a [u8],
     pub kind: ItemKind,
-    pub parameters: Items<Parameter>,
+    pub parameters: Items<Taken<&'a [u8]>>,
+    pub fields: Items<&'a [u8]>,
 }
 
 /// What a line of a key begins.
-pub(crate) fn kind_begun(key: Key) -> Option<ItemKind>
+fn kind_begun(key: Key) -> Option<ItemKind>
     ensures { result ≡ kind_begun key }
 {
     match key {
+        Key::Class => Some(ItemKind::Class),
         Key::Proc => Some(ItemKind::Procedure),
         Key::Op => Some(ItemKind::Operation),
         _ => None,
@@ -33,8 +36,8 @@ pub(crate) fn kind_begun(key: Key) -> Option<ItemKind>
 }
 
 /// What a line begins.
-pub(crate) fn item_begun<N>(form: &Form<N>) -> Option<ItemKind>
-    ensures { result ≡ item_begun form.now }
+pub(crate) fn item_begun(form: &Form<&[u8]>) -> Option<ItemKind>
+    ensures { result ≡ item_begun (lent_form form.now) }
 {
     match form {
         Form::Line(key, _) => kind_begun(*key),
@@ -42,23 +45,29 @@ pub(crate) fn item_begun<N>(form: &Form<N>) -> Option<ItemKind>
     }
 }
 
-/// The kinds of the parameters among operands.
-fn parameters_among<N>(alloc: Global, operands: &[Operand<N>]) -> Result<Vec<Parameter>, AllocError>
-    ensures { IfOk result (λ found. found.items ≡ flat_map kind_passed operands.now) }
+/// What the parameters among operands take.
+fn parameters_among<'a>(
+    alloc: Global,
+    operands: &[Operand<&'a [u8]>],
+) -> Result<Vec<Taken<&'a [u8]>>, AllocError>
+    ensures { IfOk result (λ found. map (renamed_taken lent_text) found.items ≡ flat_map taken_by (lent_operands operands.now)) }
 {
     let mut found = Vec::new(alloc);
     for operand in operands {
         match operand {
-            Operand::Parameter(_, parameter) => found.push(*parameter)?,
+            Operand::Parameter(_, taken) => found.push(*taken)?,
             _ => {}
         }
     }
     Ok(found)
 }
 
-/// The parameters that a line declares.
-pub(crate) fn parameters_in<N>(alloc: Global, form: &Form<N>) -> Result<Vec<Parameter>, AllocError>
-    ensures { IfOk result (λ found. found.items ≡ parameters_in form.now) }
+/// What the parameters take that a line declares.
+fn parameters_in<'a>(
+    alloc: Global,
+    form: &Form<&'a [u8]>,
+) -> Result<Vec<Taken<&'a [u8]>>, AllocError>
+    ensures { IfOk result (λ found. map (renamed_taken lent_text) found.items ≡ parameters_in (lent_form form.now)) }
 {
     match form {
         Form::Line(_, operands) => parameters_among(alloc, operands.as_slice()),
@@ -66,22 +75,57 @@ pub(crate) fn parameters_in<N>(alloc: Global, form: &Form<N>) -> Result<Vec<Para
     }
 }
 
-/// Adds what a line declares in the script's own space.
+/// The fields of a class whose first line these follow.
+fn fields_behind<'a>(alloc: Global, forms: &[Form<&'a [u8]>]) -> Result<Vec<&'a [u8]>, AllocError>
+    ensures { IfOk result (λ found. lent_texts found.items ≡ fields_behind (lent_forms forms.now)) }
+{
+    let mut found = Vec::new(alloc);
+    for form in forms {
+        match role(form) {
+            Role::Field => match first_name(form) {
+                Some(name) => found.push(name)?,
+                None => {}
+            },
+            Role::Skip => {}
+            _ => return Ok(found),
+        }
+    }
+    Ok(found)
+}
+
+/// The fields of something of a kind whose first line these follow: only a class has some.
+fn fields_begun<'a>(
+    alloc: Global,
+    kind: ItemKind,
+    behind: &[Form<&'a [u8]>],
+) -> Result<Vec<&'a [u8]>, AllocError>
+    ensures { IfOk result (λ found. lent_texts found.items ≡ fields_begun kind (lent_forms behind.now)) }
+{
+    match kind {
+        ItemKind::Class => fields_behind(alloc, behind),
+        ItemKind::Procedure | ItemKind::Operation => Ok(Vec::new(alloc)),
+    }
+}
+
+/// Adds what a line declares in the script's own space, where these lines follow.
 fn add_items<'a>(
     alloc: Global,
     items: &mut Vec<Item<'a>>,
     form: &Form<&'a [u8]>,
+    behind: &[Form<&'a [u8]>],
 ) -> Result<(), AllocError>
-    ensures { OnOk result (lent_items items.new.items ≡ lent_items items.old.items ++ items_by (lent_form form.now)) }
+    ensures { OnOk result (lent_items items.new.items ≡ lent_items items.old.items ++ items_by (lent_form form.now) (lent_forms behind.now)) }
 {
     match item_begun(form) {
         Some(kind) => match first_name(form) {
             Some(name) => {
                 let parameters = Items::from_vec(parameters_in(alloc, form)?);
+                let fields = Items::from_vec(fields_begun(alloc, kind, behind)?);
                 items.push(Item {
                     name,
                     kind,
                     parameters,
+                    fields,
                 })?;
                 Ok(())
             }
@@ -99,8 +143,8 @@ pub(crate) fn items_of<'a>(
     ensures { IfOk result (λ items. lent_items items.items ≡ items_of (lent_forms forms.now)) }
 {
     let mut items = Vec::new(alloc);
-    for form in forms {
-        add_items(alloc, &mut items, form)?;
+    for (index, form) in forms.iter().enumerate() {
+        add_items(alloc, &mut items, form, &forms[index + 1..])?;
     }
     Ok(items)
 }
@@ -109,6 +153,7 @@ fn is_same_kind(kind: ItemKind, other: ItemKind) -> bool
     ensures { result ≡ is_same_kind kind other }
 {
     match kind {
+        ItemKind::Class => matches!(other, ItemKind::Class),
         ItemKind::Procedure => matches!(other, ItemKind::Procedure),
         ItemKind::Operation => matches!(other, ItemKind::Operation),
     }
@@ -127,15 +172,19 @@ pub(crate) fn count_among(kind: ItemKind, items: &[Item]) -> usize
     count
 }
 
-/// The parameters of the procedure with an index among the procedures.
-pub(crate) fn signature_at<'i>(items: &'i [Item], index: usize) -> Option<&'i [Parameter]>
-    ensures { option_map (λ s. s.now) result ≡ slice_get (signatures_among kind.Procedure (lent_items items.now)) index }
+/// The one of a kind with an index among those of its kind.
+pub(crate) fn item_of_kind<'i, 'a>(
+    kind: ItemKind,
+    items: &'i [Item<'a>],
+    index: usize,
+) -> Option<&'i Item<'a>>
+    ensures { option_map (λ i. lent_item i.now) result ≡ item_of_kind kind (lent_items items.now) index }
 {
     let mut before = 0;
-    for item in items {
-        if is_same_kind(item.kind, ItemKind::Procedure) {
+    for candidate in items {
+        if is_same_kind(candidate.kind, kind) {
             if before == index {
-                return Some(item.parameters.as_slice());
+                return Some(candidate);
             }
             before += 1;
         }

@@ -1,36 +1,70 @@
 //! Which operands are of the sorts that their lines take.
 
-ghost use Rattle.std.specs.Prelude.{◌≡◌, length, not};
+ghost use Rattle.std.specs.Prelude.{◌≡◌, length, map, not};
 ghost use Rattle.std.specs.List.{flat_map, list_any};
-ghost use Rattle.wb_model.specs.Keys.{letters_for};
-ghost use Rattle.wb_model.specs.Kinds.{sort_of, is_right, are_right, is_pointer_sort, sides_agree, is_given, are_given, call_agrees, arguments_agree, is_right_line, is_nothing, gives_main_parameters, is_trap, ends_body, returns_in_trap, is_procedure_kind, returns_pointer, returns_outside, has_wrong_kind};
-ghost use Rattle.wb_model.specs.Names.{kind_passed};
+ghost use Rattle.wb_model.specs.Forms.{renamed_taken};
+ghost use Rattle.wb_model.specs.Keys.{is_pointer_sort, letters_for};
+ghost use Rattle.wb_model.specs.Kinds.{are_given, are_right, arguments_agree, call_agrees, ends_body, has_wrong_kind, is_class_key, is_given, is_nothing, is_of_procedure, is_right, is_right_line, is_trap, misuses_main, returns_in_trap, returns_outside, returns_pointer, sides_agree, sort_named, sort_of, sort_of_class, sort_of_field, sort_taken};
+ghost use Rattle.wb_model.specs.Names.{taken_by};
 ghost use Rattle.wb_model.specs.Resolved.{resolved_line};
 ghost use Rattle.wb_script.specs.Checks.{known_in};
-ghost use Rattle.wb_script.specs.Lent.{lent_form, lent_items, lent_operands};
+ghost use Rattle.wb_script.specs.Lent.{lent_form, lent_items, lent_operands, lent_text};
 
-use crate::checks::items::{Item, signature_at};
+use crate::checks::items::{Item, item_of_kind};
 use crate::checks::known::Known;
-use crate::lines::keys::{Letters, takes};
-use wb_model::script::Parameter;
-use wb_model::script_lines::{Form, ItemKind, Key, Letter, Meant, Operand, Sort};
+use crate::lines::keys::{Letters, is_pointer_sort, takes};
+use wb_model::script_lines::{BodyKind, Form, ItemKind, Key, Letter, Meant, Operand, Sort, Taken};
+
+/// What an operand is that is a name.
+fn sort_named(meant: Meant) -> Sort
+    ensures { result ≡ sort_named meant }
+{
+    match meant {
+        Meant::Declared(_) => Sort::Declared,
+        Meant::Pointer(_) => Sort::Pointer,
+        Meant::Number(_) => Sort::Variable,
+        Meant::Buffer(_) => Sort::Buffer,
+        Meant::View(_) => Sort::View,
+        Meant::This => Sort::This,
+        Meant::Class(_) => Sort::Class,
+        Meant::Procedure(_) => Sort::Procedure,
+        Meant::Operation(_) => Sort::Operation,
+        Meant::Literal(_) | Meant::Field(..) | Meant::Classless => Sort::Nothing,
+        Meant::Parameter | Meant::Nothing => Sort::Nothing,
+    }
+}
+
+/// What an operand is whose field stands for this.
+fn sort_of_field(field: Meant) -> Sort
+    ensures { result ≡ sort_of_field field }
+{
+    match field {
+        Meant::Field(..) => Sort::Field,
+        _ => Sort::Nothing,
+    }
+}
+
+/// What a parameter is that takes this: its class is one.
+fn sort_taken(taken: Taken<Meant>) -> Sort
+    ensures { result ≡ sort_taken taken }
+{
+    match taken {
+        Taken::Pointer | Taken::Number => Sort::Parameter,
+        Taken::OfClass(Meant::Class(_)) => Sort::Parameter,
+        Taken::OfClass(_) => Sort::Nothing,
+    }
+}
 
 fn sort_of(operand: &Operand<Meant>) -> Sort
     ensures { result ≡ sort_of operand.now }
 {
     match operand {
-        Operand::Name(Meant::Declared(_)) => Sort::Declared,
-        Operand::Name(Meant::Pointer(_)) => Sort::Pointer,
-        Operand::Name(Meant::Number(_)) => Sort::Variable,
-        Operand::Name(Meant::Buffer(_)) => Sort::Buffer,
-        Operand::Name(Meant::View(_)) => Sort::View,
-        Operand::Name(Meant::Procedure(_)) => Sort::Procedure,
-        Operand::Name(Meant::Operation(_)) => Sort::Operation,
-        Operand::Name(Meant::Literal(_) | Meant::Parameter | Meant::Nothing) => Sort::Nothing,
+        Operand::Name(meant) => sort_named(*meant),
+        Operand::Field(_, field) => sort_of_field(*field),
         Operand::Number(_) => Sort::Number,
         Operand::Size(_) => Sort::Size,
         Operand::Literal(_) => Sort::Literal,
-        Operand::Parameter(..) => Sort::Parameter,
+        Operand::Parameter(_, taken) => sort_taken(*taken),
         Operand::Keyword => Sort::Keyword,
     }
 }
@@ -60,7 +94,7 @@ fn are_right(key: Key, operands: &[Operand<Meant>]) -> bool
 fn is_pointer(operand: &Operand<Meant>) -> bool
     ensures { result ≡ is_pointer_sort (sort_of operand.now) }
 {
-    matches!(sort_of(operand), Sort::Pointer)
+    is_pointer_sort(sort_of(operand))
 }
 
 /// Whether the two sides of a `set` are of one kind.
@@ -76,19 +110,19 @@ fn sides_agree(key: Key, operands: &[Operand<Meant>]) -> bool
     }
 }
 
-/// Whether an argument is of the kind that a parameter wants.
-fn is_given(parameter: Parameter, operand: &Operand<Meant>) -> bool
-    ensures { result ≡ is_given parameter operand.now }
+/// Whether an argument is of the kind that a parameter wants: a pointer may be of any class.
+fn is_given(parameter: Taken<&[u8]>, operand: &Operand<Meant>) -> bool
+    ensures { result ≡ is_given (renamed_taken lent_text parameter.entry) operand.now }
 {
     match parameter {
-        Parameter::OfPointer(_) => is_right(Letter::Pointer, operand),
-        Parameter::OfNumber => is_right(Letter::Value, operand),
+        Taken::Pointer | Taken::OfClass(_) => is_right(Letter::Pointer, operand),
+        Taken::Number => is_right(Letter::Value, operand),
     }
 }
 
 /// Whether there is one for each parameter.
-fn are_given(parameters: &[Parameter], operands: &[Operand<Meant>]) -> bool
-    ensures { result ≡ are_given parameters.now operands.now }
+fn are_given(parameters: &[Taken<&[u8]>], operands: &[Operand<Meant>]) -> bool
+    ensures { result ≡ are_given (map (renamed_taken lent_text) parameters.now) operands.now }
 {
     if parameters.len() != operands.len() {
         return false;
@@ -107,8 +141,8 @@ fn call_agrees(items: &[Item], operands: &[Operand<Meant>]) -> bool
 {
     match operands {
         [Operand::Name(Meant::Procedure(index)), arguments @ ..] => {
-            match signature_at(items, *index) {
-                Some(parameters) => are_given(parameters, arguments),
+            match item_of_kind(ItemKind::Procedure, items, *index) {
+                Some(procedure) => are_given(procedure.parameters.as_slice(), arguments),
                 None => false,
             }
         }
@@ -144,14 +178,20 @@ pub(crate) fn is_right_line(items: &[Item], line: &Form<Meant>) -> bool
     }
 }
 
-/// Whether a line gives `main` parameters, or makes an operation of it.
-fn gives_main_parameters(form: &Form<&[u8]>) -> bool
-    ensures { result ≡ gives_main_parameters (lent_form form.now) }
+fn is_class_key(key: Key) -> bool
+    ensures { result ≡ is_class_key key }
+{
+    matches!(key, Key::Class)
+}
+
+/// Whether a line gives `main` parameters, or makes an operation or a class of it.
+fn misuses_main(form: &Form<&[u8]>) -> bool
+    ensures { result ≡ misuses_main (lent_form form.now) }
 {
     match form {
-        Form::Line(_, operands) => match operands.as_slice() {
+        Form::Line(key, operands) => match operands.as_slice() {
             [Operand::Name(name), rest @ ..] => {
-                *name == b"main".as_slice() && has_parameter(rest)
+                *name == b"main".as_slice() && (has_parameter(rest) || is_class_key(*key))
             }
             _ => false,
         },
@@ -161,7 +201,7 @@ fn gives_main_parameters(form: &Form<&[u8]>) -> bool
 
 /// Whether a parameter stands among operands.
 fn has_parameter(operands: &[Operand<&[u8]>]) -> bool
-    ensures { not result ≡ is_nothing (flat_map kind_passed (lent_operands operands.now)) }
+    ensures { not result ≡ is_nothing (flat_map taken_by (lent_operands operands.now)) }
 {
     for operand in operands {
         if matches!(operand, Operand::Parameter(..)) {
@@ -206,10 +246,10 @@ fn returns_pointer(key: Key) -> bool
     matches!(key, Key::ReturnPointer)
 }
 
-fn is_procedure_kind(kind: ItemKind) -> bool
-    ensures { result ≡ is_procedure_kind kind }
+fn is_of_procedure(body: BodyKind) -> bool
+    ensures { result ≡ is_of_procedure body }
 {
-    matches!(kind, ItemKind::Procedure)
+    matches!(body, BodyKind::Procedure)
 }
 
 /// Whether a line is a `return` with a pointer outside of a procedure.
@@ -217,7 +257,7 @@ fn returns_outside(known: &Known, form: &Form<&[u8]>) -> bool
     ensures { result ≡ returns_outside (known_in known.now) (lent_form form.now) }
 {
     match form {
-        Form::Line(key, _) => returns_pointer(*key) && !is_procedure_kind(known.body),
+        Form::Line(key, _) => returns_pointer(*key) && !is_of_procedure(known.body),
         _ => false,
     }
 }
@@ -233,7 +273,7 @@ pub(crate) fn has_wrong_kind(
     ensures { result ≡ has_wrong_kind (lent_items items.now) (known_in known.now) (lent_form form.now) }
 {
     !is_right_line(items, line)
-        || gives_main_parameters(form)
+        || misuses_main(form)
         || returns_in_trap(known, form)
         || returns_outside(known, form)
 }

@@ -3,16 +3,16 @@
 ghost use Rattle.std.specs.Prelude.{◌≡◌, ◌+◌, ◌≤◌, [], ◌++◌, map, OnOk};
 ghost use Rattle.std.specs.Option.{option_map, option_to_list};
 ghost use Rattle.std.specs.List.{flat_map};
-ghost use Rattle.wb_model.specs.Names.{body_after, count_among, first_name, item_begun, items_before, items_by, key_in, kind_of_parameter, kind_passed, name_passed, parameter_names, parameters_in, literal_text, literals_in, with_one, kind_declared, kind_in, known_after, nothing_known};
+ghost use Rattle.wb_model.specs.Names.{bodies_before, body_after, body_begun, body_in, count_begun, fields_after, first_name, items_before, key_in, kind_declared, kind_in, kind_of_parameter, known_after, literal_text, literals_in, name_passed, nothing_known, parameter_names, parameters_in, second_name, taken_by, with_one};
+ghost use Rattle.wb_model.specs.Forms.{renamed_taken, role_of_form};
 ghost use Rattle.wb_model.specs.declared.script_lines.ItemKind.TheVariants as item;
-ghost use Rattle.wb_script.specs.Lent.{lent_text, lent_texts, lent_operands, lent_form, lent_forms};
+ghost use Rattle.wb_script.specs.Lent.{lent_text, lent_texts, lent_kind, lent_operands, lent_form};
 ghost use Rattle.wb_script.specs.Checks.{known_in, AreSameItems, IsFew};
 
 use crate::checks::items::item_begun;
 use crate::lines::forms::role;
 use std::alloc::{AllocError, Global};
-use wb_model::script::Parameter;
-use wb_model::script_lines::{Form, ItemKind, Key, Kind, Operand, Role};
+use wb_model::script_lines::{BodyKind, Form, ItemKind, Key, Kind, Operand, Role, Taken};
 
 /// The name that the first word of a line spells.
 pub(crate) fn first_name<'a>(form: &Form<&'a [u8]>) -> Option<&'a [u8]>
@@ -27,12 +27,23 @@ pub(crate) fn first_name<'a>(form: &Form<&'a [u8]>) -> Option<&'a [u8]>
     }
 }
 
+/// The name that the second word of a line spells.
+fn second_name<'a>(operands: &[Operand<&'a [u8]>]) -> Option<&'a [u8]>
+    ensures { option_map lent_text result ≡ second_name (lent_operands operands.now) }
+{
+    match operands {
+        [_, Operand::Name(name), ..] => Some(*name),
+        _ => None,
+    }
+}
+
 /// What the local holds that a line of a key declares.
-fn kind_of(key: Key) -> Option<Kind>
-    ensures { result ≡ kind_declared key }
+fn kind_declared<'a>(key: Key, operands: &[Operand<&'a [u8]>]) -> Option<Kind<&'a [u8]>>
+    ensures { option_map lent_kind result ≡ kind_declared key (lent_operands operands.now) }
 {
     match key {
-        Key::Ptr => Some(Kind::Pointer),
+        Key::Ptr => Some(Kind::Pointer(None)),
+        Key::ClassPtr => Some(Kind::Pointer(second_name(operands))),
         Key::Int => Some(Kind::Number),
         Key::Buf => Some(Kind::Buffer),
         Key::View => Some(Kind::View),
@@ -40,11 +51,34 @@ fn kind_of(key: Key) -> Option<Kind>
     }
 }
 
-fn kind_in(form: &Form<&[u8]>) -> Option<Kind>
-    ensures { result ≡ kind_in (lent_form form.now) }
+fn kind_in<'a>(form: &Form<&'a [u8]>) -> Option<Kind<&'a [u8]>>
+    ensures { option_map lent_kind result ≡ kind_in (lent_form form.now) }
 {
     match form {
-        Form::Line(key, _) => kind_of(*key),
+        Form::Line(key, operands) => kind_declared(*key, operands.as_slice()),
+        _ => None,
+    }
+}
+
+/// What the body is of that a line of a key begins.
+fn body_begun(key: Key) -> Option<BodyKind>
+    ensures { result ≡ body_begun key }
+{
+    match key {
+        Key::Proc => Some(BodyKind::Procedure),
+        Key::Op => Some(BodyKind::Operation),
+        Key::Constructor => Some(BodyKind::Constructor),
+        Key::Destructor => Some(BodyKind::Destructor),
+        _ => None,
+    }
+}
+
+/// What the body is of that a line begins.
+fn body_in(form: &Form<&[u8]>) -> Option<BodyKind>
+    ensures { result ≡ body_in (lent_form form.now) }
+{
+    match form {
+        Form::Line(key, _) => body_begun(*key),
         _ => None,
     }
 }
@@ -66,26 +100,30 @@ fn add_literals<'a>(
 }
 
 /// What a parameter holds.
-fn kind_of_parameter(parameter: Parameter) -> Kind
-    ensures { result ≡ kind_of_parameter parameter }
+fn kind_of_parameter<'a>(taken: Taken<&'a [u8]>) -> Kind<&'a [u8]>
+    ensures { lent_kind result ≡ kind_of_parameter (renamed_taken lent_text taken.entry) }
 {
-    match parameter {
-        Parameter::OfPointer(_) => Kind::Pointer,
-        Parameter::OfNumber => Kind::Number,
+    match taken {
+        Taken::Pointer => Kind::Pointer(None),
+        Taken::Number => Kind::Number,
+        Taken::OfClass(class) => Kind::Pointer(Some(class)),
     }
 }
 
-/// What stands before a line: how many procedures and operations of the script's own space, the literals, the locals of the
-/// body that is open or was the last, its parameters first, each with what it holds, and the keys of the blocks that are open.
+/// What stands before a line: how many classes, procedures and operations of the script's own space, the fields of the class
+/// begun last, the literals, the locals of the body that is open or was the last, its parameters first, each with what it holds,
+/// and the keys of the blocks that are open.
 #[derive(Drop)]
 pub(crate) struct Known<'a> {
+    pub classes: usize,
     pub procedures: usize,
     pub operations: usize,
+    pub fields: Vec<&'a [u8]>,
     pub literals: Vec<&'a [u8]>,
-    /// Of what kind the body is that is open or was the last.
-    pub body: ItemKind,
+    /// What the body is of that is open or was the last.
+    pub body: BodyKind,
     pub locals: Vec<&'a [u8]>,
-    pub kinds: Vec<Kind>,
+    pub kinds: Vec<Kind<&'a [u8]>>,
     pub blocks: Vec<Key>,
 }
 
@@ -95,10 +133,12 @@ impl<'a> Known<'a> {
         ensures literals { lent_texts result.literals.items ≡ [] }
     {
         Known {
+            classes: 0,
             procedures: 0,
             operations: 0,
+            fields: Vec::new(alloc),
             literals: Vec::new(alloc),
-            body: ItemKind::Procedure,
+            body: BodyKind::Procedure,
             locals: Vec::new(alloc),
             kinds: Vec::new(alloc),
             blocks: Vec::new(alloc),
@@ -108,15 +148,15 @@ impl<'a> Known<'a> {
     /// Takes in the parameters among operands.
     fn add_parameters(&mut self, operands: &[Operand<&'a [u8]>]) -> Result<(), AllocError>
         ensures names { OnOk result (lent_texts self.new.locals.items ≡ lent_texts self.old.locals.items ++ flat_map name_passed (lent_operands operands.now)) }
-        ensures kinds { OnOk result (self.new.kinds.items ≡ self.old.kinds.items ++ map kind_of_parameter (flat_map kind_passed (lent_operands operands.now))) }
+        ensures kinds { OnOk result (map lent_kind self.new.kinds.items ≡ map lent_kind self.old.kinds.items ++ map kind_of_parameter (flat_map taken_by (lent_operands operands.now))) }
         ensures items { AreSameItems self.old self.new }
-        ensures others { (self.new.literals ≡ self.old.literals) × (self.new.blocks ≡ self.old.blocks) }
+        ensures others { (self.new.fields ≡ self.old.fields) × (self.new.literals ≡ self.old.literals) × (self.new.blocks ≡ self.old.blocks) }
     {
         for operand in operands {
             match operand {
-                Operand::Parameter(name, parameter) => {
+                Operand::Parameter(name, taken) => {
                     self.locals.push(*name)?;
-                    self.kinds.push(kind_of_parameter(*parameter))?;
+                    self.kinds.push(kind_of_parameter(*taken))?;
                 }
                 _ => {}
             }
@@ -125,39 +165,98 @@ impl<'a> Known<'a> {
     }
 
     /// How many procedures and operations stand before a line.
-    pub(crate) fn items_before(&self) -> usize
+    pub(crate) fn bodies_before(&self) -> usize
         requires { IsFew self.now }
-        ensures { result ≡ items_before (known_in self.now) }
+        ensures { result ≡ bodies_before (known_in self.now) }
     {
         self.procedures + self.operations
     }
 
-    /// Counts the procedure or the operation that a line begins.
+    /// How many items of the script's own space stand before a line.
+    pub(crate) fn items_before(&self) -> usize
+        requires { IsFew self.now }
+        ensures { result ≡ items_before (known_in self.now) }
+    {
+        self.classes + self.bodies_before()
+    }
+
+    /// Counts the class, the procedure or the operation that a line begins, and takes in what the body is of.
     fn add_item(&mut self, form: &Form<&'a [u8]>)
         requires { IsFew self.now }
         ensures known { known_in self.new ≡ record (known_in self.old) {
-          procedures = (known_in self.old).procedures + count_among item.Procedure (items_by (lent_form form.now));
-          operations = (known_in self.old).operations + count_among item.Operation (items_by (lent_form form.now));
-          body = body_after (item_begun (lent_form form.now)) (known_in self.old).body;
+          classes = (known_in self.old).classes + count_begun item.Class (lent_form form.now);
+          procedures = (known_in self.old).procedures + count_begun item.Procedure (lent_form form.now);
+          operations = (known_in self.old).operations + count_begun item.Operation (lent_form form.now);
         } }
         ensures literals { self.new.literals ≡ self.old.literals }
         ensures items { items_before (known_in self.new) ≤ items_before (known_in self.old) + 1 }
     {
         let named = first_name(form).is_some();
         match item_begun(form) {
-            Some(ItemKind::Procedure) => {
-                self.body = ItemKind::Procedure;
-                self.procedures += named as usize;
-            }
-            Some(ItemKind::Operation) => {
-                self.body = ItemKind::Operation;
-                self.operations += named as usize;
-            }
+            Some(ItemKind::Class) => self.classes += named as usize,
+            Some(ItemKind::Procedure) => self.procedures += named as usize,
+            Some(ItemKind::Operation) => self.operations += named as usize,
             None => {}
         }
     }
 
-    /// Begins a body: its parameters are its first locals, and no block is open.
+    /// Takes in what the body is of that a line begins.
+    fn add_body(&mut self, form: &Form<&'a [u8]>)
+        ensures known { known_in self.new ≡ record (known_in self.old) {
+          body = body_after (body_in (lent_form form.now)) (known_in self.old).body;
+        } }
+        ensures literals { self.new.literals ≡ self.old.literals }
+    {
+        match body_in(form) {
+            Some(body) => self.body = body,
+            None => {}
+        }
+    }
+
+    /// No block is open where something begins.
+    fn close_blocks(&mut self)
+        ensures known { known_in self.new ≡ record (known_in self.old) { blocks = [] } }
+        ensures items { AreSameItems self.old self.new }
+        ensures others { (self.new.fields ≡ self.old.fields) × (self.new.literals ≡ self.old.literals) × (self.new.locals ≡ self.old.locals) × (self.new.kinds ≡ self.old.kinds) }
+    {
+        self.blocks.clear();
+    }
+
+    /// Begins a class: it has no fields, and no block is open.
+    fn begin_class(&mut self)
+        ensures known { known_in self.new ≡ record (known_in self.old) { fields = []; blocks = [] } }
+        ensures literals { self.new.literals ≡ self.old.literals }
+    {
+        self.fields.clear();
+        self.close_blocks();
+    }
+
+    /// Takes in the field that a line declares.
+    fn add_field(&mut self, form: &Form<&'a [u8]>) -> Result<(), AllocError>
+        ensures known { OnOk result (known_in self.new ≡ record (known_in self.old) {
+          fields = (known_in self.old).fields ++ first_name (lent_form form.now);
+        }) }
+        ensures literals { self.new.literals ≡ self.old.literals }
+    {
+        match first_name(form) {
+            Some(name) => self.fields.push(name)?,
+            None => {}
+        }
+        Ok(())
+    }
+
+    /// Begins a body without locals, where no block is open.
+    fn begin_body(&mut self)
+        ensures known { known_in self.new ≡ record (known_in self.old) { locals = []; kinds = []; blocks = [] } }
+        ensures items { AreSameItems self.old self.new }
+        ensures others { (self.new.fields ≡ self.old.fields) × (self.new.literals ≡ self.old.literals) }
+    {
+        self.locals.clear();
+        self.kinds.clear();
+        self.close_blocks();
+    }
+
+    /// Begins a body whose first locals are the parameters that a line declares.
     fn begin(&mut self, form: &Form<&'a [u8]>) -> Result<(), AllocError>
         ensures known { OnOk result (known_in self.new ≡ record (known_in self.old) {
           locals = parameter_names (lent_form form.now);
@@ -167,9 +266,7 @@ impl<'a> Known<'a> {
         ensures items { AreSameItems self.old self.new }
         ensures literals { self.new.literals ≡ self.old.literals }
     {
-        self.locals.clear();
-        self.kinds.clear();
-        self.blocks.clear();
+        self.begin_body();
         match form {
             Form::Line(_, operands) => self.add_parameters(operands.as_slice()),
             _ => Ok(()),
@@ -179,9 +276,9 @@ impl<'a> Known<'a> {
     /// Takes in the locals of one more line.
     fn add_local(&mut self, form: &Form<&'a [u8]>) -> Result<(), AllocError>
         ensures names { OnOk result (lent_texts self.new.locals.items ≡ lent_texts self.old.locals.items ++ first_name (lent_form form.now)) }
-        ensures kinds { OnOk result (self.new.kinds.items ≡ with_one self.old.kinds.items (kind_in (lent_form form.now))) }
+        ensures kinds { OnOk result (map lent_kind self.new.kinds.items ≡ map lent_kind self.old.kinds.items ++ with_one [] (kind_in (lent_form form.now))) }
         ensures items { AreSameItems self.old self.new }
-        ensures others { (self.new.literals ≡ self.old.literals) × (self.new.blocks ≡ self.old.blocks) }
+        ensures others { (self.new.fields ≡ self.old.fields) × (self.new.literals ≡ self.old.literals) × (self.new.blocks ≡ self.old.blocks) }
     {
         match first_name(form) {
             Some(name) => self.locals.push(name)?,
@@ -198,7 +295,7 @@ impl<'a> Known<'a> {
     fn add_block(&mut self, form: &Form<&'a [u8]>) -> Result<(), AllocError>
         ensures blocks { OnOk result (self.new.blocks.items ≡ self.old.blocks.items ++ key_in form.now) }
         ensures items { AreSameItems self.old self.new }
-        ensures others { (self.new.literals ≡ self.old.literals) × (self.new.locals ≡ self.old.locals) × (self.new.kinds ≡ self.old.kinds) }
+        ensures others { (self.new.fields ≡ self.old.fields) × (self.new.literals ≡ self.old.literals) × (self.new.locals ≡ self.old.locals) × (self.new.kinds ≡ self.old.kinds) }
     {
         match form {
             Form::Line(key, _) => self.blocks.push(*key)?,
@@ -211,7 +308,7 @@ impl<'a> Known<'a> {
     fn add_literals(&mut self, form: &Form<&'a [u8]>) -> Result<(), AllocError>
         ensures literals { OnOk result (lent_texts self.new.literals.items ≡ lent_texts self.old.literals.items ++ literals_in (lent_form form.now)) }
         ensures items { AreSameItems self.old self.new }
-        ensures others { (self.new.locals ≡ self.old.locals) × (self.new.kinds ≡ self.old.kinds) × (self.new.blocks ≡ self.old.blocks) }
+        ensures others { (self.new.fields ≡ self.old.fields) × (self.new.locals ≡ self.old.locals) × (self.new.kinds ≡ self.old.kinds) × (self.new.blocks ≡ self.old.blocks) }
     {
         match form {
             Form::Line(_, operands) => add_literals(&mut self.literals, operands.as_slice()),
@@ -227,8 +324,18 @@ impl<'a> Known<'a> {
         ensures items { OnOk result (items_before (known_in self.new) ≤ items_before (known_in self.old) + 1) }
     {
         self.add_item(form);
+        self.add_body(form);
         self.add_literals(form)?;
         match role(form) {
+            Role::Class => {
+                self.begin_class();
+                Ok(())
+            }
+            Role::Field => self.add_field(form),
+            Role::Construct | Role::Destroy => {
+                self.begin_body();
+                Ok(())
+            }
             Role::Procedure => self.begin(form),
             Role::Declaration => self.add_local(form),
             Role::Loop | Role::If => self.add_block(form),

@@ -2,23 +2,42 @@
 
 ghost use Rattle.std.specs.Prelude.{◌≡◌, length};
 ghost use Rattle.std.specs.List.{flat_map, list_any};
-ghost use Rattle.wb_model.specs.Names.{has_more_parameters, kind_passed, has_long_name, is_large, is_long, is_one_more, passes_limit};
+ghost use Rattle.wb_model.specs.Names.{has_long_class, has_long_name, has_more_parameters, is_large, is_long, is_long_name, is_one_more, passes_limit, taken_by};
 ghost use Rattle.wb_script.specs.Checks.{known_in, IsFew};
-ghost use Rattle.wb_script.specs.Lent.{lent_operand, lent_operands, lent_form};
+ghost use Rattle.wb_model.specs.Forms.{renamed_taken};
+ghost use Rattle.wb_script.specs.Lent.{lent_operand, lent_operands, lent_form, lent_text};
 
 use crate::checks::known::Known;
 use crate::lines::forms::role;
 use wb_model::limits::{
-    DEEPEST_BLOCK, LARGEST_BUFFER, LONGEST_NAME, MOST_LOCALS, MOST_PARAMETERS, MOST_PROCEDURES,
+    DEEPEST_BLOCK, LARGEST_BUFFER, LONGEST_NAME, MOST_CLASSES, MOST_EXTRA, MOST_FIELDS,
+    MOST_LOCALS, MOST_PARAMETERS, MOST_PROCEDURES,
 };
-use wb_model::script_lines::{Form, Key, Operand, Role};
+use wb_model::script_lines::{Form, Key, Operand, Role, Taken};
 
+fn is_long_name(name: &[u8]) -> bool
+    ensures { result ≡ is_long_name name.now }
+{
+    name.len() > LONGEST_NAME as usize
+}
+
+fn has_long_class(taken: Taken<&[u8]>) -> bool
+    ensures { result ≡ has_long_class (renamed_taken lent_text taken.entry) }
+{
+    match taken {
+        Taken::OfClass(class) => is_long_name(class),
+        Taken::Pointer | Taken::Number => false,
+    }
+}
+
+/// Whether a name of an operand is too long: each half of a field or of a parameter by itself.
 fn is_long(operand: &Operand<&[u8]>) -> bool
     ensures { result ≡ is_long (lent_operand operand.now) }
 {
     match operand {
-        Operand::Name(name) => name.len() > LONGEST_NAME as usize,
-        Operand::Parameter(name, _) => name.len() > LONGEST_NAME as usize,
+        Operand::Name(name) => is_long_name(name),
+        Operand::Field(base, field) => is_long_name(base) || is_long_name(field),
+        Operand::Parameter(name, taken) => is_long_name(name) || has_long_class(*taken),
         _ => false,
     }
 }
@@ -44,11 +63,15 @@ fn has_long_name(form: &Form<&[u8]>) -> bool
     }
 }
 
-/// Whether a line declares a text with a larger maximum than texts may have.
+/// Whether a line declares a text with a larger maximum than texts may have, or a class with more extra bytes.
 fn is_large(form: &Form<&[u8]>) -> bool
     ensures { result ≡ is_large (lent_form form.now) }
 {
     match form {
+        Form::Line(Key::Class, operands) => match operands.as_slice() {
+            [_, Operand::Size(extra)] => *extra > MOST_EXTRA,
+            _ => false,
+        },
         Form::Line(Key::Buf, operands) => match operands.as_slice() {
             [_, Operand::Size(max)] => *max > LARGEST_BUFFER,
             _ => false,
@@ -59,7 +82,7 @@ fn is_large(form: &Form<&[u8]>) -> bool
 
 /// How many parameters stand among operands.
 fn parameter_count(operands: &[Operand<&[u8]>]) -> usize
-    ensures { result ≡ length (flat_map kind_passed (lent_operands operands.now)) }
+    ensures { result ≡ length (flat_map taken_by (lent_operands operands.now)) }
 {
     let mut count = 0;
     for operand in operands {
@@ -88,7 +111,9 @@ fn is_one_more(role: Role, known: &Known) -> bool
     ensures { result ≡ is_one_more role (known_in known.now) }
 {
     match role {
-        Role::Procedure => known.items_before() >= MOST_PROCEDURES as usize,
+        Role::Class => known.classes >= MOST_CLASSES as usize,
+        Role::Field => known.fields.len() >= MOST_FIELDS as usize,
+        Role::Procedure => known.bodies_before() >= MOST_PROCEDURES as usize,
         Role::Declaration => known.locals.len() >= MOST_LOCALS as usize,
         Role::Loop | Role::If => known.blocks.len() >= DEEPEST_BLOCK as usize,
         _ => false,

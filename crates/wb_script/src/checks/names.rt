@@ -3,14 +3,14 @@
 ghost use Rattle.std.specs.Prelude.{◌≡◌};
 ghost use Rattle.std.specs.List.{flat_map, list_any};
 ghost use Rattle.wb_model.specs.Names.{first_declaration_of, is_among, is_item_before, has_double, name_passed, names_of, parameter_names, stands_declared, declares_again};
-ghost use Rattle.wb_model.specs.Resolved.{means_nothing, has_unknown};
+ghost use Rattle.wb_model.specs.Resolved.{has_unknown, is_nothing_meant, means_nothing, takes_nothing};
 ghost use Rattle.wb_script.specs.Checks.{known_in, IsFew};
 ghost use Rattle.wb_script.specs.Lent.{lent_texts, lent_operands, lent_form, lent_items};
 
 use crate::checks::items::{Item, place_of_item};
 use crate::checks::known::{Known, first_name};
 use crate::lines::forms::role;
-use wb_model::script_lines::{Form, Meant, Operand, Role};
+use wb_model::script_lines::{Form, Meant, Operand, Role, Taken};
 
 /// The index of the first declaration of a name.
 pub(crate) fn place_of(names: &[&[u8]], name: &[u8]) -> Option<usize>
@@ -40,7 +40,8 @@ fn stands_declared(items: &[Item], known: &Known, role: Role, name: &[u8]) -> bo
     ensures { result ≡ stands_declared (names_of (lent_items items.now)) (known_in known.now) role name.now }
 {
     match role {
-        Role::Procedure => is_item_before(items, known.items_before(), name),
+        Role::Class | Role::Procedure => is_item_before(items, known.items_before(), name),
+        Role::Field => place_of(&known.fields, name).is_some(),
         Role::Declaration => place_of(&known.locals, name).is_some(),
         _ => false,
     }
@@ -102,10 +103,30 @@ pub(crate) fn declares_again(items: &[Item], known: &Known, form: &Form<&[u8]>) 
     again || has_double_parameter(form)
 }
 
+fn is_nothing_meant(meant: Meant) -> bool
+    ensures { result ≡ is_nothing_meant meant }
+{
+    matches!(meant, Meant::Nothing)
+}
+
+fn takes_nothing(taken: Taken<Meant>) -> bool
+    ensures { result ≡ takes_nothing taken }
+{
+    match taken {
+        Taken::OfClass(class) => is_nothing_meant(class),
+        Taken::Pointer | Taken::Number => false,
+    }
+}
+
 fn means_nothing(operand: &Operand<Meant>) -> bool
     ensures { result ≡ means_nothing operand.now }
 {
-    matches!(operand, Operand::Name(Meant::Nothing))
+    match operand {
+        Operand::Name(name) => is_nothing_meant(*name),
+        Operand::Field(base, field) => is_nothing_meant(*base) || is_nothing_meant(*field),
+        Operand::Parameter(_, taken) => takes_nothing(*taken),
+        _ => false,
+    }
 }
 
 fn any_nothing(operands: &[Operand<Meant>]) -> bool

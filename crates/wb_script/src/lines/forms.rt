@@ -11,12 +11,12 @@ ghost use Rattle.wb_script.specs.Lent.{lent_texts, lent_operand, lent_operands, 
 use crate::lines::keys::{ALL, Letters, role_of, text_of, word_kinds};
 use crate::lines::pieces::words;
 use crate::lines::words::{
-    declared_name, is_keyword, literal_of, number_of, parameter_kind, parameter_name, used_name,
+    base_name, declared_name, field_name, is_keyword, literal_of, number_of, parameter_name,
+    parameter_taken, used_name,
 };
 use std::alloc::{AllocError, Global};
 use wb_model::items::Items;
-use wb_model::script::Parameter;
-use wb_model::script_lines::{Form, Key, Keyword, Letter, Operand, Role, WordKind};
+use wb_model::script_lines::{Form, Key, Keyword, Letter, Operand, Role, Taken, WordKind};
 
 /// A number that isn't negative.
 fn size_of(number: i32) -> Option<u32>
@@ -47,17 +47,15 @@ fn operand_as<'a>(kind: WordKind, word: &'a [u8]) -> Option<Operand<&'a [u8]>>
     match kind {
         WordKind::NewName => Some(Operand::Name(declared_name(word)?)),
         WordKind::Name => Some(Operand::Name(used_name(word)?)),
+        WordKind::Field => Some(Operand::Field(base_name(word)?, field_name(word)?)),
         WordKind::Number => Some(Operand::Number(number_of(word)?)),
         WordKind::Size => Some(Operand::Size(size_of(number_of(word)?)?)),
         WordKind::Literal => Some(Operand::Literal(literal_of(word)?)),
         WordKind::Parameter => Some(Operand::Parameter(
             parameter_name(word)?,
-            parameter_kind(word)?,
+            parameter_taken(word)?,
         )),
-        WordKind::NewPointer => Some(Operand::Parameter(
-            declared_name(word)?,
-            Parameter::OfPointer(None),
-        )),
+        WordKind::NewPointer => Some(Operand::Parameter(declared_name(word)?, Taken::Pointer)),
         WordKind::Keyword(keyword) => keyword_as(keyword, word),
     }
 }

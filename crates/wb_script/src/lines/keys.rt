@@ -1,15 +1,22 @@
 //! The tables of the language: a row for each key, and one for each letter. No line's meaning stands here.
 
 ghost use Rattle.std.specs.Prelude.{◌≡◌, ◌<◌, ℕ, length, nat_eq, slice_get};
-ghost use Rattle.wb_model.specs.Keys.{text_of, letters_of, rest_of, letters_with, letters_for, role_of, word_kinds, takes};
+ghost use Rattle.wb_model.specs.Keys.{text_of, letters_of, rest_of, letters_with, letters_for, role_of, word_kinds, is_pointer_sort, takes};
+ghost use Rattle.wb_model.specs.declared.script_lines.Letter.TheVariants as letter;
 
 use wb_model::script_lines::{Key, Keyword, Letter, Role, Sort, WordKind};
 
 /// Every key; a line is of the first that fits.
-pub(crate) const ALL: [Key; 61] = [
+pub(crate) const ALL: [Key; 73] = [
+    Key::Class,
+    Key::Field,
+    Key::ClassField,
+    Key::Constructor,
+    Key::Destructor,
     Key::Proc,
     Key::Op,
     Key::Ptr,
+    Key::ClassPtr,
     Key::Int,
     Key::Buf,
     Key::View,
@@ -21,10 +28,16 @@ pub(crate) const ALL: [Key; 61] = [
     Key::AllocLen,
     Key::Store,
     Key::Load,
+    Key::New,
+    Key::NewLeave,
+    Key::Construct,
+    Key::Delete,
     Key::Set,
+    Key::SetField,
     Key::Null,
     Key::Add,
     Key::Push,
+    Key::PushObj,
     Key::PushOp,
     Key::Pop,
     Key::PopDestroy,
@@ -75,9 +88,13 @@ pub(crate) fn text_of(key: Key) -> &'static [u8]
     ensures { result.now ≡ text_of key }
 {
     match key {
+        Key::Class => b"class",
+        Key::Field | Key::ClassField => b"field",
+        Key::Constructor | Key::Construct => b"construct",
+        Key::Destructor => b"destroy",
         Key::Proc => b"proc",
         Key::Op => b"op",
-        Key::Ptr => b"ptr",
+        Key::Ptr | Key::ClassPtr => b"ptr",
         Key::Int => b"int",
         Key::Buf => b"buf",
         Key::View => b"view",
@@ -89,10 +106,14 @@ pub(crate) fn text_of(key: Key) -> &'static [u8]
         Key::AllocLen => b"alloclen",
         Key::Store => b"store",
         Key::Load => b"load",
-        Key::Set => b"set",
+        Key::New => b"new",
+        Key::NewLeave => b"newleave",
+        Key::Delete => b"delete",
+        Key::Set | Key::SetField => b"set",
         Key::Null => b"null",
         Key::Add => b"add",
         Key::Push => b"push",
+        Key::PushObj => b"pushobj",
         Key::PushOp => b"pushop",
         Key::Pop => b"pop",
         Key::PopDestroy => b"popdestroy",
@@ -140,24 +161,31 @@ pub(crate) fn letters_of(key: Key) -> &'static [Letter]
     ensures { result.now ≡ letters_of key }
 {
     match key {
+        Key::Class => &[Letter::Declared, Letter::Size],
+        Key::Field => &[Letter::Declared],
+        Key::ClassField | Key::ClassPtr => &[Letter::Declared, Letter::Class],
+        Key::Constructor | Key::Destructor => &[],
         Key::Proc | Key::Ptr | Key::Int | Key::View => &[Letter::Declared],
         Key::Op => &[Letter::Declared, Letter::ItsPointer],
         Key::Buf => &[Letter::Declared, Letter::Size],
-        Key::Alloc | Key::AllocL => &[Letter::Pointer, Letter::Value],
-        Key::HNew | Key::HNewL => &[Letter::Pointer, Letter::Value],
-        Key::Realloc | Key::ReallocL => &[Letter::Pointer, Letter::Pointer, Letter::Value],
-        Key::HRealloc => &[Letter::Pointer, Letter::Pointer, Letter::Value],
-        Key::Free | Key::Null => &[Letter::Pointer],
+        Key::Alloc | Key::AllocL => &[Letter::Written, Letter::Value],
+        Key::HNew | Key::HNewL => &[Letter::Written, Letter::Value],
+        Key::Realloc | Key::ReallocL => &[Letter::Written, Letter::Pointer, Letter::Value],
+        Key::HRealloc => &[Letter::Written, Letter::Pointer, Letter::Value],
+        Key::New | Key::NewLeave => &[Letter::Written, Letter::Class],
+        Key::Null => &[Letter::Written],
+        Key::Free | Key::Construct | Key::Delete => &[Letter::Pointer],
         Key::LeaveIfNull | Key::ReturnPointer => &[Letter::Pointer],
         Key::Leave | Key::LeaveIfError | Key::Repeat => &[Letter::Value],
         Key::Call => &[Letter::Procedure],
-        Key::CallTo => &[Letter::Pointer, Letter::Procedure],
+        Key::CallTo => &[Letter::Receiver, Letter::Procedure],
         Key::AllocLen => &[Letter::Variable, Letter::Pointer],
         Key::Store => &[Letter::Pointer, Letter::Value, Letter::Value],
         Key::Load => &[Letter::Variable, Letter::Pointer, Letter::Value],
         Key::Set => &[Letter::Target, Letter::Source],
+        Key::SetField => &[Letter::FieldTarget, Letter::Pointer],
         Key::Add => &[Letter::Variable, Letter::Value],
-        Key::Push | Key::PopCheck => &[Letter::Pointer],
+        Key::Push | Key::PushObj | Key::PopCheck => &[Letter::Pointer],
         Key::PushOp => &[Letter::Pointer, Letter::Operation],
         Key::Pop | Key::PopDestroy => &[Letter::Value],
         Key::MarkEnd | Key::Check | Key::CheckAll => &[Letter::Value],
@@ -246,12 +274,19 @@ pub(crate) fn role_of(key: Key) -> Role
     ensures { result ≡ role_of key }
 {
     match key {
+        Key::Class => Role::Class,
+        Key::Field | Key::ClassField => Role::Field,
+        Key::Constructor => Role::Construct,
+        Key::Destructor => Role::Destroy,
         Key::Proc | Key::Op => Role::Procedure,
-        Key::Ptr | Key::Int | Key::Buf | Key::View => Role::Declaration,
+        Key::Ptr | Key::ClassPtr => Role::Declaration,
+        Key::Int | Key::Buf | Key::View => Role::Declaration,
         Key::Alloc | Key::Realloc | Key::Free | Key::AllocLen => Role::Plain,
-        Key::Store | Key::Load | Key::Set | Key::Null | Key::Add => Role::Plain,
+        Key::Store | Key::Load | Key::Null | Key::Add => Role::Plain,
+        Key::New | Key::NewLeave | Key::Construct | Key::Delete => Role::Plain,
+        Key::Set | Key::SetField => Role::Plain,
         Key::Push | Key::Pop | Key::PopDestroy | Key::PopCheck => Role::Plain,
-        Key::PushOp => Role::Plain,
+        Key::PushObj | Key::PushOp => Role::Plain,
         Key::Mark | Key::MarkEnd | Key::Check | Key::CheckAll => Role::Plain,
         Key::FailNext | Key::FailEvery | Key::FailNone => Role::Plain,
         Key::HNew | Key::HRealloc | Key::Copy | Key::Append => Role::Plain,
@@ -275,21 +310,51 @@ pub(crate) fn word_kinds(letter: Letter) -> &'static [WordKind]
 {
     match letter {
         Letter::Declared => &[WordKind::NewName],
-        Letter::Pointer | Letter::Variable | Letter::Target => &[WordKind::Name],
-        Letter::Writable | Letter::ViewName => &[WordKind::Name],
-        Letter::Value | Letter::Source => &[WordKind::Number, WordKind::Name],
+        Letter::Pointer | Letter::Written => &[WordKind::Name, WordKind::Field],
+        Letter::Receiver | Letter::Writable => &[WordKind::Name, WordKind::Field],
+        Letter::FieldTarget => &[WordKind::Field],
+        Letter::Variable | Letter::Target | Letter::ViewName => &[WordKind::Name],
+        Letter::Value => &[WordKind::Number, WordKind::Name],
+        Letter::Source | Letter::Argument => {
+            &[WordKind::Number, WordKind::Name, WordKind::Field]
+        }
         Letter::Size => &[WordKind::Size],
-        Letter::Readable => &[WordKind::Name, WordKind::Literal],
-        Letter::Printed => &[WordKind::Number, WordKind::Name, WordKind::Literal],
-        Letter::Procedure | Letter::Operation => &[WordKind::Name],
+        Letter::Readable => &[WordKind::Name, WordKind::Field, WordKind::Literal],
+        Letter::Printed => &[
+            WordKind::Number,
+            WordKind::Name,
+            WordKind::Field,
+            WordKind::Literal,
+        ],
+        Letter::Class | Letter::Procedure | Letter::Operation => &[WordKind::Name],
         Letter::Parameter => &[WordKind::Parameter],
         Letter::ItsPointer => &[WordKind::NewPointer],
-        Letter::Argument => &[WordKind::Number, WordKind::Name],
         Letter::Keyword(Keyword::Null) => &[WordKind::Keyword(Keyword::Null)],
         Letter::Keyword(Keyword::Some) => &[WordKind::Keyword(Keyword::Some)],
         Letter::Keyword(Keyword::Equal) => &[WordKind::Keyword(Keyword::Equal)],
         Letter::Keyword(Keyword::Less) => &[WordKind::Keyword(Keyword::Less)],
     }
+}
+
+/// Whether an operand of a sort is a pointer that can be read.
+pub(crate) fn is_pointer_sort(sort: Sort) -> bool
+    ensures { result ≡ is_pointer_sort sort }
+{
+    matches!(sort, Sort::Pointer | Sort::This | Sort::Field)
+}
+
+/// Whether an operand of a sort is a number that can be read.
+fn is_number_sort(sort: Sort) -> bool
+    ensures { result ≡ takes letter.Value sort }
+{
+    matches!(sort, Sort::Number | Sort::Variable)
+}
+
+/// Whether an operand of a sort is a text that can be read, or a pointer, which may be one to a text.
+fn is_text_sort(sort: Sort) -> bool
+    ensures { result ≡ takes letter.Readable sort }
+{
+    matches!(sort, Sort::Buffer | Sort::View | Sort::Literal) || is_pointer_sort(sort)
 }
 
 /// Whether an operand of this sort is right where a letter stands.
@@ -298,31 +363,23 @@ pub(crate) fn takes(letter: Letter, sort: Sort) -> bool
 {
     match letter {
         Letter::Declared => matches!(sort, Sort::Declared),
-        Letter::Pointer => matches!(sort, Sort::Pointer),
-        Letter::Value => matches!(sort, Sort::Number | Sort::Variable),
+        Letter::Pointer => is_pointer_sort(sort),
+        Letter::Written => matches!(sort, Sort::Pointer | Sort::Field),
+        Letter::Receiver => matches!(sort, Sort::Pointer),
+        Letter::FieldTarget => matches!(sort, Sort::Field),
+        Letter::Value => is_number_sort(sort),
         Letter::Variable => matches!(sort, Sort::Variable),
         Letter::Target => matches!(sort, Sort::Pointer | Sort::Variable),
-        Letter::Source => matches!(sort, Sort::Pointer | Sort::Number | Sort::Variable),
+        Letter::Source | Letter::Argument => is_number_sort(sort) || is_pointer_sort(sort),
         Letter::Size => matches!(sort, Sort::Size),
-        Letter::Writable => matches!(sort, Sort::Pointer | Sort::Buffer),
-        Letter::Readable => matches!(
-            sort,
-            Sort::Pointer | Sort::Buffer | Sort::View | Sort::Literal
-        ),
+        Letter::Writable => matches!(sort, Sort::Buffer) || is_pointer_sort(sort),
+        Letter::Readable => is_text_sort(sort),
         Letter::ViewName => matches!(sort, Sort::View),
-        Letter::Printed => matches!(
-            sort,
-            Sort::Number
-                | Sort::Variable
-                | Sort::Pointer
-                | Sort::Buffer
-                | Sort::View
-                | Sort::Literal
-        ),
+        Letter::Printed => is_number_sort(sort) || is_text_sort(sort),
+        Letter::Class => matches!(sort, Sort::Class),
         Letter::Procedure => matches!(sort, Sort::Procedure),
         Letter::Operation => matches!(sort, Sort::Operation),
         Letter::Parameter | Letter::ItsPointer => matches!(sort, Sort::Parameter),
-        Letter::Argument => matches!(sort, Sort::Number | Sort::Variable | Sort::Pointer),
         Letter::Keyword(_) => matches!(sort, Sort::Keyword),
     }
 }

@@ -1,14 +1,15 @@
-//! What a word behind a key is: a name, a number, a literal, a parameter, a word of the line's own.
+//! What a word behind a key is: a name, a field, a number, a literal, a parameter, a word of the line's own.
 
-ghost use Rattle.std.specs.Prelude.{◌≡◌, ◌<◌, ◌^◌, IfSome};
+ghost use Rattle.std.specs.Prelude.{◌≡◌, ◌<◌, ◌≤◌, ◌^◌, IfSome, length};
 ghost use Rattle.std.specs.List.{list_all, list_any};
-ghost use Rattle.std.specs.Option.{option_copied};
+ghost use Rattle.std.specs.Option.{option_copied, option_map};
 ghost use Rattle.std.specs.Str.{bytes_eq};
 ghost use Rattle.wb_model.specs.Sound.{is_quotable};
-ghost use Rattle.wb_model.specs.Words.{is_letter, is_digit, is_name_byte, is_name, is_reserved, declared_name, used_name, digits_of, number_spelled, literal_spelled, kind_spelled, parameter_name, parameter_kind, text_of_keyword};
+ghost use Rattle.wb_model.specs.Words.{is_letter, is_digit, is_name_byte, is_name, is_reserved, declared_name, used_name, length_before, before_first, behind_first, digits_of, number_spelled, literal_spelled, base_name, field_name, taken_spelled, parameter_name, parameter_taken, text_of_keyword};
+ghost use Rattle.wb_model.specs.Forms.{renamed_taken};
+ghost use Rattle.wb_script.specs.Lent.{lent_text};
 
-use wb_model::script::Parameter;
-use wb_model::script_lines::Keyword;
+use wb_model::script_lines::{Keyword, Taken};
 
 /// The names that nothing may be declared with.
 const RESERVED: [&[u8]; 7] = [b"self", b"ptr", b"int", b"null", b"some", b"eq", b"less"];
@@ -75,14 +76,42 @@ pub(crate) fn declared_name<'a>(word: &'a [u8]) -> Option<&'a [u8]>
     }
 }
 
-/// The name that a line uses by this word.
+/// The name that a line uses by this word; `self` is one.
 pub(crate) fn used_name<'a>(word: &'a [u8]) -> Option<&'a [u8]>
     ensures { option_copied result ≡ used_name word.now }
 {
-    if is_name(word) && word != b"self".as_slice() {
-        Some(word)
+    if is_name(word) { Some(word) } else { None }
+}
+
+/// How many bytes of a word stand before the first that is this one.
+fn length_before(byte: u8, word: &[u8]) -> usize
+    ensures length { result ≡ length_before byte word.now }
+    ensures within { result ≤ length word.now }
+{
+    for (index, other) in word.iter().enumerate() {
+        if *other == byte {
+            return index;
+        }
+    }
+    word.len()
+}
+
+/// What stands before the first of a byte.
+fn before_first<'a>(byte: u8, word: &'a [u8]) -> &'a [u8]
+    ensures { result.now ≡ before_first byte word.now }
+{
+    &word[..length_before(byte, word)]
+}
+
+/// What stands behind the first of a byte: nothing where there is none.
+fn behind_first<'a>(byte: u8, word: &'a [u8]) -> &'a [u8]
+    ensures { result.now ≡ behind_first byte word.now }
+{
+    let before = length_before(byte, word);
+    if before < word.len() {
+        &word[before + 1..]
     } else {
-        None
+        &word[before..]
     }
 }
 
@@ -130,31 +159,45 @@ pub(crate) fn literal_of<'a>(word: &'a [u8]) -> Option<&'a [u8]>
     }
 }
 
-/// The kind that a colon and three letters tell.
-fn kind_spelled(bytes: &[u8]) -> Option<Parameter>
-    ensures { result ≡ kind_spelled bytes.now }
+/// What stands before the dot of a field: the name of what holds a pointer.
+pub(crate) fn base_name<'a>(word: &'a [u8]) -> Option<&'a [u8]>
+    ensures { option_copied result ≡ base_name word.now }
 {
-    if bytes == b":ptr".as_slice() {
-        Some(Parameter::OfPointer(None))
-    } else if bytes == b":int".as_slice() {
-        Some(Parameter::OfNumber)
+    used_name(before_first(b'.', word))
+}
+
+/// What stands behind the dot: the name of the field.
+pub(crate) fn field_name<'a>(word: &'a [u8]) -> Option<&'a [u8]>
+    ensures { option_copied result ≡ field_name word.now }
+{
+    used_name(behind_first(b'.', word))
+}
+
+/// What a parameter takes by the word behind its colon. Any name but `ptr` and `int` is that of a class.
+fn taken_spelled<'a>(word: &'a [u8]) -> Option<Taken<&'a [u8]>>
+    ensures { option_map (renamed_taken lent_text) result ≡ taken_spelled word.now }
+{
+    if word == b"ptr".as_slice() {
+        Some(Taken::Pointer)
+    } else if word == b"int".as_slice() {
+        Some(Taken::Number)
     } else {
-        None
+        Some(Taken::OfClass(used_name(word)?))
     }
 }
 
-/// The name of the parameter that the word declares: what stands before its kind.
+/// The name of the parameter that the word declares, before its colon.
 pub(crate) fn parameter_name<'a>(word: &'a [u8]) -> Option<&'a [u8]>
     ensures { option_copied result ≡ parameter_name word.now }
 {
-    declared_name(&word[..word.len().saturating_sub(4)])
+    declared_name(before_first(b':', word))
 }
 
-/// The kind of the parameter that the word declares.
-pub(crate) fn parameter_kind(word: &[u8]) -> Option<Parameter>
-    ensures { result ≡ parameter_kind word.now }
+/// What the parameter takes that the word declares.
+pub(crate) fn parameter_taken<'a>(word: &'a [u8]) -> Option<Taken<&'a [u8]>>
+    ensures { option_map (renamed_taken lent_text) result ≡ parameter_taken word.now }
 {
-    kind_spelled(&word[word.len().saturating_sub(4)..])
+    taken_spelled(behind_first(b':', word))
 }
 
 /// Whether the word is this one of a line's own.

@@ -1,40 +1,32 @@
 //! A body that is open, line by line up to its end.
 
 ghost use Rattle.std.specs.Prelude.{◌≡◌, ◌≤◌, ◌++◌, ◌∷◌, [], length, IfOk, IsTrue};
-ghost use Rattle.wb_model.specs.declared.limits.TheConstants.{LONGEST_SCRIPT};
 ghost use Rattle.wb_model.specs.declared.script_lines.Role.TheVariants as role;
 ghost use Rattle.wb_model.specs.declared.script_lines.Form.TheVariants.{Line};
 ghost use Rattle.wb_model.specs.declared.script_lines.Key.TheVariants as key;
 ghost use Rattle.wb_model.specs.Keys.{role_of};
 ghost use Rattle.wb_script.specs.Building.{begins_block};
-ghost use Rattle.wb_script.specs.Growing.{AddsWhereFit, IsSoundOpen, TakesWhereFit};
-ghost use Rattle.wb_script.specs.Lent.{declared_by};
+ghost use Rattle.wb_script.specs.Growing.{AddsWhereFit, IsSoundOpen, TakesWhereFit, declared_in_space, scope_in_body};
+ghost use Rattle.wb_script.specs.Stated.{scope_in};
 
-use crate::checks::items::Item;
 use crate::tree::blocks::{Around, Nest, ended, entered, turned, with_statement};
 use crate::tree::heads::head_of;
 use crate::tree::locals::declared_local;
 use crate::tree::plain::plain_statement;
 use crate::tree::scope::Scope;
+use crate::tree::space::Space;
 use std::alloc::{AllocError, Global};
 use wb_model::items::Items;
 use wb_model::limits::{DEEPEST_BLOCK, MOST_LOCALS};
 use wb_model::script::{Body, Local, Parameter};
-use wb_model::script_lines::{ItemKind, Key, Meant, Operand};
+use wb_model::script_lines::{Key, Meant, Operand};
 
-/// What the first line of a body tells: of what kind it is, the number of that line, from 1, and the parameters.
-#[derive(Drop)]
-pub(crate) struct Opening {
-    pub kind: ItemKind,
-    pub line: u32,
-    pub parameters: Items<Parameter>,
-}
-
-/// A body whose end hasn't come: what its first line tells, the locals that it declares, all its locals, of which the
-/// parameters are the first, and its statements.
+/// A body whose end hasn't come: its parameters, the class of `self` in the body of a class, the locals that it declares, all
+/// its locals, of which the parameters are the first, and its statements.
 #[derive(Drop)]
 pub(crate) struct OpenBody {
-    pub opening: Opening,
+    pub parameters: Items<Parameter>,
+    pub this: Option<u16>,
     pub locals: Items<Local>,
     pub scope: Items<Local>,
     pub nest: Nest,
@@ -44,14 +36,28 @@ pub(crate) struct OpenBody {
 #[derive(Drop)]
 pub(crate) enum Left {
     Inside(OpenBody),
-    /// The whole body.
-    Done(Opening, Body),
+    /// The whole body, with its parameters.
+    Done(Items<Parameter>, Body),
+}
+
+/// The scope of the statements of an open body.
+fn scope_of<'a>(space: Space<'a>, body: &'a OpenBody) -> Scope<'a>
+    requires { IsSoundOpen (declared_in_space space) body.now }
+    ensures literals { result.literals ≡ space.entry.literals }
+    ensures scope { scope_in result ≡ scope_in_body (declared_in_space space.entry) body.now }
+{
+    Scope {
+        literals: space.literals,
+        locals: body.scope.as_slice(),
+        this: body.this,
+        fields: space.fields,
+    }
 }
 
 /// The local that a line declares as the next of a body; none where it takes no such.
-fn next_local(body: &OpenBody, key: Key, operands: &[Operand<Meant>]) -> Option<Local>
+fn next_local(space: Space, body: &OpenBody, key: Key, operands: &[Operand<Meant>]) -> Option<Local>
     requires { role_of key ≡ role.Declaration }
-    ensures { TakesWhereFit body.now key operands.now result }
+    ensures { TakesWhereFit (declared_in_space space.entry) body.now key operands.now result }
 {
     if body.nest.blocks.len() > 0 {
         return None;
@@ -62,7 +68,7 @@ fn next_local(body: &OpenBody, key: Key, operands: &[Operand<Meant>]) -> Option<
     if body.scope.len() >= MOST_LOCALS as usize {
         return None;
     }
-    declared_local(body.scope.len(), key, operands)
+    declared_local(body.scope.len(), space.fields, key, operands)
 }
 
 fn with_local(body: OpenBody, local: Local) -> Result<OpenBody, AllocError>
@@ -75,25 +81,23 @@ fn with_local(body: OpenBody, local: Local) -> Result<OpenBody, AllocError>
     Ok(OpenBody {
         locals,
         scope,
-        opening: body.opening,
-        nest: body.nest,
+        ..body
     })
 }
 
 /// Adds a declaration, with the number of its line; none where it has no place.
 fn declared(
-    literals: u32,
-    items: &[Item],
+    space: Space,
     body: OpenBody,
     number: u32,
     key: Key,
     operands: &[Operand<Meant>],
 ) -> Result<Option<Left>, AllocError>
-    requires sound { IsSoundOpen (declared_by literals items.now) body }
+    requires sound { IsSoundOpen (declared_in_space space) body }
     requires declares { role_of key ≡ role.Declaration }
-    ensures { IfOk result (AddsWhereFit (declared_by literals items.now) number (Line key operands.now) body) }
+    ensures { IfOk result (AddsWhereFit (declared_in_space space.entry) number (Line key operands.now) body) }
 {
-    match next_local(&body, key, operands) {
+    match next_local(space, &body, key, operands) {
         Some(local) => Ok(Some(Left::Inside(with_local(body, local)?))),
         None => Ok(None),
     }
@@ -102,24 +106,19 @@ fn declared(
 /// Adds a statement that is no block, with the number of its line; none where its operands don't fit.
 fn stated(
     alloc: Global,
-    literals: u32,
-    items: &[Item],
+    space: Space,
     body: OpenBody,
     number: u32,
     key: Key,
     operands: &[Operand<Meant>],
 ) -> Result<Option<Left>, AllocError>
-    requires sound { IsSoundOpen (declared_by literals items.now) body }
+    requires sound { IsSoundOpen (declared_in_space space) body }
     requires plain { role_of key ≡ role.Plain }
-    requires few { length items.now ≤ LONGEST_SCRIPT }
-    ensures { IfOk result (AddsWhereFit (declared_by literals items.now) number (Line key operands.now) body) }
+    ensures { IfOk result (AddsWhereFit (declared_in_space space.entry) number (Line key operands.now) body) }
 {
-    let here = Scope {
-        literals,
-        locals: body.scope.as_slice(),
-    };
+    let here = scope_of(space, &body);
     let blocks = body.nest.blocks.as_slice();
-    match plain_statement(alloc, items, here, blocks, key, operands)? {
+    match plain_statement(alloc, space.items, here, blocks, key, operands)? {
         Some(statement) => {
             let nest = with_statement(body.nest, number, statement)?;
             Ok(Some(Left::Inside(OpenBody { nest, ..body })))
@@ -131,24 +130,20 @@ fn stated(
 /// Begins a block, with the number of its line; none where its operands don't fit.
 fn begun_block(
     alloc: Global,
-    literals: u32,
-    items: &[Item],
+    space: Space,
     body: OpenBody,
     number: u32,
     key: Key,
     operands: &[Operand<Meant>],
 ) -> Result<Option<Left>, AllocError>
-    requires sound { IsSoundOpen (declared_by literals items.now) body }
+    requires sound { IsSoundOpen (declared_in_space space) body }
     requires block { IsTrue (begins_block key) }
-    ensures { IfOk result (AddsWhereFit (declared_by literals items.now) number (Line key operands.now) body) }
+    ensures { IfOk result (AddsWhereFit (declared_in_space space.entry) number (Line key operands.now) body) }
 {
     if body.nest.blocks.len() >= DEEPEST_BLOCK as usize {
         return Ok(None);
     }
-    let here = Scope {
-        literals,
-        locals: body.scope.as_slice(),
-    };
+    let here = scope_of(space, &body);
     match head_of(here, key, operands) {
         Some(head) => {
             let nest = entered(alloc, body.nest, number, head)?;
@@ -161,14 +156,13 @@ fn begun_block(
 /// Adds an `else`; none where it has no place.
 fn otherwise(
     alloc: Global,
-    literals: u32,
-    items: &[Item],
+    space: Space,
     body: OpenBody,
     number: u32,
     operands: &[Operand<Meant>],
 ) -> Result<Option<Left>, AllocError>
-    requires { IsSoundOpen (declared_by literals items.now) body }
-    ensures { IfOk result (AddsWhereFit (declared_by literals items.now) number (Line key.Else operands.now) body) }
+    requires { IsSoundOpen (declared_in_space space) body }
+    ensures { IfOk result (AddsWhereFit (declared_in_space space.entry) number (Line key.Else operands.now) body) }
 {
     if !operands.is_empty() {
         return Ok(None);
@@ -181,14 +175,13 @@ fn otherwise(
 
 /// Adds an `end`; none where it has operands.
 fn closed(
-    literals: u32,
-    items: &[Item],
+    space: Space,
     body: OpenBody,
     number: u32,
     operands: &[Operand<Meant>],
 ) -> Result<Option<Left>, AllocError>
-    requires { IsSoundOpen (declared_by literals items.now) body }
-    ensures { IfOk result (AddsWhereFit (declared_by literals items.now) number (Line key.End operands.now) body) }
+    requires { IsSoundOpen (declared_in_space space) body }
+    ensures { IfOk result (AddsWhereFit (declared_in_space space.entry) number (Line key.End operands.now) body) }
 {
     if !operands.is_empty() {
         return Ok(None);
@@ -196,7 +189,7 @@ fn closed(
     match ended(body.nest)? {
         Around::Block(nest) => Ok(Some(Left::Inside(OpenBody { nest, ..body }))),
         Around::Body(statements) => Ok(Some(Left::Done(
-            body.opening,
+            body.parameters,
             Body {
                 locals: body.locals,
                 statements,
@@ -208,27 +201,31 @@ fn closed(
 /// Adds a line to an open body, with its number; none where it has no place there.
 pub(crate) fn inside(
     alloc: Global,
-    literals: u32,
-    items: &[Item],
+    space: Space,
     body: OpenBody,
     number: u32,
     key: Key,
     operands: &[Operand<Meant>],
 ) -> Result<Option<Left>, AllocError>
-    requires sound { IsSoundOpen (declared_by literals items.now) body }
-    requires few { length items.now ≤ LONGEST_SCRIPT }
-    ensures { IfOk result (AddsWhereFit (declared_by literals items.now) number (Line key operands.now) body) }
+    requires sound { IsSoundOpen (declared_in_space space) body }
+    ensures { IfOk result (AddsWhereFit (declared_in_space space.entry) number (Line key operands.now) body) }
 {
     match key {
-        Key::Proc | Key::Op => Ok(None),
-        Key::Ptr | Key::Int | Key::Buf | Key::View => {
-            declared(literals, items, body, number, key, operands)
+        Key::Class
+        | Key::Field
+        | Key::ClassField
+        | Key::Constructor
+        | Key::Destructor
+        | Key::Proc
+        | Key::Op => Ok(None),
+        Key::Ptr | Key::ClassPtr | Key::Int | Key::Buf | Key::View => {
+            declared(space, body, number, key, operands)
         }
         Key::IfNull | Key::IfSome | Key::IfEqual | Key::IfLess | Key::Repeat | Key::Trap => {
-            begun_block(alloc, literals, items, body, number, key, operands)
+            begun_block(alloc, space, body, number, key, operands)
         }
-        Key::Else => otherwise(alloc, literals, items, body, number, operands),
-        Key::End => closed(literals, items, body, number, operands),
-        _ => stated(alloc, literals, items, body, number, key, operands),
+        Key::Else => otherwise(alloc, space, body, number, operands),
+        Key::End => closed(space, body, number, operands),
+        _ => stated(alloc, space, body, number, key, operands),
     }
 }

@@ -1,30 +1,32 @@
 //! The statements that call a procedure.
 
-ghost use Rattle.std.specs.Prelude.{◌≡◌, ◌≤◌, false, length, IfOk, IsTrue, Some, MatchOption};
+ghost use Rattle.std.specs.Prelude.{◌≡◌, ◌≤◌, false, length, map, IfOk, IsTrue, List, Some, MatchOption, slice_get};
+ghost use Rattle.std.specs.Option.{option_map};
 ghost use Rattle.wb_model.specs.declared.limits.TheConstants.{LONGEST_SCRIPT};
 ghost use Rattle.wb_model.specs.declared.script_lines.Key.TheVariants as key;
+ghost use Rattle.wb_model.specs.Names as model;
 ghost use Rattle.wb_model.specs.Sound.{is_passed};
 ghost use Rattle.wb_model.specs.Trees.{argument_operand};
 ghost use Rattle.wb_script.specs.Fitting.{argument_fits};
-ghost use Rattle.wb_script.specs.Lent.{declared_by};
-ghost use Rattle.wb_script.specs.Stated.{ArePassed, IsCalled, IsNestedOf, IsTarget};
+ghost use Rattle.wb_script.specs.Lent.{declared_by, lent_items, signatures_among};
+ghost use Rattle.wb_script.specs.Stated.{ArePassed, IsCalled, IsNestedOf, lent_parameter, scope_in};
 
-use crate::checks::items::{Item, signature_at};
+use crate::checks::items::{Item, item_of_kind};
 use crate::tree::scope::Scope;
 use std::alloc::{AllocError, Global};
 use wb_model::items::Items;
-use wb_model::script::{Argument, Holder, Parameter, Pointer, Statement};
-use wb_model::script_lines::{Meant, Operand};
+use wb_model::script::{Argument, Statement};
+use wb_model::script_lines::{ItemKind, Meant, Operand, Taken};
 
 /// The argument that an operand is for a parameter; none where it doesn't fit.
-fn argument(here: Scope, parameter: Parameter, operand: &Operand<Meant>) -> Option<Argument>
-    ensures { MatchOption result
-        (argument_fits here.entry.literals here.entry.locals.now parameter operand.now ≡ false)
-        (λ a. (argument_operand a ≡ Some operand.now) × IsTrue (is_passed here.entry.locals.now parameter a)) }
+fn argument(here: Scope, parameter: &Taken<&[u8]>, operand: &Operand<Meant>) -> Option<Argument>
+    ensures { (items : List model.Item) → MatchOption result
+        (argument_fits here.entry.literals (scope_in here.entry) (lent_parameter items parameter.now) operand.now ≡ false)
+        (λ a. (argument_operand a ≡ Some operand.now) × IsTrue (is_passed (scope_in here.entry) (lent_parameter items parameter.now) a)) }
 {
     match parameter {
-        Parameter::OfPointer(_) => Some(Argument::Passed(here.pointer(operand)?)),
-        Parameter::OfNumber => Some(Argument::Given(here.number(operand)?)),
+        Taken::Number => Some(Argument::Given(here.number(operand)?)),
+        Taken::Pointer | Taken::OfClass(_) => Some(Argument::Passed(here.pointer(operand)?)),
     }
 }
 
@@ -32,17 +34,17 @@ fn argument(here: Scope, parameter: Parameter, operand: &Operand<Meant>) -> Opti
 fn arguments(
     alloc: Global,
     here: Scope,
-    parameters: &[Parameter],
+    parameters: &[Taken<&[u8]>],
     operands: &[Operand<Meant>],
 ) -> Result<Option<Items<Argument>>, AllocError>
-    ensures { IfOk result (ArePassed here.entry parameters.now operands.now) }
+    ensures { (items : List model.Item) → IfOk result (ArePassed here.entry (map (lent_parameter items) parameters.now) operands.now) }
 {
     let mut given = Items::new(alloc);
     for operand in operands {
         let Some(parameter) = parameters.get(given.len()) else {
             return Ok(None);
         };
-        match argument(here, *parameter, operand) {
+        match argument(here, parameter, operand) {
             Some(one) => given.push(one)?,
             None => return Ok(None),
         }
@@ -51,6 +53,16 @@ fn arguments(
         Ok(Some(given))
     } else {
         Ok(None)
+    }
+}
+
+/// What the procedure with an index takes.
+fn signature_at<'i, 'a>(items: &'i [Item<'a>], index: usize) -> Option<&'i [Taken<&'a [u8]>]>
+    ensures { option_map (λ taken. map (lent_parameter (lent_items items.now)) taken.now) result ≡ slice_get (signatures_among (lent_items items.now)) index }
+{
+    match item_of_kind(ItemKind::Procedure, items, index) {
+        Some(item) => Some(item.parameters.as_slice()),
+        None => None,
     }
 }
 
@@ -69,7 +81,7 @@ fn call_in(
     operands: &[Operand<Meant>],
 ) -> Result<Option<Called>, AllocError>
     requires { length items.now ≤ LONGEST_SCRIPT }
-    ensures { IfOk result (IsCalled (declared_by here.entry.literals items.now) here.entry.locals.now operands.now) }
+    ensures { IfOk result (IsCalled (declared_by here.entry.literals items.now) (scope_in here.entry) operands.now) }
 {
     match operands.split_first() {
         Some((Operand::Name(Meant::Procedure(index)), given)) => match signature_at(items, *index) {
@@ -93,21 +105,11 @@ pub(crate) fn call(
     operands: &[Operand<Meant>],
 ) -> Result<Option<Statement>, AllocError>
     requires { length items.now ≤ LONGEST_SCRIPT }
-    ensures { IfOk result (IsNestedOf (declared_by here.entry.literals items.now) here.entry.locals.now key.Call operands.now) }
+    ensures { IfOk result (IsNestedOf (declared_by here.entry.literals items.now) (scope_in here.entry) key.Call operands.now) }
 {
     match call_in(alloc, items, here, operands)? {
         Some(called) => Ok(Some(Statement::Call(called.procedure, called.arguments))),
         None => Ok(None),
-    }
-}
-
-/// The local that holds a pointer and that an operand spells.
-fn target(here: Scope, operand: &Operand<Meant>) -> Option<u8>
-    ensures { IsTarget here.entry operand.now result }
-{
-    match here.pointer(operand) {
-        Some(Pointer::Held(Holder::Local(index))) => Some(index),
-        _ => None,
     }
 }
 
@@ -118,10 +120,10 @@ pub(crate) fn call_to(
     operands: &[Operand<Meant>],
 ) -> Result<Option<Statement>, AllocError>
     requires { length items.now ≤ LONGEST_SCRIPT }
-    ensures { IfOk result (IsNestedOf (declared_by here.entry.literals items.now) here.entry.locals.now key.CallTo operands.now) }
+    ensures { IfOk result (IsNestedOf (declared_by here.entry.literals items.now) (scope_in here.entry) key.CallTo operands.now) }
 {
     match operands.split_first() {
-        Some((pointer, behind)) => match target(here, pointer) {
+        Some((target, behind)) => match here.receiver(target) {
             Some(local) => match call_in(alloc, items, here, behind)? {
                 Some(called) => Ok(Some(Statement::CallTo(
                     local,

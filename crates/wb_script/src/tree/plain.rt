@@ -5,15 +5,16 @@ ghost use Rattle.wb_model.specs.declared.script_lines.Key.TheVariants as key;
 ghost use Rattle.wb_model.specs.declared.script_lines.Role.TheVariants.{Plain};
 ghost use Rattle.wb_model.specs.declared.limits.TheConstants.{LONGEST_SCRIPT};
 ghost use Rattle.wb_model.specs.Keys.{role_of};
+ghost use Rattle.wb_model.specs.Sound.{Declared};
 ghost use Rattle.wb_script.specs.Building.{keys_of_blocks};
 ghost use Rattle.wb_script.specs.Lent.{declared_by};
-ghost use Rattle.wb_script.specs.Stated.{IsNestedOf, IsOperationOf, IsStatedWhereFit};
+ghost use Rattle.wb_script.specs.Stated.{IsNestedOf, IsOperationOf, IsStatedWhereFit, scope_in};
 
 use crate::checks::items::{Item, count_among};
 use crate::tree::blocks::OpenBlock;
 use crate::tree::calls::{call, call_to};
 use crate::tree::scope::Scope;
-use crate::tree::statements::{return_nothing, return_pointer, statement_of};
+use crate::tree::statements::{one_pointer, return_nothing, return_pointer, statement_of};
 use std::alloc::{AllocError, Global};
 use wb_model::script::Statement;
 use wb_model::script_lines::{ItemKind, Key, Meant, Operand};
@@ -38,7 +39,7 @@ fn operation(items: &[Item], operand: &Operand<Meant>) -> Option<u16>
 /// A `pushop` of a pointer, with an operation by its name; none where the operands don't fit.
 fn push_operation(items: &[Item], here: Scope, operands: &[Operand<Meant>]) -> Option<Statement>
     requires { length items.now ≤ LONGEST_SCRIPT }
-    ensures { IsNestedOf (declared_by here.entry.literals items.now) here.entry.locals.now key.PushOp operands.now result }
+    ensures { IsNestedOf (declared_by here.entry.literals items.now) (scope_in here.entry) key.PushOp operands.now result }
 {
     match operands {
         [pointer, named] => {
@@ -48,6 +49,20 @@ fn push_operation(items: &[Item], here: Scope, operands: &[Operand<Meant>]) -> O
         }
         _ => None,
     }
+}
+
+/// A `construct` of the object of a pointer.
+fn construct(here: Scope, operands: &[Operand<Meant>]) -> Option<Statement>
+    ensures { (declared : Declared) → declared.literals ≡ here.entry.literals → IsNestedOf declared (scope_in here.entry) key.Construct operands.now result }
+{
+    Some(Statement::Construct(one_pointer(here, operands)?))
+}
+
+/// A `delete` of the object of a pointer.
+fn delete(here: Scope, operands: &[Operand<Meant>]) -> Option<Statement>
+    ensures { (declared : Declared) → declared.literals ≡ here.entry.literals → IsNestedOf declared (scope_in here.entry) key.Delete operands.now result }
+{
+    Some(Statement::Delete(one_pointer(here, operands)?))
 }
 
 /// The statement of a line that begins no block; none where its operands don't fit.
@@ -61,12 +76,14 @@ pub(crate) fn plain_statement(
 ) -> Result<Option<Statement>, AllocError>
     requires plain { role_of key ≡ Plain }
     requires few { length items.now ≤ LONGEST_SCRIPT }
-    ensures { IfOk result (IsStatedWhereFit (declared_by here.entry.literals items.now) here.entry.locals.now (keys_of_blocks blocks.now) key operands.now) }
+    ensures { IfOk result (IsStatedWhereFit (declared_by here.entry.literals items.now) (scope_in here.entry) (keys_of_blocks blocks.now) key operands.now) }
 {
     match key {
         Key::Call => call(alloc, items, here, operands),
         Key::CallTo => call_to(alloc, items, here, operands),
         Key::PushOp => Ok(push_operation(items, here, operands)),
+        Key::Construct => Ok(construct(here, operands)),
+        Key::Delete => Ok(delete(here, operands)),
         Key::Return => Ok(return_nothing(here, blocks, operands)),
         Key::ReturnPointer => Ok(return_pointer(here, blocks, operands)),
         _ => Ok(statement_of(here, key, operands)),

@@ -6,20 +6,21 @@ ghost use Rattle.wb_model.specs.declared.script_lines.Letter.TheVariants as lett
 ghost use Rattle.wb_model.specs.Sound.{is_pointer, is_number};
 ghost use Rattle.wb_model.specs.Trees.{pointer_operand, number_operand};
 ghost use Rattle.wb_script.specs.Fitting.{letters_fit};
-ghost use Rattle.wb_script.specs.Stated.{IsStatementOf, IsOnlySpelled, IsPairSpelled, IsTripleSpelled, IsReturnOf, is_lasting, alloc_key, realloc_key, new_text_key, takes_pointer, takes_number};
+ghost use Rattle.wb_script.specs.Stated.{IsStatementOf, IsOnlySpelled, IsPairSpelled, IsTripleSpelled, IsReturnOf, alloc_key, is_lasting, new_key, new_text_key, realloc_key, scope_in, takes_number, takes_pointer};
 
 use crate::tree::blocks::{OpenBlock, has_trap};
 use crate::tree::scope::Scope;
+use crate::tree::scope::counted::{one, three, two};
 use crate::tree::text_statements::{
     append, copy, delete_text, get_length, get_maximum, insert, left, mid, print, right, set_length,
 };
-use wb_model::script::{Number, Pointer, Refusal, Statement};
+use wb_model::script::{Holder, Number, Pointer, Refusal, Statement};
 use wb_model::script_lines::{Key, Meant, Operand};
 
 /// The statement of a line that takes no operand.
 fn alone(here: Scope, statement: Statement, operands: &[Operand<Meant>]) -> Option<Statement>
     ensures { MatchOption result
-        (letters_fit here.entry.literals here.entry.locals.now [] operands.now ≡ false)
+        (letters_fit here.entry.literals (scope_in here.entry) [] operands.now ≡ false)
         (λ s. (s ≡ statement) × (operands.now ≡ [])) }
 {
     match operands {
@@ -29,63 +30,81 @@ fn alone(here: Scope, statement: Statement, operands: &[Operand<Meant>]) -> Opti
 }
 
 /// The operand of a line that takes one pointer.
-fn one_pointer(here: Scope, operands: &[Operand<Meant>]) -> Option<Pointer>
-    ensures { IsOnlySpelled pointer_operand (is_pointer here.entry.locals.now) here.entry letter.Pointer operands.now result }
+pub(crate) fn one_pointer(here: Scope, operands: &[Operand<Meant>]) -> Option<Pointer>
+    ensures { IsOnlySpelled pointer_operand (is_pointer (scope_in here.entry)) here.entry letter.Pointer operands.now result }
 {
-    match operands {
-        [pointer] => here.pointer(pointer),
-        _ => None,
-    }
+    let pointer = one(operands)?;
+    here.pointer(pointer)
 }
 
 /// The operand of a line that takes one number.
 fn one_number(here: Scope, operands: &[Operand<Meant>]) -> Option<Number>
     ensures { IsOnlySpelled number_operand (is_number here.entry.locals.now) here.entry letter.Value operands.now result }
 {
-    match operands {
-        [number] => here.number(number),
-        _ => None,
-    }
+    let number = one(operands)?;
+    here.number(number)
 }
 
-/// A `set` of a pointer or of a number, by what its target is.
+/// A `set` of a local that holds a pointer or a number, by what its target is.
 fn set(here: Scope, operands: &[Operand<Meant>]) -> Option<Statement>
     ensures { IsStatementOf here.entry key.Set operands.now result }
 {
     match operands {
-        [target, source] => match here.pointer(target) {
-            Some(pointer) => Some(Statement::Set(pointer, here.pointer(source)?)),
+        [target, source] => match here.receiver(target) {
+            Some(local) => Some(Statement::Set(
+                Pointer::Held(Holder::Local(local)),
+                here.pointer(source)?,
+            )),
             None => Some(Statement::SetNumber(here.variable(target)?, here.number(source)?)),
         },
         _ => None,
     }
 }
 
-/// The operands of a line that takes a pointer and a number.
+/// A `set` of a field.
+fn set_field(here: Scope, operands: &[Operand<Meant>]) -> Option<Statement>
+    ensures { IsStatementOf here.entry key.SetField operands.now result }
+{
+    let (target, source) = two(operands)?;
+    Some(Statement::Set(here.field_target(target)?, here.pointer(source)?))
+}
+
+fn set_null(here: Scope, operands: &[Operand<Meant>]) -> Option<Statement>
+    ensures { IsStatementOf here.entry key.Null operands.now result }
+{
+    let target = one(operands)?;
+    Some(Statement::SetNull(here.written(target)?))
+}
+
+/// A new object of a class.
+fn new_object(here: Scope, operands: &[Operand<Meant>], refusal: Refusal) -> Option<Statement>
+    ensures { IsStatementOf here.entry (new_key refusal) operands.now result }
+{
+    let (target, class) = two(operands)?;
+    Some(Statement::New(here.written(target)?, here.class(class)?, refusal))
+}
+
+/// The operands of a line that writes a pointer, by a number.
 fn pointer_and_number(here: Scope, operands: &[Operand<Meant>]) -> Option<(Pointer, Number)>
     ensures { IsPairSpelled here.entry operands.now result }
 {
-    match operands {
-        [pointer, number] => Some((here.pointer(pointer)?, here.number(number)?)),
-        _ => None,
-    }
+    let (target, number) = two(operands)?;
+    Some((here.written(target)?, here.number(number)?))
 }
 
-/// The operands of a line that takes two pointers and a number.
+/// The operands of a line that writes a pointer, by another and a number.
 fn pointers_and_number(
     here: Scope,
     operands: &[Operand<Meant>],
 ) -> Option<(Pointer, Pointer, Number)>
     ensures { IsTripleSpelled here.entry operands.now result }
 {
-    match operands {
-        [target, source, number] => Some((
-            here.pointer(target)?,
-            here.pointer(source)?,
-            here.number(number)?,
-        )),
-        _ => None,
-    }
+    let (target, source, number) = three(operands)?;
+    Some((
+        here.written(target)?,
+        here.pointer(source)?,
+        here.number(number)?,
+    ))
 }
 
 fn alloc(here: Scope, operands: &[Operand<Meant>], refusal: Refusal) -> Option<Statement>
@@ -119,48 +138,37 @@ fn realloc_text(here: Scope, operands: &[Operand<Meant>]) -> Option<Statement>
 fn alloc_len(here: Scope, operands: &[Operand<Meant>]) -> Option<Statement>
     ensures { IsStatementOf here.entry key.AllocLen operands.now result }
 {
-    match operands {
-        [variable, pointer] => Some(Statement::AllocLen(
-            here.variable(variable)?,
-            here.pointer(pointer)?,
-        )),
-        _ => None,
-    }
+    let (variable, pointer) = two(operands)?;
+    Some(Statement::AllocLen(here.variable(variable)?, here.pointer(pointer)?))
 }
 
 fn store(here: Scope, operands: &[Operand<Meant>]) -> Option<Statement>
     ensures { IsStatementOf here.entry key.Store operands.now result }
 {
-    match operands {
-        [pointer, index, value] => Some(Statement::Store(
-            here.pointer(pointer)?,
-            here.number(index)?,
-            here.number(value)?,
-        )),
-        _ => None,
-    }
+    let (pointer, index, value) = three(operands)?;
+    Some(Statement::Store(
+        here.pointer(pointer)?,
+        here.number(index)?,
+        here.number(value)?,
+    ))
 }
 
 fn load(here: Scope, operands: &[Operand<Meant>]) -> Option<Statement>
     ensures { IsStatementOf here.entry key.Load operands.now result }
 {
-    match operands {
-        [variable, pointer, index] => Some(Statement::Load(
-            here.variable(variable)?,
-            here.pointer(pointer)?,
-            here.number(index)?,
-        )),
-        _ => None,
-    }
+    let (variable, pointer, index) = three(operands)?;
+    Some(Statement::Load(
+        here.variable(variable)?,
+        here.pointer(pointer)?,
+        here.number(index)?,
+    ))
 }
 
 fn add(here: Scope, operands: &[Operand<Meant>]) -> Option<Statement>
     ensures { IsStatementOf here.entry key.Add operands.now result }
 {
-    match operands {
-        [variable, number] => Some(Statement::Add(here.variable(variable)?, here.number(number)?)),
-        _ => None,
-    }
+    let (variable, number) = two(operands)?;
+    Some(Statement::Add(here.variable(variable)?, here.number(number)?))
 }
 
 /// The statement of a line that takes one pointer.
@@ -171,8 +179,8 @@ fn of_pointer(here: Scope, key: Key, operands: &[Operand<Meant>]) -> Option<Stat
     let pointer = one_pointer(here, operands)?;
     match key {
         Key::Free => Some(Statement::Free(pointer)),
-        Key::Null => Some(Statement::SetNull(pointer)),
         Key::Push => Some(Statement::Push(pointer)),
+        Key::PushObj => Some(Statement::PushObject(pointer)),
         Key::PopCheck => Some(Statement::PopCheck(pointer)),
         Key::LeaveIfNull => Some(Statement::LeaveIfNull(pointer)),
         _ => None,
@@ -212,9 +220,13 @@ pub(crate) fn statement_of(here: Scope, key: Key, operands: &[Operand<Meant>]) -
         Key::AllocLen => alloc_len(here, operands),
         Key::Store => store(here, operands),
         Key::Load => load(here, operands),
+        Key::New => new_object(here, operands, Refusal::GivesNull),
+        Key::NewLeave => new_object(here, operands, Refusal::Leaves),
         Key::Set => set(here, operands),
+        Key::SetField => set_field(here, operands),
+        Key::Null => set_null(here, operands),
         Key::Add => add(here, operands),
-        Key::Free | Key::Null | Key::Push | Key::PopCheck | Key::LeaveIfNull => {
+        Key::Free | Key::Push | Key::PushObj | Key::PopCheck | Key::LeaveIfNull => {
             of_pointer(here, key, operands)
         }
         Key::Pop | Key::PopDestroy | Key::Leave | Key::LeaveIfError => {

@@ -5,17 +5,21 @@ use Rattle.std.proofs.lemmas.List.{length-map}
 use Rattle.wb_model.specs.declared.script_lines.ItemKind.TheVariants as item
 use Rattle.wb_model.specs.Forms.{role_of_form}
 use Rattle.wb_model.specs.Grammar.{IsGrammatical}
-use Rattle.wb_model.specs.Names.{nothing_known, known_after, signatures_among, count_among, items_of, literals_of}
+use Rattle.wb_model.specs.Names.{nothing_known, known_after, count_among, items_of, literals_of}
 use Rattle.wb_model.specs.Resolved.{resolved_line, item_meant}
 use Rattle.wb_model.specs.Scripts.{main_of, procedure_meant}
-use Rattle.wb_model.specs.Sound.{Declared, is_literal_text}
+use Rattle.wb_model.specs.Quiet.{is_quiet}
+use Rattle.wb_model.specs.Sound.{Declared, is_literal_text, is_sound_script}
 use Rattle.wb_model.specs.Trees.{counted_from}
 use Rattle.wb_script.specs.Building.{AllFit, counts_of}
 use Rattle.wb_script.specs.Checks.{AreChecked, IsFirstFault}
-use Rattle.wb_script.specs.Lent.{declared_by, lent_text, lent_texts, lent_items, lent_form, lent_forms}
+use Rattle.wb_script.specs.Lent.{declared_by, lent_text, lent_texts, lent_items, lent_form, lent_forms, signatures_among, fields_among}
+use Rattle.wb_script.proofs.CountedClasses.{counted_classes}
 use Rattle.wb_script.proofs.FitLemmas.{declared_among}
 use Rattle.wb_script.proofs.LiteralLemmas.{few_literals, literals_sound}
 use Rattle.wb_script.proofs.Passes.{each_length}
+use Rattle.wb_script.proofs.QuietTrees.{quiet_script}
+use Rattle.wb_script.proofs.Tests.{together}
 use Rattle.wb_script.proofs.ReadLemmas.{no_line, main_entry, all_named, lines_fault}
 use Rattle.wb_script.proofs.ResolvedLemmas.{roles-resolved, all_fit, procedures-resolved, operations-resolved}
 use Rattle.wb_script.proofs.reading.checked.Goals as goal
@@ -42,7 +46,16 @@ script_of-requires-clause-fit c =
     let right = no_line _ (sym found.wrong_kind ∙ c.in-Ok.ensures.found.named.right) in
     let within = no_line _ (sym found.too_many ∙ c.in-Ok.ensures.found.within) in
     subst (λ (d : Declared). AllFit d c.deref-in-Ok-2.result.now) (sym declared)
-    (subst (AllFit (declared_among (length (literals_of forms)) (items_of forms))) (sym lines) (all_fit forms c.requires.typed right within))
+    (subst (AllFit (declared_among (length (literals_of forms)) (items_of forms))) (sym lines) (all_fit forms c.requires.grammar c.requires.typed right within))
+
+pub script_of-requires-clause-classes : goal.script_of-requires-clause-classes
+script_of-requires-clause-classes c =
+    let forms = lent_forms c.args.forms.now in
+    let items = ap lent_items c.deref.ensures.value ∙ c.in_ok-items.ensures in
+    let found = subst (λ i. AreChecked i forms c.in_ok-found.found) items c.in_ok-found.ensures in
+    let lines = c.deref-in-Ok-2.ensures.value ∙ found.lines in
+    let own = ap lent_items c.deref-in-Ok.ensures.value ∙ c.in_ok-items.ensures in
+    ap (λ l. (counts_of l).classes) lines ∙ counted_classes forms c.requires.grammar c.requires.typed ∙ sym (ap fields_among own)
 
 pub script_of-requires-clause-procedures : goal.script_of-requires-clause-procedures
 script_of-requires-clause-procedures c =
@@ -51,7 +64,7 @@ script_of-requires-clause-procedures c =
     let found = subst (λ i. AreChecked i forms c.in_ok-found.found) items c.in_ok-found.ensures in
     let lines = c.deref-in-Ok-2.ensures.value ∙ found.lines in
     let own = ap lent_items c.deref-in-Ok.ensures.value ∙ c.in_ok-items.ensures in
-    ap (λ l. (counts_of l).procedures) lines ∙ procedures-resolved forms c.requires.typed ∙ sym (ap (signatures_among item.Procedure) own)
+    ap (λ l. (counts_of l).procedures) lines ∙ procedures-resolved forms c.requires.typed ∙ sym (ap signatures_among own)
 
 pub script_of-requires-clause-operations : goal.script_of-requires-clause-operations
 script_of-requires-clause-operations c =
@@ -104,10 +117,15 @@ returns-clause-tree c =
       named = all_named forms c.in_ok-found.found found c.in-Ok.ensures.found.named;
       main = is ∙ ap Some (sym made.main);
       within = no_line _ (sym found.too_many ∙ c.in-Ok.ensures.found.within);
-      classes = made.classes;
       literals = made.literals ∙ ap lent_texts c.deref-in-Ok-3.ensures.value ∙ found.literals;
       tree = made.tree ∙ ap (counted_from 1) lines;
     }
+
+pub returns-clause-sound : goal.returns-clause-sound
+returns-clause-sound c =
+    let script = c.in_ok-script-in-Ok.script in
+    let sound = c.in_ok-script-in-Ok.ensures.sound in
+    together (is_sound_script script) (is_quiet script) sound (quiet_script (lent_forms c.args.forms.now) script (returns-clause-tree c) sound)
 
 pub returns-in-Err-clause-fault : goal.returns-in-Err-clause-fault
 returns-in-Err-clause-fault c =

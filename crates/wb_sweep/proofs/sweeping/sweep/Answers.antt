@@ -1,6 +1,7 @@
-use Rattle.std.proofs.Common.{◌≡◌, sym, ap, ◌∙◌, subst, arith, length}
+use Rattle.std.proofs.Common.{◌≡◌, ◌⊎◌, inl, inr, refl, sym, ap, ◌∙◌, subst, arith, length, ℕ, ◌+◌, ◌<◌, Bool, true, false, nat_lt}
+use Rattle.std.proofs.lemmas.Bool.{ltb-true, ltb-false}
 use Rattle.wb_model.specs.declared.heap.Rule.TheVariants.{Number}
-use Rattle.wb_model.specs.Sweeps.{run_at}
+use Rattle.wb_model.specs.Sweeps.{is_fine, run_at}
 use Rattle.wb_model.proofs.TraceLemmas.{run-numbered}
 use Rattle.wb_model.proofs.SweepLemmas.{all_fine}
 use Rattle.wb_sweep.specs.Sweeping.{IsNumbered}
@@ -22,3 +23,21 @@ returns-clause-swept c =
       none = λ e. all_fine script c.args.budget c.args.shape
           (λ smaller lt. c.loop-earlier.invariant smaller (omega (arith, lt, attempts, c.loop-earlier-test.false)));
     }
+
+-- one number more: it is the last, or was there before
+below_next : (a b : ℕ) → a < b + 1 → (a < b) ⊎ (a ≡ b)
+below_next a b lt = by (nat_lt a b) refl
+  where
+    by : (is : Bool) → nat_lt a b ≡ is → (a < b) ⊎ (a ≡ b)
+    by true e = inl (ltb-true a b e)
+    by false e = inr (omega (arith, lt, ltb-false a b e))
+
+pub loop-earlier-preserved : goal.loop-earlier-preserved
+loop-earlier-preserved c = λ number lt. by number (below_next number (c.loop-earlier.earlier + 1) lt)
+  where
+    by : (number : ℕ) → (number < c.loop-earlier.earlier + 1) ⊎ (number ≡ c.loop-earlier.earlier + 1) → is_fine (run_at c.args.script.now c.args.budget c.args.shape number) ≡ true
+    by number (inl lt) = c.loop-earlier.invariant number lt
+    by number (inr is) =
+        ap (λ n. is_fine (run_at c.args.script.now c.args.budget c.args.shape n)) is
+        ∙ ap is_fine (sym c.in_ok-told.ensures.ran)
+        ∙ c.in_ok-found-2.ensures.fine c.in_default-2.is

@@ -4,11 +4,12 @@ use Rattle.wb_machine.proofs.AskedPieces.{over_asks, asked_of, settled_asks}
 use Rattle.wb_machine.proofs.control.Control.asks.Goals as goal
 
 pub returns-then-is_over : goal.returns-then-is_over
-returns-then-is_over c script budget sound less =
-    sym (over_asks script budget c.args.self.now.ending c.args.self.now.pieces.items c.args.state.now (sym c.is_over.ensures ∙ c.if-is_over.true))
+returns-then-is_over c budget sound less =
+    sym (over_asks c.args.script.now budget c.args.self.now.ending c.args.self.now.pieces.items c.args.state.now (sym c.is_over.ensures ∙ c.if-is_over.true))
 
 pub returns-in-Some-first_statement : goal.returns-in-Some-first_statement
-returns-in-Some-first_statement c script budget sound less =
+returns-in-Some-first_statement c budget sound less =
+    let script = c.args.script.now in
     let pieces = c.args.self.now.pieces.items in
     let h = c.args.state.now in
     let top : slice_get pieces (length pieces - 1) ≡ Some c.in-Some.piece.now =
@@ -18,7 +19,8 @@ returns-in-Some-first_statement c script budget sound less =
     ∙ sym (settled_asks script budget c.args.self.now.ending pieces c.in-Some.piece.now h top c.requires (sym c.is_over.ensures ∙ c.if-is_over.false) sound less)
 
 pub returns-in-None : goal.returns-in-None
-returns-in-None c script budget sound less =
+returns-in-None c budget sound less =
+    let script = c.args.script.now in
     let pieces = c.args.self.now.pieces.items in
     let h = c.args.state.now in
     let top : slice_get pieces (length pieces - 1) ≡ Some c.in-Some.piece.now =

@@ -1,6 +1,6 @@
 use Rattle.std.proofs.Common.{ap, ◌∙◌, sym, subst, refl}
 use Rattle.std.specs.List.{list_all}
-use Rattle.wb_model.specs.Sound.{is_local}
+use Rattle.wb_machine.specs.LocalValues.{is_small}
 use Rattle.wb_machine.specs.declared.pieces.Ending.TheVariants.{NoCleanup}
 use Rattle.wb_machine.specs.declared.pieces.Piece.TheVariants.{Code}
 use Rattle.wb_machine.specs.declared.pieces.TheConstants.{IN_MAIN}
@@ -17,7 +17,7 @@ procedure_at-main-requires c = main_there c.args.script.now c.requires.script
 pub enter-requires-clause-locals : goal.enter-requires-clause-locals
 enter-requires-clause-locals c =
     let script = c.args.script.now in
-    ap (list_all is_local) (c.as_slice.ensures ∙ ap (λ b. b.locals) c.procedure_at-main.ensures) ∙ procedure_locals script c.requires.script script.main (main_there script c.requires.script)
+    ap (list_all is_small) (c.as_slice.ensures ∙ ap (λ b. b.locals) c.procedure_at-main.ensures) ∙ procedure_locals script c.requires.script script.main (main_there script c.requires.script)
 
 pub returns-then-not-branch-clause-kept : goal.returns-then-not-branch-clause-kept
 returns-then-not-branch-clause-kept c r budget f =

@@ -14,16 +14,18 @@ use Rattle.wb_machine.proofs.Steps.{pending_pushed}
 use Rattle.wb_machine.proofs.control.Control.begin_body.Goals as goal
 
 pub returns-then-at-ge-MOST_FRAMES-clause-kept : goal.returns-then-at-ge-MOST_FRAMES-clause-kept
-returns-then-at-ge-MOST_FRAMES-clause-kept c script r budget body is =
-    body_refused script budget r (where_of c.args.at) c.args.this (values_handed c.args.state.now.locals c.args.handed) body (afterwards c.args.after) c.args.self.now.pieces.items c.args.state.now
+returns-then-at-ge-MOST_FRAMES-clause-kept c r budget body is =
+    let script = c.args.script.now in
+    body_refused script budget r (where_of c.args.at) c.args.this (values_handed script c.args.state.now c.args.handed) body (afterwards c.args.after) c.args.self.now.pieces.items c.args.state.now
     c.if-at-ge-MOST_FRAMES.true
 
 pub returns-clause-kept : goal.returns-clause-kept
-returns-clause-kept c script r budget body is =
+returns-clause-kept c r budget body is =
+    let script = c.args.script.now in
     let h = c.args.state.now in
     let g = c.call.new.self in
     let base = c.in_ok-base.base in
-    let given = values_handed h.locals c.args.handed in
+    let given = values_handed script h c.args.handed in
     let old = c.args.self.now.pieces.items in
     let mid = c.push.new.self.pieces.items in
     let new = c.push-2.new.self.pieces.items in

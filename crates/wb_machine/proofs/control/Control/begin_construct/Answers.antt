@@ -1,8 +1,11 @@
-use Rattle.std.proofs.Common.{[], ap, ◌∙◌, sym, subst}
+use Rattle.std.proofs.Common.{List, IsTrue, [], ap, ◌∙◌, sym, subst}
+use Rattle.std.specs.List.{list_all}
+use Rattle.wb_model.specs.declared.script.Local.{Local}
+use Rattle.wb_machine.specs.LocalValues.{is_small}
 use Rattle.std.specs.Prelude.{unwrap_or}
 use Rattle.wb_model.specs.declared.heap.Ptr.{Ptr}
 use Rattle.wb_model.specs.Rest.{nothing_more}
-use Rattle.wb_model.specs.Statements.{class_at, no_body}
+use Rattle.wb_model.specs.Bodies.{class_at, no_body}
 use Rattle.wb_machine.specs.Bodies.{class_read}
 use Rattle.wb_machine.specs.Flow.{where_of, AreOwn, rest_of_body}
 use Rattle.wb_machine.proofs.Outcomes.{on_ok_then}
@@ -12,14 +15,14 @@ use Rattle.wb_machine.proofs.control.Control.begin_construct.Goals as goal
 
 pub returns-in-Ok-clause-kept : goal.returns-in-Ok-clause-kept
 returns-in-Ok-clause-kept c =
-    on_ok_then c.begin_body.result c.begin_body.ensures.kept (λ kept r budget locals ok.
+    on_ok_then c.begin_body.result c.begin_body.ensures.kept (λ kept r budget ok.
     let script = c.args.script.now in
     let h = c.args.state.now in
     let old = c.args.self.now.pieces.items in
     let body = unwrap_or (class_at script c.in-Ok.class).construct no_body in
-    kept script r budget body (record { locals = c.construct_at-body.ensures.locals; statements = c.construct_at-body.ensures.statements })
+    kept r budget body (record { locals = c.construct_at-body.ensures.locals; statements = c.construct_at-body.ensures.statements })
     ∙ ap (λ (p : Ptr). rest_of_body script budget r (where_of c.args.at) p [] body nothing_more old h) c.pointer-this.ensures
-    ∙ construct_as_body script budget r (where_of c.args.at) locals c.args.object c.in-Ok.class old h ok (sym c.in-Ok.is ∙ c.class.ensures ∙ ap (class_read h) c.pointer-this.ensures))
+    ∙ construct_as_body script budget r (where_of c.args.at) c.args.object c.in-Ok.class old h ok (sym c.in-Ok.is ∙ c.class.ensures ∙ ap (class_read h) c.pointer-this.ensures))
 
 pub returns-in-Ok-clause-sound : goal.returns-in-Ok-clause-sound
 returns-in-Ok-clause-sound c =
@@ -28,7 +31,11 @@ returns-in-Ok-clause-sound c =
     sound script (subst (AreOwn script) (sym c.construct_at-body.ensures.statements) (construct_own script c.requires.script c.in-Ok.class).0) below)
 
 pub returns-in-Err-clause-kept : goal.returns-in-Err-clause-kept
-returns-in-Err-clause-kept c r budget locals ok =
+returns-in-Err-clause-kept c r budget ok =
     let script = c.args.script.now in
     let h = c.args.state.now in
-    construct_refused script budget r (where_of c.args.at) locals c.args.object c.in-Err.panic c.args.self.now.pieces.items h ok (sym c.in-Err.is ∙ c.class.ensures ∙ ap (class_read h) c.pointer-this.ensures)
+    construct_refused script budget r (where_of c.args.at) c.args.object c.in-Err.panic c.args.self.now.pieces.items h ok (sym c.in-Err.is ∙ c.class.ensures ∙ ap (class_read h) c.pointer-this.ensures)
+
+pub begin_body-requires-clause-locals : goal.begin_body-requires-clause-locals
+begin_body-requires-clause-locals c =
+    subst (λ (locals : List Local). IsTrue (list_all is_small locals)) (sym c.construct_at-body.ensures.locals) (construct_own c.args.script.now c.requires.script c.in-Ok.class).1

@@ -1,9 +1,10 @@
 use Rattle.std.proofs.Common.{List, IsTrue, ap, ◌∙◌, sym, subst}
 use Rattle.std.specs.List.{list_all}
 use Rattle.wb_model.specs.declared.script.Local.{Local}
-use Rattle.wb_model.specs.Sound.{is_local}
+use Rattle.wb_machine.specs.LocalValues.{is_small}
 use Rattle.wb_model.specs.declared.heap.Item.{Item}
-use Rattle.wb_model.specs.Statements.{operation_at, release, destroyed_item}
+use Rattle.wb_model.specs.Statements.{release, destroyed_item}
+use Rattle.wb_model.specs.Bodies.{operation_at}
 use Rattle.wb_model.specs.Meaning.{meaning_of}
 use Rattle.wb_machine.specs.RunState.{state_of}
 use Rattle.wb_machine.specs.Carried.{free_carried}
@@ -43,7 +44,7 @@ returns-in-Call-clause-kept c =
     let script = c.args.script.now in
     let h = c.args.state.now in
     let old = c.args.self.now.pieces.items in
-    kept script r budget (operation_at script c.in-Call.operation) (record { locals = c.operation_at-body.ensures.locals; statements = c.operation_at-body.ensures.statements })
+    kept r budget (operation_at script c.in-Call.operation) (record { locals = c.operation_at-body.ensures.locals; statements = c.operation_at-body.ensures.statements })
     ∙ call_destroyed script budget r (where_of c.args.at) c.in-Call.ptr c.in-Call.operation old h
     ∙ sym (ap (λ (i : Item). rest_after script budget r (destroyed_item script (meaning_of script budget) (where_of c.args.at) i (state_of script h)) old h) c.in-Call.is))
 
@@ -55,4 +56,4 @@ returns-in-Call-clause-sound c =
 
 pub begin_body-requires-clause-locals : goal.begin_body-requires-clause-locals
 begin_body-requires-clause-locals c =
-    subst (λ (locals : List Local). IsTrue (list_all is_local locals)) (sym c.operation_at-body.ensures.locals) (operation_own c.args.script.now c.requires.script c.in-Call.operation).1
+    subst (λ (locals : List Local). IsTrue (list_all is_small locals)) (sym c.operation_at-body.ensures.locals) (operation_own c.args.script.now c.requires.script c.in-Call.operation).1

@@ -2,22 +2,25 @@ use Rattle.std.proofs.Common.{◌≡◌, List, [], map, refl, ap, ◌∙◌, sym
 use Rattle.std.specs.List.{list_all}
 use Rattle.wb_model.specs.declared.script.Body.{Body}
 use Rattle.wb_model.specs.declared.script.Numbered.{Numbered}
-use Rattle.wb_model.specs.Sound.{is_local}
+use Rattle.wb_machine.specs.LocalValues.{is_small}
 use Rattle.wb_model.specs.declared.script.Statement.TheOpen.{Statement-F}
 use Rattle.wb_model.specs.State.{null}
 use Rattle.wb_model.specs.declared.script.Argument.{Argument}
-use Rattle.wb_model.specs.Statements.{Layer, procedure_at}
+use Rattle.wb_model.specs.declared.heap.Ptr.{Ptr}
+use Rattle.wb_model.specs.Statements.{Layer, destroyed_object, is_null}
+use Rattle.wb_model.specs.Bodies.{procedure_at}
 use Rattle.wb_model.specs.Meaning.{meaning_of}
 use Rattle.wb_model.specs.Run.{result_of}
 use Rattle.wb_model.specs.Rest.{nothing_more, gives_to, resume}
 use Rattle.wb_machine.proofs.Steps.{rest_known}
-use Rattle.wb_machine.specs.RunState.{Values}
-use Rattle.wb_model.specs.declared.script.Statement.TheViews.{out-Statement, outs-If, outs-IfElse, outs-Repeat, outs-Trap, outs-Call, outs-CallTo}
-use Rattle.wb_machine.specs.Flow.{where_of, pending_in, AreOwn, rest_of_statement, rest_of_body}
+use Rattle.wb_machine.specs.RunState.{Values, state_of}
+use Rattle.wb_model.specs.declared.script.Statement.TheViews.{out-Statement, outs-If, outs-IfElse, outs-Repeat, outs-Trap, outs-Call, outs-CallTo, outs-Delete}
+use Rattle.wb_machine.specs.Flow.{where_of, pending_in, AreOwn, rest_after, rest_of_statement, rest_of_body}
 use Rattle.wb_machine.specs.LocalValues.{passed}
+use Rattle.wb_machine.specs.PointerOperands.{operands_refused}
 use Rattle.wb_machine.proofs.Outcomes.{on_ok_then}
-use Rattle.wb_machine.proofs.Heads.{if_as_choice, call_as_body, call_to_as_body}
-use Rattle.wb_machine.proofs.Scripts.{own_if, own_if_condition, own_choice, own_turns, own_trapped, own_none, own_call, own_call_to, procedure_locals, procedure_statements}
+use Rattle.wb_machine.proofs.Heads.{if_as_choice, call_as_body, call_to_as_body, delete_asked}
+use Rattle.wb_machine.proofs.Scripts.{own_if, own_choice, own_turns, own_trapped, own_none, own_call, own_call_to, procedure_locals, procedure_statements}
 use Rattle.wb_machine.proofs.control.Control.begin_statement.Goals as goal
 
 pub returns-in-If-clause-kept : goal.returns-in-If-clause-kept
@@ -31,7 +34,7 @@ returns-in-If-clause-kept c =
     let first = c.in-If.first in
     let is : layer ≡ Statement-F.If cond first = ap out-Statement c.in-If.is ∙ outs-If cond first in
     on_ok_then c.begin_if.result c.begin_if.ensures.kept (λ kept r budget f.
-    kept script r budget c.requires.own.locals (own_if_condition script layer c.requires.own cond first is)
+    kept r budget (sym (ap (operands_refused h) is) ∙ c.requires.operands)
     ∙ ap (λ (ss : List Numbered). rest_of_statement script budget r at (Statement-F.IfElse cond ss []) old h) c.as_slice.ensures
     ∙ if_as_choice script budget r at cond first old h
     ∙ ap (λ (l : Layer). rest_of_statement script budget r at l old h) (sym is))
@@ -89,7 +92,7 @@ pub begin_body-requires-clause-locals : goal.begin_body-requires-clause-locals
 begin_body-requires-clause-locals c =
     let script = c.args.script.now in
     let called = own_call script (out-Statement c.args.statement.now) c.requires.own c.in-Call.index c.in-Call.arguments (ap out-Statement c.in-Call.is ∙ outs-Call c.in-Call.index c.in-Call.arguments) in
-    ap (list_all is_local) (c.lines_of-body.ensures.locals ∙ ap (λ (b : Body). b.locals) c.procedure_at.ensures) ∙ procedure_locals script c.requires.script c.in-Call.index called.1
+    ap (list_all is_small) (c.lines_of-body.ensures.locals ∙ ap (λ (b : Body). b.locals) c.procedure_at.ensures) ∙ procedure_locals script c.requires.script c.in-Call.index called.1
 
 pub returns-in-Call-clause-kept : goal.returns-in-Call-clause-kept
 returns-in-Call-clause-kept c =
@@ -101,10 +104,10 @@ returns-in-Call-clause-kept c =
     let layer = out-Statement c.args.statement.now in
     let is : layer ≡ Statement-F.Call c.in-Call.index c.in-Call.arguments = ap out-Statement c.in-Call.is ∙ outs-Call c.in-Call.index c.in-Call.arguments in
     let called = own_call script layer c.requires.own c.in-Call.index c.in-Call.arguments is in
-    kept script r budget (procedure_at script c.in-Call.index)
+    kept r budget (procedure_at script c.in-Call.index)
     (record { locals = c.lines_of-body.ensures.locals ∙ ap (λ (b : Body). b.locals) c.procedure_at.ensures; statements = c.lines_of-body.ensures.statements ∙ ap (λ (b : Body). b.statements) c.procedure_at.ensures })
-    ∙ ap (λ (arguments : List Argument). rest_of_body script budget r at null (map (passed h.locals) arguments) (procedure_at script c.in-Call.index) nothing_more old h) c.as_slice-in-Call.ensures
-    ∙ call_as_body script budget r at c.in-Call.index c.in-Call.arguments c.requires.own.locals called.0 old h called.2
+    ∙ ap (λ (arguments : List Argument). rest_of_body script budget r at null (map (passed script h) arguments) (procedure_at script c.in-Call.index) nothing_more old h) c.as_slice-in-Call.ensures
+    ∙ call_as_body script budget r at c.in-Call.index c.in-Call.arguments old h (sym (ap (operands_refused h) is) ∙ c.requires.operands)
     ∙ ap (λ (l : Layer). rest_of_statement script budget r at l old h) (sym is))
 
 pub returns-in-Call-clause-sound : goal.returns-in-Call-clause-sound
@@ -125,7 +128,7 @@ begin_body-requires-in-CallTo-clause-locals c =
     let script = c.args.script.now in
     let called = own_call_to script (out-Statement c.args.statement.now) c.requires.own c.in-CallTo.target c.in-CallTo.index c.in-CallTo.arguments
     (ap out-Statement c.in-CallTo.is ∙ outs-CallTo c.in-CallTo.target c.in-CallTo.index c.in-CallTo.arguments) in
-    ap (list_all is_local) (c.lines_of-body-in-CallTo.ensures.locals ∙ ap (λ (b : Body). b.locals) c.procedure_at-in-CallTo.ensures) ∙ procedure_locals script c.requires.script c.in-CallTo.index called.1
+    ap (list_all is_small) (c.lines_of-body-in-CallTo.ensures.locals ∙ ap (λ (b : Body). b.locals) c.procedure_at-in-CallTo.ensures) ∙ procedure_locals script c.requires.script c.in-CallTo.index called.1
 
 pub returns-in-CallTo-clause-kept : goal.returns-in-CallTo-clause-kept
 returns-in-CallTo-clause-kept c =
@@ -138,10 +141,10 @@ returns-in-CallTo-clause-kept c =
     let layer = out-Statement c.args.statement.now in
     let is : layer ≡ Statement-F.CallTo x c.in-CallTo.index c.in-CallTo.arguments = ap out-Statement c.in-CallTo.is ∙ outs-CallTo x c.in-CallTo.index c.in-CallTo.arguments in
     let called = own_call_to script layer c.requires.own x c.in-CallTo.index c.in-CallTo.arguments is in
-    kept script r budget (procedure_at script c.in-CallTo.index)
+    kept r budget (procedure_at script c.in-CallTo.index)
     (record { locals = c.lines_of-body-in-CallTo.ensures.locals ∙ ap (λ (b : Body). b.locals) c.procedure_at-in-CallTo.ensures; statements = c.lines_of-body-in-CallTo.ensures.statements ∙ ap (λ (b : Body). b.statements) c.procedure_at-in-CallTo.ensures })
-    ∙ ap (λ (arguments : List Argument). rest_of_body script budget r at null (map (passed h.locals) arguments) (procedure_at script c.in-CallTo.index) (gives_to x) old h) c.as_slice-in-CallTo.ensures
-    ∙ call_to_as_body script budget r at x c.in-CallTo.index c.in-CallTo.arguments c.requires.own.locals called.0 old h called.2
+    ∙ ap (λ (arguments : List Argument). rest_of_body script budget r at null (map (passed script h) arguments) (procedure_at script c.in-CallTo.index) (gives_to x) old h) c.as_slice-in-CallTo.ensures
+    ∙ call_to_as_body script budget r at x c.in-CallTo.index c.in-CallTo.arguments old h (sym (ap (operands_refused h) is) ∙ c.requires.operands)
     ∙ ap (λ (l : Layer). rest_of_statement script budget r at l old h) (sym is))
 
 pub returns-in-CallTo-clause-sound : goal.returns-in-CallTo-clause-sound
@@ -152,3 +155,21 @@ returns-in-CallTo-clause-sound c =
     on_ok_then c.begin_body-in-CallTo.result c.begin_body-in-CallTo.ensures.sound (λ sound.
     sound script (subst (AreOwn script) (sym (c.lines_of-body-in-CallTo.ensures.statements ∙ ap (λ (b : Body). b.statements) c.procedure_at-in-CallTo.ensures)) (procedure_statements script c.requires.script c.in-CallTo.index called.1))
     c.requires.sound)
+
+pub returns-in-Delete-clause-kept : goal.returns-in-Delete-clause-kept
+returns-in-Delete-clause-kept c =
+    on_ok_then c.begin_delete.result c.begin_delete.ensures.kept (λ kept r budget f.
+    let script = c.args.script.now in
+    let h = c.args.state.now in
+    let old = c.args.self.now.pieces.items in
+    let at = where_of c.args.at in
+    let p = c.in-Delete.object in
+    let layer = out-Statement c.args.statement.now in
+    let is : layer ≡ Statement-F.Delete p = ap out-Statement c.in-Delete.is ∙ outs-Delete p in
+    kept script r budget h
+    ∙ ap (λ (q : Ptr). rest_after script budget r (destroyed_object (is_null q) (meaning_of script budget) at q (state_of script h)) old h) c.pointer.ensures
+    ∙ delete_asked script budget r at p old h (sym (ap (operands_refused h) is) ∙ c.requires.operands)
+    ∙ ap (λ (l : Layer). rest_of_statement script budget r at l old h) (sym is))
+
+pub returns-in-Delete-clause-sound : goal.returns-in-Delete-clause-sound
+returns-in-Delete-clause-sound c = on_ok_then c.begin_delete.result c.begin_delete.ensures.sound (λ sound. sound c.args.script.now c.requires.sound)

@@ -8,22 +8,22 @@ use Rattle.wb_machine.proofs.Steps.{pending_pushed, rest_stepped}
 use Rattle.wb_machine.proofs.Scripts.{sound_pushed, own_first, own_rest}
 use Rattle.wb_machine.proofs.control.Control.step_code.Goals as goal
 
-pub begin_statement-requires-clause-own : goal.begin_statement-requires-clause-own
-begin_statement-requires-clause-own c = own_first c.args.script.now c.args.first.now c.args.rest.now c.requires.own
+pub begin_unless_refused-requires-clause-own : goal.begin_unless_refused-requires-clause-own
+begin_unless_refused-requires-clause-own c = own_first c.args.script.now c.args.first.now c.args.rest.now c.requires.own
 
-pub begin_statement-requires-clause-sound : goal.begin_statement-requires-clause-sound
-begin_statement-requires-clause-sound c =
+pub begin_unless_refused-requires-clause-sound : goal.begin_unless_refused-requires-clause-sound
+begin_unless_refused-requires-clause-sound c =
     let script = c.args.script.now in
     sound_pushed script c.args.self.now.pieces.items c.push.new.self.pieces.items (Code c.args.at c.args.rest) c.in_ok-push.ensures.pieces c.requires.sound
     (own_rest script c.args.first.now c.args.rest.now c.requires.own)
 
 pub returns-clause-kept : goal.returns-clause-kept
 returns-clause-kept c =
-    on_ok_then c.begin_statement.result c.begin_statement.ensures.kept (λ kept r budget within f.
+    on_ok_then c.begin_unless_refused.result c.begin_unless_refused.ensures.kept (λ kept r budget within f.
     let script = c.args.script.now in
     let mid = c.push.new.self.pieces.items in
     let h = c.args.state.now in
-    rest_stepped script budget r (where_of c.args.at) c.args.first.now c.args.rest.now c.args.self.now.pieces.items mid c.begin_statement.new.self.pieces.items
-    c.begin_statement.new.self.ending h c.begin_statement.new.state (pending_pushed h.callers c.args.self.now.pieces.items mid (Code c.args.at c.args.rest) c.in_ok-push.ensures.pieces) within
-    (kept r budget (subst (λ (x : RunState). FitsStep r x c.begin_statement.new.self.ending c.begin_statement.new.state) (sym c.tick.ensures) (c.requires.lines, f))
+    rest_stepped script budget r (where_of c.args.at) c.args.first.now c.args.rest.now c.args.self.now.pieces.items mid c.begin_unless_refused.new.self.pieces.items
+    c.begin_unless_refused.new.self.ending h c.begin_unless_refused.new.state (pending_pushed h.callers c.args.self.now.pieces.items mid (Code c.args.at c.args.rest) c.in_ok-push.ensures.pieces) within
+    (kept r budget (subst (λ (x : RunState). FitsStep r x c.begin_unless_refused.new.self.ending c.begin_unless_refused.new.state) (sym c.tick.ensures) (c.requires.lines, f))
     ∙ ap (λ (x : RunState). rest_of_statement script budget r (where_of c.args.at) (out-Statement c.args.first.now.statement) mid x) c.tick.ensures))

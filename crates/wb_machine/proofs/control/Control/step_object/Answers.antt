@@ -1,7 +1,10 @@
-use Rattle.std.proofs.Common.{[], ap, ◌∙◌, sym, subst}
+use Rattle.std.proofs.Common.{List, IsTrue, [], ap, ◌∙◌, sym, subst}
+use Rattle.std.specs.List.{list_all}
+use Rattle.wb_model.specs.declared.script.Local.{Local}
+use Rattle.wb_machine.specs.LocalValues.{is_small}
 use Rattle.std.specs.Prelude.{unwrap_or}
 use Rattle.wb_model.specs.Rest.{releases}
-use Rattle.wb_model.specs.Statements.{class_at, no_body}
+use Rattle.wb_model.specs.Bodies.{class_at, no_body}
 use Rattle.wb_machine.specs.declared.pieces.Ending.TheVariants.{Panics}
 use Rattle.wb_machine.specs.RunState.{RunState}
 use Rattle.wb_machine.specs.Bodies.{class_read}
@@ -23,7 +26,7 @@ returns-in-Ok-clause-kept c =
     let old = c.args.self.now.pieces.items in
     let body = unwrap_or (class_at script c.in-Ok.class).destroy no_body in
     rest_unmade script budget r at p old c.begin_body.new.self.pieces.items c.begin_body.new.self.ending h c.begin_body.new.state within
-    (kept script r budget body (record { locals = c.destroy_at-body.ensures.locals; statements = c.destroy_at-body.ensures.statements })
+    (kept r budget body (record { locals = c.destroy_at-body.ensures.locals; statements = c.destroy_at-body.ensures.statements })
     ∙ ap (λ (x : RunState). rest_of_body script budget r at p [] body (releases p) old x) c.tick.ensures
     ∙ destroy_as_body script budget r at p c.in-Ok.class old (stepped h) (sym c.in-Ok.is ∙ c.class.ensures ∙ ap (λ (x : RunState). class_read x p) c.tick.ensures)))
 
@@ -42,3 +45,7 @@ returns-in-Err-clause-kept c r budget within =
     rest_unmade script budget r at c.args.ptr old old (Panics c.in-Err.panic) h c.tick.new.self within
     (ap (λ (x : RunState). rest_from script budget r (Panics c.in-Err.panic) old x) c.tick.ensures
     ∙ destroy_refused script budget r at c.args.ptr c.in-Err.panic old (stepped h) (sym c.in-Err.is ∙ c.class.ensures ∙ ap (λ (x : RunState). class_read x c.args.ptr) c.tick.ensures))
+
+pub begin_body-requires-clause-locals : goal.begin_body-requires-clause-locals
+begin_body-requires-clause-locals c =
+    subst (λ (locals : List Local). IsTrue (list_all is_small locals)) (sym c.destroy_at-body.ensures.locals) (destroy_own c.args.script.now c.requires.script c.in-Ok.class).1

@@ -1,7 +1,7 @@
-use Rattle.std.proofs.Common.{ap, ◌∙◌, subst, length, rules, w32, FitsSigned}
+use Rattle.std.proofs.Common.{ap, ◌∙◌, subst, rules, w32, FitsSigned}
 use Rattle.std.proofs.lemmas.Int.{to_z-of_z}
 use Rattle.wb_model.specs.declared.script.Statement.TheOpen.{Statement-F}
-use Rattle.wb_model.specs.declared.script.Statement.TheViews.{out-Statement, outs-Alloc, outs-Realloc, outs-Free, outs-AllocLen, outs-Store, outs-Load, outs-Set, outs-SetNumber, outs-SetNull, outs-Add, outs-Leave, outs-LeaveIfError, outs-LeaveIfNull, outs-Return, outs-ReturnPointer, outs-Mark, outs-MarkEnd, outs-Check, outs-CheckAll, outs-FailNext, outs-FailEvery, outs-FailNone, outs-NewText, outs-ReallocText, outs-Copy, outs-Append, outs-Insert, outs-DeleteText, outs-SetLength, outs-Left, outs-Right, outs-Mid, outs-GetLength, outs-GetMaximum, outs-PrintText, outs-PrintNumber, outs-NoteHeap, outs-NoteAvailable, outs-NoteCompress, outs-Push, outs-PushOperation, outs-Pop, outs-PopCheck}
+use Rattle.wb_model.specs.declared.script.Statement.TheViews.{out-Statement, outs-Alloc, outs-Realloc, outs-Free, outs-AllocLen, outs-Store, outs-Load, outs-Set, outs-SetNumber, outs-SetNull, outs-Add, outs-Leave, outs-LeaveIfError, outs-LeaveIfNull, outs-Return, outs-ReturnPointer, outs-Mark, outs-MarkEnd, outs-Check, outs-CheckAll, outs-FailNext, outs-FailEvery, outs-FailNone, outs-NewText, outs-ReallocText, outs-Copy, outs-Append, outs-Insert, outs-DeleteText, outs-SetLength, outs-Left, outs-Right, outs-Mid, outs-GetLength, outs-GetMaximum, outs-PrintText, outs-PrintNumber, outs-NoteHeap, outs-NoteAvailable, outs-NoteCompress, outs-New, outs-Push, outs-PushObject, outs-PushOperation, outs-Pop, outs-PopCheck}
 use Rattle.wb_machine.specs.Carried.{pointer_read, number_read, store_carried}
 use Rattle.wb_machine.specs.RunState.{RunState}
 use Rattle.wb_machine.specs.CarriedCleanup.{IsStackThere}
@@ -13,6 +13,7 @@ use Rattle.wb_machine.proofs.KeptViews.{left_kept, right_kept, mid_kept, length_
 use Rattle.wb_machine.proofs.Kept.{carried_out, carried_over}
 use Rattle.wb_machine.proofs.KeptCleanup.{pop_check_kept, pop_kept, push_kept, push_operation_kept}
 use Rattle.wb_machine.proofs.KeptCells.{alloc_kept, free_kept}
+use Rattle.wb_machine.proofs.KeptObjects.{class_there, new_kept, push_object_kept}
 use Rattle.wb_machine.proofs.KeptReallocations.{realloc_kept}
 use Rattle.wb_machine.proofs.KeptWords.{store_kept, load_kept, usable_kept}
 use Rattle.wb_machine.proofs.KeptNumbers.{set_kept, set_number_kept, null_kept, add_kept}
@@ -25,27 +26,27 @@ pub returns-in-Alloc-clause-kept : goal.returns-in-Alloc-clause-kept
 returns-in-Alloc-clause-kept c =
     let script = c.args.script.now in
     if_ok_then c.alloc.result _ _ c.alloc.ensures.carried (λ ending made.
-    carried_out script c.requires.statement (Statement-F.Alloc c.in-Alloc.target c.in-Alloc.bytes c.in-Alloc.refusal) (ap out-Statement c.in-Alloc.is ∙ outs-Alloc c.in-Alloc.target c.in-Alloc.bytes c.in-Alloc.refusal) made
-    (alloc_kept script (length script.literals) c.requires.statement.locals c.args.self.now c.in-Alloc.target c.in-Alloc.bytes c.in-Alloc.refusal))
+    carried_out script c.requires.operands (Statement-F.Alloc c.in-Alloc.target c.in-Alloc.bytes c.in-Alloc.refusal) (ap out-Statement c.in-Alloc.is ∙ outs-Alloc c.in-Alloc.target c.in-Alloc.bytes c.in-Alloc.refusal) made
+    (alloc_kept script c.args.self.now c.in-Alloc.target c.in-Alloc.bytes c.in-Alloc.refusal))
 
 pub returns-in-Realloc-clause-kept : goal.returns-in-Realloc-clause-kept
 returns-in-Realloc-clause-kept c =
     let script = c.args.script.now in
     if_ok_then c.realloc.result _ _ c.realloc.ensures.carried (λ ending made.
-    carried_out script c.requires.statement (Statement-F.Realloc c.in-Realloc.target c.in-Realloc.source c.in-Realloc.bytes c.in-Realloc.refusal) (ap out-Statement c.in-Realloc.is ∙ outs-Realloc c.in-Realloc.target c.in-Realloc.source c.in-Realloc.bytes c.in-Realloc.refusal) made
-    (realloc_kept script (length script.literals) c.requires.statement.locals c.args.self.now c.in-Realloc.target c.in-Realloc.source c.in-Realloc.bytes c.in-Realloc.refusal))
+    carried_out script c.requires.operands (Statement-F.Realloc c.in-Realloc.target c.in-Realloc.source c.in-Realloc.bytes c.in-Realloc.refusal) (ap out-Statement c.in-Realloc.is ∙ outs-Realloc c.in-Realloc.target c.in-Realloc.source c.in-Realloc.bytes c.in-Realloc.refusal) made
+    (realloc_kept script c.args.self.now c.in-Realloc.target c.in-Realloc.source c.in-Realloc.bytes c.in-Realloc.refusal))
 
 pub returns-in-Free-clause-kept : goal.returns-in-Free-clause-kept
 returns-in-Free-clause-kept c =
     let script = c.args.script.now in
-    carried_out script c.requires.statement (Statement-F.Free c.in-Free.pointer) (ap out-Statement c.in-Free.is ∙ outs-Free c.in-Free.pointer) c.free.ensures
-    (free_kept script (length script.literals) c.requires.statement.locals c.args.self.now c.in-Free.pointer)
+    carried_out script c.requires.operands (Statement-F.Free c.in-Free.pointer) (ap out-Statement c.in-Free.is ∙ outs-Free c.in-Free.pointer) c.free.ensures
+    (free_kept script c.args.self.now c.in-Free.pointer)
 
 pub returns-in-AllocLen-clause-kept : goal.returns-in-AllocLen-clause-kept
 returns-in-AllocLen-clause-kept c =
     let script = c.args.script.now in
-    carried_out script c.requires.statement (Statement-F.AllocLen c.in-AllocLen.local c.in-AllocLen.pointer) (ap out-Statement c.in-AllocLen.is ∙ outs-AllocLen c.in-AllocLen.local c.in-AllocLen.pointer) c.alloc_len.ensures
-    (usable_kept script (length script.literals) c.requires.statement.locals c.args.self.now c.in-AllocLen.local c.in-AllocLen.pointer)
+    carried_out script c.requires.operands (Statement-F.AllocLen c.in-AllocLen.local c.in-AllocLen.pointer) (ap out-Statement c.in-AllocLen.is ∙ outs-AllocLen c.in-AllocLen.local c.in-AllocLen.pointer) c.alloc_len.ensures
+    (usable_kept script c.args.self.now c.in-AllocLen.local c.in-AllocLen.pointer)
 
 pub returns-in-Store-clause-kept : goal.returns-in-Store-clause-kept
 returns-in-Store-clause-kept c =
@@ -56,240 +57,240 @@ returns-in-Store-clause-kept c =
     let w = c.in-Store.value in
     let fits : FitsSigned w32 c.number-value.result = search rules in
     let value = to_z-of_z w32 c.number-value.result fits ∙ c.number-value.ensures in
-    carried_out script c.requires.statement (Statement-F.Store p v w) (ap out-Statement c.in-Store.is ∙ outs-Store p v w)
-    (subst (λ z. CarriesOut h (store_carried h (pointer_read h p) (number_read h v) z) c.store.result c.store.new.self) value c.store.ensures)
-    (store_kept script (length script.literals) c.requires.statement.locals h p v w (subst (λ z. FitsSigned w32 z) c.number-value.ensures fits))
+    carried_out script c.requires.operands (Statement-F.Store p v w) (ap out-Statement c.in-Store.is ∙ outs-Store p v w)
+    (subst (λ z. CarriesOut h (store_carried h (pointer_read script h p) (number_read h v) z) c.store.result c.store.new.self) value c.store.ensures)
+    (store_kept script h p v w (subst (λ z. FitsSigned w32 z) c.number-value.ensures fits))
 
 pub returns-in-Load-clause-kept : goal.returns-in-Load-clause-kept
 returns-in-Load-clause-kept c =
     let script = c.args.script.now in
-    carried_out script c.requires.statement (Statement-F.Load c.in-Load.local c.in-Load.pointer c.in-Load.index) (ap out-Statement c.in-Load.is ∙ outs-Load c.in-Load.local c.in-Load.pointer c.in-Load.index) c.load.ensures
-    (load_kept script (length script.literals) c.requires.statement.locals c.args.self.now c.in-Load.local c.in-Load.pointer c.in-Load.index)
+    carried_out script c.requires.operands (Statement-F.Load c.in-Load.local c.in-Load.pointer c.in-Load.index) (ap out-Statement c.in-Load.is ∙ outs-Load c.in-Load.local c.in-Load.pointer c.in-Load.index) c.load.ensures
+    (load_kept script c.args.self.now c.in-Load.local c.in-Load.pointer c.in-Load.index)
 
 pub returns-in-Set-clause-kept : goal.returns-in-Set-clause-kept
 returns-in-Set-clause-kept c =
     let script = c.args.script.now in
-    carried_out script c.requires.statement (Statement-F.Set c.in-Set.target c.in-Set.source) (ap out-Statement c.in-Set.is ∙ outs-Set c.in-Set.target c.in-Set.source) c.copy_pointer.ensures
-    (set_kept script (length script.literals) c.requires.statement.locals c.args.self.now c.in-Set.target c.in-Set.source)
+    carried_out script c.requires.operands (Statement-F.Set c.in-Set.target c.in-Set.source) (ap out-Statement c.in-Set.is ∙ outs-Set c.in-Set.target c.in-Set.source) c.copy_pointer.ensures
+    (set_kept script c.args.self.now c.in-Set.target c.in-Set.source)
 
 pub returns-in-SetNumber-clause-kept : goal.returns-in-SetNumber-clause-kept
 returns-in-SetNumber-clause-kept c =
     let script = c.args.script.now in
-    carried_out script c.requires.statement (Statement-F.SetNumber c.in-SetNumber.local c.in-SetNumber.value) (ap out-Statement c.in-SetNumber.is ∙ outs-SetNumber c.in-SetNumber.local c.in-SetNumber.value) c.set_number.ensures
-    (set_number_kept script (length script.literals) c.requires.statement.locals c.args.self.now c.in-SetNumber.local c.in-SetNumber.value)
+    carried_out script c.requires.operands (Statement-F.SetNumber c.in-SetNumber.local c.in-SetNumber.value) (ap out-Statement c.in-SetNumber.is ∙ outs-SetNumber c.in-SetNumber.local c.in-SetNumber.value) c.set_number.ensures
+    (set_number_kept script c.args.self.now c.in-SetNumber.local c.in-SetNumber.value)
 
 pub returns-in-SetNull-clause-kept : goal.returns-in-SetNull-clause-kept
 returns-in-SetNull-clause-kept c =
     let script = c.args.script.now in
-    carried_out script c.requires.statement (Statement-F.SetNull c.in-SetNull.target) (ap out-Statement c.in-SetNull.is ∙ outs-SetNull c.in-SetNull.target) c.set_null.ensures
-    (null_kept script (length script.literals) c.requires.statement.locals c.args.self.now c.in-SetNull.target)
+    carried_out script c.requires.operands (Statement-F.SetNull c.in-SetNull.target) (ap out-Statement c.in-SetNull.is ∙ outs-SetNull c.in-SetNull.target) c.set_null.ensures
+    (null_kept script c.args.self.now c.in-SetNull.target)
 
 pub returns-in-Add-clause-kept : goal.returns-in-Add-clause-kept
 returns-in-Add-clause-kept c =
     let script = c.args.script.now in
-    carried_out script c.requires.statement (Statement-F.Add c.in-Add.local c.in-Add.value) (ap out-Statement c.in-Add.is ∙ outs-Add c.in-Add.local c.in-Add.value) c.add.ensures
-    (add_kept script (length script.literals) c.requires.statement.locals c.args.self.now c.in-Add.local c.in-Add.value)
+    carried_out script c.requires.operands (Statement-F.Add c.in-Add.local c.in-Add.value) (ap out-Statement c.in-Add.is ∙ outs-Add c.in-Add.local c.in-Add.value) c.add.ensures
+    (add_kept script c.args.self.now c.in-Add.local c.in-Add.value)
 
 pub returns-in-Mark-clause-kept : goal.returns-in-Mark-clause-kept
 returns-in-Mark-clause-kept c =
     let script = c.args.script.now in
-    carried_out script c.requires.statement Statement-F.Mark (ap out-Statement c.in-Mark.is ∙ outs-Mark) c.mark.ensures
-    (mark_kept script (length script.literals) c.requires.statement.locals c.args.self.now)
+    carried_out script c.requires.operands Statement-F.Mark (ap out-Statement c.in-Mark.is ∙ outs-Mark) c.mark.ensures
+    (mark_kept script c.args.self.now)
 
 pub returns-in-MarkEnd-clause-kept : goal.returns-in-MarkEnd-clause-kept
 returns-in-MarkEnd-clause-kept c =
     let script = c.args.script.now in
-    carried_out script c.requires.statement (Statement-F.MarkEnd c.in-MarkEnd.count) (ap out-Statement c.in-MarkEnd.is ∙ outs-MarkEnd c.in-MarkEnd.count) c.mark_end.ensures
-    (mark_end_kept script (length script.literals) c.requires.statement.locals c.args.self.now c.in-MarkEnd.count)
+    carried_out script c.requires.operands (Statement-F.MarkEnd c.in-MarkEnd.count) (ap out-Statement c.in-MarkEnd.is ∙ outs-MarkEnd c.in-MarkEnd.count) c.mark_end.ensures
+    (mark_end_kept script c.args.self.now c.in-MarkEnd.count)
 
 pub returns-in-Check-clause-kept : goal.returns-in-Check-clause-kept
 returns-in-Check-clause-kept c =
     let script = c.args.script.now in
-    carried_out script c.requires.statement (Statement-F.Check c.in-Check.count) (ap out-Statement c.in-Check.is ∙ outs-Check c.in-Check.count) c.check.ensures
-    (check_kept script (length script.literals) c.requires.statement.locals c.args.self.now c.in-Check.count)
+    carried_out script c.requires.operands (Statement-F.Check c.in-Check.count) (ap out-Statement c.in-Check.is ∙ outs-Check c.in-Check.count) c.check.ensures
+    (check_kept script c.args.self.now c.in-Check.count)
 
 pub returns-in-CheckAll-clause-kept : goal.returns-in-CheckAll-clause-kept
 returns-in-CheckAll-clause-kept c =
     let script = c.args.script.now in
-    carried_out script c.requires.statement (Statement-F.CheckAll c.in-CheckAll.count) (ap out-Statement c.in-CheckAll.is ∙ outs-CheckAll c.in-CheckAll.count) c.check_all.ensures
-    (check_all_kept script (length script.literals) c.requires.statement.locals c.args.self.now c.in-CheckAll.count)
+    carried_out script c.requires.operands (Statement-F.CheckAll c.in-CheckAll.count) (ap out-Statement c.in-CheckAll.is ∙ outs-CheckAll c.in-CheckAll.count) c.check_all.ensures
+    (check_all_kept script c.args.self.now c.in-CheckAll.count)
 
 pub returns-in-FailNext-clause-kept : goal.returns-in-FailNext-clause-kept
 returns-in-FailNext-clause-kept c =
     let script = c.args.script.now in
-    carried_out script c.requires.statement (Statement-F.FailNext c.in-FailNext.rate) (ap out-Statement c.in-FailNext.is ∙ outs-FailNext c.in-FailNext.rate) c.fail_next.ensures
-    (fail_next_kept script (length script.literals) c.requires.statement.locals c.args.self.now c.in-FailNext.rate)
+    carried_out script c.requires.operands (Statement-F.FailNext c.in-FailNext.rate) (ap out-Statement c.in-FailNext.is ∙ outs-FailNext c.in-FailNext.rate) c.fail_next.ensures
+    (fail_next_kept script c.args.self.now c.in-FailNext.rate)
 
 pub returns-in-FailEvery-clause-kept : goal.returns-in-FailEvery-clause-kept
 returns-in-FailEvery-clause-kept c =
     let script = c.args.script.now in
-    carried_out script c.requires.statement (Statement-F.FailEvery c.in-FailEvery.rate) (ap out-Statement c.in-FailEvery.is ∙ outs-FailEvery c.in-FailEvery.rate) c.fail_every.ensures
-    (fail_every_kept script (length script.literals) c.requires.statement.locals c.args.self.now c.in-FailEvery.rate)
+    carried_out script c.requires.operands (Statement-F.FailEvery c.in-FailEvery.rate) (ap out-Statement c.in-FailEvery.is ∙ outs-FailEvery c.in-FailEvery.rate) c.fail_every.ensures
+    (fail_every_kept script c.args.self.now c.in-FailEvery.rate)
 
 pub returns-in-FailNone-clause-kept : goal.returns-in-FailNone-clause-kept
 returns-in-FailNone-clause-kept c =
     let script = c.args.script.now in
-    carried_out script c.requires.statement Statement-F.FailNone (ap out-Statement c.in-FailNone.is ∙ outs-FailNone) c.fail_none.ensures
-    (fail_none_kept script (length script.literals) c.requires.statement.locals c.args.self.now)
+    carried_out script c.requires.operands Statement-F.FailNone (ap out-Statement c.in-FailNone.is ∙ outs-FailNone) c.fail_none.ensures
+    (fail_none_kept script c.args.self.now)
 
 pub returns-in-NewText-clause-kept : goal.returns-in-NewText-clause-kept
 returns-in-NewText-clause-kept c =
     let script = c.args.script.now in
     if_ok_then c.new_text.result _ _ c.new_text.ensures.carried (λ ending made.
-    carried_out script c.requires.statement (Statement-F.NewText c.in-NewText.target c.in-NewText.units c.in-NewText.refusal) (ap out-Statement c.in-NewText.is ∙ outs-NewText c.in-NewText.target c.in-NewText.units c.in-NewText.refusal) made
-    (new_text_kept script (length script.literals) c.requires.statement.locals c.args.self.now c.in-NewText.target c.in-NewText.units c.in-NewText.refusal))
+    carried_out script c.requires.operands (Statement-F.NewText c.in-NewText.target c.in-NewText.units c.in-NewText.refusal) (ap out-Statement c.in-NewText.is ∙ outs-NewText c.in-NewText.target c.in-NewText.units c.in-NewText.refusal) made
+    (new_text_kept script c.args.self.now c.in-NewText.target c.in-NewText.units c.in-NewText.refusal))
 
 pub returns-in-ReallocText-clause-kept : goal.returns-in-ReallocText-clause-kept
 returns-in-ReallocText-clause-kept c =
     let script = c.args.script.now in
     if_ok_then c.realloc_text.result _ _ c.realloc_text.ensures.carried (λ ending made.
-    carried_out script c.requires.statement (Statement-F.ReallocText c.in-ReallocText.target c.in-ReallocText.source c.in-ReallocText.units) (ap out-Statement c.in-ReallocText.is ∙ outs-ReallocText c.in-ReallocText.target c.in-ReallocText.source c.in-ReallocText.units) made
-    (realloc_text_kept script (length script.literals) c.requires.statement.locals c.args.self.now c.in-ReallocText.target c.in-ReallocText.source c.in-ReallocText.units c.realloc_text.ensures.texts))
+    carried_out script c.requires.operands (Statement-F.ReallocText c.in-ReallocText.target c.in-ReallocText.source c.in-ReallocText.units) (ap out-Statement c.in-ReallocText.is ∙ outs-ReallocText c.in-ReallocText.target c.in-ReallocText.source c.in-ReallocText.units) made
+    (realloc_text_kept script c.args.self.now c.in-ReallocText.target c.in-ReallocText.source c.in-ReallocText.units c.realloc_text.ensures.texts))
 
 pub returns-in-Copy-clause-kept : goal.returns-in-Copy-clause-kept
 returns-in-Copy-clause-kept c =
     let script = c.args.script.now in
-    carried_as script c.args.self.now c.edit.new.self c.edit.result _ c.requires.statement (Statement-F.Copy c.in-Copy.target c.in-Copy.text)
-    (ap out-Statement c.in-Copy.is ∙ outs-Copy c.in-Copy.target c.in-Copy.text) (copy_kept script (length script.literals) c.requires.statement.locals c.args.self.now c.in-Copy.target c.in-Copy.text c.edit.result c.edit.new.self c.edit.ensures.edited)
+    carried_as script c.args.self.now c.edit.new.self c.edit.result _ c.requires.operands (Statement-F.Copy c.in-Copy.target c.in-Copy.text)
+    (ap out-Statement c.in-Copy.is ∙ outs-Copy c.in-Copy.target c.in-Copy.text) (copy_kept script c.args.self.now c.in-Copy.target c.in-Copy.text c.edit.result c.edit.new.self c.edit.ensures.edited)
 
 pub returns-in-Append-clause-kept : goal.returns-in-Append-clause-kept
 returns-in-Append-clause-kept c =
     let script = c.args.script.now in
-    carried_as script c.args.self.now c.edit-in-Append.new.self c.edit-in-Append.result _ c.requires.statement (Statement-F.Append c.in-Append.target c.in-Append.text)
-    (ap out-Statement c.in-Append.is ∙ outs-Append c.in-Append.target c.in-Append.text) (append_kept script (length script.literals) c.requires.statement.locals c.args.self.now c.in-Append.target c.in-Append.text c.edit-in-Append.result c.edit-in-Append.new.self c.edit-in-Append.ensures.edited)
+    carried_as script c.args.self.now c.edit-in-Append.new.self c.edit-in-Append.result _ c.requires.operands (Statement-F.Append c.in-Append.target c.in-Append.text)
+    (ap out-Statement c.in-Append.is ∙ outs-Append c.in-Append.target c.in-Append.text) (append_kept script c.args.self.now c.in-Append.target c.in-Append.text c.edit-in-Append.result c.edit-in-Append.new.self c.edit-in-Append.ensures.edited)
 
 pub returns-in-Insert-clause-kept : goal.returns-in-Insert-clause-kept
 returns-in-Insert-clause-kept c =
     let script = c.args.script.now in
-    carried_as script c.args.self.now c.insert.new.self c.insert.result _ c.requires.statement (Statement-F.Insert c.in-Insert.target c.in-Insert.position c.in-Insert.text)
-    (ap out-Statement c.in-Insert.is ∙ outs-Insert c.in-Insert.target c.in-Insert.position c.in-Insert.text) (insert_kept script (length script.literals) c.requires.statement.locals c.args.self.now c.in-Insert.target c.in-Insert.position c.in-Insert.text c.insert.result c.insert.new.self c.insert.ensures.inserted)
+    carried_as script c.args.self.now c.insert.new.self c.insert.result _ c.requires.operands (Statement-F.Insert c.in-Insert.target c.in-Insert.position c.in-Insert.text)
+    (ap out-Statement c.in-Insert.is ∙ outs-Insert c.in-Insert.target c.in-Insert.position c.in-Insert.text) (insert_kept script c.args.self.now c.in-Insert.target c.in-Insert.position c.in-Insert.text c.insert.result c.insert.new.self c.insert.ensures.inserted)
 
 pub returns-in-DeleteText-clause-kept : goal.returns-in-DeleteText-clause-kept
 returns-in-DeleteText-clause-kept c =
     let script = c.args.script.now in
-    carried_as script c.args.self.now c.delete_text.new.self c.delete_text.result _ c.requires.statement (Statement-F.DeleteText c.in-DeleteText.target c.in-DeleteText.position c.in-DeleteText.count)
-    (ap out-Statement c.in-DeleteText.is ∙ outs-DeleteText c.in-DeleteText.target c.in-DeleteText.position c.in-DeleteText.count) (delete_kept script (length script.literals) c.requires.statement.locals c.args.self.now c.in-DeleteText.target c.in-DeleteText.position c.in-DeleteText.count c.delete_text.result c.delete_text.new.self c.delete_text.ensures.deleted)
+    carried_as script c.args.self.now c.delete_text.new.self c.delete_text.result _ c.requires.operands (Statement-F.DeleteText c.in-DeleteText.target c.in-DeleteText.position c.in-DeleteText.count)
+    (ap out-Statement c.in-DeleteText.is ∙ outs-DeleteText c.in-DeleteText.target c.in-DeleteText.position c.in-DeleteText.count) (delete_kept script c.args.self.now c.in-DeleteText.target c.in-DeleteText.position c.in-DeleteText.count c.delete_text.result c.delete_text.new.self c.delete_text.ensures.deleted)
 
 pub returns-in-SetLength-clause-kept : goal.returns-in-SetLength-clause-kept
 returns-in-SetLength-clause-kept c =
     let script = c.args.script.now in
-    carried_as script c.args.self.now c.set_length.new.self c.set_length.result _ c.requires.statement (Statement-F.SetLength c.in-SetLength.target c.in-SetLength.length)
-    (ap out-Statement c.in-SetLength.is ∙ outs-SetLength c.in-SetLength.target c.in-SetLength.length) (length_set_kept script (length script.literals) c.requires.statement.locals c.args.self.now c.in-SetLength.target c.in-SetLength.length c.set_length.result c.set_length.new.self c.set_length.ensures.set)
+    carried_as script c.args.self.now c.set_length.new.self c.set_length.result _ c.requires.operands (Statement-F.SetLength c.in-SetLength.target c.in-SetLength.length)
+    (ap out-Statement c.in-SetLength.is ∙ outs-SetLength c.in-SetLength.target c.in-SetLength.length) (length_set_kept script c.args.self.now c.in-SetLength.target c.in-SetLength.length c.set_length.result c.set_length.new.self c.set_length.ensures.set)
 
 pub returns-in-Left-clause-kept : goal.returns-in-Left-clause-kept
 returns-in-Left-clause-kept c =
     let script = c.args.script.now in
-    carried_out script c.requires.statement (Statement-F.Left c.in-Left.local c.in-Left.text c.in-Left.count) (ap out-Statement c.in-Left.is ∙ outs-Left c.in-Left.local c.in-Left.text c.in-Left.count) c.left.ensures
-    (left_kept script (length script.literals) c.requires.statement.locals c.args.self.now c.in-Left.local c.in-Left.text c.in-Left.count)
+    carried_out script c.requires.operands (Statement-F.Left c.in-Left.local c.in-Left.text c.in-Left.count) (ap out-Statement c.in-Left.is ∙ outs-Left c.in-Left.local c.in-Left.text c.in-Left.count) c.left.ensures
+    (left_kept script c.args.self.now c.in-Left.local c.in-Left.text c.in-Left.count)
 
 pub returns-in-Right-clause-kept : goal.returns-in-Right-clause-kept
 returns-in-Right-clause-kept c =
     let script = c.args.script.now in
-    carried_out script c.requires.statement (Statement-F.Right c.in-Right.local c.in-Right.text c.in-Right.count) (ap out-Statement c.in-Right.is ∙ outs-Right c.in-Right.local c.in-Right.text c.in-Right.count) c.right.ensures
-    (right_kept script (length script.literals) c.requires.statement.locals c.args.self.now c.in-Right.local c.in-Right.text c.in-Right.count)
+    carried_out script c.requires.operands (Statement-F.Right c.in-Right.local c.in-Right.text c.in-Right.count) (ap out-Statement c.in-Right.is ∙ outs-Right c.in-Right.local c.in-Right.text c.in-Right.count) c.right.ensures
+    (right_kept script c.args.self.now c.in-Right.local c.in-Right.text c.in-Right.count)
 
 pub returns-in-Mid-clause-kept : goal.returns-in-Mid-clause-kept
 returns-in-Mid-clause-kept c =
     let script = c.args.script.now in
-    carried_out script c.requires.statement (Statement-F.Mid c.in-Mid.local c.in-Mid.text c.in-Mid.position c.in-Mid.count) (ap out-Statement c.in-Mid.is ∙ outs-Mid c.in-Mid.local c.in-Mid.text c.in-Mid.position c.in-Mid.count) c.mid.ensures
-    (mid_kept script (length script.literals) c.requires.statement.locals c.args.self.now c.in-Mid.local c.in-Mid.text c.in-Mid.position c.in-Mid.count)
+    carried_out script c.requires.operands (Statement-F.Mid c.in-Mid.local c.in-Mid.text c.in-Mid.position c.in-Mid.count) (ap out-Statement c.in-Mid.is ∙ outs-Mid c.in-Mid.local c.in-Mid.text c.in-Mid.position c.in-Mid.count) c.mid.ensures
+    (mid_kept script c.args.self.now c.in-Mid.local c.in-Mid.text c.in-Mid.position c.in-Mid.count)
 
 pub returns-in-GetLength-clause-kept : goal.returns-in-GetLength-clause-kept
 returns-in-GetLength-clause-kept c =
     let script = c.args.script.now in
-    carried_out script c.requires.statement (Statement-F.GetLength c.in-GetLength.local c.in-GetLength.text) (ap out-Statement c.in-GetLength.is ∙ outs-GetLength c.in-GetLength.local c.in-GetLength.text) c.get_length.ensures
-    (length_kept script (length script.literals) c.requires.statement.locals c.args.self.now c.in-GetLength.local c.in-GetLength.text)
+    carried_out script c.requires.operands (Statement-F.GetLength c.in-GetLength.local c.in-GetLength.text) (ap out-Statement c.in-GetLength.is ∙ outs-GetLength c.in-GetLength.local c.in-GetLength.text) c.get_length.ensures
+    (length_kept script c.args.self.now c.in-GetLength.local c.in-GetLength.text)
 
 pub returns-in-GetMaximum-clause-kept : goal.returns-in-GetMaximum-clause-kept
 returns-in-GetMaximum-clause-kept c =
     let script = c.args.script.now in
-    carried_out script c.requires.statement (Statement-F.GetMaximum c.in-GetMaximum.local c.in-GetMaximum.target) (ap out-Statement c.in-GetMaximum.is ∙ outs-GetMaximum c.in-GetMaximum.local c.in-GetMaximum.target) c.get_maximum.ensures
-    (max_kept script (length script.literals) c.requires.statement.locals c.args.self.now c.in-GetMaximum.local c.in-GetMaximum.target)
+    carried_out script c.requires.operands (Statement-F.GetMaximum c.in-GetMaximum.local c.in-GetMaximum.target) (ap out-Statement c.in-GetMaximum.is ∙ outs-GetMaximum c.in-GetMaximum.local c.in-GetMaximum.target) c.get_maximum.ensures
+    (max_kept script c.args.self.now c.in-GetMaximum.local c.in-GetMaximum.target)
 
 pub returns-in-PrintText-clause-kept : goal.returns-in-PrintText-clause-kept
 returns-in-PrintText-clause-kept c =
     let script = c.args.script.now in
     if_ok_then c.print_text.result _ _ c.print_text.ensures.carried (λ ending made.
-    carried_out script c.requires.statement (Statement-F.PrintText c.in-PrintText.text) (ap out-Statement c.in-PrintText.is ∙ outs-PrintText c.in-PrintText.text) made
-    (print_kept script (length script.literals) c.requires.statement.locals c.args.self.now c.in-PrintText.text))
+    carried_out script c.requires.operands (Statement-F.PrintText c.in-PrintText.text) (ap out-Statement c.in-PrintText.is ∙ outs-PrintText c.in-PrintText.text) made
+    (print_kept script c.args.self.now c.in-PrintText.text))
 
 pub returns-in-PrintNumber-clause-kept : goal.returns-in-PrintNumber-clause-kept
 returns-in-PrintNumber-clause-kept c =
     let script = c.args.script.now in
     if_ok_then c.print_number.result _ _ c.print_number.ensures.carried (λ ending made.
-    carried_out script c.requires.statement (Statement-F.PrintNumber c.in-PrintNumber.value) (ap out-Statement c.in-PrintNumber.is ∙ outs-PrintNumber c.in-PrintNumber.value) made
-    (number_kept script (length script.literals) c.requires.statement.locals c.args.self.now c.in-PrintNumber.value))
+    carried_out script c.requires.operands (Statement-F.PrintNumber c.in-PrintNumber.value) (ap out-Statement c.in-PrintNumber.is ∙ outs-PrintNumber c.in-PrintNumber.value) made
+    (number_kept script c.args.self.now c.in-PrintNumber.value))
 
 pub returns-in-NoteHeap-clause-kept : goal.returns-in-NoteHeap-clause-kept
 returns-in-NoteHeap-clause-kept c =
     let script = c.args.script.now in
     if_ok_then c.note_heap.result _ _ c.note_heap.ensures.carried (λ ending made.
-    carried_out script c.requires.statement Statement-F.NoteHeap (ap out-Statement c.in-NoteHeap.is ∙ outs-NoteHeap) made
-    (heap_kept script (length script.literals) c.requires.statement.locals c.args.self.now))
+    carried_out script c.requires.operands Statement-F.NoteHeap (ap out-Statement c.in-NoteHeap.is ∙ outs-NoteHeap) made
+    (heap_kept script c.args.self.now))
 
 pub returns-in-NoteAvailable-clause-kept : goal.returns-in-NoteAvailable-clause-kept
 returns-in-NoteAvailable-clause-kept c =
     let script = c.args.script.now in
     if_ok_then c.note_available.result _ _ c.note_available.ensures.carried (λ ending made.
-    carried_out script c.requires.statement Statement-F.NoteAvailable (ap out-Statement c.in-NoteAvailable.is ∙ outs-NoteAvailable) made
-    (available_kept script (length script.literals) c.requires.statement.locals c.args.self.now))
+    carried_out script c.requires.operands Statement-F.NoteAvailable (ap out-Statement c.in-NoteAvailable.is ∙ outs-NoteAvailable) made
+    (available_kept script c.args.self.now))
 
 pub returns-in-NoteCompress-clause-kept : goal.returns-in-NoteCompress-clause-kept
 returns-in-NoteCompress-clause-kept c =
     let script = c.args.script.now in
     if_ok_then c.note_compress.result _ _ c.note_compress.ensures.carried (λ ending made.
-    carried_out script c.requires.statement Statement-F.NoteCompress (ap out-Statement c.in-NoteCompress.is ∙ outs-NoteCompress) made
-    (compress_kept script (length script.literals) c.requires.statement.locals c.args.self.now))
+    carried_out script c.requires.operands Statement-F.NoteCompress (ap out-Statement c.in-NoteCompress.is ∙ outs-NoteCompress) made
+    (compress_kept script c.args.self.now))
 
 pub returns-in-Leave-clause-kept : goal.returns-in-Leave-clause-kept
 returns-in-Leave-clause-kept c =
     let script = c.args.script.now in
-    carried_out script c.requires.statement (Statement-F.Leave c.in-Leave.code) (ap out-Statement c.in-Leave.is ∙ outs-Leave c.in-Leave.code) c.leave.ensures
-    (leave_kept script (length script.literals) c.requires.statement.locals c.requires.statement.trapped c.args.self.now c.in-Leave.code)
+    carried_out script c.requires.operands (Statement-F.Leave c.in-Leave.code) (ap out-Statement c.in-Leave.is ∙ outs-Leave c.in-Leave.code) c.leave.ensures
+    (leave_kept script c.args.self.now c.in-Leave.code)
 
 pub returns-in-LeaveIfError-clause-kept : goal.returns-in-LeaveIfError-clause-kept
 returns-in-LeaveIfError-clause-kept c =
     let script = c.args.script.now in
-    carried_out script c.requires.statement (Statement-F.LeaveIfError c.in-LeaveIfError.code) (ap out-Statement c.in-LeaveIfError.is ∙ outs-LeaveIfError c.in-LeaveIfError.code) c.leave_if_error.ensures
-    (leave_if_error_kept script (length script.literals) c.requires.statement.locals c.requires.statement.trapped c.args.self.now c.in-LeaveIfError.code)
+    carried_out script c.requires.operands (Statement-F.LeaveIfError c.in-LeaveIfError.code) (ap out-Statement c.in-LeaveIfError.is ∙ outs-LeaveIfError c.in-LeaveIfError.code) c.leave_if_error.ensures
+    (leave_if_error_kept script c.args.self.now c.in-LeaveIfError.code)
 
 pub returns-in-LeaveIfNull-clause-kept : goal.returns-in-LeaveIfNull-clause-kept
 returns-in-LeaveIfNull-clause-kept c =
     let script = c.args.script.now in
-    carried_out script c.requires.statement (Statement-F.LeaveIfNull c.in-LeaveIfNull.pointer) (ap out-Statement c.in-LeaveIfNull.is ∙ outs-LeaveIfNull c.in-LeaveIfNull.pointer) c.leave_if_null.ensures
-    (leave_if_null_kept script (length script.literals) c.requires.statement.locals c.requires.statement.trapped c.args.self.now c.in-LeaveIfNull.pointer)
+    carried_out script c.requires.operands (Statement-F.LeaveIfNull c.in-LeaveIfNull.pointer) (ap out-Statement c.in-LeaveIfNull.is ∙ outs-LeaveIfNull c.in-LeaveIfNull.pointer) c.leave_if_null.ensures
+    (leave_if_null_kept script c.args.self.now c.in-LeaveIfNull.pointer)
 
 pub returns-in-Return-clause-kept : goal.returns-in-Return-clause-kept
 returns-in-Return-clause-kept c =
     let script = c.args.script.now in
-    carried_out script c.requires.statement Statement-F.Return (ap out-Statement c.in-Return.is ∙ outs-Return) c.end_body.ensures
-    (return_kept script (length script.literals) c.requires.statement.locals c.requires.statement.trapped c.args.self.now)
+    carried_out script c.requires.operands Statement-F.Return (ap out-Statement c.in-Return.is ∙ outs-Return) c.end_body.ensures
+    (return_kept script c.args.self.now)
 
 pub returns-in-ReturnPointer-clause-kept : goal.returns-in-ReturnPointer-clause-kept
 returns-in-ReturnPointer-clause-kept c =
     let script = c.args.script.now in
-    carried_out script c.requires.statement (Statement-F.ReturnPointer c.in-ReturnPointer.pointer) (ap out-Statement c.in-ReturnPointer.is ∙ outs-ReturnPointer c.in-ReturnPointer.pointer) c.end_body_with.ensures
-    (return_pointer_kept script (length script.literals) c.requires.statement.locals c.requires.statement.trapped c.args.self.now c.in-ReturnPointer.pointer)
+    carried_out script c.requires.operands (Statement-F.ReturnPointer c.in-ReturnPointer.pointer) (ap out-Statement c.in-ReturnPointer.is ∙ outs-ReturnPointer c.in-ReturnPointer.pointer) c.end_body_with.ensures
+    (return_pointer_kept script c.args.self.now c.in-ReturnPointer.pointer)
 
 pub returns-in-Pop-clause-kept : goal.returns-in-Pop-clause-kept
 returns-in-Pop-clause-kept c =
     let script = c.args.script.now in
-    carried_over script c.requires.statement (Statement-F.Pop c.in-Pop.count) (ap out-Statement c.in-Pop.is ∙ outs-Pop c.in-Pop.count) c.pop.ensures
-    (pop_kept script (length script.literals) c.requires.statement.locals c.args.self.now c.args.floor c.in-Pop.count)
+    carried_over script c.requires.operands (Statement-F.Pop c.in-Pop.count) (ap out-Statement c.in-Pop.is ∙ outs-Pop c.in-Pop.count) c.pop.ensures
+    (pop_kept script c.args.self.now c.args.floor c.in-Pop.count)
 
 pub returns-in-PopCheck-clause-kept : goal.returns-in-PopCheck-clause-kept
 returns-in-PopCheck-clause-kept c =
     let script = c.args.script.now in
-    carried_over script c.requires.statement (Statement-F.PopCheck c.in-PopCheck.pointer) (ap out-Statement c.in-PopCheck.is ∙ outs-PopCheck c.in-PopCheck.pointer) c.pop_check.ensures
-    (pop_check_kept script (length script.literals) c.requires.statement.locals c.args.self.now c.args.floor c.in-PopCheck.pointer)
+    carried_over script c.requires.operands (Statement-F.PopCheck c.in-PopCheck.pointer) (ap out-Statement c.in-PopCheck.is ∙ outs-PopCheck c.in-PopCheck.pointer) c.pop_check.ensures
+    (pop_check_kept script c.args.self.now c.args.floor c.in-PopCheck.pointer)
 
 pub returns-in-Push-clause-kept : goal.returns-in-Push-clause-kept
 returns-in-Push-clause-kept c =
     let script = c.args.script.now in
     let h = c.args.self.now in
     if_ok_then c.push.result _ _ c.push.ensures.carried (λ ending made.
-    carried_out script c.requires.statement (Statement-F.Push c.in-Push.pointer) (ap out-Statement c.in-Push.is ∙ outs-Push c.in-Push.pointer) made
-    (push_kept script (length script.literals) c.requires.statement.locals h c.in-Push.pointer _ c.push.ensures.there (subst (λ (x : RunState). IsStackThere x) made.becomes c.push.ensures.stands)))
+    carried_out script c.requires.operands (Statement-F.Push c.in-Push.pointer) (ap out-Statement c.in-Push.is ∙ outs-Push c.in-Push.pointer) made
+    (push_kept script h c.in-Push.pointer _ c.push.ensures.there (subst (λ (x : RunState). IsStackThere x) made.becomes c.push.ensures.stands)))
 
 pub returns-in-PushOperation-clause-kept : goal.returns-in-PushOperation-clause-kept
 returns-in-PushOperation-clause-kept c =
@@ -298,5 +299,25 @@ returns-in-PushOperation-clause-kept c =
     let p = c.in-PushOperation.pointer in
     let operation = c.in-PushOperation.operation in
     if_ok_then c.push_operation.result _ _ c.push_operation.ensures.carried (λ ending made.
-    carried_out script c.requires.statement (Statement-F.PushOperation p operation) (ap out-Statement c.in-PushOperation.is ∙ outs-PushOperation p operation) made
-    (push_operation_kept script (length script.literals) c.requires.statement.locals c.requires.statement.trapped h p operation _ c.push_operation.ensures.there (subst (λ (x : RunState). IsStackThere x) made.becomes c.push_operation.ensures.stands)))
+    carried_out script c.requires.operands (Statement-F.PushOperation p operation) (ap out-Statement c.in-PushOperation.is ∙ outs-PushOperation p operation) made
+    (push_operation_kept script h p operation _ c.push_operation.ensures.there (subst (λ (x : RunState). IsStackThere x) made.becomes c.push_operation.ensures.stands)))
+
+pub new_object-requires-clause-class : goal.new_object-requires-clause-class
+new_object-requires-clause-class c =
+    class_there c.requires.statement c.in-New.target c.in-New.class c.in-New.refusal (ap out-Statement c.in-New.is ∙ outs-New c.in-New.target c.in-New.class c.in-New.refusal)
+
+pub returns-in-New-clause-kept : goal.returns-in-New-clause-kept
+returns-in-New-clause-kept c =
+    let script = c.args.script.now in
+    if_ok_then c.new_object.result _ _ c.new_object.ensures.carried (λ ending made.
+    carried_out script c.requires.operands (Statement-F.New c.in-New.target c.in-New.class c.in-New.refusal) (ap out-Statement c.in-New.is ∙ outs-New c.in-New.target c.in-New.class c.in-New.refusal) made
+    (new_kept script c.args.self.now c.in-New.target c.in-New.class c.in-New.refusal))
+
+pub returns-in-PushObject-clause-kept : goal.returns-in-PushObject-clause-kept
+returns-in-PushObject-clause-kept c =
+    let script = c.args.script.now in
+    let h = c.args.self.now in
+    let p = c.in-PushObject.pointer in
+    if_ok_then c.push_object.result _ _ c.push_object.ensures.carried (λ ending made.
+    carried_out script c.requires.operands (Statement-F.PushObject p) (ap out-Statement c.in-PushObject.is ∙ outs-PushObject p) made
+    (push_object_kept script h p _ c.push_object.ensures.there (subst (λ (x : RunState). IsStackThere x) made.becomes c.push_object.ensures.stands)))

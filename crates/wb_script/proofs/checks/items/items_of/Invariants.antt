@@ -3,5 +3,5 @@ use Rattle.wb_model.specs.Names.{items_of}
 use Rattle.wb_script.specs.Lent.{lent_items, lent_forms}
 use Rattle.wb_script.proofs.checks.items.items_of.Given as goal
 
-abbrev pub invariant-loop-form : goal.invariant-loop-form
-invariant-loop-form l = lent_items l.items.items ++ items_of (lent_forms (drop l.form-index l.forms)) ≡ items_of (lent_forms l.forms)
+abbrev pub invariant-loop-index : goal.invariant-loop-index
+invariant-loop-index l = lent_items l.items.items ++ items_of (lent_forms (drop l.index l.forms)) ≡ items_of (lent_forms l.forms)

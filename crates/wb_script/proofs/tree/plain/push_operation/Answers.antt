@@ -4,7 +4,7 @@ use Rattle.wb_model.specs.declared.script_lines.Meant.TheVariants as meant
 use Rattle.wb_model.specs.declared.script_lines.Operand.TheVariants.{Name}
 use Rattle.wb_model.specs.declared.script.Statement.TheVariants.{PushOperation}
 use Rattle.wb_script.specs.Lent.{declared_by}
-use Rattle.wb_script.specs.Stated.{IsOneLine}
+use Rattle.wb_script.specs.Stated.{IsOneLine, scope_in}
 use Rattle.wb_script.proofs.Passed.{two_items}
 use Rattle.wb_script.proofs.Wholes.{push_operation_line}
 use Rattle.wb_script.proofs.tree.plain.push_operation.Goals as goal
@@ -15,5 +15,5 @@ returns-in_ok-index-in-len2 c = λ trapped.
     let pointer = c.in_ok-pointer-in-len2.ensures in
     let operation = c.in_ok-index-in-len2.ensures c.args.here.literals in
     let is = two_items c.args.operands.now (Name (meant.Declared 0)) c.in-len2.len_at_least c.in-len2.len_below in
-    subst (λ l. IsOneLine declared c.args.here.locals.now trapped key.PushOp l (PushOperation c.in_ok-pointer-in-len2.pointer c.in_ok-index-in-len2.index)) (sym is)
-    (push_operation_line declared c.args.here.locals.now trapped _ _ c.in_ok-pointer-in-len2.pointer c.in_ok-index-in-len2.index pointer.0 pointer.1 operation.0 operation.1)
+    subst (λ l. IsOneLine declared (scope_in c.args.here) trapped key.PushOp l (PushOperation c.in_ok-pointer-in-len2.pointer c.in_ok-index-in-len2.index)) (sym is)
+    (push_operation_line declared (scope_in c.args.here) trapped _ _ c.in_ok-pointer-in-len2.pointer c.in_ok-index-in-len2.index pointer.0 pointer.1 operation.0 operation.1)

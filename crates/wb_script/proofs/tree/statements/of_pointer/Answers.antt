@@ -1,9 +1,9 @@
 use Rattle.std.proofs.Common.{sym, subst}
-use Rattle.wb_script.specs.Stated.{IsStatementOf, alone_in}
+use Rattle.wb_script.specs.Stated.{IsStatementOf, alone_in, scope_in}
 use Rattle.wb_script.proofs.OneOperand.{no_pointer}
 use Rattle.wb_script.proofs.tree.statements.of_pointer.Goals as goal
 
 pub returns-in_err-pointer : goal.returns-in_err-pointer
 returns-in_err-pointer c =
     subst (IsStatementOf c.args.here c.args.key c.args.operands.now) (sym c.from_residual.ensures)
-    (no_pointer (alone_in c.args.here) c.args.here.locals.now c.args.key c.args.operands.now c.requires c.in_err-pointer.ensures)
+    (no_pointer (alone_in c.args.here) (scope_in c.args.here) c.args.key c.args.operands.now c.requires c.in_err-pointer.ensures)

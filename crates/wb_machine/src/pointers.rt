@@ -1,0 +1,85 @@
+//! Pointer operands over the locals of a frame: what a local holds, `self`, and fields of objects.
+
+ghost use Rattle.std.specs.Prelude.{◌≡◌, ◌+◌, ◌*◌, length, map, nat_le};
+ghost use Rattle.wb_model.specs.CellRow.{payload_of};
+ghost use Rattle.wb_objects.specs.Objects.{words_found};
+ghost use Rattle.wb_machine.specs.RunState.{field_count};
+ghost use Rattle.wb_machine.specs.LocalValues.{value_of};
+ghost use Rattle.wb_machine.specs.PointerOperands.{held_over, field_among, pointer_over};
+
+use crate::locals::{NULL, Slot};
+use wb_debug::debug_heap::DebugHeap;
+use wb_model::heap::Ptr;
+use wb_model::script::{Holder, Pointer, Script};
+use wb_objects::field;
+
+/// What operands see beside the locals of their frame: the script, the heap, and the object whose body runs.
+#[derive(Clone, Copy)]
+pub struct Sight<'b> {
+    pub script: &'b Script,
+    pub heap: &'b DebugHeap,
+    pub this: Ptr,
+}
+
+/// What a holder holds.
+pub fn held_over(this: Ptr, frame: &[Slot], holder: Holder) -> Ptr
+    ensures { result ≡ held_over this (map value_of frame.now) holder }
+{
+    let Holder::Local(index) = holder else {
+        return this;
+    };
+    match frame.get(index as usize) {
+        Some(Slot::Pointer(ptr)) => *ptr,
+        _ => NULL,
+    }
+}
+
+/// How many fields the objects of a class have.
+fn field_count(script: &Script, class: u16) -> usize
+    ensures { result ≡ field_count script.now class }
+{
+    match script.classes.get(class as usize) {
+        Some(class) => class.fields.len(),
+        None => 0,
+    }
+}
+
+/// Whether a cell has words for the field with this index of an object.
+pub fn has_words(heap: &DebugHeap, ptr: Ptr, index: u8) -> bool
+    ensures { result ≡ nat_le (4 + 2 * index) (length (payload_of ptr heap.now.heap.row)) }
+{
+    match heap.header(ptr) {
+        Some(header) => 32 + 8 * u32::from(index) <= header.length,
+        None => false,
+    }
+}
+
+/// A field of an object; null where the pointer names no object of the class.
+///
+/// An object is made with room for all fields of its class, and a script names no other. So it always is there.
+fn field_over(sight: Sight, object: Ptr, class: u16, index: u8) -> Ptr
+    ensures { result ≡ field_among (field_count sight.entry.script.now class) index (words_found sight.entry.heap.now object class) }
+{
+    if field_count(sight.script, class) <= usize::from(index) {
+        return NULL;
+    }
+    if !has_words(sight.heap, object, index) {
+        return NULL;
+    }
+    match field(sight.heap, object, class, index) {
+        Ok(ptr) => ptr,
+        Err(_) => NULL,
+    }
+}
+
+/// The pointer of an operand; null where it names none.
+pub fn pointer_over(sight: Sight, frame: &[Slot], operand: Pointer) -> Ptr
+    ensures { result ≡ pointer_over sight.entry.script.now sight.entry.heap.now sight.entry.this (map value_of frame.now) operand }
+{
+    match operand {
+        Pointer::Held(holder) => held_over(sight.this, frame, holder),
+        Pointer::Field(holder, class, index) => {
+            field_over(sight, held_over(sight.this, frame, holder), class, index)
+        }
+    }
+}

@@ -1,0 +1,9 @@
+use Rattle.std.proofs.Common.{sym, subst}
+use Rattle.wb_script.specs.Growing.{Grows, declared_in_space}
+use Rattle.wb_script.proofs.Growth.{skip_grows}
+use Rattle.wb_script.proofs.tree.add_form.Goals as goal
+
+pub returns-in-Skip : goal.returns-in-Skip
+returns-in-Skip c =
+    subst (λ l. Grows (declared_in_space c.args.space) c.args.number l c.args.building c.args.building) (sym c.in-Skip.is)
+    (skip_grows (declared_in_space c.args.space) c.args.number c.args.building c.requires.sound c.requires.below)

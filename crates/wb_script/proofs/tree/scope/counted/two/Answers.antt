@@ -1,0 +1,13 @@
+use Rattle.std.proofs.Common.{[], ◌∷◌, arith}
+use Rattle.std.proofs.lemmas.Grind.{common_steps}
+use Rattle.std.proofs.lemmas.Bool.Decides.{nat_tests}
+use Rattle.wb_script.proofs.FitLemmas.{counts_differ}
+use Rattle.wb_script.proofs.tree.scope.counted.two.Goals as goal
+use Rattle.wb_script.proofs.tree.scope.counted.two.Goals.{in_default-via-then-operands-lt2, in_default-via-else-operands-lt2+else-operands-lt3}
+
+pub returns-in_default : goal.returns-in_default
+returns-in_default c = λ literals scope first second.
+    elim c.in_default.branch [
+      | in_default-via-then-operands-lt2 w ↦ counts_differ literals scope (first ∷ second ∷ []) c.args.operands.now (λ e. grind (arith, common_steps, nat_tests, e))
+      | in_default-via-else-operands-lt2+else-operands-lt3 w ↦ counts_differ literals scope (first ∷ second ∷ []) c.args.operands.now (λ e. grind (arith, common_steps, nat_tests, e))
+    ]

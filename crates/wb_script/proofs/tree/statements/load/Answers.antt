@@ -1,0 +1,8 @@
+use Rattle.std.proofs.Common.{sym, subst}
+use Rattle.wb_model.specs.declared.script_lines.Key.TheVariants as key
+use Rattle.wb_model.specs.declared.script_lines.Letter.TheVariants as letter
+use Rattle.wb_script.specs.Stated.{IsStatementOf, scope_in}
+use Rattle.wb_script.proofs.tree.statements.load.Goals as goal
+
+pub returns-in_err-variable : goal.returns-in_err-variable
+returns-in_err-variable c = subst (IsStatementOf c.args.here key.Load c.args.operands.now) (sym c.from_residual.ensures) (c.in_err-variable.ensures c.args.here.literals (scope_in c.args.here) letter.Variable letter.Pointer letter.Value)

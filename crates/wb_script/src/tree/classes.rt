@@ -1,0 +1,261 @@
+//! The lines of a class: its first, its fields, the first lines of its bodies, and its end.
+
+ghost use Rattle.std.specs.Prelude.{◌≡◌, ◌<◌, ◌≤◌, ℕ, [], ◌∷◌, Some, is_some, length, nat_le, IfOk, IfSome, IsTrue};
+ghost use Rattle.wb_model.specs.declared.limits.TheConstants.{MOST_CLASSES, MOST_EXTRA};
+ghost use Rattle.wb_model.specs.declared.script_lines.Form.TheVariants.{Line};
+ghost use Rattle.wb_model.specs.declared.script_lines.Key.TheVariants as key;
+ghost use Rattle.wb_model.specs.declared.script_lines.Letter.TheVariants as letter;
+ghost use Rattle.wb_model.specs.declared.script_lines.Meant.TheVariants as meant;
+ghost use Rattle.wb_model.specs.declared.script_lines.Operand.TheVariants.{Name, Size};
+ghost use Rattle.wb_model.specs.declared.script_lines.Role.TheVariants as role;
+ghost use Rattle.wb_model.specs.Keys.{role_of};
+ghost use Rattle.wb_model.specs.Sound.{Declared, Scope, is_class_among};
+ghost use Rattle.wb_model.specs.Trees.{field_line};
+ghost use Rattle.wb_script.specs.Building.{declares, is_small};
+ghost use Rattle.wb_script.specs.Fitting.{letters_fit, operands_fit};
+ghost use Rattle.wb_script.specs.Growing.{GrowsWhereFit, IsBelow, IsSound, declared_in_space, in_class, new_body, outside};
+
+use crate::tree::bodies::OpenBody;
+use crate::tree::openings::new_body;
+use crate::tree::space::Space;
+use crate::tree::whole::{Building, Owner, Stage, WholeItems, with_class};
+use std::alloc::{AllocError, Global};
+use wb_model::items::Items;
+use wb_model::limits::{MOST_CLASSES, MOST_EXTRA, MOST_FIELDS};
+use wb_model::script::Class;
+use wb_model::script_lines::{Key, Meant, Operand};
+
+/// The extra bytes of the class with an index, by the operands of its first line; none where they are no such.
+fn extra_of(index: usize, operands: &[Operand<Meant>]) -> Option<u32>
+    ensures extra { IfSome result (λ extra. (operands.now ≡ Name (meant.Declared index) ∷ Size extra ∷ []) × IsTrue (nat_le extra MOST_EXTRA)) }
+    ensures found { (literals : ℕ) (scope : Scope) → IsTrue (letters_fit literals scope (letter.Declared ∷ letter.Size ∷ []) operands.now) → IsTrue (declares index operands.now) → IsTrue (is_small MOST_EXTRA operands.now) → IsTrue (is_some result) }
+{
+    match operands {
+        [Operand::Name(Meant::Declared(name)), Operand::Size(extra)] => {
+            if *name == index && *extra <= MOST_EXTRA {
+                Some(*extra)
+            } else {
+                None
+            }
+        }
+        _ => None,
+    }
+}
+
+/// Begins a class, by its first line with the number of it; none where it has no place.
+pub(crate) fn begun_class(
+    alloc: Global,
+    space: Space,
+    whole: WholeItems,
+    number: u32,
+    operands: &[Operand<Meant>],
+) -> Option<Building>
+    requires sound { IsSound (declared_in_space space) (outside whole) }
+    requires below { IsBelow number (outside whole) }
+    ensures { GrowsWhereFit (declared_in_space space.entry) number (Line key.Class operands.now) (outside whole) result }
+{
+    if whole.classes.len() >= MOST_CLASSES as usize {
+        return None;
+    }
+    match extra_of(whole.classes.len(), operands) {
+        Some(extra) => {
+            let class = Class {
+                line: number,
+                extra,
+                fields: Items::new(alloc),
+                construct: None,
+                destroy: None,
+            };
+            let stage = Stage::InClass(class);
+            Some(Building { whole, stage })
+        }
+        None => None,
+    }
+}
+
+/// A field of no class, where a line declares it by its name alone, with this index.
+fn plain_field(index: usize, operands: &[Operand<Meant>]) -> Option<Option<u16>>
+    ensures line { IfSome result (λ f. field_line index f ≡ Line key.Field operands.now) }
+    ensures sound { (classes : ℕ) → IfSome result (λ f. IsTrue (is_class_among classes f)) }
+    ensures found { (literals : ℕ) (scope : Scope) → IsTrue (letters_fit literals scope (letter.Declared ∷ []) operands.now) → IsTrue (declares index operands.now) → IsTrue (is_some result) }
+{
+    match operands {
+        [Operand::Name(Meant::Declared(name))] => { if *name == index { Some(None) } else { None } }
+        _ => None,
+    }
+}
+
+/// The class of a field, where a line declares it with this index, by a name and a class of the script.
+fn class_field(index: usize, counts: &[u8], operands: &[Operand<Meant>]) -> Option<Option<u16>>
+    requires { length counts.now ≤ MOST_CLASSES }
+    ensures line { IfSome result (λ f. field_line index f ≡ Line key.ClassField operands.now) }
+    ensures sound { IfSome result (λ f. IsTrue (is_class_among (length counts.now) f)) }
+    ensures found { (literals : ℕ) (scope : Scope) → scope.fields ≡ counts.now → IsTrue (letters_fit literals scope (letter.Declared ∷ letter.Class ∷ []) operands.now) → IsTrue (declares index operands.now) → IsTrue (is_some result) }
+{
+    match operands {
+        [
+            Operand::Name(Meant::Declared(name)),
+            Operand::Name(Meant::Class(class)),
+        ] => {
+            if *name == index && *class < counts.len() {
+                Some(Some(*class as u16))
+            } else {
+                None
+            }
+        }
+        _ => None,
+    }
+}
+
+/// The class of a field, where it has one, that a line declares with this index, in a script whose classes have so many
+/// fields; none where the line declares no such field.
+fn declared_field(
+    index: usize,
+    counts: &[u8],
+    key: Key,
+    operands: &[Operand<Meant>],
+) -> Option<Option<u16>>
+    requires { length counts.now ≤ MOST_CLASSES }
+    ensures line { IfSome result (λ f. field_line index f ≡ Line key operands.now) }
+    ensures sound { IfSome result (λ f. IsTrue (is_class_among (length counts.now) f)) }
+    ensures found { (declared : Declared) (scope : Scope) → scope.fields ≡ counts.now → role_of key ≡ role.Field → IsTrue (operands_fit declared scope key operands.now) → IsTrue (declares index operands.now) → IsTrue (is_some result) }
+{
+    match key {
+        Key::Field => plain_field(index, operands),
+        Key::ClassField => class_field(index, counts, operands),
+        _ => None,
+    }
+}
+
+/// Adds a field to the class that is open; none where it has no place.
+fn with_field(
+    space: Space,
+    whole: WholeItems,
+    class: Class,
+    number: u32,
+    key: Key,
+    operands: &[Operand<Meant>],
+) -> Result<Option<Building>, AllocError>
+    requires sound { IsSound (declared_in_space space) (in_class whole class) }
+    requires below { IsBelow number (in_class whole class) }
+    requires field { role_of key ≡ role.Field }
+    ensures { IfOk result (GrowsWhereFit (declared_in_space space.entry) number (Line key operands.now) (in_class whole class)) }
+{
+    if class.construct.is_some() || class.destroy.is_some() {
+        return Ok(None);
+    }
+    if class.fields.len() >= MOST_FIELDS as usize {
+        return Ok(None);
+    }
+    match declared_field(class.fields.len(), space.fields, key, operands) {
+        Some(field) => {
+            let mut fields = class.fields;
+            fields.push(field)?;
+            let stage = Stage::InClass(Class { fields, ..class });
+            Ok(Some(Building { whole, stage }))
+        }
+        None => Ok(None),
+    }
+}
+
+/// A body of the next class behind its first line.
+fn own_body(alloc: Global, whole: &WholeItems) -> Result<OpenBody, AllocError>
+    requires { length whole.now.classes < MOST_CLASSES }
+    ensures { IfOk result (λ p. p ≡ new_body (Some (length whole.now.classes)) []) }
+{
+    let this = whole.classes.len() as u16;
+    new_body(alloc, Some(this), Items::new(alloc))
+}
+
+/// Begins the `construct` of the class that is open; none where it has no place.
+fn begun_constructor(
+    alloc: Global,
+    space: Space,
+    whole: WholeItems,
+    class: Class,
+    number: u32,
+    operands: &[Operand<Meant>],
+) -> Result<Option<Building>, AllocError>
+    requires sound { IsSound (declared_in_space space) (in_class whole class) }
+    requires below { IsBelow number (in_class whole class) }
+    ensures { IfOk result (GrowsWhereFit (declared_in_space space.entry) number (Line key.Constructor operands.now) (in_class whole class)) }
+{
+    if class.construct.is_some() || class.destroy.is_some() {
+        return Ok(None);
+    }
+    if !operands.is_empty() {
+        return Ok(None);
+    }
+    let body = own_body(alloc, &whole)?;
+    let stage = Stage::InBody(Owner::Constructor(class), body);
+    Ok(Some(Building { whole, stage }))
+}
+
+/// Begins the `destroy` of the class that is open; none where it has no place.
+fn begun_destructor(
+    alloc: Global,
+    space: Space,
+    whole: WholeItems,
+    class: Class,
+    number: u32,
+    operands: &[Operand<Meant>],
+) -> Result<Option<Building>, AllocError>
+    requires sound { IsSound (declared_in_space space) (in_class whole class) }
+    requires below { IsBelow number (in_class whole class) }
+    ensures { IfOk result (GrowsWhereFit (declared_in_space space.entry) number (Line key.Destructor operands.now) (in_class whole class)) }
+{
+    if class.destroy.is_some() {
+        return Ok(None);
+    }
+    if !operands.is_empty() {
+        return Ok(None);
+    }
+    let body = own_body(alloc, &whole)?;
+    let stage = Stage::InBody(Owner::Destructor(class), body);
+    Ok(Some(Building { whole, stage }))
+}
+
+/// The class that is open ends; none where the line has operands.
+fn ended(
+    space: Space,
+    whole: WholeItems,
+    class: Class,
+    number: u32,
+    operands: &[Operand<Meant>],
+) -> Result<Option<Building>, AllocError>
+    requires sound { IsSound (declared_in_space space) (in_class whole class) }
+    requires below { IsBelow number (in_class whole class) }
+    ensures { IfOk result (GrowsWhereFit (declared_in_space space.entry) number (Line key.End operands.now) (in_class whole class)) }
+{
+    if !operands.is_empty() {
+        return Ok(None);
+    }
+    let whole = with_class(whole, class)?;
+    Ok(Some(Building {
+        whole,
+        stage: Stage::Outside,
+    }))
+}
+
+/// Adds a line to the class that is open, with its number; none where it has no place there.
+pub(crate) fn in_class(
+    alloc: Global,
+    space: Space,
+    whole: WholeItems,
+    class: Class,
+    number: u32,
+    key: Key,
+    operands: &[Operand<Meant>],
+) -> Result<Option<Building>, AllocError>
+    requires sound { IsSound (declared_in_space space) (in_class whole class) }
+    requires below { IsBelow number (in_class whole class) }
+    ensures { IfOk result (GrowsWhereFit (declared_in_space space.entry) number (Line key operands.now) (in_class whole class)) }
+{
+    match key {
+        Key::Field | Key::ClassField => with_field(space, whole, class, number, key, operands),
+        Key::Constructor => begun_constructor(alloc, space, whole, class, number, operands),
+        Key::Destructor => begun_destructor(alloc, space, whole, class, number, operands),
+        Key::End => ended(space, whole, class, number, operands),
+        _ => Ok(None),
+    }
+}

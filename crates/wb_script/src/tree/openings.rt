@@ -1,0 +1,185 @@
+//! The lines that begin a procedure or an operation, and the body behind the first line of one.
+
+ghost use Rattle.std.specs.Prelude.{◌≡◌, ◌≤◌, ◌+◌, length, map, IfOk};
+ghost use Rattle.wb_model.specs.declared.limits.TheConstants.{MOST_CLASSES, MOST_PROCEDURES};
+ghost use Rattle.wb_model.specs.declared.script_lines.Form.TheVariants.{Line};
+ghost use Rattle.wb_model.specs.declared.script_lines.Key.TheVariants as key;
+ghost use Rattle.wb_model.specs.Sound.{local_of_parameter};
+ghost use Rattle.wb_script.specs.Growing.{AreParametersOf, AreTaken, GrowsWhereFit, IsBelow, IsSound, IsTaken, declared_in_space, has_room, is_operation_head, new_body, outside};
+
+use crate::tree::blocks::Nest;
+use crate::tree::bodies::OpenBody;
+use crate::tree::space::Space;
+use crate::tree::whole::{Building, Owner, Stage, WholeItems};
+use std::alloc::{AllocError, Global};
+use wb_model::items::Items;
+use wb_model::limits::{MOST_PARAMETERS, MOST_PROCEDURES};
+use wb_model::script::{Local, Parameter};
+use wb_model::script_lines::{Meant, Operand, Taken};
+
+/// The parameter that an operand declares, among a number of classes.
+fn parameter(classes: usize, operand: &Operand<Meant>) -> Option<Parameter>
+    requires { classes ≤ MOST_CLASSES }
+    ensures { IsTaken classes operand.now result }
+{
+    match operand {
+        Operand::Parameter(Meant::Parameter, Taken::Pointer) => Some(Parameter::OfPointer(None)),
+        Operand::Parameter(Meant::Parameter, Taken::Number) => Some(Parameter::OfNumber),
+        Operand::Parameter(Meant::Parameter, Taken::OfClass(Meant::Class(class))) => {
+            if *class < classes {
+                Some(Parameter::OfPointer(Some(*class as u16)))
+            } else {
+                None
+            }
+        }
+        _ => None,
+    }
+}
+
+/// The parameters that operands declare, where they declare nothing else.
+fn parameters(
+    alloc: Global,
+    classes: usize,
+    operands: &[Operand<Meant>],
+) -> Result<Option<Items<Parameter>>, AllocError>
+    requires { classes ≤ MOST_CLASSES }
+    ensures { IfOk result (AreTaken classes operands.now) }
+{
+    let mut found = Items::new(alloc);
+    for operand in operands {
+        match parameter(classes, operand) {
+            Some(one) => found.push(one)?,
+            None => return Ok(None),
+        }
+    }
+    Ok(Some(found))
+}
+
+/// The locals that parameters are.
+fn locals_of(alloc: Global, parameters: &[Parameter]) -> Result<Items<Local>, AllocError>
+    ensures { IfOk result (λ locals. locals ≡ map local_of_parameter parameters.now) }
+{
+    let mut locals = Items::new(alloc);
+    for parameter in parameters {
+        locals.push(match parameter {
+            Parameter::OfPointer(class) => Local::OfPointer(*class),
+            Parameter::OfNumber => Local::OfNumber,
+        })?;
+    }
+    Ok(locals)
+}
+
+/// The body behind its first line: it has these parameters, and `self` is of this class.
+pub(crate) fn new_body(
+    alloc: Global,
+    this: Option<u16>,
+    parameters: Items<Parameter>,
+) -> Result<OpenBody, AllocError>
+    ensures { IfOk result (λ p. p ≡ new_body this parameters) }
+{
+    let scope = locals_of(alloc, parameters.as_slice())?;
+    Ok(OpenBody {
+        parameters,
+        this,
+        locals: Items::new(alloc),
+        scope,
+        nest: Nest {
+            blocks: Items::new(alloc),
+            statements: Items::new(alloc),
+        },
+    })
+}
+
+/// There is room for one more procedure or operation.
+fn has_room(whole: &WholeItems) -> bool
+    requires { length whole.now.procedures + length whole.now.operations ≤ MOST_PROCEDURES }
+    ensures { result ≡ has_room whole.now }
+{
+    whole.procedures.len() + whole.operations.len() < MOST_PROCEDURES as usize
+}
+
+/// The parameters of the procedure with an index, by the operands of its first line; none where they are no such.
+fn parameters_behind(
+    alloc: Global,
+    classes: usize,
+    index: usize,
+    operands: &[Operand<Meant>],
+) -> Result<Option<Items<Parameter>>, AllocError>
+    requires { classes ≤ MOST_CLASSES }
+    ensures { IfOk result (AreParametersOf classes index operands.now) }
+{
+    match operands.split_first() {
+        Some((Operand::Name(Meant::Declared(name)), rest)) => {
+            if *name == index && rest.len() <= MOST_PARAMETERS as usize {
+                parameters(alloc, classes, rest)
+            } else {
+                Ok(None)
+            }
+        }
+        _ => Ok(None),
+    }
+}
+
+/// The operands name the operation with this index, and its one parameter.
+fn begins_operation(index: usize, operands: &[Operand<Meant>]) -> bool
+    ensures { result ≡ is_operation_head index operands.now }
+{
+    match operands {
+        [
+            Operand::Name(Meant::Declared(name)),
+            Operand::Parameter(Meant::Parameter, Taken::Pointer),
+        ] => *name == index,
+        _ => false,
+    }
+}
+
+/// Begins a procedure, by its first line with the number of it; none where it has no place.
+pub(crate) fn begun_procedure(
+    alloc: Global,
+    space: Space,
+    whole: WholeItems,
+    number: u32,
+    operands: &[Operand<Meant>],
+) -> Result<Option<Building>, AllocError>
+    requires sound { IsSound (declared_in_space space) (outside whole) }
+    requires below { IsBelow number (outside whole) }
+    ensures { IfOk result (GrowsWhereFit (declared_in_space space.entry) number (Line key.Proc operands.now) (outside whole)) }
+{
+    if !has_room(&whole) {
+        return Ok(None);
+    }
+    let index = whole.procedures.len();
+    match parameters_behind(alloc, space.fields.len(), index, operands)? {
+        Some(parameters) => {
+            let body = new_body(alloc, None, parameters)?;
+            let stage = Stage::InBody(Owner::Procedure(number), body);
+            Ok(Some(Building { whole, stage }))
+        }
+        None => Ok(None),
+    }
+}
+
+/// Begins an operation, by its first line with the number of it; none where it has no place.
+pub(crate) fn begun_operation(
+    alloc: Global,
+    space: Space,
+    whole: WholeItems,
+    number: u32,
+    operands: &[Operand<Meant>],
+) -> Result<Option<Building>, AllocError>
+    requires sound { IsSound (declared_in_space space) (outside whole) }
+    requires below { IsBelow number (outside whole) }
+    ensures { IfOk result (GrowsWhereFit (declared_in_space space.entry) number (Line key.Op operands.now) (outside whole)) }
+{
+    if !has_room(&whole) {
+        return Ok(None);
+    }
+    if !begins_operation(whole.operations.len(), operands) {
+        return Ok(None);
+    }
+    let mut parameters = Items::new(alloc);
+    parameters.push(Parameter::OfPointer(None))?;
+    let body = new_body(alloc, None, parameters)?;
+    let stage = Stage::InBody(Owner::Operation(number), body);
+    Ok(Some(Building { whole, stage }))
+}

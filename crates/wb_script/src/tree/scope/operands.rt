@@ -1,0 +1,202 @@
+//! What the operands of a line spell, in the body where it stands: pointers, numbers, texts and classes.
+
+ghost use Rattle.std.specs.Prelude.{◌≡◌, length, nat_lt, IfSome};
+ghost use Rattle.wb_model.specs.declared.script_lines.Key.TheVariants as key;
+ghost use Rattle.wb_model.specs.declared.script_lines.Letter.TheVariants as letter;
+ghost use Rattle.wb_model.specs.Sound.{is_pointer, is_target, is_variable, is_number, is_view, is_writable, is_readable};
+ghost use Rattle.wb_model.specs.Trees.{class_operand, pointer_operand, variable_operand, number_operand, view_operand, writable_operand, text_operand, set_key};
+ghost use Rattle.wb_script.specs.Fitting.{IsSpelled};
+ghost use Rattle.wb_script.specs.Stated.{IsFieldOf, IsHolderOf, IsPointerLocal, IsReceiver, scope_in};
+
+use crate::tree::scope::Scope;
+use wb_model::limits::NINE_DIGITS;
+use wb_model::script::{Holder, Local, Number, Pointer, Readable, Writable};
+use wb_model::script_lines::{Meant, Operand};
+
+impl<'a> Scope<'a> {
+    /// The local with an index, where it holds a pointer.
+    fn pointer_local(self, index: usize) -> Option<u8>
+        ensures { IsPointerLocal (scope_in self.entry) index result }
+    {
+        match self.locals.get(index) {
+            Some(Local::OfPointer(_)) => Some(index as u8),
+            _ => None,
+        }
+    }
+
+    /// What holds a pointer by its name: a local, or `self`.
+    fn holder(self, name: Meant) -> Option<Holder>
+        ensures { IsHolderOf (scope_in self.entry) name result }
+    {
+        match name {
+            Meant::Pointer(index) => Some(Holder::Local(self.pointer_local(index)?)),
+            Meant::This => match self.this {
+                Some(_) => Some(Holder::This),
+                None => None,
+            },
+            _ => None,
+        }
+    }
+
+    /// The class that a local or `self` is declared with.
+    fn class_held(self, holder: Holder) -> Option<u16>
+        ensures { result ≡ Rattle.wb_model.specs.Sound.class_held (scope_in self.entry) holder }
+    {
+        match holder {
+            Holder::Local(index) => match self.locals.get(index as usize) {
+                Some(Local::OfPointer(class)) => *class,
+                _ => None,
+            },
+            Holder::This => self.this,
+        }
+    }
+
+    /// The field of what a name stands for, where it is of the class that this is declared with.
+    fn field(self, base: Meant, field: Meant) -> Option<Pointer>
+        ensures { IsFieldOf (scope_in self.entry) base field result }
+    {
+        match field {
+            Meant::Field(class, index) => {
+                let holder = self.holder(base)?;
+                let own = self.class_held(holder)?;
+                let count = *self.fields.get(class)?;
+                if own as usize == class && index < count as usize {
+                    Some(Pointer::Field(holder, own, index as u8))
+                } else {
+                    None
+                }
+            }
+            _ => None,
+        }
+    }
+
+    /// The pointer that an operand spells: a local, `self`, or a field of one of these.
+    pub(crate) fn pointer(self, operand: &Operand<Meant>) -> Option<Pointer>
+        ensures { IsSpelled pointer_operand (is_pointer (scope_in self.entry)) self.entry.literals (scope_in self.entry) letter.Pointer operand.now result }
+    {
+        match operand {
+            Operand::Name(name) => Some(Pointer::Held(self.holder(*name)?)),
+            Operand::Field(base, field) => self.field(*base, *field),
+            _ => None,
+        }
+    }
+
+    /// The pointer that an operand spells and that a line may write: a local, or a field.
+    pub(crate) fn written(self, operand: &Operand<Meant>) -> Option<Pointer>
+        ensures { IsSpelled pointer_operand (is_target (scope_in self.entry)) self.entry.literals (scope_in self.entry) letter.Written operand.now result }
+    {
+        match operand {
+            Operand::Field(base, field) => self.field(*base, *field),
+            _ => Some(Pointer::Held(Holder::Local(self.receiver(operand)?))),
+        }
+    }
+
+    /// The local that holds a pointer and that an operand spells.
+    pub(crate) fn receiver(self, operand: &Operand<Meant>) -> Option<u8>
+        ensures { IsReceiver self.entry operand.now result }
+    {
+        match operand {
+            Operand::Name(Meant::Pointer(index)) => self.pointer_local(*index),
+            _ => None,
+        }
+    }
+
+    /// The field that an operand spells.
+    pub(crate) fn field_target(self, operand: &Operand<Meant>) -> Option<Pointer>
+        ensures spelled { IsSpelled pointer_operand (is_target (scope_in self.entry)) self.entry.literals (scope_in self.entry) letter.FieldTarget operand.now result }
+        ensures key { IfSome result (λ p. set_key p ≡ key.SetField) }
+    {
+        match operand {
+            Operand::Field(base, field) => self.field(*base, *field),
+            _ => None,
+        }
+    }
+
+    /// The class that an operand spells.
+    pub(crate) fn class(self, operand: &Operand<Meant>) -> Option<u16>
+        ensures { IsSpelled class_operand (λ class. nat_lt class (length self.entry.fields.now)) self.entry.literals (scope_in self.entry) letter.Class operand.now result }
+    {
+        match operand {
+            Operand::Name(Meant::Class(index)) => {
+                if *index < self.fields.len() {
+                    Some(*index as u16)
+                } else {
+                    None
+                }
+            }
+            _ => None,
+        }
+    }
+
+    /// The local that holds a number and that an operand spells.
+    pub(crate) fn variable(self, operand: &Operand<Meant>) -> Option<u8>
+        ensures { IsSpelled variable_operand (is_variable self.entry.locals.now) self.entry.literals (scope_in self.entry) letter.Variable operand.now result }
+    {
+        match operand {
+            Operand::Name(Meant::Number(index)) => match self.locals.get(*index) {
+                Some(Local::OfNumber) => Some(*index as u8),
+                _ => None,
+            },
+            _ => None,
+        }
+    }
+
+    /// The number that an operand spells, or the local that holds it.
+    pub(crate) fn number(self, operand: &Operand<Meant>) -> Option<Number>
+        ensures { IsSpelled number_operand (is_number self.entry.locals.now) self.entry.literals (scope_in self.entry) letter.Value operand.now result }
+    {
+        match operand {
+            Operand::Number(number) => {
+                if number.unsigned_abs() <= NINE_DIGITS {
+                    Some(Number::Constant(*number))
+                } else {
+                    None
+                }
+            }
+            _ => Some(Number::Variable(self.variable(operand)?)),
+        }
+    }
+
+    /// The local that holds a view and that an operand spells.
+    pub(crate) fn view(self, operand: &Operand<Meant>) -> Option<u8>
+        ensures { IsSpelled view_operand (is_view self.entry.locals.now) self.entry.literals (scope_in self.entry) letter.ViewName operand.now result }
+    {
+        match operand {
+            Operand::Name(Meant::View(index)) => match self.locals.get(*index) {
+                Some(Local::OfView) => Some(*index as u8),
+                _ => None,
+            },
+            _ => None,
+        }
+    }
+
+    /// The text that an operand spells and that can be changed.
+    pub(crate) fn writable(self, operand: &Operand<Meant>) -> Option<Writable>
+        ensures { IsSpelled writable_operand (is_writable (scope_in self.entry)) self.entry.literals (scope_in self.entry) letter.Writable operand.now result }
+    {
+        match operand {
+            Operand::Name(Meant::Buffer(index)) => match self.locals.get(*index) {
+                Some(Local::OfBuffer(_)) => Some(Writable::OwnBuffer(*index as u8)),
+                _ => None,
+            },
+            _ => Some(Writable::InCell(self.pointer(operand)?)),
+        }
+    }
+
+    /// The text that an operand spells and that can be read.
+    pub(crate) fn readable(self, operand: &Operand<Meant>) -> Option<Readable>
+        ensures { IsSpelled text_operand (is_readable self.entry.literals (scope_in self.entry)) self.entry.literals (scope_in self.entry) letter.Readable operand.now result }
+    {
+        match operand {
+            Operand::Literal(Meant::Literal(index)) => {
+                if *index < self.literals as usize {
+                    Some(Readable::Quoted(*index as u32))
+                } else {
+                    None
+                }
+            }
+            Operand::Name(Meant::View(_)) => Some(Readable::ViewOf(self.view(operand)?)),
+            _ => Some(Readable::Of(self.writable(operand)?)),
+        }
+    }
+}

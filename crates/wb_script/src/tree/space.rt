@@ -1,0 +1,49 @@
+//! What all lines of a script may name, whichever body they stand in.
+
+ghost use Rattle.std.specs.Prelude.{◌≡◌, ◌≤◌, [], ◌∷◌, ◌++◌, length, nat_le, IsTrue, IfOk, OnOk};
+ghost use Rattle.std.specs.List.{list_all};
+ghost use Rattle.wb_model.specs.declared.limits.TheConstants.{LONGEST_SCRIPT, MOST_CLASSES, MOST_FIELDS};
+ghost use Rattle.wb_model.specs.declared.script_lines.ItemKind.TheVariants as kind;
+ghost use Rattle.wb_script.specs.Lent.{fields_among, lent_items};
+
+use crate::checks::items::Item;
+use std::alloc::{AllocError, Global};
+use wb_model::script_lines::ItemKind;
+
+/// The literals of a script, of which only the number matters, its own space, and how many fields each class has.
+#[derive(Clone, Copy)]
+pub(crate) struct Space<'a> {
+    pub literals: u32,
+    pub items: &'a [Item<'a>],
+    pub fields: &'a [u8],
+    ghost few: { length items.now ≤ LONGEST_SCRIPT },
+    ghost classes: { length fields.now ≤ MOST_CLASSES },
+    ghost counted: { fields.now ≡ fields_among (lent_items items.now) },
+}
+
+/// Adds how many fields an item has, where it is a class.
+fn add_count(counts: &mut Vec<u8>, item: &Item) -> Result<(), AllocError>
+    requires { item.now.kind ≡ kind.Class → length item.now.fields ≤ MOST_FIELDS }
+    ensures { OnOk result (counts.new.items ≡ counts.old.items ++ fields_among (lent_items (item.now ∷ []))) }
+{
+    match item.kind {
+        ItemKind::Class => {
+            counts.push(item.fields.len() as u8)?;
+            Ok(())
+        }
+        ItemKind::Procedure => Ok(()),
+        ItemKind::Operation => Ok(()),
+    }
+}
+
+/// How many fields each class among items has.
+pub(crate) fn field_counts(alloc: Global, items: &[Item]) -> Result<Vec<u8>, AllocError>
+    requires { IsTrue (list_all (λ n. nat_le n MOST_FIELDS) (fields_among (lent_items items.now))) }
+    ensures { IfOk result (λ counts. counts.items ≡ fields_among (lent_items items.now)) }
+{
+    let mut counts = Vec::new(alloc);
+    for item in items {
+        add_count(&mut counts, item)?;
+    }
+    Ok(counts)
+}

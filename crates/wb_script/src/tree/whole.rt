@@ -1,0 +1,119 @@
+//! What is whole of a script's tree, and what is open.
+
+ghost use Rattle.std.specs.Prelude.{◌≡◌, IfOk};
+ghost use Rattle.wb_script.specs.Growing.{finished, with_class, with_procedure, with_operation};
+
+use crate::tree::bodies::OpenBody;
+use std::alloc::AllocError;
+use wb_model::items::Items;
+use wb_model::script::{Body, Class, Operation, Parameter, Procedure};
+
+/// The classes, the procedures and the operations of a script, each in the order of their lines.
+#[derive(Drop)]
+pub(crate) struct WholeItems {
+    pub classes: Items<Class>,
+    pub procedures: Items<Procedure>,
+    pub operations: Items<Operation>,
+}
+
+/// What an open body is of: a procedure or an operation, by the number of its line, or a class, with what it has so far.
+#[derive(Drop)]
+pub(crate) enum Owner {
+    Procedure(u32),
+    Operation(u32),
+    Constructor(Class),
+    Destructor(Class),
+}
+
+/// What is open.
+#[derive(Drop)]
+pub(crate) enum Stage {
+    Outside,
+    /// A class between its parts, with those that it has so far.
+    InClass(Class),
+    InBody(Owner, OpenBody),
+}
+
+/// The items that are whole, and what is open.
+#[derive(Drop)]
+pub(crate) struct Building {
+    pub whole: WholeItems,
+    pub stage: Stage,
+}
+
+/// A class is whole.
+pub(crate) fn with_class(whole: WholeItems, class: Class) -> Result<WholeItems, AllocError>
+    ensures { IfOk result (λ next. next ≡ with_class whole class) }
+{
+    let mut classes = whole.classes;
+    classes.push(class)?;
+    Ok(WholeItems { classes, ..whole })
+}
+
+fn with_procedure(
+    whole: WholeItems,
+    line: u32,
+    parameters: Items<Parameter>,
+    body: Body,
+) -> Result<WholeItems, AllocError>
+    ensures { IfOk result (λ next. next ≡ with_procedure whole line parameters body) }
+{
+    let mut procedures = whole.procedures;
+    procedures.push(Procedure {
+        line,
+        parameters,
+        body,
+    })?;
+    Ok(WholeItems {
+        procedures,
+        ..whole
+    })
+}
+
+fn with_operation(whole: WholeItems, line: u32, body: Body) -> Result<WholeItems, AllocError>
+    ensures { IfOk result (λ next. next ≡ with_operation whole line body) }
+{
+    let mut operations = whole.operations;
+    operations.push(Operation { line, body })?;
+    Ok(WholeItems {
+        operations,
+        ..whole
+    })
+}
+
+/// A body is whole.
+pub(crate) fn finished(
+    whole: WholeItems,
+    owner: Owner,
+    parameters: Items<Parameter>,
+    body: Body,
+) -> Result<Building, AllocError>
+    ensures { IfOk result (λ next. next ≡ finished whole owner parameters body) }
+{
+    match owner {
+        Owner::Procedure(line) => {
+            let whole = with_procedure(whole, line, parameters, body)?;
+            Ok(Building {
+                whole,
+                stage: Stage::Outside,
+            })
+        }
+        Owner::Operation(line) => {
+            let whole = with_operation(whole, line, body)?;
+            Ok(Building {
+                whole,
+                stage: Stage::Outside,
+            })
+        }
+        Owner::Constructor(class) => {
+            let construct = Some(body);
+            let stage = Stage::InClass(Class { construct, ..class });
+            Ok(Building { whole, stage })
+        }
+        Owner::Destructor(class) => {
+            let destroy = Some(body);
+            let stage = Stage::InClass(Class { destroy, ..class });
+            Ok(Building { whole, stage })
+        }
+    }
+}
