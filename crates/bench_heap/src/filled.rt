@@ -27,7 +27,11 @@ pub(crate) struct Filled {
 
 impl Filled {
     /// Live cells, listed in order of place.
-    pub(crate) fn new(alloc: Global, count: u32, cells: &mut Vec<Ptr>) -> Result<Filled, AllocError> {
+    pub(crate) fn new(
+        alloc: Global,
+        count: u32,
+        cells: &mut Vec<Ptr>,
+    ) -> Result<Filled, AllocError> {
         let Ok(heap) = Heap::new(alloc, CEILING, SHAPE) else {
             return Err(AllocError);
         };
