@@ -5,9 +5,11 @@
 
 A wrong body is a file `crates/NAME/wrong-bodies/*.edit`: a first line `function: PATH`, the function that must be
 refused, as a check names it; a line `file: src/..`; and pairs of lines `old: TEXT`, `new: TEXT`, where the old text
-stands once in that file. A function's proof reads the contracts of what it calls, and not the bodies; so one check
-of a copy of the crate (a round) judges wrong bodies of many functions, and tells of each function whether its own
-proof stands or only waits for another's. What a round leaves open is tried again in smaller rounds.
+stands once in that file. A function's proof reads the contracts of what it calls, and not the bodies; so one copy of
+the crate (a round) judges wrong bodies of many functions. The search looks at each function that has no proof file by
+itself, and its body is refused where a goal stays open; one function that is as it should be must pass beside them. The
+others are checked with their proof files, over a check of them and of what they call as the crate is. What a round leaves
+open is tried again in smaller rounds.
 
 It prints a line for each edit, and at last `N passed, M failed`; the exit status is 1 where one failed. The
 repository's own files stay as they are, what checks kept in `out/` too. `--must-fail` tries the edits of
@@ -27,7 +29,7 @@ from functools import partial
 from pathlib import Path
 from threading import Lock
 
-from wrong_body_checks import Repository, Verdict, check, copy_room, trust_libraries
+from wrong_body_checks import Repository, Verdict, build, check, copy_room, has_proof, start, trust_libraries
 from wrong_body_edits import MUST_FAIL, WRONG_BODIES, Edit, apply, read_edits, rounds_of
 
 ROOT = Path(__file__).resolve().parent.parent
@@ -46,6 +48,9 @@ class Step:
     work: Callable[[int], list["Step"]]
 
 
+Judge = Callable[[str, list[Edit], int], list[Step]]
+
+
 class Trial:
     """Tries the wrong bodies of some crates, in rooms below a folder."""
 
@@ -54,9 +59,11 @@ class Trial:
         self.is_after_ci = is_after_ci
         self.folder = folder
         self.kinds = kinds
-        # where each crate was checked as it is, and where its library stands if not there
+        # where each crate that others stand on was built, and where its library stands if not there
         self.built: dict[str, Path] = {}
         self.libraries: dict[str, Path] = {}
+        # functions that the search proves, of which one must pass in each round
+        self.controls: dict[str, list[str]] = {}
         self.passed = self.failed = 0
         self.rooms = 0
         self.lock = Lock()
@@ -75,7 +82,7 @@ class Trial:
             return self.folder / str(self.rooms)
 
     def first_steps(self, crates: list[str]) -> list[Step]:
-        """The steps that check these crates, and build those below, as they are."""
+        """The steps that begin with these crates, and build those below, as they are."""
         if self.is_after_ci and all(self.repository.has_libraries(it) for it in crates):
             self.libraries = {it: self.repository.root for it in self.repository.lines}
             return [Step([], it, 100 * self.repository.size(it), partial(self.begin, it, False, True)) for it in crates]
@@ -94,48 +101,96 @@ class Trial:
         self.repository.make_room(crate, room, self.libraries or self.built)
         if self.libraries:
             trust_libraries(room, crate)
-        verdict = check(room, crate, "lib", jobs) if is_lower else Verdict({})
-        if is_tried and not verdict.functions:
-            verdict = check(room, crate, "check", jobs)
+        unbuilt = build(room, crate, jobs) if is_lower else ""
         self.built[crate] = room
         if not is_tried:
             return []
         edits, bad = read_edits(self.repository.root / "crates" / crate, self.kinds)
         for label, why in bad.items():
             self.tell(label, f"BAD EDIT: {why}")
+        if unbuilt:
+            self.not_tried(edits, unbuilt)
+            return []
+        searched = [it for it in edits if not has_proof(room / "crates" / crate, it.function)]
+        self.controls[crate] = [it for _, it in sorted({(it.length, it.function) for it in searched})]
+        rounds = [self.round(crate, it, self.judge_searched) for it in rounds_of(searched)]
+        answered = self.proved_as_they_are(room, crate, [it for it in edits if it not in searched], jobs)
+        return rounds + [self.round(crate, it, self.judge_answered) for it in rounds_of(answered)]
+
+    def proved_as_they_are(self, room: Path, crate: str, edits: list[Edit], jobs: int) -> list[Edit]:
+        """Checks functions that have proof files, and keeps what it proves for the rounds. Gives the edits of those that are
+        proved."""
+        if not edits:
+            return []
+        verdict = check(room, crate, sorted({it.function for it in edits}), jobs)
         unproved = verdict.unread or next((name for name, said in verdict.functions.items() if not said.is_proved), "")
-        good = []
+        if unproved:
+            self.not_tried(edits, unproved)
+            return []
+        return edits
+
+    def not_tried(self, edits: list[Edit], why: str) -> None:
+        """Tells that edits can't be judged."""
         for edit in edits:
-            if unproved:
-                self.tell(edit.label, f"NOT TRIED: the crate as it is isn't proved: {unproved}")
-            elif edit.function not in verdict.functions:
-                self.tell(edit.label, f"BAD EDIT: a check of the crate names no function {edit.function}")
-            else:
-                good.append(edit)
-        return [self.round(crate, it) for it in rounds_of(good)]
+            self.tell(edit.label, f"NOT TRIED: the crate as it is isn't proved: {why}")
 
-    def round(self, crate: str, edits: list[Edit]) -> Step:
-        """A step that judges some edits by one check."""
+    def round(self, crate: str, edits: list[Edit], judge: Judge) -> Step:
+        """A step that judges some edits on one copy of the crate."""
         rank = self.repository.size(crate) * (10 + len(edits))
-        return Step([crate], "", rank, partial(self.judge, crate, edits))
+        return Step([crate], "", rank, partial(judge, crate, edits))
 
-    def judge(self, crate: str, edits: list[Edit], jobs: int) -> list[Step]:
-        """Checks a crate with these edits, tells what came of each, and gives the rounds for those that are left open."""
+    def halves(self, crate: str, edits: list[Edit], judge: Judge) -> list[Step]:
+        """The steps that judge half of the edits each."""
+        half = len(edits) // 2
+        return [self.round(crate, it, judge) for it in (edits[:half], edits[half:])]
+
+    def edited_room(self, crate: str, edits: list[Edit]) -> Path:
+        """A copy of the crate with these edits."""
         room = self.room()
         copy_room(self.built[crate], room, crate)
         apply(edits, room / "crates" / crate)
-        verdict = check(room, crate, "check", jobs)
+        return room
+
+    def judge_searched(self, crate: str, edits: list[Edit], jobs: int) -> list[Step]:
+        """Has the search look at edited functions that have no proof file, and tells what came of each edit."""
+        room = self.edited_room(crate, edits)
+        edited = {it.function for it in edits}
+        control = [it for it in self.controls[crate] if it not in edited][:1]
+        started = start(room, crate, sorted(edited | {*control}), jobs)
+        shutil.rmtree(room)
+        # one edit that can't be read silences all
+        if started.unread and len(edits) > 1:
+            return self.halves(crate, edits, self.judge_searched)
+        left = []
+        for edit in edits:
+            if started.unread:
+                self.tell(edit.label, f"BAD EDIT: the edited text can't be checked: {started.unread}")
+            elif not started.proved.issuperset(control):
+                self.tell(edit.label, f"NOT JUDGED: {control[0]}, which is as it should be, didn't pass beside it")
+            elif edit.function in started.proved:
+                self.tell(edit.label, "PROVED")
+            elif edit.function in started.open:
+                self.tell(edit.label, "refused", is_well=True)
+            else:
+                left.append(edit)
+        # a file of invariants may have an error, and the search then doesn't begin
+        return [self.round(crate, left, self.judge_answered)] if left else []
+
+    def judge_answered(self, crate: str, edits: list[Edit], jobs: int) -> list[Step]:
+        """Checks edited functions with their proof files, tells what came of each edit, and gives the rounds for those that are
+        left open."""
+        room = self.edited_room(crate, edits)
+        verdict = check(room, crate, [it.function for it in edits], jobs)
         shutil.rmtree(room)
         edited = {it.function for it in edits}
         strays = [name for name, said in verdict.functions.items() if said.is_refused() and name not in edited]
-        half = len(edits) // 2
         # one edit that can't be read silences all, and one that breaks another function may be what breaks an edited one
-        if half and (verdict.unread or strays):
-            return [self.round(crate, it) for it in (edits[:half], edits[half:])]
+        if len(edits) > 1 and (verdict.unread or strays):
+            return self.halves(crate, edits, self.judge_answered)
         left = [it for it in edits if not self.is_settled(it, verdict, len(edits) == 1)]
         if left and len(left) == len(edits):
-            return [self.round(crate, it) for it in (left[:half], left[half:])]
-        return [self.round(crate, left)] if left else []
+            return self.halves(crate, left, self.judge_answered)
+        return [self.round(crate, left, self.judge_answered)] if left else []
 
     def is_settled(self, edit: Edit, verdict: Verdict, is_alone: bool) -> bool:
         """Tells what a check says of an edit, if that settles it."""

@@ -36,6 +36,8 @@ class Edit:
     label: str
     function: str
     hunks: tuple[Hunk, ...]
+    # how long the function's body is, in lines
+    length: int
     # whether it changes more than its function's body, so that it may also change what is said of other functions
     is_wide: bool
 
@@ -85,7 +87,8 @@ def read_edit(path: Path, label: str, crate: Path) -> Edit:
         raise BadEdit("it changes nothing")
     bodies = {file: bodies_of(function.rpartition("::")[2], before[file].splitlines()) for file in before}
     inside = all(any(hunk.start in body and hunk.end <= body.stop for body in bodies[hunk.file]) for hunk in hunks)
-    return Edit(label, function, hunks, not inside)
+    length = sum(len(body) for found in bodies.values() for body in found)
+    return Edit(label, function, hunks, length, not inside)
 
 
 def pairs_of(lines: list[str]) -> Iterator[tuple[str, str, str]]:
