@@ -12,7 +12,7 @@ use Rattle.wb_model.specs.Statements.{Piece, all, turns, destroy_items, destroy_
 use Rattle.wb_model.specs.Meaning.{begun, begun_if, piece, meaning_of}
 use Rattle.wb_model.specs.Run.{main_trapped}
 use Rattle.wb_model.specs.Rest.{Pending, doing, catching, caught, calling, main_catching, main_caught, Afterwards, nothing_more, gives_to, releases, after_frame, resumed, resume}
-use Rattle.wb_model.proofs.AlikeLemmas.{Fine, Keeps, Alike, AlikeAll, then_do-alike, with_some-alike, with_class-alike, release-alike}
+use Rattle.wb_model.proofs.AlikeLemmas.{Fine, Keeps, Alike, AlikeAll, and_then-alike, then_do-alike, with_some-alike, with_class-alike, release-alike}
 use Rattle.wb_model.proofs.AlikeStatements.{plain-alike, in_frame-alike, destroyed_item-alike, statement-alike}
 use Rattle.wb_model.proofs.AlikePieces.{between, shows_weaker, meaning_within-alike}
 use Rattle.wb_model.proofs.MeaningLemmas.{anything, meaning_of-unfolds}
@@ -21,13 +21,14 @@ use Rattle.wb_machine.specs.Asks.{asks_at}
 -- a process asks for nothing before more than a number of steps were counted
 abbrev pub IsLater : ℕ → Process → Type 0
 IsLater n (asks t cut go) = n < cut.steps
+IsLater n (notes q p) = IsLater n p
 IsLater n _ = Unit {0}
 
 pub later_asks : (n : ℕ) (p : Process) → IsLater n p → asks_at n p ≡ false
 later_asks n (ends way st) h = refl
 later_asks n (stops stop st) h = refl
 later_asks n (asks t cut go) h = ne_eqb cut.steps n (λ e. omega (arith, e, h))
-later_asks n (notes q p) h = refl
+later_asks n (notes q p) h = later_asks n p h
 
 module _ (script : Script) (budget : ℕ) where
   abbrev pub meant : Meaning
@@ -41,7 +42,7 @@ module _ (script : Script) (budget : ℕ) where
   onward_later low (ends way st) k = tt
   onward_later low (stops stop st) k = tt
   onward_later low (asks t cut go) k = omega (arith, k.0.0.0)
-  onward_later low (notes q p) k = tt
+  onward_later low (notes q p) k = onward_later low p k.1
 
   pub onward_all : (low : ℕ) → AlikeAll (between anything low budget) meant meant
   unfolding meaning_of
@@ -97,7 +98,7 @@ module _ (script : Script) (budget : ℕ) where
   later_then low (ends way st) k later on h = h way st on.0.0 on.0.1
   later_then low (stops stop st) k later on h = tt
   later_then low (asks t cut go) k later on h = later
-  later_then low (notes q p) k later on h = tt
+  later_then low (notes q p) k later on h = later_then low p k later on.1 h
 
   -- and doesn't change whether an attempt is asked for at once
   pub asked_then : (low : ℕ) (p : Process) (k : Way → State → Process) → Onward low p →
@@ -106,13 +107,13 @@ module _ (script : Script) (budget : ℕ) where
   asked_then low (ends way st) k on h = later_asks low (k way st) (h way st on.0.0 on.0.1)
   asked_then low (stops stop st) k on h = refl
   asked_then low (asks t cut go) k on h = refl
-  asked_then low (notes q p) k on h = refl
+  asked_then low (notes q p) k on h = asked_then low p k on.1 h
 
   pub later_higher : (low n : ℕ) (p : Process) → low ≤ n → IsLater n p → IsLater low p
   later_higher low n (ends way st) le h = tt
   later_higher low n (stops stop st) le h = tt
   later_higher low n (asks t cut go) le h = omega (arith, le, h)
-  later_higher low n (notes q p) le h = tt
+  later_higher low n (notes q p) le h = later_higher low n p le h
 
   release_onward : (p : Ptr) (low : ℕ) (st : State) → low ≤ st.steps → st.steps ≤ budget → IsLater low (release p st) × Onward low (release p st)
   unfolding release released
@@ -182,3 +183,23 @@ module _ (script : Script) (budget : ℕ) where
       let first = resumed_onward p w st within in
       later_then st.steps (resumed script budget p w st) (resume script budget ps) first.0 first.1
       (λ w st' least most. later_higher st.steps st'.steps (resume script budget ps w st') least (resume_later ps w st' most))
+
+  -- which numbers attempts got doesn't matter
+  any_numbers : (low : ℕ) (ns ms : List ℕ) (p : Process) → Keeps (between anything low budget) ns p → Keeps (between anything low budget) ms p
+  any_numbers low ns ms (ends way st) k = k
+  any_numbers low ns ms (stops stop st) k = k
+  any_numbers low ns ms (asks t cut go) k = (k.0, k.1, λ n a. any_numbers low (n ∷ ns) (n ∷ ms) (go n a) (k.2 n a))
+  any_numbers low ns ms (notes q p) k = (k.0, any_numbers low ns ms p k.1)
+
+  -- and counts no more steps than the budget
+  pub resume_onward : (ps : List Pending) (w : Way) (st : State) → st.steps ≤ budget → Onward st.steps (resume script budget ps w st)
+  unfolding resume
+  resume_onward [] w st within = ((omega arith, within), tt)
+  resume_onward (p ∷ ps) w st within =
+      let L = between anything st.steps budget in
+      let first = resumed script budget p w st in
+      let go = resume script budget ps in
+      (and_then-alike L [] first first go go (refl, (resumed_onward p w st within).1) (λ ns w st' g. (
+        refl,
+        any_numbers st.steps [] ns (go w st') (shows_weaker anything [] st.steps st'.steps budget g.0.0 (go w st') (resume_onward ps w st' g.0.1)),
+      ))).1

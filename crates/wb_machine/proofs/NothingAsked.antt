@@ -1,5 +1,5 @@
 -- Which statements ask for no attempt before a further step is counted: all but those that allocate, reallocate or push.
-use Rattle.std.proofs.Common.{◌≡◌, ℕ, ℤ, ◌+◌, ◌≤◌, Bool, true, false, List, [], ◌∷◌, ◌++◌, map, length, refl, Option, Some, None, Result, Ok, Err, arith}
+use Rattle.std.proofs.Common.{◌≡◌, ℕ, ℤ, ◌+◌, ◌-◌, ◌≤◌, Bool, true, false, List, [], ◌∷◌, ◌++◌, map, length, refl, Option, Some, None, Result, Ok, Err, arith}
 use Rattle.wb_model.specs.declared.heap.Ptr.{Ptr}
 use Rattle.wb_model.specs.declared.heap.Panic.{Panic}
 use Rattle.wb_model.specs.declared.heap.TheConstants.Panic.{POP_BELOW_TRAP}
@@ -22,7 +22,7 @@ use Rattle.wb_model.specs.declared.script.Script.{Script}
 use Rattle.wb_model.specs.declared.script.Statement.TheOpen.{Statement-F}
 use Rattle.wb_model.specs.Row.{Cell, cell_at}
 use Rattle.wb_model.specs.Texts.{Edited, Part}
-use Rattle.wb_model.specs.State.{Content, Value, null, initial, pointer, State, Way, goes_on, returns, leaves, Process, on_plain_end, then_do, require, with_some, unless}
+use Rattle.wb_model.specs.State.{Content, Value, null, initial, pointer, number, set_local, State, Way, goes_on, returns, leaves, Process, on_plain_end, then_do, require, with_some, unless}
 use Rattle.wb_model.specs.Operands.{with_cell, with_fields, with_pointer}
 use Rattle.wb_model.specs.Reading.{Source, whole, part, with_writable, with_readable, with_base, with_units, with_room, with_text_cell, write, write_view}
 use Rattle.wb_model.specs.Statements.{with_words, all, Where, Layer, done, of_script, released, release, is_null, in_frame, plain, with_arguments, with_condition, leave_if, trapped, destroy_items, destroy_object, newest, drop_newest, with_class, destroyed_item, destroyed_object, statement}
@@ -198,7 +198,7 @@ module _ (script : Script) (budget : ℕ) where
       )
     where
       rest_later : (w : Way) (st' : State) → st.steps ≤ st'.steps → st'.steps ≤ budget → IsLater st.steps (on_plain_end w st' (meant script budget at (destroy_items n)))
-      rest_later goes_on st' least most = later_higher script budget st.steps st'.steps _ least (meaning_later script budget at (destroy_items n) st' most).0
+      rest_later goes_on st' least most = later_higher script budget st.steps st'.steps (meant script budget at (destroy_items n) st') least (meaning_later script budget at (destroy_items n) st' most).0
       rest_later (returns p) st' least most = tt
       rest_later (leaves code) st' least most = tt
 
@@ -218,7 +218,8 @@ module _ (script : Script) (budget : ℕ) where
   trap_later at x entry goes_on low st least most = require_later low _ _ st _ tt
   trap_later at x entry (returns p) low st least most = tt
   trap_later at x entry (leaves code) low st least most =
-      later_higher script budget low st.steps _ least (destroyed_onward script budget at _ st _ most (λ low st. tt) (λ ns st g. (refl, g))).0
+      later_higher script budget low st.steps (trapped (meant script budget) at x entry (leaves code) st) least
+      (destroyed_onward script budget at (length st.items - entry) st (λ st. done (set_local st x (number code))) most (λ low st. tt) (λ ns st g. (refl, g))).0
 
   -- one that doesn't asks for nothing before a further step is counted, nor does what stands inside it
   pub nothing_asked : (at : Where) (layer : Layer) (st : State) → st.steps ≤ budget → may_ask layer ≡ false → IsLater st.steps (statement script (meant script budget) at layer st)

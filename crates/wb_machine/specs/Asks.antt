@@ -1,10 +1,10 @@
 -- When the next turn asks for an attempt.
-use Rattle.std.specs.Prelude.{ℕ, ◌+◌, ◌*◌, List, Bool, true, false, not, ◌&&◌, nat_eq, nat_lt, nat_le, if◌then◌else◌, Option, Some, None, length}
+use Rattle.std.specs.Prelude.{◌≡◌, ℕ, ◌+◌, ◌*◌, List, Bool, true, false, not, ◌&&◌, nat_eq, nat_lt, nat_le, if◌then◌else◌, Option, Some, None, length}
 use Rattle.wb_model.specs.declared.limits.TheConstants.{LARGEST_REQUEST, MOST_UNITS}
 use Rattle.wb_model.specs.declared.heap.Ptr.{Ptr}
 use Rattle.wb_model.specs.declared.script.Script.{Script}
 use Rattle.wb_model.specs.declared.script.Statement.TheOpen.{Statement-F}
-use Rattle.wb_model.specs.State.{Process, asks}
+use Rattle.wb_model.specs.State.{Process, asks, notes}
 use Rattle.wb_model.specs.Row.{Cell, cell_at, cell_length}
 use Rattle.wb_model.specs.Operands.{within}
 use Rattle.wb_model.specs.TextCells.{text_in}
@@ -15,9 +15,10 @@ use Rattle.wb_machine.specs.Carried.{pointer_read, number_read}
 use Rattle.wb_machine.specs.PointerOperands.{operands_refused}
 use Rattle.wb_machine.specs.TextOperands.{is_text}
 
--- a process asks for an attempt at once, its state having counted this many steps
+-- a process asks for an attempt first of all, but for notes, its state having counted this many steps
 abbrev pub asks_at : ℕ → Process → Bool
 asks_at steps (asks t cut go) = nat_eq cut.steps steps
+asks_at steps (notes q p) = asks_at steps p
 asks_at steps _ = false
 
 -- attempt 1 is to come, or what is left to do asks for an attempt before it counts a second step
@@ -25,6 +26,11 @@ abbrev pub asks_next : Script → ℕ → Progress → Bool
 asks_next script budget not_begun = true
 asks_next script budget (going ps way st) = asks_at (st.steps + 1) (resume script budget ps way st)
 asks_next script budget (has_stopped stop st) = false
+
+-- an attempt is made exactly where one is asked for, unless the ceiling cuts the run
+pub record MakesAsked (asks ceiling : Bool) (before after : ℕ) : Type 0 where
+  pub unasked : asks ≡ false → after ≡ before
+  pub asked : asks ≡ true → ceiling ≡ false → after ≡ before + 1
 
 abbrev pub is_some : {A : Type 0} → Option A → Bool
 is_some (Some a) = true

@@ -3,6 +3,7 @@ use Rattle.std.specs.Prelude.{◌≡◌, ℕ, ◌+◌, List, [], ◌∷◌, ◌+
 use Rattle.wb_model.specs.declared.heap.Ptr.{Ptr}
 use Rattle.wb_model.specs.declared.heap.Rule.{Rule}
 use Rattle.wb_model.specs.declared.run.RunResult.{RunResult}
+use Rattle.wb_model.specs.declared.run.Why.TheVariants.{Ceiling}
 use Rattle.wb_model.specs.declared.script.Script.{Script}
 use Rattle.wb_model.specs.declared.script.Body.{Body}
 use Rattle.wb_model.specs.declared.script.Numbered.{Numbered}
@@ -157,6 +158,11 @@ is_stop (Leaves code) = false
 is_stop (Panics p) = true
 is_stop (Cut why) = true
 is_stop NoCleanup = true
+
+-- the ceiling cut the run
+abbrev pub has_met_ceiling : Ending → Bool
+has_met_ceiling (Cut Ceiling) = true
+has_met_ceiling _ = false
 
 -- nothing more is to do
 abbrev pub is_over : Ending → List Piece → Bool

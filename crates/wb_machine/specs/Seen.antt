@@ -22,6 +22,8 @@ pub record Seen : Type 0 where
   pub begun : Bool
   -- the run has ended
   pub over : Bool
+  -- the ceiling cut the run
+  pub met_ceiling : Bool
   -- the next turn asks for an attempt, if it finds memory
   pub asks : Bool
   -- its memory ran out

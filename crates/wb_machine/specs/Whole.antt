@@ -11,7 +11,7 @@ use Rattle.wb_machine.specs.RunState.{HasLines, state_of}
 use Rattle.wb_machine.specs.Asks.{asks_next}
 use Rattle.wb_machine.specs.Owed.{HasStack}
 use Rattle.wb_machine.specs.Seen.{Seen}
-use Rattle.wb_machine.specs.Flow.{is_stop, is_over, AreSound, IsReady, IsFirst, pending_in, progress_of, rest_at}
+use Rattle.wb_machine.specs.Flow.{is_stop, is_over, has_met_ceiling, AreSound, IsReady, IsFirst, pending_in, progress_of, rest_at}
 use Rattle.wb_machine.specs.Told.{leaks_at_end}
 
 -- the run has ended
@@ -33,6 +33,7 @@ seen m = record {
   next = next_line (progress_in m);
   begun = m.begun;
   over = has_ended m;
+  met_ceiling = has_met_ceiling m.control.ending;
   asks = not m.failed && asks_next m.script.now m.budget (progress_in m);
   failed = m.failed;
 }

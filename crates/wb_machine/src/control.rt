@@ -12,8 +12,8 @@ ghost use Rattle.wb_model.specs.declared.run.Why.TheVariants.{Budget};
 ghost use Rattle.wb_model.specs.declared.script.Script.{Script};
 ghost use Rattle.wb_machine.specs.declared.pieces.Ending.TheVariants.{GoesOn, Cut};
 ghost use Rattle.wb_machine.specs.RunState.{RunState, HasLines, first_state, state_of};
-ghost use Rattle.wb_machine.specs.Flow.{where_of, pending_in, is_stop, is_over, progress_by, AreOwn, AreSound, IsReady, IsFirst, rest_from, rest_of_piece, rest_at};
-ghost use Rattle.wb_machine.specs.Asks.{asks_next};
+ghost use Rattle.wb_machine.specs.Flow.{where_of, pending_in, is_stop, is_over, has_met_ceiling, progress_by, progress_of, AreOwn, AreSound, IsReady, IsFirst, rest_from, rest_of_piece, rest_at};
+ghost use Rattle.wb_machine.specs.Asks.{asks_next, MakesAsked};
 ghost use Rattle.wb_machine.specs.Carried.{stepped};
 ghost use Rattle.wb_machine.specs.Owed.{HasStack, MayAttempt, Stays};
 
@@ -239,7 +239,8 @@ impl<'a> Control<'a> {
     }
 
     /// A turn. The first begins the run, and any other takes a step, or cuts the run where the budget is used
-    /// up. Pieces that are done after it are taken off at once.
+    /// up. Pieces that are done after it are taken off at once. It makes an attempt exactly where one is asked for,
+    /// unless the ceiling cuts the run.
     pub fn turn(
         &mut self,
         script: &'a Script,
@@ -269,6 +270,9 @@ impl<'a> Control<'a> {
         ensures level { OnOk result (state.new.debug.heap.level ≤ state.new.steps) }
         ensures first { OnOk result (begun ≡ false → state.new.steps ≡ 0) }
         ensures one { OnOk result (begun ≡ false → state.new.debug.attempts ≡ 1) }
+        ensures asked { OnOk result (MakesAsked
+            (asks_next script.now budget (progress_of begun self.old.ending (pending_in state.old.callers self.old.pieces.items) (state_of script.now state.old)))
+            (has_met_ceiling self.new.ending) state.old.debug.attempts state.new.debug.attempts) }
         ensures later { OnOk result (begun ≡ true → state.new.steps ≡ min (state.old.steps + 1) budget) }
         ensures steps { OnOk result (begun ≡ true → is_over self.new.ending self.new.pieces.items ≡ false → state.new.steps ≡ state.old.steps + 1) }
         ensures line { OnOk result (self.new.line ≡ (if begun && nat_lt state.old.steps budget then unwrap_or (first_line (pending_in state.old.callers self.old.pieces.items)) self.old.line else self.old.line)) }

@@ -4,6 +4,8 @@ ghost use Rattle.std.specs.Prelude.{◌≡◌, ◌+◌, ◌≤◌, ◌↔◌, No
 ghost use Rattle.wb_model.specs.Sound.{is_script};
 ghost use Rattle.wb_model.specs.Space.{is_shape};
 ghost use Rattle.wb_model.specs.Run.{run};
+ghost use Rattle.wb_model.specs.declared.run.Outcome.TheVariants.{Cut};
+ghost use Rattle.wb_model.specs.declared.run.Why.TheVariants.{Ceiling};
 ghost use Rattle.wb_machine.specs.declared.machine.Turn.TheVariants.{GoesOn, Ended};
 ghost use Rattle.wb_machine.specs.declared.machine.RunFault.TheVariants.{BadShape};
 ghost use Rattle.wb_machine.specs.Flow.{is_stop};
@@ -107,6 +109,7 @@ impl<'a> Machine<'a> {
           next = None;
           begun = false;
           over = false;
+          met_ceiling = false;
           asks = true;
           failed = false;
         }) }
@@ -131,9 +134,10 @@ impl<'a> Machine<'a> {
     ///
     /// The first makes attempt 1 and begins `main`, and counts no step. Each later one counts a step and
     /// carries it out, or cuts the run where the budget is used up; all ends that follow belong to it. A turn
-    /// makes at most one attempt. Once the run is over it answers `Ended` and changes nothing. After
-    /// `NoMemory` the machine answers `NoMemory` for good. The turn after which a run has ended plainly lists
-    /// the leaks; no other asks for memory for them.
+    /// makes one attempt where `will_attempt` was true before it, unless the ceiling cuts the run, and none
+    /// elsewhere. Once the run is over it answers `Ended` and changes nothing. After `NoMemory` the machine
+    /// answers `NoMemory` for good. The turn after which a run has ended plainly lists the leaks; no other asks
+    /// for memory for them.
     pub fn step(&mut self) -> Result<Turn, NoMemory>
         ensures script { self.new.script ≡ self.old.script }
         ensures rule { self.new.rule ≡ self.old.rule }
@@ -145,11 +149,14 @@ impl<'a> Machine<'a> {
         ensures later { OnOk result (self.old.begun ≡ true → self.old.over ≡ false → self.new.steps ≡ min (self.old.steps + 1) self.old.budget) }
         ensures counted { IfOk result (λ turn. self.old.begun ≡ true → turn ≡ Turn.GoesOn → self.new.steps ≡ self.old.steps + 1) }
         ensures within { OnOk result (self.new.steps ≤ self.new.budget) }
+        ensures ceiling { OnOk result (self.new.met_ceiling ≡ true → self.new.over ≡ true) }
         ensures ended { IfOk result (λ turn. (turn ≡ Turn.Ended) ↔ (self.new.over ≡ true)) }
         ensures over { self.old.failed ≡ false → self.old.over ≡ true → (result ≡ Ok Turn.Ended) × (self.new ≡ self.old) }
         ensures line { OnOk result (self.new.line ≡ line_after self.old) }
         ensures fewer { self.old.attempts ≤ self.new.attempts }
         ensures more { self.new.attempts ≤ self.old.attempts + 1 }
+        ensures unasked { OnOk result (self.old.asks ≡ false → self.new.attempts ≡ self.old.attempts) }
+        ensures asked { OnOk result (self.old.asks ≡ true → self.new.met_ceiling ≡ false → self.new.attempts ≡ self.old.attempts + 1) }
         ensures well { OnOk result (self.new.failed ≡ false) }
         ensures failed { OnErr result (self.new.failed ≡ true) }
         ensures for_good { self.old.failed ≡ true → (is_err result ≡ true) × (self.new ≡ self.old) }
@@ -173,8 +180,9 @@ impl<'a> Machine<'a> {
         Ok(Turn::Ended)
     }
 
-    /// Whether the next turn asks for an attempt, if it finds memory. The first turn does. One that cuts the run at the budget
-    /// asks for none; nor does any once the run is over, or after `NoMemory`.
+    /// Whether the next turn asks for an attempt, if it finds memory. Then it makes one, unless the ceiling cuts the run. The
+    /// first turn does. One that cuts the run at the budget asks for none; nor does any once the run is over, or after
+    /// `NoMemory`.
     pub fn will_attempt(&self) -> bool
         ensures { result ≡ self.now.asks }
     {
@@ -208,6 +216,7 @@ impl<'a> Machine<'a> {
         requires well { self.failed ≡ false }
         ensures told { result ≡ run self.entry.script self.entry.rule self.entry.budget self.entry.shape }
         ensures attempts { length result.trace ≡ self.entry.attempts }
+        ensures ceiling { (self.entry.met_ceiling ≡ true) ↔ (result.outcome ≡ Cut Ceiling) }
     {
         let Machine {
             script: _,

@@ -1,13 +1,15 @@
-use Rattle.std.proofs.Common.{◌≡◌, ◌≤◌, refl, ap, ◌∙◌, sym, subst, arith, Bool, true, false}
-use Rattle.std.proofs.Common.{ℕ}
+use Rattle.std.proofs.Common.{◌≡◌, ℕ, ◌+◌, ◌<◌, ◌≤◌, inl, inr, refl, ap, ◌∙◌, sym, subst, arith, Bool, true, false, length}
 use Rattle.wb_model.specs.declared.heap.Rule.{Rule}
 use Rattle.wb_model.specs.declared.run.RunResult.{RunResult}
 use Rattle.wb_model.specs.declared.script.Script.{Script}
 use Rattle.wb_model.specs.Rest.{Fits}
 use Rattle.wb_machine.specs.declared.control.Control.{Control}
-use Rattle.wb_machine.specs.RunState.{RunState}
-use Rattle.wb_machine.specs.Flow.{is_stop, is_over, AreSound, rest_from, rest_at}
+use Rattle.wb_machine.specs.RunState.{RunState, state_of}
+use Rattle.wb_machine.specs.Asks.{asks_next, MakesAsked}
+use Rattle.wb_machine.specs.Flow.{pending_in, is_stop, is_over, has_met_ceiling, progress_of, AreSound, rest_from, rest_at}
+use Rattle.wb_machine.proofs.AskedPieces.{settled_cut}
 use Rattle.wb_machine.proofs.Begins.{rest_first}
+use Rattle.wb_machine.proofs.Counted.{made_as_asked}
 use Rattle.wb_machine.proofs.Fitting.{fits-limit, fits-before, going_on}
 use Rattle.wb_machine.proofs.control.Control.turn.Goals.{then-not-begun+in_ok-begin, else-not-begun+then-steps-budget+in_ok-step, else-not-begun+else-steps-budget}
 use Rattle.wb_machine.proofs.control.Control.turn.Goals as goal
@@ -75,3 +77,50 @@ returns-clause-kept c r f =
           ∙ sym (ap (λ b. rest_at script budget r b old.ending old.pieces.items h) w.if-not-begun.false))
     ] in
     c.in_ok-settle.ensures.kept script r budget steps ∙ same
+
+pub returns-clause-asked : goal.returns-clause-asked
+returns-clause-asked c =
+    let script = c.args.script.now in
+    let budget = c.args.budget in
+    let own = c.args.state.now.debug.rule in
+    let old = c.args.self.now in
+    let h = c.args.state.now in
+    let mid = c.if-not-begun.self in
+    let g = c.if-not-begun.state in
+    let next = c.settle.new.self.ending in
+    let quiet = c.in_ok-settle.ensures.quiet in
+    let after = c.settle.new.state in
+    let asks : Bool → Bool = λ b. asks_next script budget (progress_of b old.ending (pending_in h.callers old.pieces.items) (state_of script h)) in
+    elim c.if-not-begun.branch [
+      | then-not-begun+in_ok-begin w ↦
+          subst (λ b. MakesAsked (asks b) (has_met_ceiling next) h.debug.attempts after.debug.attempts) (sym w.if-not-begun.true) (record {
+            unasked = λ silent. cc;
+            asked = λ at_once whole. omega (
+              arith,
+              quiet.attempts,
+              ap (λ (x : RunState). x.debug.attempts) w.state-is,
+              w.in_ok-begin.ensures.one,
+              ap (λ (x : RunState). x.debug.attempts) (c.requires.first w.if-not-begun.true).start,
+            );
+          })
+      | else-not-begun+then-steps-budget+in_ok-step w ↦
+          let less : h.steps < budget = omega (arith, w.if-steps-budget.true, w.steps.ensures) in
+          let stays = w.in_ok-step.ensures.stays in
+          let made = ap (λ (x : RunState). x.debug.attempts) w.state-is in
+          let taken = ap (λ (x : RunState). x.steps) w.state-is in
+          let traced = ap (λ (x : RunState). length x.debug.trace) w.state-is in
+          let steps : g.steps ≤ h.steps + 1 = omega (arith, taken, w.in_ok-step.ensures.steps) in
+          let same = c.in_ok-settle.ensures.kept script own (h.steps + 1) steps
+          ∙ moved_on script (h.steps + 1) own own w.step.new.self mid w.step.new.state g _ w.self-is w.state-is (inl refl) (λ f'. w.in_ok-step.ensures.kept own (h.steps + 1) (omega arith) f') in
+          subst (λ b. MakesAsked (asks b) (has_met_ceiling next) h.debug.attempts after.debug.attempts) (sym w.if-not-begun.false)
+          (made_as_asked script budget own old.ending next old.pieces.items c.settle.new.self.pieces.items h after (c.requires.later w.if-not-begun.false) c.requires.sound c.in_ok-settle.ensures.settled
+          less (omega (arith, quiet.steps, taken, w.in_ok-step.ensures.steps)) c.requires.lines (omega (arith, quiet.attempts, made, stays.lines, c.requires.lines, ap length quiet.trace, traced))
+          (omega (arith, quiet.attempts, made, stays.more)) same)
+      | else-not-begun+else-steps-budget w ↦
+          let at : h.steps ≡ budget = omega (arith, w.if-steps-budget.false, w.steps.ensures, c.requires.within) in
+          let none : asks true ≡ false = settled_cut script budget old.ending old.pieces.items h (inr (c.requires.later w.if-not-begun.false)) at in
+          subst (λ b. MakesAsked (asks b) (has_met_ceiling next) h.debug.attempts after.debug.attempts) (sym w.if-not-begun.false) (record {
+            unasked = λ silent. omega (arith, quiet.attempts, ap (λ (x : RunState). x.debug.attempts) w.state-is);
+            asked = λ at_once whole. let clash : false ≡ true = sym none ∙ at_once in cc;
+          })
+    ]

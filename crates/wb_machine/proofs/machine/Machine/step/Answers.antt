@@ -1,9 +1,13 @@
-use Rattle.std.proofs.Common.{◌≡◌, ap, ◌∙◌, sym, subst, arith, false}
+use Rattle.std.proofs.Common.{◌≡◌, ap, ◌∙◌, sym, subst, arith, Bool, true, false}
 use Rattle.wb_model.specs.Rest.{Fits}
-use Rattle.std.specs.Prelude.{◌&&◌}
+use Rattle.std.specs.Prelude.{not, ◌&&◌}
 use Rattle.wb_model.specs.Run.{run}
-use Rattle.wb_machine.specs.Flow.{is_stop, is_over}
+use Rattle.wb_machine.specs.Asks.{asks_next}
+use Rattle.wb_machine.specs.Flow.{is_stop, is_over, pending_in, progress_of}
+use Rattle.wb_machine.specs.RunState.{state_of}
+use Rattle.wb_machine.specs.Seen.{Seen}
 use Rattle.wb_machine.specs.Whole.{has_ended}
+use Rattle.wb_machine.proofs.AskedPieces.{over_asks}
 use Rattle.wb_machine.proofs.Fitting.{fits-before}
 use Rattle.wb_machine.proofs.machine.Machine.step.Goals.{else-self-2-via-then-self-2+else-is_over, else-self-2-via-else-self-2}
 use Rattle.wb_machine.proofs.machine.Machine.step.Goals as goal
@@ -39,3 +43,14 @@ invariant_of-self-2 c =
           ∙ c.self.invariant.keeps c.if-self.false r (fits-before r m.state.debug.rule (has_ended m) _ m.state.debug.attempts c.turn.new.state.debug.attempts (λ e. going) turn.stays.fewer f')
           ∙ ap (run m.script.now r m.budget) (sym turn.stays.shape);
     }
+
+-- a run that is over asks for nothing
+pub returns-then-is_over-clause-asked : goal.returns-then-is_over-clause-asked
+returns-then-is_over-clause-asked c at_once whole =
+    let m = c.self.inside in
+    let script = m.script.now in
+    let asks : Bool → Bool = λ b. asks_next script m.budget (progress_of b m.control.ending (pending_in m.state.callers m.control.pieces.items) (state_of script m.state)) in
+    let never : (not m.failed && asks m.begun) ≡ false =
+    ap (λ b. b && asks m.begun) (ap not c.if-self.false) ∙ ap asks c.if-self-2.true
+    ∙ over_asks script m.budget m.control.ending m.control.pieces.items m.state (sym c.is_over.ensures ∙ c.if-is_over.true) in
+    let clash : false ≡ true = sym never ∙ ap (λ (s : Seen). s.asks) c.self.view_is ∙ at_once in cc
