@@ -18,7 +18,7 @@ sys.path.insert(0, str(Path(__file__).resolve().parent))
 from kit import kit  # noqa: E402
 
 ROOT = Path(__file__).resolve().parent.parent
-PROGRAM = ROOT / "crates" / "workbench"
+PROGRAM = ROOT / "crates" / "wb_main"
 
 # What a process of the prover takes, in bytes.
 MEMORY = 2_000_000_000

@@ -15,7 +15,9 @@ from typing import BinaryIO, Iterator
 ROOT = Path(__file__).resolve().parent.parent
 LIST = ROOT / "crates.txt"
 NAME = "workbench"
-PROGRAM = ROOT / "crates" / NAME / "out" / NAME
+# the crate whose `main` it is
+CRATE = "wb_main"
+PROGRAM = ROOT / "crates" / CRATE / "out" / CRATE
 
 # The folders of a crate that the program is made of; its wrong bodies and what it is run on are no part of it.
 PARTS = ("src", "specs", "proofs")
@@ -42,7 +44,7 @@ def crates_of(name: str) -> list[str]:
 def changes() -> Iterator[float]:
     """When each file and folder that the program is made of was last changed: a file that was removed shows by its folder."""
     yield LIST.stat().st_mtime
-    for crate in crates_of(NAME):
+    for crate in crates_of(CRATE):
         for part in PARTS:
             for folder, _, files in os.walk(ROOT / "crates" / crate / part):
                 yield from (os.stat(os.path.join(folder, it)).st_mtime for it in [".", *files])

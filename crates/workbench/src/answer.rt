@@ -214,5 +214,3 @@ fn write_whole<W: Sink>(writer: &mut W, text: &[u8]) -> Result<(), StreamFault>
     Ok(())
 }
 
-#[cfg(test)]
-mod tests;

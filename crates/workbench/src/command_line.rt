@@ -391,7 +391,3 @@ pub fn words_are_read()
     ensures { (words : List Text) → All IsUtf8 words → AreRead words }
 {}
 
-#[cfg(test)]
-mod refusal_tests;
-#[cfg(test)]
-mod tests;

@@ -102,5 +102,3 @@ fn status_of(fault: &WordsFault) -> u8
     }
 }
 
-#[cfg(test)]
-mod tests;

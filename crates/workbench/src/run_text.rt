@@ -179,5 +179,3 @@ fn put_cut(text: &mut Vec<u8>, why: Why) -> Result<(), NoMemory>
     appended(put)
 }
 
-#[cfg(test)]
-mod tests;

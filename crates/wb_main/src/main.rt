@@ -1,26 +1,9 @@
-//! The workbench as a program: reads a script, runs it against the simulated heap and reports.
-//!
-//! Here stands only what hands the process's own words, files and streams to `program`.
+//! The program: hands the process's own words, files and streams to the workbench.
 #![tactic(auto)]
 
-mod answer;
-mod appended;
-mod command;
-mod command_line;
-mod figures;
-mod file_name;
-mod host;
-mod json_report;
-mod numbers_text;
-mod program;
-mod report;
-mod run_text;
-mod streams;
-mod tasks;
-
-use program::program;
 use std::process::ExitCode;
 use std::{env, io};
+use workbench::program::program;
 
 fn main(rt: HostRuntime) -> ExitCode {
     ExitCode::from(program(
@@ -36,3 +19,6 @@ fn main(rt: HostRuntime) -> ExitCode {
 fn words(rt: &HostRuntime) -> io::Result<Vec<String>> {
     Ok(env::args(rt)?.collect(rt.alloc())?)
 }
+
+#[cfg(test)]
+mod tests;

@@ -2,13 +2,13 @@
 
 ghost use Rattle.std.specs.Prelude.{⊤};
 
-use super::program;
-use crate::host::Host;
 use std::alloc::Global;
 use std::io;
 use std::io::ErrorKind;
 use std::process::Abort;
 use std::test::Fail;
+use workbench::host::Host;
+use workbench::program::program;
 
 /// One file and a standard input, and how often each was asked for.
 #[derive(Drop)]

@@ -7,13 +7,14 @@ ghost use Rattle.workbench.specs.Command.{is_answerable, is_in_range};
 mod json;
 mod numbers;
 
-use super::*;
-use crate::command::Task;
+use std::alloc::Global;
 use std::io;
 use std::io::{ErrorKind, Read, Write};
 use std::process::Abort;
 use std::test::Fail;
 use wb_model::heap::{Rule, Shape};
+use workbench::answer::{READ_OR_WRITE_FAULT, answer, say_read_fault};
+use workbench::command::{Command, Task};
 
 /// Gives its bytes, `at_once` at a time, and then fails or is at its end.
 #[derive(Drop)]

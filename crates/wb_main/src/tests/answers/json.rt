@@ -4,11 +4,11 @@ ghost use Rattle.std.specs.Prelude.{◌≤◌, IsTrue};
 ghost use Rattle.workbench.specs.Command.{is_in_range};
 
 use super::{LEAKING, command, giving, taking};
-use crate::answer::answer;
-use crate::command::Task;
 use std::io::ErrorKind;
 use std::process::Abort;
 use wb_model::heap::Rule;
+use workbench::answer::answer;
+use workbench::command::Task;
 
 /// The answer to a task on a script is this object on a line of its own, with this status.
 fn check_json(rt: &(impl Abort + AllocGlobal), task: Task, script: &[u8], object: &[u8], status: u8)

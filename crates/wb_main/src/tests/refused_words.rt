@@ -1,10 +1,10 @@
 //! Which words `clap` refuses, and what the user is told of these.
 
-use super::command;
-use crate::command::CommandFault;
 use std::alloc::Global;
 use std::process::Abort;
 use std::test::Fail;
+use workbench::command::CommandFault;
+use workbench::command_line::command;
 
 /// Clap's text on words that are refused, which holds `part`.
 fn refuses(rt: &impl Abort, alloc: Global, words: &[&str], part: &str) -> Result<(), Fail> {

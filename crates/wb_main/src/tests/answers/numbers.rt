@@ -4,9 +4,9 @@ ghost use Rattle.std.specs.Prelude.{IsTrue};
 ghost use Rattle.workbench.specs.Command.{is_in_range};
 
 use super::{LEAKING, command};
-use crate::answer::answer;
-use crate::command::Task;
 use std::process::Abort;
+use workbench::answer::answer;
+use workbench::command::Task;
 
 /// The answer to a task on a script has this text and this status.
 fn check_answer(rt: &(impl Abort + AllocGlobal), task: Task, script: &[u8], text: &[u8], status: u8)

@@ -1,12 +1,12 @@
 //! That words are taken at all, which no clause says, since any growth may be refused; and the faults of words
 //! that `clap` takes.
 
-use super::command;
-use crate::command::{CommandFault, Task};
 use std::alloc::Global;
 use std::process::Abort;
 use std::test::Fail;
 use wb_model::heap::{Rule, Shape};
+use workbench::command::{CommandFault, Task};
+use workbench::command_line::command;
 
 const DEFAULT_SHAPE: Shape = Shape {
     min: 4096,

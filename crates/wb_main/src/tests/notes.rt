@@ -1,11 +1,13 @@
 //! The text of a run with every part in it, written out by hand.
 
-use super::*;
 use arrayvec::ArrayVec;
 use std::alloc::{AllocError, Global};
 use std::test::Fail;
+use wb_model::heap::{Answer, Attempt, Panic};
 use wb_model::items::Items;
 use wb_model::printed_line::Line;
+use wb_model::run::{Leak, Leaks, Lines, Note, Notes, Outcome, RunResult, Trace, Why};
+use workbench::run_text::put_run;
 
 const TEXT: &[u8] = b"print hi
 print 
