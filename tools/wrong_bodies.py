@@ -4,12 +4,12 @@
     tools/wrong_bodies.py [--jobs N] [--must-fail] [--after-ci] [--logs FOLDER] [CRATE..]
 
 A wrong body is a file `crates/NAME/wrong-bodies/*.edit`: a first line `function: PATH`, the function that must be
-refused, as a check names it; a line `file: src/..`; and pairs of lines `old: TEXT`, `new: TEXT`, where the old text
-stands once in that file. A function's proof reads the contracts of what it calls, and not the bodies; so one copy of
-the crate (a round) judges wrong bodies of many functions. The search looks at each function that has no proof file by
-itself, and its body is refused where a goal stays open; one function that is as it should be must pass beside them. The
-others are checked with their proof files, over a check of them and of what they call as the crate is. What a round leaves
-open is tried again in smaller rounds.
+refused, as a check names it; a line `file: src/..`; and pairs of lines `old: TEXT`, `new: TEXT`, where the old text stands
+once in that file. A function's proof reads the contracts of what it calls, and not the bodies; so one check of a copy of
+the crate (a round) judges wrong bodies of many functions, and tells of each function whether its own proof stands or only
+waits for another's. The edits of a crate are tried round after round on one copy, over what the rounds before it kept: a
+function stays wrong until it gets its next wrong body, so that only what no edit changes is ever proved as it is. All that
+is must be proved, or wait for a function that is wrong.
 
 It prints a line for each edit, and at last `N passed, M failed`; the exit status is 1 where one failed. The
 repository's own files stay as they are, what checks kept in `out/` too. `--must-fail` tries the edits of
@@ -24,12 +24,12 @@ import sys
 import tempfile
 from collections.abc import Callable
 from concurrent.futures import FIRST_COMPLETED, Future, ThreadPoolExecutor, wait
-from dataclasses import dataclass
+from dataclasses import dataclass, field
 from functools import partial
 from pathlib import Path
 from threading import Lock
 
-from wrong_body_checks import Repository, Verdict, build, check, copy_room, has_proof, start, trust_libraries
+from wrong_body_checks import Repository, Verdict, build, check, copy_room, replace_sources, trust_libraries
 from wrong_body_edits import MUST_FAIL, WRONG_BODIES, Edit, apply, read_edits, rounds_of
 
 ROOT = Path(__file__).resolve().parent.parent
@@ -48,7 +48,17 @@ class Step:
     work: Callable[[int], list["Step"]]
 
 
-Judge = Callable[[str, list[Edit], int], list[Step]]
+@dataclass
+class Chain:
+    """The edits of a crate that are still to be judged, on a copy of it."""
+
+    crate: str
+    room: Path
+    rounds: list[list[Edit]]
+    # those that a round left open, each to be judged by itself
+    alone: list[Edit] = field(default_factory=list)
+    # those that stand in the copy
+    standing: list[Edit] = field(default_factory=list)
 
 
 class Trial:
@@ -59,11 +69,9 @@ class Trial:
         self.is_after_ci = is_after_ci
         self.folder = folder
         self.kinds = kinds
-        # where each crate that others stand on was built, and where its library stands if not there
+        # where each crate stands as it is, and where its library does if not there
         self.built: dict[str, Path] = {}
         self.libraries: dict[str, Path] = {}
-        # functions that the search proves, of which one must pass in each round
-        self.controls: dict[str, list[str]] = {}
         self.passed = self.failed = 0
         self.rooms = 0
         self.lock = Lock()
@@ -96,7 +104,7 @@ class Trial:
         return steps
 
     def begin(self, crate: str, is_lower: bool, is_tried: bool, jobs: int) -> list[Step]:
-        """Builds a crate as it is, where others stand on it, and gives the rounds of its edits."""
+        """Builds a crate as it is, where others stand on it, and gives the first round of its edits."""
         room = self.room()
         self.repository.make_room(crate, room, self.libraries or self.built)
         if self.libraries:
@@ -108,89 +116,37 @@ class Trial:
         edits, bad = read_edits(self.repository.root / "crates" / crate, self.kinds)
         for label, why in bad.items():
             self.tell(label, f"BAD EDIT: {why}")
-        if unbuilt:
-            self.not_tried(edits, unbuilt)
+        for edit in edits if unbuilt else []:
+            self.tell(edit.label, f"NOT TRIED: the crate as it is isn't proved: {unbuilt}")
+        if unbuilt or not edits:
             return []
-        searched = [it for it in edits if not has_proof(room / "crates" / crate, it.function)]
-        self.controls[crate] = [it for _, it in sorted({(it.length, it.function) for it in searched})]
-        rounds = [self.round(crate, it, self.judge_searched) for it in rounds_of(searched)]
-        answered = self.proved_as_they_are(room, crate, [it for it in edits if it not in searched], jobs)
-        return rounds + [self.round(crate, it, self.judge_answered) for it in rounds_of(answered)]
+        copy_room(room, own := self.room(), crate)
+        return self.next(Chain(crate, own, rounds_of(edits)))
 
-    def proved_as_they_are(self, room: Path, crate: str, edits: list[Edit], jobs: int) -> list[Edit]:
-        """Checks functions that have proof files, and keeps what it proves for the rounds. Gives the edits of those that are
-        proved."""
-        if not edits:
-            return []
-        verdict = check(room, crate, sorted({it.function for it in edits}), jobs)
-        unproved = verdict.unread or next((name for name, said in verdict.functions.items() if not said.is_proved), "")
-        if unproved:
-            self.not_tried(edits, unproved)
-            return []
-        return edits
+    def next(self, chain: Chain) -> list[Step]:
+        """The step that judges the next edits of a crate, if some are left."""
+        count = sum(map(len, chain.rounds)) + len(chain.alone)
+        return [Step([], "", self.repository.size(chain.crate) * count, partial(self.judge, chain))] if count else []
 
-    def not_tried(self, edits: list[Edit], why: str) -> None:
-        """Tells that edits can't be judged."""
-        for edit in edits:
-            self.tell(edit.label, f"NOT TRIED: the crate as it is isn't proved: {why}")
-
-    def round(self, crate: str, edits: list[Edit], judge: Judge) -> Step:
-        """A step that judges some edits on one copy of the crate."""
-        rank = self.repository.size(crate) * (10 + len(edits))
-        return Step([crate], "", rank, partial(judge, crate, edits))
-
-    def halves(self, crate: str, edits: list[Edit], judge: Judge) -> list[Step]:
-        """The steps that judge half of the edits each."""
-        half = len(edits) // 2
-        return [self.round(crate, it, judge) for it in (edits[:half], edits[half:])]
-
-    def edited_room(self, crate: str, edits: list[Edit]) -> Path:
-        """A copy of the crate with these edits."""
-        room = self.room()
-        copy_room(self.built[crate], room, crate)
-        apply(edits, room / "crates" / crate)
-        return room
-
-    def judge_searched(self, crate: str, edits: list[Edit], jobs: int) -> list[Step]:
-        """Has the search look at edited functions that have no proof file, and tells what came of each edit."""
-        room = self.edited_room(crate, edits)
-        edited = {it.function for it in edits}
-        control = [it for it in self.controls[crate] if it not in edited][:1]
-        started = start(room, crate, sorted(edited | {*control}), jobs)
-        shutil.rmtree(room)
-        # one edit that can't be read silences all
-        if started.unread and len(edits) > 1:
-            return self.halves(crate, edits, self.judge_searched)
-        left = []
-        for edit in edits:
-            if started.unread:
-                self.tell(edit.label, f"BAD EDIT: the edited text can't be checked: {started.unread}")
-            elif not started.proved.issuperset(control):
-                self.tell(edit.label, f"NOT JUDGED: {control[0]}, which is as it should be, didn't pass beside it")
-            elif edit.function in started.proved:
-                self.tell(edit.label, "PROVED")
-            elif edit.function in started.open:
-                self.tell(edit.label, "refused", is_well=True)
-            else:
-                left.append(edit)
-        # a file of invariants may have an error, and the search then doesn't begin
-        return [self.round(crate, left, self.judge_answered)] if left else []
-
-    def judge_answered(self, crate: str, edits: list[Edit], jobs: int) -> list[Step]:
-        """Checks edited functions with their proof files, tells what came of each edit, and gives the rounds for those that are
-        left open."""
-        room = self.edited_room(crate, edits)
-        verdict = check(room, crate, [it.function for it in edits], jobs)
-        shutil.rmtree(room)
-        edited = {it.function for it in edits}
-        strays = [name for name, said in verdict.functions.items() if said.is_refused() and name not in edited]
-        # one edit that can't be read silences all, and one that breaks another function may be what breaks an edited one
+    def judge(self, chain: Chain, jobs: int) -> list[Step]:
+        """Checks a crate with the next edits, tells what came of each, and gives the step that follows."""
+        is_round = bool(chain.rounds)
+        edits = chain.rounds.pop(0) if is_round else [chain.alone.pop()]
+        standing = edits + [it for it in chain.standing if is_round and it.can_stay(edits)]
+        replace_sources(chain.room, chain.crate, self.repository.root / "crates" / chain.crate / "src")
+        apply(standing, chain.room / "crates" / chain.crate)
+        wrong = {it.function for it in standing}
+        verdict = check(chain.room, chain.crate, sorted(wrong), jobs)
+        strays = [name for name, said in verdict.functions.items() if said.is_refused() and name not in wrong]
         if len(edits) > 1 and (verdict.unread or strays):
-            return self.halves(crate, edits, self.judge_answered)
-        left = [it for it in edits if not self.is_settled(it, verdict, len(edits) == 1)]
-        if left and len(left) == len(edits):
-            return self.halves(crate, left, self.judge_answered)
-        return [self.round(crate, left, self.judge_answered)] if left else []
+            # one edit that can't be read silences all, and one that breaks another function may break an edited one
+            half = len(edits) // 2
+            chain.rounds[:0] = [edits[:half], edits[half:]]
+            return self.next(chain)
+        chain.alone += [it for it in edits if not self.is_settled(it, verdict, not is_round)]
+        if is_round and not verdict.unread:
+            chain.standing = [it for it in standing if not it.is_wide]
+        return self.next(chain)
 
     def is_settled(self, edit: Edit, verdict: Verdict, is_alone: bool) -> bool:
         """Tells what a check says of an edit, if that settles it."""
@@ -198,7 +154,7 @@ class Trial:
         if verdict.unread:
             self.tell(edit.label, f"BAD EDIT: the edited text can't be checked: {verdict.unread}")
         elif said is None:
-            self.tell(edit.label, f"BAD EDIT: the check of the edited text doesn't name {edit.function}")
+            self.tell(edit.label, f"BAD EDIT: a check of the crate names no function {edit.function}")
         elif said.is_proved:
             self.tell(edit.label, "PROVED")
         elif said.goal:

@@ -1,4 +1,4 @@
-"""Checks copies of a crate, and reads what the checker says of single functions."""
+"""Checks copies of a crate, and reads what the checker says of each of its functions."""
 
 import os
 import re
@@ -10,14 +10,12 @@ from pathlib import Path
 from kit import kit
 
 PARTS = ("src", "specs", "proofs")
-ANSWERS, PROOF = "Answers.antt", "Proof.antt"
 KEPT = Path("out/incremental")
 BUILT = Path("out/rlib")
 
 STATUS = re.compile(r"fn (\S+): (proved|no proof|not proved)(?:: |; |$)(.*)")
 CALLS = re.compile(r"(?:; )?it calls (.*), which (?:is|are) not proved$")
 GOAL = re.compile(r"note: (?:\./)?src/\S+: it is not proved that ")
-NEEDS_NONE = re.compile(r"note: `(\S+)` needs no file: ")
 PROOF_FILE = re.compile(r"((?:\./)?proofs/(\S+)/[A-Za-z]+\.antt:\d+):\d+: error: (.*)")
 # an error of a text that the checker cannot read, where a false statement reads well
 UNREAD = re.compile(r"(?:\./)?(?:src|specs)/\S+?:\d+:\d+: error: (`[^`]*`: )?(.*)")
@@ -48,37 +46,16 @@ class Verdict:
     unread: str = ""
 
 
-@dataclass
-class Started:
-    """What the search says of functions that have no proof file: those that it proves, and those of which it leaves a goal open."""
-
-    proved: set[str]
-    open: set[str]
-    unread: str = ""
-
-
-def unread_in(text: str) -> str:
-    """A line that says that the checker couldn't read a text, if there is one."""
-    for line in text.splitlines():
-        broken = UNREAD.match(line)
-        if broken and (not broken[1] or NO_TEXT.search(re.sub(r"`[^`]*`", "", broken[2]))):
-            return line
-    return ""
-
-
-def last_words(text: str) -> str:
-    """What a check that ended early said."""
-    lines = text.strip().splitlines() or ["the check printed nothing"]
-    return next((it for it in lines if re.search(r"error|killed", it)), lines[-1])
-
-
 def read_verdict(text: str) -> Verdict:
     """Reads what a check printed."""
     functions: dict[str, Said] = {}
     errors: dict[str, str] = {}
-    has_goal, unread = False, unread_in(text)
+    has_goal, unread = False, ""
     for line in text.splitlines():
-        if error := PROOF_FILE.match(line):
+        if broken := UNREAD.match(line):
+            if not broken[1] or NO_TEXT.search(re.sub(r"`[^`]*`", "", broken[2])):
+                unread = unread or line
+        elif error := PROOF_FILE.match(line):
             # a file that another one's error leaves out says nothing of its function
             if "was not admitted" not in error[3]:
                 errors.setdefault(error[2].replace("/", "::"), error[1])
@@ -90,53 +67,37 @@ def read_verdict(text: str) -> Verdict:
             proof_file = errors.get(name.partition("::")[2], "")
             functions[name] = Said(word == "proved", has_goal or bool(own), proof_file, calls[1] if calls else "")
             has_goal = False
-    if not unread and not re.search(r"^(logic=(not-)?proved|only=\d+)\b", text, re.M):
+    if not unread and not re.search(r"^only=\d+", text, re.M):
         unread = last_words(text)
     return Verdict(functions, unread)
 
 
-def run(room: Path, crate: str, name: str, words: list[str]) -> str:
-    """Runs `rt` on the crate in a room, and gives what it printed, which it leaves beside the room under a name."""
-    log = room.with_name(f"{room.name}-{crate}-{name}.log")
-    with log.open("w", encoding="utf-8") as out:
+def last_words(text: str) -> str:
+    """What a check that ended early said."""
+    lines = text.strip().splitlines() or ["the check printed nothing"]
+    return next((it for it in lines if re.search(r"error|killed", it)), lines[-1])
+
+
+def run(room: Path, crate: str, words: list[str]) -> str:
+    """Runs `rt` on the crate in a room, gives what it printed, and adds that to a file beside the room."""
+    with room.with_name(f"{room.name}-{crate}.log").open("a+", encoding="utf-8", errors="replace") as log:
+        start = log.seek(0, os.SEEK_END)
         folder = room / "crates" / crate
-        subprocess.run(["rt", *words], cwd=folder, stdin=subprocess.DEVNULL, stdout=out, stderr=subprocess.STDOUT)
-    return log.read_text(encoding="utf-8", errors="replace")
+        subprocess.run(["rt", *words], cwd=folder, stdin=subprocess.DEVNULL, stdout=log, stderr=subprocess.STDOUT)
+        log.seek(start)
+        return log.read()
 
 
 def build(room: Path, crate: str, jobs: int) -> str:
     """Builds the crate in a room as a library, and says why that failed, if so."""
-    text = run(room, crate, "lib", ["lib", "--jobs", str(jobs)])
+    text = run(room, crate, ["lib", "--jobs", str(jobs)])
     return "" if re.search(r"^logic=proved\b", text, re.M) else last_words(text)
 
 
 def check(room: Path, crate: str, functions: list[str], jobs: int) -> Verdict:
     """Checks some functions of the crate in a room, and what they call."""
     only = [word for it in functions for word in ("--only", it)]
-    return read_verdict(run(room, crate, "check", ["check", "--jobs", str(jobs), *only]))
-
-
-def start(room: Path, crate: str, functions: list[str], jobs: int) -> Started:
-    """Has the search look at some functions of the crate in a room, which have no proof file, and at no others."""
-    words = [word for it in functions for word in ("--start", it)]
-    text = run(room, crate, "start", ["check", "--jobs", str(jobs), *words])
-    proved = {it[1] for it in map(NEEDS_NONE.match, text.splitlines()) if it}
-    # it writes a file of the goals that it leaves open
-    left = {it for it in functions if (room / "crates" / crate / proofs_of(it) / ANSWERS).is_file()}
-    unread = unread_in(text)
-    if not unread and not re.search(r"^started=\d+", text, re.M):
-        unread = last_words(text)
-    return Started(proved, left, unread)
-
-
-def proofs_of(function: str) -> Path:
-    """Where the proof files of a function stand in its crate, if it has some."""
-    return Path("proofs", *function.split("::")[1:])
-
-
-def has_proof(crate: Path, function: str) -> bool:
-    """Whether a file gives a function's proof or answers goals of it. One that only gives invariants leaves all to the search."""
-    return any((crate / proofs_of(function) / it).is_file() for it in (ANSWERS, PROOF))
+    return read_verdict(run(room, crate, ["check", "--jobs", str(jobs), *only]))
 
 
 class Repository:
@@ -199,12 +160,18 @@ def copy_kept(source: Path, target: Path) -> None:
 
 
 def copy_room(base: Path, room: Path, crate: str) -> None:
-    """Copies a room, for a check of the crate after changes to its source."""
+    """Copies a room, for checks of the crate after changes to its source."""
     own = base / "crates" / crate
     apart = {own: {"src"}, own / KEPT.parent: {KEPT.name}}
     shutil.copytree(base, room, copy_function=link, ignore=lambda folder, _: apart.get(Path(folder), set()))
-    shutil.copytree(own / "src", room / "crates" / crate / "src")
     copy_kept(own, room / "crates" / crate)
+
+
+def replace_sources(room: Path, crate: str, sources: Path) -> None:
+    """Puts these sources in the place of those of the crate in a room."""
+    target = room / "crates" / crate / "src"
+    shutil.rmtree(target, ignore_errors=True)
+    shutil.copytree(sources, target)
 
 
 def link(source: str, target: str) -> str:

@@ -36,8 +36,6 @@ class Edit:
     label: str
     function: str
     hunks: tuple[Hunk, ...]
-    # how long the function's body is, in lines
-    length: int
     # whether it changes more than its function's body, so that it may also change what is said of other functions
     is_wide: bool
 
@@ -47,7 +45,15 @@ class Edit:
             return True
         if self.is_wide or any(it.is_wide or it.function == self.function for it in others):
             return False
-        return not any(mine.touches(its) for mine in self.hunks for it in others for its in it.hunks)
+        return not self.touches(others)
+
+    def can_stay(self, others: list["Edit"]) -> bool:
+        """Whether the edit, which stands in a copy of the crate, can stay there beside these, which come to it."""
+        return not any(it.function == self.function for it in others) and not self.touches(others)
+
+    def touches(self, others: list["Edit"]) -> bool:
+        """Whether it changes lines that one of these changes, or lines next to them."""
+        return any(mine.touches(its) for mine in self.hunks for it in others for its in it.hunks)
 
 
 def read_edits(crate: Path, folders: list[str]) -> tuple[list[Edit], dict[str, str]]:
@@ -87,8 +93,7 @@ def read_edit(path: Path, label: str, crate: Path) -> Edit:
         raise BadEdit("it changes nothing")
     bodies = {file: bodies_of(function.rpartition("::")[2], before[file].splitlines()) for file in before}
     inside = all(any(hunk.start in body and hunk.end <= body.stop for body in bodies[hunk.file]) for hunk in hunks)
-    length = sum(len(body) for found in bodies.values() for body in found)
-    return Edit(label, function, hunks, length, not inside)
+    return Edit(label, function, hunks, not inside)
 
 
 def pairs_of(lines: list[str]) -> Iterator[tuple[str, str, str]]:
@@ -133,16 +138,16 @@ def bodies_of(name: str, lines: list[str]) -> list[range]:
 
 
 def rounds_of(edits: list[Edit]) -> list[list[Edit]]:
-    """The edits in few groups, each of edits that one check can judge together."""
-    many = {it.function: sum(other.function == it.function for other in edits) for it in edits}
-    rounds: list[list[Edit]] = [[] for _ in range(max(many.values(), default=0))]
-    for edit in sorted(edits, key=lambda it: (it.is_wide, -many[it.function], it.function)):
-        fitting = [it for it in rounds if edit.can_join(it)]
-        if fitting:
-            min(fitting, key=len).append(edit)
-        else:
+    """The edits in groups, each of edits that one check can judge together. The first edit of nearly every function is in the
+    first group, the second in the second."""
+    rounds: list[list[Edit]] = []
+    for edit in sorted(edits, key=lambda it: (it.is_wide, it.label)):
+        fitting = next((it for it in rounds if edit.can_join(it)), None)
+        if fitting is None:
             rounds.append([edit])
-    return [it for it in rounds if it]
+        else:
+            fitting.append(edit)
+    return rounds
 
 
 def apply(edits: list[Edit], crate: Path) -> None:

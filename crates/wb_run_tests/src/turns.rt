@@ -10,6 +10,16 @@ use wb_script::read;
 /// Two cells, one in each turn.
 const TWO_CELLS: &[u8] = b"proc main\nptr a\nrepeat 2\nalloc a 1\nfree a\nend\nend\n";
 
+/// Its bytes, which no proof need look at.
+fn two_cells() -> &'static [u8] {
+    TWO_CELLS
+}
+
+/// Cells that come to the ceiling, in bytes that no proof need look at.
+fn sixteen_largest() -> &'static [u8] {
+    SIXTEEN_LARGEST
+}
+
 /// Whether the machine will make an attempt, what its turn answers, and how many attempts were made by then.
 fn turned(machine: &mut Machine) -> Result<(bool, Turn, u32), Fail> {
     let will = machine.will_attempt();
@@ -19,7 +29,7 @@ fn turned(machine: &mut Machine) -> Result<(bool, Turn, u32), Fail> {
 
 #[test]
 fn turns_of_a_machine(rt: HostRuntime) -> Result<(), Fail> {
-    let script = read(rt.alloc(), TWO_CELLS)?;
+    let script = read(rt.alloc(), two_cells())?;
     let mut machine = Machine::new(rt.alloc(), &script, Rule::Unlimited, 9, SHAPE)?;
     let turns = [
         (true, Turn::GoesOn, 1),
@@ -122,7 +132,7 @@ fn a_machine_tells_its_attempts(rt: HostRuntime) -> Result<(), Fail> {
 
 #[test]
 fn what_the_ceiling_cuts_is_asked_for(rt: HostRuntime) -> Result<(), Fail> {
-    let script = read(rt.alloc(), SIXTEEN_LARGEST)?;
+    let script = read(rt.alloc(), sixteen_largest())?;
     let mut machine = Machine::new(rt.alloc(), &script, Rule::Unlimited, 99, SHAPE)?;
     // the first turn, and fifteen cells
     for _ in 0..16 {
