@@ -1,6 +1,6 @@
 //! Statements that allocate, reallocate and release cells.
 
-ghost use Rattle.std.specs.Prelude.{◌≡◌, ◌≢◌, false, ◌+◌, ◌^◌, ◌<◌, ◌≤◌, length, IfOk, IfSome, IsSome, OnOk};
+ghost use Rattle.std.specs.Prelude.{◌≡◌, ◌≢◌, false, ◌+◌, ◌^◌, ◌<◌, ◌≤◌, length, IfOk, IfSome, IsSome, OnErr, OnOk};
 ghost use Rattle.wb_model.specs.declared.heap.Kind.TheVariants.{Raw, Text};
 ghost use Rattle.wb_model.specs.Debug.{alloc_made, realloc_made, with_row};
 ghost use Rattle.wb_model.specs.Row.{cell_at, without};
@@ -35,13 +35,14 @@ impl State {
     /// An attempt to get a cell for `bytes` bytes.
     ///
     /// The heap chooses the place first, then the setting is asked, the rule, and the ceiling. Past the
-    /// ceiling nothing is counted; nor is it where memory runs out.
+    /// ceiling nothing is counted; nor is it where memory runs out, and then nothing changes.
     pub fn attempt(&mut self, bytes: u32, kind: Kind) -> Result<Gave, NoMemory>
         requires bytes { bytes ≤ CEILING }
         requires text { kind ≡ Text → 1 ≤ bytes }
         requires number { MayAttempt self.old }
         ensures gave { IfOk result (λ gave. gave ≡ (alloc_made self.old.debug bytes kind).gave) }
         ensures made { OnOk result (self.new ≡ with_debug self.old (alloc_made self.old.debug bytes kind).debug) }
+        ensures err { OnErr result (self.new ≡ self.old) }
         ensures level { self.new.debug.heap.level ≡ self.old.debug.heap.level }
         ensures keeps { KeepsCount self.old self.new }
     {
@@ -59,6 +60,7 @@ impl State {
         requires number { MayAttempt self.old }
         ensures gave { IfOk result (λ gave. IfSome (cell_at ptr self.old.debug.heap.row) (λ c. gave ≡ (realloc_made self.old.debug c bytes).gave)) }
         ensures made { OnOk result (IfSome (cell_at ptr self.old.debug.heap.row) (λ c. self.new ≡ with_debug self.old (realloc_made self.old.debug c bytes).debug)) }
+        ensures err { OnErr result (self.new ≡ self.old) }
         ensures keeps { KeepsCount self.old self.new }
     {
         self.heap.attempt_realloc(ptr, bytes)

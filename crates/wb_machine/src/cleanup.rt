@@ -66,6 +66,7 @@ impl State {
         ensures answer { IfOk result (λ pushed. pushed ≡ pushed_by (growth_made self.old (is_filled self.old)).gave) }
         ensures item { IfOk result (λ pushed. pushed ≢ Pushed.Ceiling → IsPushed self.old item self.new) }
         ensures cut { IfOk result (λ pushed. pushed ≡ Pushed.Ceiling → self.new ≡ self.old) }
+        ensures err { OnErr result (self.new ≡ self.old) }
         ensures there { IsStackThere self.old }
         ensures stands { IsStackThere self.new }
         ensures keeps { KeepsCount self.old self.new }

@@ -1,6 +1,6 @@
 //! Statements that make objects, what objects tell of themselves, and their fields.
 
-ghost use Rattle.std.specs.Prelude.{◌≡◌, ◌+◌, ◌*◌, ◌^◌, ◌<◌, ◌≤◌, Ok, length, IfOk, OnOk, IsTrue};
+ghost use Rattle.std.specs.Prelude.{◌≡◌, ◌+◌, ◌*◌, ◌^◌, ◌<◌, ◌≤◌, Ok, length, IfOk, OnErr, OnOk, IsTrue};
 ghost use Rattle.wb_model.specs.Bodies.{class_at};
 ghost use Rattle.wb_model.specs.Sound.{is_script};
 ghost use Rattle.wb_model.specs.CellRow.{payload_of};
@@ -56,13 +56,14 @@ impl State {
     }
     /// An attempt to get a cell for an object of a class.
     ///
-    /// Past the ceiling nothing is counted; nor is it where memory runs out.
+    /// Past the ceiling nothing is counted; nor is it where memory runs out, and then nothing changes.
     fn attempt_object(&mut self, script: &Script, class: u16) -> Result<Gave, NoMemory>
         requires script { IsTrue (is_script script.now) }
         requires class { class < length script.now.classes }
         requires number { MayAttempt self.old }
         ensures gave { IfOk result (λ gave. gave ≡ (object_made self.old.debug class (class_at script.now class)).gave) }
         ensures made { OnOk result (self.new ≡ with_debug self.old (object_made self.old.debug class (class_at script.now class)).debug) }
+        ensures err { OnErr result (self.new ≡ self.old) }
         ensures keeps { KeepsCount self.old self.new }
     {
         wb_objects::make(&mut self.heap, script, class)

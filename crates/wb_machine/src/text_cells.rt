@@ -1,6 +1,6 @@
 //! Statements that allocate and reallocate texts.
 
-ghost use Rattle.std.specs.Prelude.{◌≡◌, ◌+◌, ◌*◌, ◌^◌, ◌<◌, ◌≤◌, None, length, IfOk, IfSome, OnOk};
+ghost use Rattle.std.specs.Prelude.{◌≡◌, ◌+◌, ◌*◌, ◌^◌, ◌<◌, ◌≤◌, None, length, IfOk, IfSome, OnErr, OnOk};
 ghost use Rattle.wb_model.specs.Debug.{realloc_made};
 ghost use Rattle.wb_model.specs.Row.{cell_at};
 ghost use Rattle.wb_model.specs.TextCells.{debug_edited, max_at, text_at};
@@ -24,7 +24,7 @@ use wb_model::script::{Number, Pointer, Refusal, Script};
 use wb_text::Base;
 
 impl State {
-    /// An attempt to give the text in a cell room for `units` units.
+    /// An attempt to give the text in a cell room for `units` units. Where memory runs out, nothing changes.
     fn remake(&mut self, ptr: Ptr, units: u32) -> Result<Gave, NoMemory>
         requires text { text_refusal (cell_at ptr self.old.debug.heap.row) ≡ None }
         requires fits { length (text_at ptr self.old.debug) ≤ units }
@@ -32,6 +32,7 @@ impl State {
         requires number { MayAttempt self.old }
         ensures gave { IfOk result (λ gave. IfSome (cell_at ptr self.old.debug.heap.row) (λ c. gave ≡ (realloc_made self.old.debug c (4 + 2 * units)).gave)) }
         ensures made { OnOk result (IfSome (cell_at ptr self.old.debug.heap.row) (λ c. self.new ≡ with_debug self.old (realloc_made self.old.debug c (4 + 2 * units)).debug)) }
+        ensures err { OnErr result (self.new ≡ self.old) }
         ensures keeps { KeepsCount self.old self.new }
     {
         wb_hbuf::remake(&mut self.heap, ptr, units)
