@@ -102,6 +102,7 @@ impl State {
     ) -> Result<Ending, NoMemory>
         requires number { MayAttempt self.old }
         ensures carried { IfOk result (λ ending. CarriesOut self.old (alloc_carried self.old target refusal (number_read self.old bytes)) ending self.new) }
+        ensures err { OnErr result (self.new ≡ self.old) }
         ensures keeps { KeepsCount self.old self.new }
     {
         let Some(bytes) = number_within(LARGEST_REQUEST, self.number(bytes)) else {
@@ -123,6 +124,7 @@ impl State {
         requires raw { IfSome (cell_at ptr self.old.debug.heap.row) (λ c. c.head.kind ≡ Raw) }
         requires number { MayAttempt self.old }
         ensures carried { IfOk result (λ ending. IfSome (cell_at ptr self.old.debug.heap.row) (λ c. CarriesOut self.old (realloc_within self.old target refusal c (within LARGEST_REQUEST (number_read self.old bytes))) ending self.new)) }
+        ensures err { OnErr result (self.new ≡ self.old) }
         ensures keeps { KeepsCount self.old self.new }
     {
         let Some(bytes) = number_within(LARGEST_REQUEST, self.number(bytes)) else {
@@ -143,6 +145,7 @@ impl State {
     ) -> Result<Ending, NoMemory>
         requires number { MayAttempt self.old }
         ensures carried { IfOk result (λ ending. CarriesOut self.old (realloc_carried self.old target refusal (pointer_read script.now self.old source) (number_read self.old bytes)) ending self.new) }
+        ensures err { OnErr result (self.new ≡ self.old) }
         ensures keeps { KeepsCount self.old self.new }
     {
         let ptr = self.pointer(script, source);

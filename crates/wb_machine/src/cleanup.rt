@@ -93,6 +93,7 @@ impl State {
         requires stack { HasStack self.old }
         requires number { MayAttempt self.old }
         ensures carried { IfOk result (λ ending. CarriesOut self.old (push_carried self.old item (payload_of self.new.cleanup self.new.debug.heap.row)) ending self.new) }
+        ensures err { OnErr result (self.new ≡ self.old) }
         ensures there { IsStackThere self.old }
         ensures stands { IsStackThere self.new }
         ensures keeps { KeepsCount self.old self.new }
@@ -112,6 +113,7 @@ impl State {
         requires stack { HasStack self.old }
         requires number { MayAttempt self.old }
         ensures carried { IfOk result (λ ending. CarriesOut self.old (push_carried self.old (I.Free (pointer_read script.now self.old pointer)) (payload_of self.new.cleanup self.new.debug.heap.row)) ending self.new) }
+        ensures err { OnErr result (self.new ≡ self.old) }
         ensures there { IsStackThere self.old }
         ensures stands { IsStackThere self.new }
         ensures keeps { KeepsCount self.old self.new }
@@ -124,6 +126,7 @@ impl State {
         requires stack { HasStack self.old }
         requires number { MayAttempt self.old }
         ensures carried { IfOk result (λ ending. CarriesOut self.old (push_carried self.old (I.Delete (pointer_read script.now self.old pointer)) (payload_of self.new.cleanup self.new.debug.heap.row)) ending self.new) }
+        ensures err { OnErr result (self.new ≡ self.old) }
         ensures there { IsStackThere self.old }
         ensures stands { IsStackThere self.new }
         ensures keeps { KeepsCount self.old self.new }
@@ -141,6 +144,7 @@ impl State {
         requires stack { HasStack self.old }
         requires number { MayAttempt self.old }
         ensures carried { IfOk result (λ ending. CarriesOut self.old (push_carried self.old (I.Call (pointer_read script.now self.old pointer) operation) (payload_of self.new.cleanup self.new.debug.heap.row)) ending self.new) }
+        ensures err { OnErr result (self.new ≡ self.old) }
         ensures there { IsStackThere self.old }
         ensures stands { IsStackThere self.new }
         ensures keeps { KeepsCount self.old self.new }

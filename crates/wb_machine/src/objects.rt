@@ -81,6 +81,7 @@ impl State {
         requires class { class < length script.now.classes }
         requires number { MayAttempt self.old }
         ensures carried { IfOk result (λ ending. CarriesOut self.old (new_carried script.now self.old target class refusal) ending self.new) }
+        ensures err { OnErr result (self.new ≡ self.old) }
         ensures keeps { KeepsCount self.old self.new }
     {
         let gave = self.attempt_object(script, class)?;

@@ -47,6 +47,7 @@ impl State {
     ) -> Result<Ending, NoMemory>
         requires number { MayAttempt self.old }
         ensures carried { IfOk result (λ ending. CarriesOut self.old (new_text_carried self.old target refusal (number_read self.old units)) ending self.new) }
+        ensures err { OnErr result (self.new ≡ self.old) }
         ensures keeps { KeepsCount self.old self.new }
     {
         let Some(units) = number_within(MOST_UNITS, self.number(units)) else {
@@ -66,6 +67,7 @@ impl State {
     ) -> Result<Ending, NoMemory>
         requires number { MayAttempt self.old }
         ensures carried { IfOk result (λ ending. CarriesOut self.old (realloc_text_carried self.old target (pointer_read script.now self.old source) (number_read self.old units)) ending self.new) }
+        ensures err { OnErr result (self.new ≡ self.old) }
         ensures texts { AreTexts self.old.debug.heap.row }
         ensures keeps { KeepsCount self.old self.new }
     {
