@@ -10,7 +10,9 @@ use Rattle.wb_model.specs.declared.script_lines.Meant.{Meant}
 use Rattle.wb_model.specs.declared.script_lines.Operand.{Operand}
 use Rattle.wb_model.specs.declared.script_lines.Key.{Key}
 use Rattle.wb_model.specs.declared.script_lines.Taken.{Taken}
-use Rattle.wb_model.specs.Forms.{operand_of, operands_of, onto}
+use Rattle.std.specs.Str.{bytes_eq}
+use Rattle.wb_model.specs.Forms.{operand_of, operands_of, onto, operands_if, line_or, form_in}
+use Rattle.wb_model.specs.Keys.{text_of}
 use Rattle.wb_model.specs.Kinds.{is_right, are_right, is_given, are_given}
 use Rattle.wb_model.specs.Names.{Text, Item, Known}
 use Rattle.wb_model.specs.Resolved.{resolved_operand, resolved_operands}
@@ -109,3 +111,8 @@ given_differ (p ∷ ps) (o ∷ os) differ = rw (given_differ ps os (λ e. differ
     neither : (a : Bool) → (a && false) ≡ false
     neither true = refl
     neither false = refl
+
+-- the first key that fits is one of the keys behind, or the one here
+pub form_here : (keys : List Key) (i : ℕ) (d : Key) (first : Text) (words : List Text) → i < length keys →
+    form_in (drop i keys) first words ≡ line_or (get_or keys i d) (operands_if (bytes_eq (text_of (get_or keys i d)) first) (get_or keys i d) words) (form_in (drop (i + 1) keys) first words)
+form_here keys i d first words lt = rw (drop-cons keys i d lt, add-one i) refl

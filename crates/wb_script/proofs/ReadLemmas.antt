@@ -30,14 +30,10 @@ use Rattle.wb_script.specs.Typed.{AreTyped}
 use Rattle.wb_script.specs.declared.checks.Checked.{Checked}
 use Rattle.wb_script.proofs.FitLemmas.{both_hold}
 use Rattle.wb_script.proofs.FoundItems.{item_here}
+use Rattle.wb_script.proofs.Lent.{role-renamed}
 use Rattle.wb_script.proofs.Steps.{good_first}
 use Rattle.wb_script.proofs.TypedLemmas.{both}
 use Rattle.wb_script.proofs.ResolvedLemmas.{procedures-resolved, none_wrong}
-
-role-renamed : {N M : Type 0} (f : N → M) (form : Form N) → role_of_form (renamed f form) ≡ role_of_form form
-role-renamed f Skip = refl
-role-renamed f Unknown = refl
-role-renamed f (Line key operands) = refl
 
 pub roles-renamed : {N M : Type 0} (f : N → M) (forms : List (Form N)) → map role_of_form (map (renamed f) forms) ≡ map role_of_form forms
 roles-renamed f [] = refl

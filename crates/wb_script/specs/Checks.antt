@@ -1,8 +1,10 @@
 -- What the lines so far are found to be.
-use Rattle.std.specs.Prelude.{◌≡◌, ◌<◌, ℕ, ◌+◌, ◌^◌, List, length, map, Bool, true, false, Option, Some, None, codes}
+use Rattle.std.specs.Prelude.{◌≡◌, ◌<◌, ℕ, ◌+◌, ◌^◌, List, [], ◌∷◌, length, map, nat_lt, Bool, true, false, Option, Some, None, codes}
 use Rattle.wb_model.specs.declared.fault.ScriptFault.{ScriptFault}
 use Rattle.wb_model.specs.declared.fault.ScriptFault.TheVariants.{UnknownName, DoubleName, WrongKind, MayLeave, NoMain, TooMany}
 use Rattle.wb_model.specs.declared.script_lines.Form.{Form}
+use Rattle.wb_model.specs.declared.script_lines.Operand.{Operand}
+use Rattle.wb_model.specs.declared.script_lines.Operand.TheVariants.{Size}
 use Rattle.wb_model.specs.Names.{Text, Item, names_of, nothing_known, known_after, first_refused, declares_again, passes_limit, literals_of}
 use Rattle.wb_model.specs.Names as model
 use Rattle.wb_model.specs.Passes.{state_after}
@@ -38,6 +40,11 @@ pub record AreSameItems (old new : Known) : Type 0 where
 -- one more class, procedure or operation can be counted
 abbrev pub IsFew : Known → Type 0
 IsFew known = known.classes + known.procedures + known.operations < 2 ^ 32
+
+-- the second of two words is a size, and larger than this
+abbrev pub is_size_above : ℕ → List (Operand Text) → Bool
+is_size_above most (first ∷ Size size ∷ []) = nat_lt most size
+is_size_above most _ = false
 
 -- the first line that a check refuses, with one more line
 abbrev pub or_here : Option ℕ → ℕ → Bool → Option ℕ

@@ -7,6 +7,7 @@
 mod checks;
 pub mod laws;
 mod lines;
+mod lists;
 mod reading;
 mod tree;
 

@@ -1,6 +1,6 @@
 //! A script from its bytes.
 
-ghost use Rattle.std.specs.Prelude.{◌≡◌, ◌≢◌, ◌≤◌, ◌<◌, ◌^◌, [], length, map, slice_get, true, IsTrue, IfOk, IfErr, MatchOption};
+ghost use Rattle.std.specs.Prelude.{◌≡◌, ◌≢◌, ◌≤◌, ◌<◌, ◌^◌, [], ◌∷◌, ◌++◌, length, map, slice_get, true, IsTrue, IfOk, IfErr, OnOk, MatchOption};
 ghost use Rattle.std.specs.List.{list_all};
 ghost use Rattle.wb_model.specs.Forms.{role_of_form};
 ghost use Rattle.wb_model.specs.Grammar.{IsGrammatical, IsFirstMisfit};
@@ -56,12 +56,19 @@ fn chars_of(alloc: Global, text: &[u8]) -> Result<Chars, AllocError>
     Ok(Items::from_vec(chars))
 }
 
+fn add_text(alloc: Global, literals: &mut Vec<Chars>, text: &[u8]) -> Result<(), AllocError>
+    ensures { OnOk result (literals.new.items ≡ literals.old.items ++ text.now ∷ []) }
+{
+    literals.push(chars_of(alloc, text)?)?;
+    Ok(())
+}
+
 fn literals_of(alloc: Global, texts: &[&[u8]]) -> Result<Items<Chars>, AllocError>
     ensures { IfOk result (λ literals. literals ≡ lent_texts texts.now) }
 {
     let mut literals = Vec::new(alloc);
     for text in texts {
-        literals.push(chars_of(alloc, text)?)?;
+        add_text(alloc, &mut literals, text)?;
     }
     Ok(Items::from_vec(literals))
 }

@@ -2,13 +2,14 @@
 
 ghost use Rattle.std.specs.Prelude.{◌≡◌, IfOk, OnOk, ◌++◌, map};
 ghost use Rattle.std.specs.List.{flat_map};
-ghost use Rattle.std.specs.Option.{option_map};
+ghost use Rattle.std.specs.Option.{option_map, option_to_list};
 ghost use Rattle.wb_model.specs.Forms.{renamed_taken};
-ghost use Rattle.wb_model.specs.Names.{count_among, fields_begun, fields_behind, first_declaration_of, is_same_kind, item_begun, item_of_kind, items_by, items_of, kind_begun, names_of, parameters_in, taken_by};
-ghost use Rattle.wb_script.specs.Lent.{lent_form, lent_forms, lent_item, lent_items, lent_operands, lent_text, lent_texts};
+ghost use Rattle.wb_model.specs.Names.{count_among, fields_begun, fields_behind, first_declaration_of, is_same_kind, item_begun, item_declared, item_of_kind, items_by, items_of, kind_begun, names_of, parameters_in, taken_by};
+ghost use Rattle.wb_script.specs.Lent.{lent_form, lent_forms, lent_item, lent_items, lent_operand, lent_operands, lent_text, lent_texts};
 
 use crate::checks::known::first_name;
 use crate::lines::forms::role;
+use crate::lists::add_some;
 use std::alloc::{AllocError, Global};
 use wb_model::items::Items;
 use wb_model::script_lines::{Form, ItemKind, Key, Operand, Role, Taken};
@@ -45,6 +46,16 @@ pub(crate) fn item_begun(form: &Form<&[u8]>) -> Option<ItemKind>
     }
 }
 
+/// What an operand takes that is a parameter.
+fn taken_by<'a>(operand: &Operand<&'a [u8]>) -> Option<Taken<&'a [u8]>>
+    ensures { option_to_list (option_map (renamed_taken lent_text) result) ≡ taken_by (lent_operand operand.now) }
+{
+    match operand {
+        Operand::Parameter(_, taken) => Some(*taken),
+        _ => None,
+    }
+}
+
 /// What the parameters among operands take.
 fn parameters_among<'a>(
     alloc: Global,
@@ -54,10 +65,7 @@ fn parameters_among<'a>(
 {
     let mut found = Vec::new(alloc);
     for operand in operands {
-        match operand {
-            Operand::Parameter(_, taken) => found.push(*taken)?,
-            _ => {}
-        }
+        add_some(&mut found, taken_by(operand))?;
     }
     Ok(found)
 }
@@ -82,10 +90,7 @@ fn fields_behind<'a>(alloc: Global, forms: &[Form<&'a [u8]>]) -> Result<Vec<&'a 
     let mut found = Vec::new(alloc);
     for form in forms {
         match role(form) {
-            Role::Field => match first_name(form) {
-                Some(name) => found.push(name)?,
-                None => {}
-            },
+            Role::Field => add_some(&mut found, first_name(form))?,
             Role::Skip => {}
             _ => return Ok(found),
         }
@@ -107,6 +112,26 @@ fn fields_begun<'a>(
     }
 }
 
+/// What a line declares in the script's own space, by its kind and its name, where these lines follow.
+fn item_declared<'a>(
+    alloc: Global,
+    form: &Form<&'a [u8]>,
+    behind: &[Form<&'a [u8]>],
+    kind: ItemKind,
+    name: &'a [u8],
+) -> Result<Item<'a>, AllocError>
+    ensures { IfOk result (λ item. lent_item item ≡ item_declared (lent_form form.now) (lent_forms behind.now) kind name.now) }
+{
+    let parameters = Items::from_vec(parameters_in(alloc, form)?);
+    let fields = Items::from_vec(fields_begun(alloc, kind, behind)?);
+    Ok(Item {
+        name,
+        kind,
+        parameters,
+        fields,
+    })
+}
+
 /// Adds what a line declares in the script's own space, where these lines follow.
 fn add_items<'a>(
     alloc: Global,
@@ -118,21 +143,12 @@ fn add_items<'a>(
 {
     match item_begun(form) {
         Some(kind) => match first_name(form) {
-            Some(name) => {
-                let parameters = Items::from_vec(parameters_in(alloc, form)?);
-                let fields = Items::from_vec(fields_begun(alloc, kind, behind)?);
-                items.push(Item {
-                    name,
-                    kind,
-                    parameters,
-                    fields,
-                })?;
-                Ok(())
-            }
-            None => Ok(()),
+            Some(name) => items.push(item_declared(alloc, form, behind, kind, name)?)?,
+            None => {}
         },
-        None => Ok(()),
+        None => {}
     }
+    Ok(())
 }
 
 /// The script's own space, from all its lines.

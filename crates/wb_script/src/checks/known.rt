@@ -1,16 +1,17 @@
 //! What the lines of a script declare.
 
-ghost use Rattle.std.specs.Prelude.{◌≡◌, ◌+◌, ◌≤◌, [], ◌++◌, map, OnOk};
+ghost use Rattle.std.specs.Prelude.{◌≡◌, ◌+◌, ◌≤◌, [], ◌++◌, length, map, OnOk};
 ghost use Rattle.std.specs.Option.{option_map, option_to_list};
 ghost use Rattle.std.specs.List.{flat_map};
-ghost use Rattle.wb_model.specs.Names.{bodies_before, body_after, body_begun, body_in, count_begun, fields_after, first_name, items_before, key_in, kind_declared, kind_in, kind_of_parameter, known_after, literal_text, literals_in, name_passed, nothing_known, parameter_names, parameters_in, second_name, taken_by, with_one};
+ghost use Rattle.wb_model.specs.Names.{blocks_after, bodies_before, body_after, body_begun, body_in, count_begun, fields_after, first_name, items_before, key_in, kind_declared, kind_in, kind_of_parameter, kinds_after, known_after, literal_text, literals_in, locals_after, name_passed, nothing_known, parameter_names, parameters_in, second_name, taken_by, with_one};
 ghost use Rattle.wb_model.specs.Forms.{renamed_taken, role_of_form};
 ghost use Rattle.wb_model.specs.declared.script_lines.ItemKind.TheVariants as item;
-ghost use Rattle.wb_script.specs.Lent.{lent_text, lent_texts, lent_kind, lent_operands, lent_form};
+ghost use Rattle.wb_script.specs.Lent.{lent_text, lent_texts, lent_kind, lent_operand, lent_operands, lent_form};
 ghost use Rattle.wb_script.specs.Checks.{known_in, AreSameItems, IsFew};
 
 use crate::checks::items::item_begun;
 use crate::lines::forms::role;
+use crate::lists::add_some;
 use std::alloc::{AllocError, Global};
 use wb_model::script_lines::{BodyKind, Form, ItemKind, Key, Kind, Operand, Role, Taken};
 
@@ -83,6 +84,15 @@ fn body_in(form: &Form<&[u8]>) -> Option<BodyKind>
     }
 }
 
+fn literal_text<'a>(operand: &Operand<&'a [u8]>) -> Option<&'a [u8]>
+    ensures { option_to_list (option_map lent_text result) ≡ literal_text (lent_operand operand.now) }
+{
+    match operand {
+        Operand::Literal(text) => Some(*text),
+        _ => None,
+    }
+}
+
 /// Appends the literals among operands.
 fn add_literals<'a>(
     literals: &mut Vec<&'a [u8]>,
@@ -91,10 +101,7 @@ fn add_literals<'a>(
     ensures { OnOk result (lent_texts literals.new.items ≡ lent_texts literals.old.items ++ flat_map literal_text (lent_operands operands.now)) }
 {
     for operand in operands {
-        match operand {
-            Operand::Literal(text) => literals.push(*text)?,
-            _ => {}
-        }
+        add_some(literals, literal_text(operand))?;
     }
     Ok(())
 }
@@ -238,11 +245,7 @@ impl<'a> Known<'a> {
         }) }
         ensures literals { self.new.literals ≡ self.old.literals }
     {
-        match first_name(form) {
-            Some(name) => self.fields.push(name)?,
-            None => {}
-        }
-        Ok(())
+        add_some(&mut self.fields, first_name(form))
     }
 
     /// Begins a body without locals, where no block is open.
@@ -280,15 +283,8 @@ impl<'a> Known<'a> {
         ensures items { AreSameItems self.old self.new }
         ensures others { (self.new.fields ≡ self.old.fields) × (self.new.literals ≡ self.old.literals) × (self.new.blocks ≡ self.old.blocks) }
     {
-        match first_name(form) {
-            Some(name) => self.locals.push(name)?,
-            None => {}
-        }
-        match kind_in(form) {
-            Some(kind) => self.kinds.push(kind)?,
-            None => {}
-        }
-        Ok(())
+        add_some(&mut self.locals, first_name(form))?;
+        add_some(&mut self.kinds, kind_in(form))
     }
 
     /// Takes in the block that a line begins.
@@ -307,8 +303,9 @@ impl<'a> Known<'a> {
     /// Takes in the literals of one more line.
     fn add_literals(&mut self, form: &Form<&'a [u8]>) -> Result<(), AllocError>
         ensures literals { OnOk result (lent_texts self.new.literals.items ≡ lent_texts self.old.literals.items ++ literals_in (lent_form form.now)) }
-        ensures items { AreSameItems self.old self.new }
-        ensures others { (self.new.fields ≡ self.old.fields) × (self.new.locals ≡ self.old.locals) × (self.new.kinds ≡ self.old.kinds) × (self.new.blocks ≡ self.old.blocks) }
+        ensures known { OnOk result (known_in self.new ≡ record (known_in self.old) {
+          literals = (known_in self.old).literals + length (literals_in (lent_form form.now));
+        }) }
     {
         match form {
             Form::Line(_, operands) => add_literals(&mut self.literals, operands.as_slice()),
@@ -316,17 +313,17 @@ impl<'a> Known<'a> {
         }
     }
 
-    /// Takes in one more line.
-    pub(crate) fn add_line(&mut self, form: &Form<&'a [u8]>) -> Result<(), AllocError>
-        requires { IsFew self.now }
-        ensures known { OnOk result (known_in self.new ≡ known_after (known_in self.old) (lent_form form.now)) }
-        ensures literals { OnOk result (lent_texts self.new.literals.items ≡ lent_texts self.old.literals.items ++ literals_in (lent_form form.now)) }
-        ensures items { OnOk result (items_before (known_in self.new) ≤ items_before (known_in self.old) + 1) }
+    /// Takes in the fields, the locals and the blocks of one more line, by its role.
+    fn add_of_role(&mut self, role: Role, form: &Form<&'a [u8]>) -> Result<(), AllocError>
+        ensures known { OnOk result (known_in self.new ≡ record (known_in self.old) {
+          fields = fields_after role (lent_form form.now) (known_in self.old).fields;
+          locals = locals_after role (lent_form form.now) (known_in self.old).locals;
+          kinds = kinds_after role (lent_form form.now) (known_in self.old).kinds;
+          blocks = blocks_after role (lent_form form.now) (known_in self.old).blocks;
+        }) }
+        ensures literals { OnOk result (self.new.literals ≡ self.old.literals) }
     {
-        self.add_item(form);
-        self.add_body(form);
-        self.add_literals(form)?;
-        match role(form) {
+        match role {
             Role::Class => {
                 self.begin_class();
                 Ok(())
@@ -345,5 +342,18 @@ impl<'a> Known<'a> {
             }
             _ => Ok(()),
         }
+    }
+
+    /// Takes in one more line.
+    pub(crate) fn add_line(&mut self, form: &Form<&'a [u8]>) -> Result<(), AllocError>
+        requires { IsFew self.now }
+        ensures known { OnOk result (known_in self.new ≡ known_after (known_in self.old) (lent_form form.now)) }
+        ensures literals { OnOk result (lent_texts self.new.literals.items ≡ lent_texts self.old.literals.items ++ literals_in (lent_form form.now)) }
+        ensures items { OnOk result (items_before (known_in self.new) ≤ items_before (known_in self.old) + 1) }
+    {
+        self.add_item(form);
+        self.add_body(form);
+        self.add_literals(form)?;
+        self.add_of_role(role(form), form)
     }
 }

@@ -3,7 +3,7 @@
 ghost use Rattle.std.specs.Prelude.{◌≡◌, length};
 ghost use Rattle.std.specs.List.{flat_map, list_any};
 ghost use Rattle.wb_model.specs.Names.{has_long_class, has_long_name, has_more_parameters, is_large, is_long, is_long_name, is_one_more, passes_limit, taken_by};
-ghost use Rattle.wb_script.specs.Checks.{known_in, IsFew};
+ghost use Rattle.wb_script.specs.Checks.{known_in, is_size_above, IsFew};
 ghost use Rattle.wb_model.specs.Forms.{renamed_taken};
 ghost use Rattle.wb_script.specs.Lent.{lent_operand, lent_operands, lent_form, lent_text};
 
@@ -63,19 +63,23 @@ fn has_long_name(form: &Form<&[u8]>) -> bool
     }
 }
 
+/// Whether the second of two words is a size, and larger than this.
+fn is_size_above(most: u32, operands: &[Operand<&[u8]>]) -> bool
+    ensures { result ≡ is_size_above most (lent_operands operands.now) }
+{
+    match operands {
+        [_, Operand::Size(size)] => *size > most,
+        _ => false,
+    }
+}
+
 /// Whether a line declares a text with a larger maximum than texts may have, or a class with more extra bytes.
 fn is_large(form: &Form<&[u8]>) -> bool
     ensures { result ≡ is_large (lent_form form.now) }
 {
     match form {
-        Form::Line(Key::Class, operands) => match operands.as_slice() {
-            [_, Operand::Size(extra)] => *extra > MOST_EXTRA,
-            _ => false,
-        },
-        Form::Line(Key::Buf, operands) => match operands.as_slice() {
-            [_, Operand::Size(max)] => *max > LARGEST_BUFFER,
-            _ => false,
-        },
+        Form::Line(Key::Class, operands) => is_size_above(MOST_EXTRA, operands.as_slice()),
+        Form::Line(Key::Buf, operands) => is_size_above(LARGEST_BUFFER, operands.as_slice()),
         _ => false,
     }
 }

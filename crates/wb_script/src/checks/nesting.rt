@@ -1,8 +1,8 @@
 //! The nesting of blocks.
 
-ghost use Rattle.std.specs.Prelude.{◌≡◌, IfOk, MatchOption, MatchBool, reverse};
+ghost use Rattle.std.specs.Prelude.{◌≡◌, IfOk, OnOk, MatchOption, MatchBool, reverse};
 ghost use Rattle.wb_model.specs.Grammar.{IsGrammatical, IsFirstMisfit};
-ghost use Rattle.wb_script.specs.Machine.{move_of, step, after_line};
+ghost use Rattle.wb_script.specs.Machine.{move_of, after, step, after_line};
 
 use std::alloc::{AllocError, Global};
 use wb_model::script_lines::Role;
@@ -68,6 +68,21 @@ fn move_of(place: Option<Open>, role: Role) -> Option<Move>
     }
 }
 
+/// Makes a move of the innermost block, which is not among the open ones any more.
+fn make(stack: &mut Vec<Open>, made: Move) -> Result<(), AllocError>
+    ensures { OnOk result (reverse stack.new.items ≡ after made (reverse stack.old.items)) }
+{
+    match made {
+        Move::Close => {}
+        Move::Stay(place) => stack.push(place)?,
+        Move::Enter(outer, inner) => {
+            stack.push(outer)?;
+            stack.push(inner)?;
+        }
+    }
+    Ok(())
+}
+
 /// Reads a line that counts, with these open blocks, the innermost last. False where it has no place.
 fn read_content(stack: &mut Vec<Open>, role: Role) -> Result<bool, AllocError>
     ensures fits { IfOk result (λ fits. MatchBool fits
@@ -75,15 +90,12 @@ fn read_content(stack: &mut Vec<Open>, role: Role) -> Result<bool, AllocError>
         (step (reverse stack.old.items) role ≡ None)) }
 {
     match move_of(stack.pop(), role) {
-        None => return Ok(false),
-        Some(Move::Close) => {}
-        Some(Move::Stay(place)) => stack.push(place)?,
-        Some(Move::Enter(outer, inner)) => {
-            stack.push(outer)?;
-            stack.push(inner)?;
+        None => Ok(false),
+        Some(made) => {
+            make(stack, made)?;
+            Ok(true)
         }
     }
-    Ok(true)
 }
 
 /// Reads any line.

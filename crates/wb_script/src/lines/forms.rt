@@ -1,12 +1,13 @@
 //! What a line says: the first key whose text and letters fit its words, and its operands.
 
-ghost use Rattle.std.specs.Prelude.{◌≡◌, length, IfOk, IfErr, Some};
+ghost use Rattle.std.specs.Prelude.{◌≡◌, length, IfOk, IfErr};
 ghost use Rattle.std.specs.Option.{option_map};
-ghost use Rattle.wb_model.specs.declared.script_lines.Operand.TheVariants.{Size};
-ghost use Rattle.wb_model.specs.Forms.{size_of, operand_as, operand_among, operand_of, operands_of, form_in, form_of, forms_of, line_form, begins_comment, role_of_form};
+ghost use Rattle.std.specs.Str.{bytes_eq};
+ghost use Rattle.wb_model.specs.declared.script_lines.Operand.TheVariants.{Name, Number, Literal};
+ghost use Rattle.wb_model.specs.Forms.{renamed_taken, size_of, field_of, parameter_of, operand_as, operand_among, operand_of, operands_of, operands_if, form_in, form_of, forms_of, line_form, begins_comment, role_of_form};
 ghost use Rattle.wb_model.specs.declared.script_lines.WordKind.TheVariants as kind;
-ghost use Rattle.wb_model.specs.Keys.{keys, letters_with, letters_for};
-ghost use Rattle.wb_script.specs.Lent.{lent_texts, lent_operand, lent_operands, lent_form, lent_forms};
+ghost use Rattle.wb_model.specs.Keys.{keys, letters_with, letters_for, text_of};
+ghost use Rattle.wb_script.specs.Lent.{lent_text, lent_texts, lent_operand, lent_operands, lent_form, lent_forms};
 
 use crate::lines::keys::{ALL, Letters, role_of, text_of, word_kinds};
 use crate::lines::pieces::words;
@@ -18,14 +19,66 @@ use std::alloc::{AllocError, Global};
 use wb_model::items::Items;
 use wb_model::script_lines::{Form, Key, Keyword, Letter, Operand, Role, Taken, WordKind};
 
-/// A number that isn't negative.
-fn size_of(number: i32) -> Option<u32>
-    ensures { option_map Size result ≡ size_of (Some number) }
+/// A name, where there is one.
+fn name_operand<'a>(name: Option<&'a [u8]>) -> Option<Operand<&'a [u8]>>
+    ensures { option_map lent_operand result ≡ option_map Name (option_map lent_text name.entry) }
 {
-    if number < 0 {
-        None
-    } else {
-        Some(number as u32)
+    match name {
+        Some(name) => Some(Operand::Name(name)),
+        None => None,
+    }
+}
+
+/// A field, where there is what holds a pointer and the field's own name.
+fn field_operand<'a>(base: Option<&'a [u8]>, field: Option<&'a [u8]>) -> Option<Operand<&'a [u8]>>
+    ensures { option_map lent_operand result ≡ field_of (option_map lent_text base.entry) (option_map lent_text field.entry) }
+{
+    match (base, field) {
+        (Some(base), Some(field)) => Some(Operand::Field(base, field)),
+        _ => None,
+    }
+}
+
+/// A number, where there is one.
+fn number_operand<'a>(number: Option<i32>) -> Option<Operand<&'a [u8]>>
+    ensures { option_map lent_operand result ≡ option_map Number number }
+{
+    match number {
+        Some(number) => Some(Operand::Number(number)),
+        None => None,
+    }
+}
+
+/// A size, where there is a number that isn't negative.
+fn size_operand<'a>(number: Option<i32>) -> Option<Operand<&'a [u8]>>
+    ensures { option_map lent_operand result ≡ size_of number }
+{
+    match number {
+        Some(number) if number >= 0 => Some(Operand::Size(number as u32)),
+        _ => None,
+    }
+}
+
+/// A literal, where there is its text.
+fn literal_operand<'a>(text: Option<&'a [u8]>) -> Option<Operand<&'a [u8]>>
+    ensures { option_map lent_operand result ≡ option_map Literal (option_map lent_text text.entry) }
+{
+    match text {
+        Some(text) => Some(Operand::Literal(text)),
+        None => None,
+    }
+}
+
+/// A parameter, where there is a name and what it takes.
+fn parameter_operand<'a>(
+    name: Option<&'a [u8]>,
+    taken: Option<Taken<&'a [u8]>>,
+) -> Option<Operand<&'a [u8]>>
+    ensures { option_map lent_operand result ≡ parameter_of (option_map lent_text name.entry) (option_map (renamed_taken lent_text) taken.entry) }
+{
+    match (name, taken) {
+        (Some(name), Some(taken)) => Some(Operand::Parameter(name, taken)),
+        _ => None,
     }
 }
 
@@ -45,17 +98,14 @@ fn operand_as<'a>(kind: WordKind, word: &'a [u8]) -> Option<Operand<&'a [u8]>>
     ensures { option_map lent_operand result ≡ operand_as kind word.now }
 {
     match kind {
-        WordKind::NewName => Some(Operand::Name(declared_name(word)?)),
-        WordKind::Name => Some(Operand::Name(used_name(word)?)),
-        WordKind::Field => Some(Operand::Field(base_name(word)?, field_name(word)?)),
-        WordKind::Number => Some(Operand::Number(number_of(word)?)),
-        WordKind::Size => Some(Operand::Size(size_of(number_of(word)?)?)),
-        WordKind::Literal => Some(Operand::Literal(literal_of(word)?)),
-        WordKind::Parameter => Some(Operand::Parameter(
-            parameter_name(word)?,
-            parameter_taken(word)?,
-        )),
-        WordKind::NewPointer => Some(Operand::Parameter(declared_name(word)?, Taken::Pointer)),
+        WordKind::NewName => name_operand(declared_name(word)),
+        WordKind::Name => name_operand(used_name(word)),
+        WordKind::Field => field_operand(base_name(word), field_name(word)),
+        WordKind::Number => number_operand(number_of(word)),
+        WordKind::Size => size_operand(number_of(word)),
+        WordKind::Literal => literal_operand(literal_of(word)),
+        WordKind::Parameter => parameter_operand(parameter_name(word), parameter_taken(word)),
+        WordKind::NewPointer => parameter_operand(declared_name(word), Some(Taken::Pointer)),
         WordKind::Keyword(keyword) => keyword_as(keyword, word),
     }
 }
@@ -106,6 +156,23 @@ fn operands_of<'a>(
     Ok(Some(found))
 }
 
+/// The operands of a key whose text the first word is; none where a word does not fit.
+fn operands_if<'a>(
+    alloc: Global,
+    key: Key,
+    first: &[u8],
+    words: &[&'a [u8]],
+) -> Result<Option<Vec<Operand<&'a [u8]>>>, AllocError>
+    ensures { IfOk result (λ found.
+        option_map (λ o. lent_operands o.items) found ≡ operands_if (bytes_eq (text_of key) first.now) key (lent_texts words.now)) }
+{
+    if text_of(key) == first {
+        operands_of(alloc, Letters::of(key), words)
+    } else {
+        Ok(None)
+    }
+}
+
 /// The line of the first of the keys that fits a first word and the words behind it.
 fn form_in<'a>(
     alloc: Global,
@@ -116,11 +183,9 @@ fn form_in<'a>(
     ensures { IfOk result (λ form. lent_form form ≡ form_in keys.now first.now (lent_texts words.now)) }
 {
     for key in keys {
-        if text_of(*key) == first {
-            match operands_of(alloc, Letters::of(*key), words)? {
-                Some(operands) => return Ok(Form::Line(*key, Items::from_vec(operands))),
-                None => {}
-            }
+        match operands_if(alloc, *key, first, words)? {
+            Some(operands) => return Ok(Form::Line(*key, Items::from_vec(operands))),
+            None => {}
         }
     }
     Ok(Form::Unknown)

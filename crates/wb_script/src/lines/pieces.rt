@@ -2,10 +2,12 @@
 
 ghost use Rattle.std.specs.Prelude.{◌≡◌, ◌≢◌, ◌∷◌, ◌<◌, [], length, IfOk};
 ghost use Rattle.std.specs.List.{flat_map};
+ghost use Rattle.std.specs.Option.{option_map, option_to_list};
 ghost use Rattle.wb_model.specs.Lines.{quoted_after, pieces, lines_of, words_of, unless_empty};
-ghost use Rattle.wb_script.specs.Lent.{lent_texts};
+ghost use Rattle.wb_script.specs.Lent.{lent_text, lent_texts};
 ghost use Rattle.wb_script.specs.Pieces.{ends_of};
 
+use crate::lists::add_some;
 use std::alloc::{AllocError, Global};
 
 /// What bytes are cut into.
@@ -61,14 +63,18 @@ fn pieces<'a>(alloc: Global, cut: Cut, bytes: &'a [u8]) -> Result<Vec<&'a [u8]>,
     Ok(found)
 }
 
+fn unless_empty<'a>(piece: &'a [u8]) -> Option<&'a [u8]>
+    ensures { option_to_list (option_map lent_text result) ≡ unless_empty piece.now }
+{
+    if piece.is_empty() { None } else { Some(piece) }
+}
+
 fn nonempty<'a>(alloc: Global, pieces: &[&'a [u8]]) -> Result<Vec<&'a [u8]>, AllocError>
     ensures { IfOk result (λ found. lent_texts found.items ≡ flat_map unless_empty (lent_texts pieces.now)) }
 {
     let mut found = Vec::new(alloc);
     for piece in pieces {
-        if !piece.is_empty() {
-            found.push(*piece)?;
-        }
+        add_some(&mut found, unless_empty(piece))?;
     }
     Ok(found)
 }

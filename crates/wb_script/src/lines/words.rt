@@ -138,8 +138,14 @@ pub(crate) fn number_of(word: &[u8]) -> Option<i32>
     ensures { result ≡ number_spelled word.now }
 {
     match word {
-        [b'-', digits @ ..] => Some(-(digits_of(digits)? as i32)),
-        _ => Some(digits_of(word)? as i32),
+        [b'-', digits @ ..] => match digits_of(digits) {
+            Some(number) => Some(-(number as i32)),
+            None => None,
+        },
+        _ => match digits_of(word) {
+            Some(number) => Some(number as i32),
+            None => None,
+        },
     }
 }
 
@@ -182,7 +188,10 @@ fn taken_spelled<'a>(word: &'a [u8]) -> Option<Taken<&'a [u8]>>
     } else if word == b"int".as_slice() {
         Some(Taken::Number)
     } else {
-        Some(Taken::OfClass(used_name(word)?))
+        match used_name(word) {
+            Some(class) => Some(Taken::OfClass(class)),
+            None => None,
+        }
     }
 }
 

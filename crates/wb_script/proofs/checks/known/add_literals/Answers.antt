@@ -1,0 +1,13 @@
+use Rattle.std.proofs.Common.{◌∙◌}
+use Rattle.wb_model.specs.Names.{literal_text}
+use Rattle.wb_script.specs.Lent.{lent_text, lent_texts, lent_operand}
+use Rattle.wb_script.proofs.Found.{map_some, one_found, all_found}
+use Rattle.wb_script.proofs.checks.known.add_literals.Goals as goal
+
+pub loop-operand-preserved : goal.loop-operand-preserved
+loop-operand-preserved c =
+    rw (c.in_ok-add_some.ensures, map_some lent_text c.loop-operand.literals.items c.literal_text.result, c.literal_text.ensures)
+    (one_found lent_operand literal_text c.args.operands.now c.loop-operand.operand-index _ (lent_texts c.loop-operand.literals.items) c.loop-operand-test.true ∙ c.loop-operand.invariant)
+
+pub returns : goal.returns
+returns c = all_found lent_operand literal_text c.args.operands.now c.loop-operand.operand-index _ _ c.loop-operand-test.false c.loop-operand.invariant

@@ -1,0 +1,17 @@
+//! Lists that grow.
+
+ghost use Rattle.std.specs.Prelude.{◌≡◌, ◌++◌, OnOk};
+ghost use Rattle.std.specs.Option.{option_to_list};
+
+use std::alloc::AllocError;
+
+/// Appends the element that there is, or nothing.
+pub(crate) fn add_some<T: Drop>(items: &mut Vec<T>, item: Option<T>) -> Result<(), AllocError>
+    ensures { OnOk result (items.new.items ≡ items.old.items ++ option_to_list item) }
+{
+    match item {
+        Some(item) => items.push(item)?,
+        None => {}
+    }
+    Ok(())
+}
