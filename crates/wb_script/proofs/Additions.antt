@@ -1,5 +1,6 @@
 -- One more line of an open body.
 use Rattle.std.proofs.Common.{◌≡◌, refl, sym, ap, subst, ◌∙◌, ℕ, suc, ◌+◌, ◌<◌, ◌≤◌, nat_le, nat_lt, ◌==◌, List, [], ◌∷◌, ◌++◌, length, map, Option, Some, None, Bool, true, false, ◌&&◌, IsTrue, append_assoc, append-nil, add-zero, length-append, arith}
+use Rattle.std.proofs.lemmas.Bool.{false≢true}
 use Rattle.std.proofs.lemmas.List.{length-map}
 use Rattle.std.specs.List.{list_all, list_any}
 use Rattle.std.proofs.lemmas.List.Folds.{list_all-append}
@@ -252,7 +253,7 @@ late_by_depth declared p k operands before begins_it full fit =
     of_role : (r : Role) → IsTrue (begins r) → IsTrue (is_due r (counts_in before p) (Line k operands) operands) → IsTrue (nat_lt (length (keys_of_blocks p.nest.blocks)) DEEPEST_BLOCK)
     of_role role.Loop is due = due
     of_role role.If is due = due
-    of_role _ is due = let clash : ⊥ = cc in absurd clash
+    of_role _ is due = absurd (false≢true is)
 
 within_test : (a b : ℕ) → a ≤ b → nat_le a b ≡ true
 within_test a b le = grind (arith, nat_tests)

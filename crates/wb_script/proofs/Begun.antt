@@ -1,5 +1,6 @@
 -- Which lines begin an item, or are of a class: those that fit.
 use Rattle.std.proofs.Common.{◌≡◌, refl, sym, ap, subst, ◌∙◌, ℕ, suc, ◌+◌, ◌-◌, ◌<◌, List, [], ◌∷◌, ◌++◌, length, Option, Some, None, Bool, true, false, ◌&&◌, nat_eq, nat_le, nat_lt, IsTrue, arith}
+use Rattle.std.proofs.lemmas.Bool.{false≢true}
 use Rattle.std.specs.Prelude.{replicate, is_some}
 use Rattle.std.proofs.lemmas.List.{length-map}
 use Rattle.wb_model.specs.declared.limits.TheConstants.{MOST_CLASSES, MOST_EXTRA, MOST_FIELDS, MOST_PROCEDURES}
@@ -32,13 +33,13 @@ fit_parameter : (literals : ℕ) (scope : Scope) (o : Operand Meant) → operand
 fit_parameter literals scope (Parameter meant.Parameter taken.Pointer) is = refl
 fit_parameter literals scope (Parameter meant.Parameter taken.Number) is = refl
 fit_parameter literals scope (Parameter meant.Parameter (taken.OfClass (meant.Class class))) is = is
-fit_parameter literals scope (Parameter meant.Parameter (taken.OfClass _)) is = let clash : ⊥ = cc in absurd clash
+fit_parameter literals scope (Parameter meant.Parameter (taken.OfClass _)) is = absurd (false≢true is)
 fit_parameter literals scope (Parameter _ k) is = absurd (never _ is)
-fit_parameter literals scope (Name (meant.Declared i)) is = let clash : ⊥ = cc in absurd clash
-fit_parameter literals scope (Name _) is = let clash : ⊥ = cc in absurd clash
-fit_parameter literals scope (Field base (meant.Field class i)) is = let clash : ⊥ = cc in absurd clash
-fit_parameter literals scope (Field base _) is = let clash : ⊥ = cc in absurd clash
-fit_parameter literals scope _ is = let clash : ⊥ = cc in absurd clash
+fit_parameter literals scope (Name (meant.Declared i)) is = absurd (false≢true is)
+fit_parameter literals scope (Name _) is = absurd (false≢true is)
+fit_parameter literals scope (Field base (meant.Field class i)) is = absurd (false≢true is)
+fit_parameter literals scope (Field base _) is = absurd (false≢true is)
+fit_parameter literals scope _ is = absurd (false≢true is)
 
 fit_parameters : (literals : ℕ) (scope : Scope) (operands : List (Operand Meant)) → letters_fit literals scope (replicate (length operands) letter.Parameter) operands ≡ true → are_parameters (length scope.fields) operands ≡ true
 fit_parameters literals scope [] is = refl

@@ -1,5 +1,6 @@
 -- What is counted of lines with indexes for names is what is known of the lines.
 use Rattle.std.proofs.Common.{◌≡◌, refl, sym, ap, ◌∙◌, ℕ, suc, ◌+◌, List, [], ◌∷◌, ◌++◌, Bool, true, false, ◌&&◌, ◌||◌, nat_eq, nat_lt, nat_le, length, map, Some, None, add-zero, append-nil, length-append, arith}
+use Rattle.std.proofs.lemmas.Bool.{false≢true}
 use Rattle.std.specs.List.{flat_map}
 use Rattle.std.proofs.lemmas.List.{map-append, length-map}
 use Rattle.std.proofs.lemmas.Bool.Decides.{nat_tests}
@@ -35,7 +36,7 @@ use Rattle.wb_script.proofs.TypedLemmas.{both}
 parameters_resolved : (own : List Item) (known : Known) (k : Key) (letters : List Letter) (operands : List (Operand Text)) → are_operands letters operands ≡ true →
     flat_map taken_by (resolved_operands own known k letters operands) ≡ map (resolved_taken own) (flat_map taken_by operands)
 parameters_resolved own known k [] [] typed = refl
-parameters_resolved own known k [] (o ∷ os) typed = let clash : ⊥ = cc in absurd clash
+parameters_resolved own known k [] (o ∷ os) typed = absurd (false≢true typed)
 parameters_resolved own known k (at ∷ letters) [] typed = refl
 parameters_resolved own known k (at ∷ letters) (o ∷ os) typed =
     ap (λ l. l ++ flat_map taken_by (resolved_operands own known k letters os)) (one o)
@@ -123,36 +124,36 @@ module _ (own : List Item) (known : Known) (counts : Counts) (counted : Counted 
       is_due (role_of k) counts (resolved_line own known (Line k operands)) (resolved_operands own known k (letters_for k (length operands)) operands) ≡ true
 
   due_procedure : (operands : List (Operand Text)) → Due key.Proc operands
-  due_procedure [] typed within = let clash : ⊥ = cc in absurd clash
+  due_procedure [] typed within = absurd (false≢true typed)
   due_procedure (Name n ∷ os) typed within =
       let (more, one_more, large) = limits key.Proc (Name n ∷ os) within in
       let parameters = as_many_parameters own known (Line key.Proc (Name n ∷ os)) typed in
       both_hold _ _ (equal_test known.procedures (length counts.procedures) (sym counted.procedures))
       (both_hold _ _ (not_above 256 (known.procedures + known.operations) (length counts.procedures + counts.operations) as_many one_more)
       (both_hold _ _ (at_most_test 4 (length (parameters_in (Line key.Proc (Name n ∷ os)))) (length (parameters_of (resolved_line own known (Line key.Proc (Name n ∷ os))))) (sym parameters) more) refl))
-  due_procedure (_ ∷ os) typed within = let clash : ⊥ = cc in absurd clash
+  due_procedure (_ ∷ os) typed within = absurd (false≢true typed)
 
   due_operation : (operands : List (Operand Text)) → Due key.Op operands
   due_operation (Name n ∷ Parameter p taken.Pointer ∷ []) typed within =
       let (more, one_more, large) = limits key.Op (Name n ∷ Parameter p taken.Pointer ∷ []) within in
       both_hold _ _ (equal_test known.operations counts.operations (sym counted.operations))
       (both_hold _ _ (not_above 256 (known.procedures + known.operations) (length counts.procedures + counts.operations) as_many one_more) refl)
-  due_operation (Name n ∷ Parameter p taken.Pointer ∷ o ∷ os) typed within = let clash : ⊥ = cc in absurd clash
-  due_operation (Name n ∷ _ ∷ os) typed within = let clash : ⊥ = cc in absurd clash
-  due_operation (Name n ∷ []) typed within = let clash : ⊥ = cc in absurd clash
-  due_operation [] typed within = let clash : ⊥ = cc in absurd clash
-  due_operation (_ ∷ os) typed within = let clash : ⊥ = cc in absurd clash
+  due_operation (Name n ∷ Parameter p taken.Pointer ∷ o ∷ os) typed within = absurd (false≢true typed)
+  due_operation (Name n ∷ _ ∷ os) typed within = absurd (false≢true typed)
+  due_operation (Name n ∷ []) typed within = absurd (false≢true typed)
+  due_operation [] typed within = absurd (false≢true typed)
+  due_operation (_ ∷ os) typed within = absurd (false≢true typed)
 
   due_class : (operands : List (Operand Text)) → Due key.Class operands
   due_class (Name n ∷ Size extra ∷ []) typed within =
       let (more, one_more, large) = limits key.Class (Name n ∷ Size extra ∷ []) within in
       both_hold _ _ (equal_test known.classes (length counts.classes) (sym counted.classes))
       (both_hold _ _ (not_above 64 known.classes (length counts.classes) (sym counted.classes) one_more) (at_most_test 65536 extra extra refl large))
-  due_class [] typed within = let clash : ⊥ = cc in absurd clash
-  due_class (Name n ∷ []) typed within = let clash : ⊥ = cc in absurd clash
-  due_class (Name n ∷ Size extra ∷ o ∷ os) typed within = let clash : ⊥ = cc in absurd clash
-  due_class (Name n ∷ _ ∷ os) typed within = let clash : ⊥ = cc in absurd clash
-  due_class (_ ∷ os) typed within = let clash : ⊥ = cc in absurd clash
+  due_class [] typed within = absurd (false≢true typed)
+  due_class (Name n ∷ []) typed within = absurd (false≢true typed)
+  due_class (Name n ∷ Size extra ∷ o ∷ os) typed within = absurd (false≢true typed)
+  due_class (Name n ∷ _ ∷ os) typed within = absurd (false≢true typed)
+  due_class (_ ∷ os) typed within = absurd (false≢true typed)
 
   due_field : (rest : List (Operand Meant)) → last_count counts.classes ≡ length known.fields → is_one_more role.Field known ≡ false →
       (declares (last_count counts.classes) (Name (meant.Declared (length known.fields)) ∷ rest) && nat_lt (last_count counts.classes) 16) ≡ true
@@ -170,41 +171,41 @@ module _ (own : List Item) (known : Known) (counts : Counts) (counted : Counted 
   -- In the head of a class, its fields so far are known.
   pub due : (k : Key) → (role_of k ≡ role.Field → last_count counts.classes ≡ length known.fields) → (operands : List (Operand Text)) → Due k operands
   due key.Class fields operands typed within = due_class operands typed within
-  due key.Field fields [] typed within = let clash : ⊥ = cc in absurd clash
+  due key.Field fields [] typed within = absurd (false≢true typed)
   due key.Field fields (Name n ∷ []) typed within = due_field [] (fields refl) (limits key.Field (Name n ∷ []) within).1
-  due key.Field fields (Name n ∷ o ∷ os) typed within = let clash : ⊥ = cc in absurd clash
-  due key.Field fields (_ ∷ os) typed within = let clash : ⊥ = cc in absurd clash
-  due key.ClassField fields [] typed within = let clash : ⊥ = cc in absurd clash
+  due key.Field fields (Name n ∷ o ∷ os) typed within = absurd (false≢true typed)
+  due key.Field fields (_ ∷ os) typed within = absurd (false≢true typed)
+  due key.ClassField fields [] typed within = absurd (false≢true typed)
   due key.ClassField fields (Name n ∷ os) typed within = due_field (resolved_operands own known key.ClassField (letter.Class ∷ []) os) (fields refl) (limits key.ClassField (Name n ∷ os) within).1
-  due key.ClassField fields (_ ∷ os) typed within = let clash : ⊥ = cc in absurd clash
+  due key.ClassField fields (_ ∷ os) typed within = absurd (false≢true typed)
   due key.Proc fields operands typed within = due_procedure operands typed within
   due key.Op fields operands typed within = due_operation operands typed within
-  due key.Ptr fields [] typed within = let clash : ⊥ = cc in absurd clash
+  due key.Ptr fields [] typed within = absurd (false≢true typed)
   due key.Ptr fields (Name n ∷ []) typed within = due_local [] (limits key.Ptr (Name n ∷ []) within).1 refl
-  due key.Ptr fields (Name n ∷ o ∷ os) typed within = let clash : ⊥ = cc in absurd clash
-  due key.Ptr fields (_ ∷ os) typed within = let clash : ⊥ = cc in absurd clash
+  due key.Ptr fields (Name n ∷ o ∷ os) typed within = absurd (false≢true typed)
+  due key.Ptr fields (_ ∷ os) typed within = absurd (false≢true typed)
   due key.ClassPtr fields (Name n ∷ Name c ∷ []) typed within = due_local (Name (item_meant own c) ∷ []) (limits key.ClassPtr (Name n ∷ Name c ∷ []) within).1 refl
-  due key.ClassPtr fields [] typed within = let clash : ⊥ = cc in absurd clash
-  due key.ClassPtr fields (Name n ∷ []) typed within = let clash : ⊥ = cc in absurd clash
-  due key.ClassPtr fields (Name n ∷ Name c ∷ o ∷ os) typed within = let clash : ⊥ = cc in absurd clash
-  due key.ClassPtr fields (Name n ∷ _ ∷ os) typed within = let clash : ⊥ = cc in absurd clash
-  due key.ClassPtr fields (_ ∷ os) typed within = let clash : ⊥ = cc in absurd clash
-  due key.Int fields [] typed within = let clash : ⊥ = cc in absurd clash
+  due key.ClassPtr fields [] typed within = absurd (false≢true typed)
+  due key.ClassPtr fields (Name n ∷ []) typed within = absurd (false≢true typed)
+  due key.ClassPtr fields (Name n ∷ Name c ∷ o ∷ os) typed within = absurd (false≢true typed)
+  due key.ClassPtr fields (Name n ∷ _ ∷ os) typed within = absurd (false≢true typed)
+  due key.ClassPtr fields (_ ∷ os) typed within = absurd (false≢true typed)
+  due key.Int fields [] typed within = absurd (false≢true typed)
   due key.Int fields (Name n ∷ []) typed within = due_local [] (limits key.Int (Name n ∷ []) within).1 refl
-  due key.Int fields (Name n ∷ o ∷ os) typed within = let clash : ⊥ = cc in absurd clash
-  due key.Int fields (_ ∷ os) typed within = let clash : ⊥ = cc in absurd clash
-  due key.View fields [] typed within = let clash : ⊥ = cc in absurd clash
+  due key.Int fields (Name n ∷ o ∷ os) typed within = absurd (false≢true typed)
+  due key.Int fields (_ ∷ os) typed within = absurd (false≢true typed)
+  due key.View fields [] typed within = absurd (false≢true typed)
   due key.View fields (Name n ∷ []) typed within = due_local [] (limits key.View (Name n ∷ []) within).1 refl
-  due key.View fields (Name n ∷ o ∷ os) typed within = let clash : ⊥ = cc in absurd clash
-  due key.View fields (_ ∷ os) typed within = let clash : ⊥ = cc in absurd clash
+  due key.View fields (Name n ∷ o ∷ os) typed within = absurd (false≢true typed)
+  due key.View fields (_ ∷ os) typed within = absurd (false≢true typed)
   due key.Buf fields (Name n ∷ Size max ∷ []) typed within =
       let (more, room, small) = limits key.Buf (Name n ∷ Size max ∷ []) within in
       due_local (Size max ∷ []) room (at_most_test 256 max max refl small)
-  due key.Buf fields [] typed within = let clash : ⊥ = cc in absurd clash
-  due key.Buf fields (Name n ∷ []) typed within = let clash : ⊥ = cc in absurd clash
-  due key.Buf fields (Name n ∷ Size max ∷ o ∷ os) typed within = let clash : ⊥ = cc in absurd clash
-  due key.Buf fields (Name n ∷ _ ∷ os) typed within = let clash : ⊥ = cc in absurd clash
-  due key.Buf fields (_ ∷ os) typed within = let clash : ⊥ = cc in absurd clash
+  due key.Buf fields [] typed within = absurd (false≢true typed)
+  due key.Buf fields (Name n ∷ []) typed within = absurd (false≢true typed)
+  due key.Buf fields (Name n ∷ Size max ∷ o ∷ os) typed within = absurd (false≢true typed)
+  due key.Buf fields (Name n ∷ _ ∷ os) typed within = absurd (false≢true typed)
+  due key.Buf fields (_ ∷ os) typed within = absurd (false≢true typed)
   due key.IfNull fields operands typed within = due_block (limits key.IfNull operands within).1
   due key.IfSome fields operands typed within = due_block (limits key.IfSome operands within).1
   due key.IfEqual fields operands typed within = due_block (limits key.IfEqual operands within).1
@@ -256,14 +257,14 @@ module _ (own : List Item) (known : Known) (counts : Counts) (counted : Counted 
   pub line_counts : (form : Form Text) → is_typed form ≡ true → After form
   line_counts Skip typed = record { classes = no_class; procedures = no_procedure; operations = no_operation; kinds = same_kinds; locals = same_locals; blocks = counted.blocks }
   line_counts Unknown typed = record { classes = no_class; procedures = no_procedure; operations = no_operation; kinds = same_kinds; locals = same_locals; blocks = counted.blocks }
-  line_counts (Line key.Class []) typed = let clash : ⊥ = cc in absurd clash
+  line_counts (Line key.Class []) typed = absurd (false≢true typed)
   line_counts (Line key.Class (Name n ∷ os)) typed = record { classes = length-append counts.classes (0 ∷ []) ∙ ap (λ m. m + 1) counted.classes; procedures = no_procedure; operations = no_operation; kinds = same_kinds; locals = same_locals; blocks = refl }
-  line_counts (Line key.Class (_ ∷ os)) typed = let clash : ⊥ = cc in absurd clash
+  line_counts (Line key.Class (_ ∷ os)) typed = absurd (false≢true typed)
   line_counts (Line key.Field operands) typed = record { classes = same_fields; procedures = no_procedure; operations = no_operation; kinds = same_kinds; locals = same_locals; blocks = counted.blocks }
   line_counts (Line key.ClassField operands) typed = record { classes = same_fields; procedures = no_procedure; operations = no_operation; kinds = same_kinds; locals = same_locals; blocks = counted.blocks }
   line_counts (Line key.Constructor operands) typed = record { classes = no_class; procedures = no_procedure; operations = no_operation; kinds = refl; locals = refl; blocks = refl }
   line_counts (Line key.Destructor operands) typed = record { classes = no_class; procedures = no_procedure; operations = no_operation; kinds = refl; locals = refl; blocks = refl }
-  line_counts (Line key.Proc []) typed = let clash : ⊥ = cc in absurd clash
+  line_counts (Line key.Proc []) typed = absurd (false≢true typed)
   line_counts (Line key.Proc (Name n ∷ os)) typed =
       record {
         classes = no_class;
@@ -273,8 +274,8 @@ module _ (own : List Item) (known : Known) (counts : Counts) (counted : Counted 
         locals = begun_locals key.Proc (Name n ∷ os) typed;
         blocks = refl;
       }
-  line_counts (Line key.Proc (_ ∷ os)) typed = let clash : ⊥ = cc in absurd clash
-  line_counts (Line key.Op []) typed = let clash : ⊥ = cc in absurd clash
+  line_counts (Line key.Proc (_ ∷ os)) typed = absurd (false≢true typed)
+  line_counts (Line key.Op []) typed = absurd (false≢true typed)
   line_counts (Line key.Op (Name n ∷ os)) typed =
       record {
         classes = no_class;
@@ -284,36 +285,36 @@ module _ (own : List Item) (known : Known) (counts : Counts) (counted : Counted 
         locals = begun_locals key.Op (Name n ∷ os) typed;
         blocks = refl;
       }
-  line_counts (Line key.Op (_ ∷ os)) typed = let clash : ⊥ = cc in absurd clash
-  line_counts (Line key.Ptr []) typed = let clash : ⊥ = cc in absurd clash
+  line_counts (Line key.Op (_ ∷ os)) typed = absurd (false≢true typed)
+  line_counts (Line key.Ptr []) typed = absurd (false≢true typed)
   line_counts (Line key.Ptr (Name n ∷ [])) typed =
       record { classes = no_class; procedures = no_procedure; operations = no_operation; kinds = more_kinds own known.kinds counts.locals (kind.Pointer None) (OfPointer None) refl counted.kinds; locals = more_locals known.locals n counts.locals (OfPointer None) counted.locals; blocks = counted.blocks }
-  line_counts (Line key.Ptr (Name n ∷ o ∷ os)) typed = let clash : ⊥ = cc in absurd clash
-  line_counts (Line key.Ptr (_ ∷ os)) typed = let clash : ⊥ = cc in absurd clash
-  line_counts (Line key.Int []) typed = let clash : ⊥ = cc in absurd clash
+  line_counts (Line key.Ptr (Name n ∷ o ∷ os)) typed = absurd (false≢true typed)
+  line_counts (Line key.Ptr (_ ∷ os)) typed = absurd (false≢true typed)
+  line_counts (Line key.Int []) typed = absurd (false≢true typed)
   line_counts (Line key.Int (Name n ∷ [])) typed =
       record { classes = no_class; procedures = no_procedure; operations = no_operation; kinds = more_kinds own known.kinds counts.locals kind.Number OfNumber refl counted.kinds; locals = more_locals known.locals n counts.locals OfNumber counted.locals; blocks = counted.blocks }
-  line_counts (Line key.Int (Name n ∷ o ∷ os)) typed = let clash : ⊥ = cc in absurd clash
-  line_counts (Line key.Int (_ ∷ os)) typed = let clash : ⊥ = cc in absurd clash
-  line_counts (Line key.View []) typed = let clash : ⊥ = cc in absurd clash
+  line_counts (Line key.Int (Name n ∷ o ∷ os)) typed = absurd (false≢true typed)
+  line_counts (Line key.Int (_ ∷ os)) typed = absurd (false≢true typed)
+  line_counts (Line key.View []) typed = absurd (false≢true typed)
   line_counts (Line key.View (Name n ∷ [])) typed =
       record { classes = no_class; procedures = no_procedure; operations = no_operation; kinds = more_kinds own known.kinds counts.locals kind.View OfView refl counted.kinds; locals = more_locals known.locals n counts.locals OfView counted.locals; blocks = counted.blocks }
-  line_counts (Line key.View (Name n ∷ o ∷ os)) typed = let clash : ⊥ = cc in absurd clash
-  line_counts (Line key.View (_ ∷ os)) typed = let clash : ⊥ = cc in absurd clash
+  line_counts (Line key.View (Name n ∷ o ∷ os)) typed = absurd (false≢true typed)
+  line_counts (Line key.View (_ ∷ os)) typed = absurd (false≢true typed)
   line_counts (Line key.ClassPtr (Name n ∷ Name c ∷ [])) typed =
       record { classes = no_class; procedures = no_procedure; operations = no_operation; kinds = more_kinds own known.kinds counts.locals (kind.Pointer (Some c)) (OfPointer (class_named own c)) refl counted.kinds; locals = more_locals known.locals n counts.locals (OfPointer (class_named own c)) counted.locals; blocks = counted.blocks }
-  line_counts (Line key.ClassPtr []) typed = let clash : ⊥ = cc in absurd clash
-  line_counts (Line key.ClassPtr (Name n ∷ [])) typed = let clash : ⊥ = cc in absurd clash
-  line_counts (Line key.ClassPtr (Name n ∷ Name c ∷ o ∷ os)) typed = let clash : ⊥ = cc in absurd clash
-  line_counts (Line key.ClassPtr (Name n ∷ _ ∷ os)) typed = let clash : ⊥ = cc in absurd clash
-  line_counts (Line key.ClassPtr (_ ∷ os)) typed = let clash : ⊥ = cc in absurd clash
+  line_counts (Line key.ClassPtr []) typed = absurd (false≢true typed)
+  line_counts (Line key.ClassPtr (Name n ∷ [])) typed = absurd (false≢true typed)
+  line_counts (Line key.ClassPtr (Name n ∷ Name c ∷ o ∷ os)) typed = absurd (false≢true typed)
+  line_counts (Line key.ClassPtr (Name n ∷ _ ∷ os)) typed = absurd (false≢true typed)
+  line_counts (Line key.ClassPtr (_ ∷ os)) typed = absurd (false≢true typed)
   line_counts (Line key.Buf (Name n ∷ Size max ∷ [])) typed =
       record { classes = no_class; procedures = no_procedure; operations = no_operation; kinds = more_kinds own known.kinds counts.locals kind.Buffer (OfBuffer max) refl counted.kinds; locals = more_locals known.locals n counts.locals (OfBuffer max) counted.locals; blocks = counted.blocks }
-  line_counts (Line key.Buf []) typed = let clash : ⊥ = cc in absurd clash
-  line_counts (Line key.Buf (Name n ∷ [])) typed = let clash : ⊥ = cc in absurd clash
-  line_counts (Line key.Buf (Name n ∷ Size max ∷ o ∷ os)) typed = let clash : ⊥ = cc in absurd clash
-  line_counts (Line key.Buf (Name n ∷ _ ∷ os)) typed = let clash : ⊥ = cc in absurd clash
-  line_counts (Line key.Buf (_ ∷ os)) typed = let clash : ⊥ = cc in absurd clash
+  line_counts (Line key.Buf []) typed = absurd (false≢true typed)
+  line_counts (Line key.Buf (Name n ∷ [])) typed = absurd (false≢true typed)
+  line_counts (Line key.Buf (Name n ∷ Size max ∷ o ∷ os)) typed = absurd (false≢true typed)
+  line_counts (Line key.Buf (Name n ∷ _ ∷ os)) typed = absurd (false≢true typed)
+  line_counts (Line key.Buf (_ ∷ os)) typed = absurd (false≢true typed)
   line_counts (Line k operands) typed = record { classes = no_class; procedures = no_procedure; operations = no_operation; kinds = same_kinds; locals = same_locals; blocks = ap (λ b. blocks_after (role_of k) (Line k operands) b) counted.blocks }
 
 pub nothing_yet : (own : List Item) → Counted own nothing_known nothing_counted

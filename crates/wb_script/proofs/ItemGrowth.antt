@@ -1,5 +1,6 @@
 -- One more line of the tree where nothing is open: the first of a class or of a procedure.
 use Rattle.std.proofs.Common.{◌≡◌, refl, sym, ap, ◌∙◌, ℕ, ◌<◌, ◌≤◌, List, [], ◌∷◌, ◌++◌, length, Some, None, true, ◌&&◌, nat_eq, nat_le, append-nil, arith}
+use Rattle.std.proofs.lemmas.Bool.{false≢true}
 use Rattle.std.proofs.lemmas.Bool.Decides.{nat_tests}
 use Rattle.wb_model.specs.declared.limits.TheConstants.{MOST_CLASSES, MOST_EXTRA}
 use Rattle.wb_model.specs.declared.script.Parameter.{Parameter}
@@ -62,4 +63,4 @@ module _ (declared : Declared) (number : ℕ) (b : WholeItems) (sound : AreSound
         counts = λ counts are. ap (λ q. counts_after q (Line key.Proc operands)) are;
         places = refl;
       }
-  procedure_grows _ room is = cc
+  procedure_grows _ room is = absurd (false≢true is)

@@ -1,5 +1,6 @@
 -- Operands that don't fit a line: those that its one letter doesn't fit, and another number than the sides of a `set`.
 use Rattle.std.proofs.Common.{◌≡◌, refl, List, [], ◌∷◌, Bool, true, false, ◌&&◌, length, IsTrue, arith}
+use Rattle.std.proofs.lemmas.Bool.{false≢true}
 use Rattle.wb_model.specs.declared.script_lines.Key.{Key}
 use Rattle.wb_model.specs.declared.script_lines.Key.TheVariants as key
 use Rattle.wb_model.specs.declared.script_lines.Letter.TheVariants as letter
@@ -16,7 +17,7 @@ no_pointer declared scope key.Push operands takes none = none
 no_pointer declared scope key.PushObj operands takes none = none
 no_pointer declared scope key.PopCheck operands takes none = none
 no_pointer declared scope key.LeaveIfNull operands takes none = none
-no_pointer declared scope _ operands takes none = let clash : ⊥ = cc in absurd clash
+no_pointer declared scope _ operands takes none = absurd (false≢true takes)
 
 pub no_number : (declared : Declared) (scope : Scope) (k : Key) (operands : List (Operand Meant)) → IsTrue (takes_number k) → letters_fit declared.literals scope (letter.Value ∷ []) operands ≡ false → operands_fit declared scope k operands ≡ false
 no_number declared scope key.Pop operands takes none = none
@@ -28,7 +29,7 @@ no_number declared scope key.Check operands takes none = none
 no_number declared scope key.CheckAll operands takes none = none
 no_number declared scope key.FailNext operands takes none = none
 no_number declared scope key.FailEvery operands takes none = none
-no_number declared scope _ operands takes none = let clash : ⊥ = cc in absurd clash
+no_number declared scope _ operands takes none = absurd (false≢true takes)
 
 never : (b : Bool) → (b && false) ≡ false
 never true = refl
