@@ -25,6 +25,7 @@ use crate::checks::leaving::may_leave;
 use crate::checks::limits::passes_limit;
 use crate::checks::names::{declares_again, has_unknown};
 use crate::checks::resolved::resolved_line;
+use crate::lists::add;
 use std::alloc::{AllocError, Global};
 use wb_model::limits::LONGEST_SCRIPT;
 use wb_model::script_lines::{Form, Meant};
@@ -124,7 +125,7 @@ impl<'a> Checked<'a> {
         let number = self.lines.len() as u32 + 1;
         self.first = self.first.with(items, &self.known, number, form, &line);
         self.known.add_line(form)?;
-        self.lines.push(line)?;
+        add(&mut self.lines, line)?;
         Ok(())
     }
 }

@@ -20,6 +20,7 @@ use crate::checks::{FirstLines, checked_lines};
 use crate::lines::bytes::{first_foreign_line, is_too_long};
 use crate::lines::forms::{forms, role};
 use crate::lines::pieces::lines;
+use crate::lists::add;
 use crate::tree::bodies_of;
 use std::alloc::{AllocError, Global};
 use wb_model::fault::ScriptFault;
@@ -33,7 +34,7 @@ fn roles<N>(alloc: Global, forms: &[Form<N>]) -> Result<Vec<Role>, AllocError>
 {
     let mut found = Vec::new(alloc);
     for form in forms {
-        found.push(role(form))?;
+        add(&mut found, role(form))?;
     }
     Ok(found)
 }
@@ -59,8 +60,7 @@ fn chars_of(alloc: Global, text: &[u8]) -> Result<Chars, AllocError>
 fn add_text(alloc: Global, literals: &mut Vec<Chars>, text: &[u8]) -> Result<(), AllocError>
     ensures { OnOk result (literals.new.items ≡ literals.old.items ++ text.now ∷ []) }
 {
-    literals.push(chars_of(alloc, text)?)?;
-    Ok(())
+    add(literals, chars_of(alloc, text)?)
 }
 
 fn literals_of(alloc: Global, texts: &[&[u8]]) -> Result<Items<Chars>, AllocError>

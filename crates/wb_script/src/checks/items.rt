@@ -9,7 +9,7 @@ ghost use Rattle.wb_script.specs.Lent.{lent_form, lent_forms, lent_item, lent_it
 
 use crate::checks::known::first_name;
 use crate::lines::forms::role;
-use crate::lists::add_some;
+use crate::lists::{add, add_some};
 use std::alloc::{AllocError, Global};
 use wb_model::items::Items;
 use wb_model::script_lines::{Form, ItemKind, Key, Operand, Role, Taken};
@@ -143,12 +143,11 @@ fn add_items<'a>(
 {
     match item_begun(form) {
         Some(kind) => match first_name(form) {
-            Some(name) => items.push(item_declared(alloc, form, behind, kind, name)?)?,
-            None => {}
+            Some(name) => add(items, item_declared(alloc, form, behind, kind, name)?),
+            None => Ok(()),
         },
-        None => {}
+        None => Ok(()),
     }
-    Ok(())
 }
 
 /// The script's own space, from all its lines.

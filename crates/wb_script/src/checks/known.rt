@@ -11,7 +11,7 @@ ghost use Rattle.wb_script.specs.Checks.{known_in, AreSameItems, IsFew};
 
 use crate::checks::items::item_begun;
 use crate::lines::forms::role;
-use crate::lists::add_some;
+use crate::lists::{add, add_some};
 use std::alloc::{AllocError, Global};
 use wb_model::script_lines::{BodyKind, Form, ItemKind, Key, Kind, Operand, Role, Taken};
 
@@ -162,8 +162,8 @@ impl<'a> Known<'a> {
         for operand in operands {
             match operand {
                 Operand::Parameter(name, taken) => {
-                    self.locals.push(*name)?;
-                    self.kinds.push(kind_of_parameter(*taken))?;
+                    add(&mut self.locals, *name)?;
+                    add(&mut self.kinds, kind_of_parameter(*taken))?;
                 }
                 _ => {}
             }
@@ -294,10 +294,9 @@ impl<'a> Known<'a> {
         ensures others { (self.new.fields ≡ self.old.fields) × (self.new.literals ≡ self.old.literals) × (self.new.locals ≡ self.old.locals) × (self.new.kinds ≡ self.old.kinds) }
     {
         match form {
-            Form::Line(key, _) => self.blocks.push(*key)?,
-            _ => {}
+            Form::Line(key, _) => add(&mut self.blocks, *key),
+            _ => Ok(()),
         }
-        Ok(())
     }
 
     /// Takes in the literals of one more line.

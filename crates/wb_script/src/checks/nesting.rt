@@ -4,6 +4,7 @@ ghost use Rattle.std.specs.Prelude.{◌≡◌, IfOk, OnOk, MatchOption, MatchBoo
 ghost use Rattle.wb_model.specs.Grammar.{IsGrammatical, IsFirstMisfit};
 ghost use Rattle.wb_script.specs.Machine.{move_of, after, step, after_line};
 
+use crate::lists::add;
 use std::alloc::{AllocError, Global};
 use wb_model::script_lines::Role;
 
@@ -73,14 +74,13 @@ fn make(stack: &mut Vec<Open>, made: Move) -> Result<(), AllocError>
     ensures { OnOk result (reverse stack.new.items ≡ after made (reverse stack.old.items)) }
 {
     match made {
-        Move::Close => {}
-        Move::Stay(place) => stack.push(place)?,
+        Move::Close => Ok(()),
+        Move::Stay(place) => add(stack, place),
         Move::Enter(outer, inner) => {
-            stack.push(outer)?;
-            stack.push(inner)?;
+            add(stack, outer)?;
+            add(stack, inner)
         }
     }
-    Ok(())
 }
 
 /// Reads a line that counts, with these open blocks, the innermost last. False where it has no place.

@@ -13,6 +13,7 @@ use crate::checks::items::{Item, count_among, item_of_kind, place_of_item};
 use crate::checks::known::Known;
 use crate::checks::names::place_of;
 use crate::lines::keys::Letters;
+use crate::lists::add;
 use std::alloc::{AllocError, Global};
 use wb_model::items::Items;
 use wb_model::script_lines::{BodyKind, Form, ItemKind, Key, Kind, Letter, Meant, Operand, Taken};
@@ -267,7 +268,10 @@ fn resolved_operands(
         let Some(letter) = letters.at(index) else {
             return Ok(found);
         };
-        found.push(resolved_operand(items, known, key, letter, operand))?;
+        add(
+            &mut found,
+            resolved_operand(items, known, key, letter, operand),
+        )?;
     }
     Ok(found)
 }

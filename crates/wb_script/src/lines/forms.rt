@@ -15,6 +15,7 @@ use crate::lines::words::{
     base_name, declared_name, field_name, is_keyword, literal_of, number_of, parameter_name,
     parameter_taken, used_name,
 };
+use crate::lists::add;
 use std::alloc::{AllocError, Global};
 use wb_model::items::Items;
 use wb_model::script_lines::{Form, Key, Keyword, Letter, Operand, Role, Taken, WordKind};
@@ -150,7 +151,7 @@ fn operands_of<'a>(
         };
         match operand_of(letter, word) {
             None => return Ok(None),
-            Some(operand) => found.push(operand)?,
+            Some(operand) => add(&mut found, operand)?,
         }
     }
     Ok(Some(found))
@@ -240,7 +241,7 @@ pub(crate) fn forms<'a>(
 {
     let mut found = Vec::new(alloc);
     for line in lines {
-        found.push(line_form(alloc, *line)?)?;
+        add(&mut found, line_form(alloc, *line)?)?;
     }
     Ok(found)
 }

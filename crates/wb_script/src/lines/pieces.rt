@@ -7,7 +7,7 @@ ghost use Rattle.wb_model.specs.Lines.{quoted_after, pieces, lines_of, words_of,
 ghost use Rattle.wb_script.specs.Lent.{lent_text, lent_texts};
 ghost use Rattle.wb_script.specs.Pieces.{ends_of};
 
-use crate::lists::add_some;
+use crate::lists::{add, add_some};
 use std::alloc::{AllocError, Global};
 
 /// What bytes are cut into.
@@ -57,7 +57,7 @@ fn pieces<'a>(alloc: Global, cut: Cut, bytes: &'a [u8]) -> Result<Vec<&'a [u8]>,
     let mut rest = bytes;
     while !rest.is_empty() {
         let (piece, after) = first_piece(cut, rest);
-        found.push(piece)?;
+        add(&mut found, piece)?;
         rest = after;
     }
     Ok(found)

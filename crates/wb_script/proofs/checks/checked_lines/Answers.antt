@@ -1,4 +1,5 @@
 use Rattle.std.proofs.Common.{◌∙◌, ◌+◌, ap, sym, subst, take}
+use Rattle.std.proofs.lemmas.List.{take_all}
 use Rattle.wb_script.specs.Checks.{AreChecked}
 use Rattle.wb_script.specs.Lent.{lent_form, lent_forms, lent_items}
 use Rattle.wb_script.proofs.Passes.{map_more}
@@ -20,3 +21,7 @@ loop-form-preserved c =
       items = c.in_ok-add_line.ensures.items;
       lines = c.in_ok-add_line.ensures.lines ∙ ap (λ n. n + 1) c.loop-form.invariant.lines;
     }
+
+pub returns : goal.returns
+returns c =
+    subst (λ l. AreChecked (lent_items c.args.items.now) (lent_forms l) c.loop-form.checked) (take_all c.loop-form.form-index c.args.forms.now c.loop-form-test.false) c.loop-form.invariant.checked

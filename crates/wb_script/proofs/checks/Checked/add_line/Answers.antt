@@ -7,7 +7,7 @@ use Rattle.wb_script.proofs.checks.Checked.add_line.Goals as goal
 pub returns-clause-checked : goal.returns-clause-checked
 returns-clause-checked c = λ before checked.
     one_more_checked (lent_items c.args.items.now) before (lent_form c.args.form.now) c.args.self.now _ _ checked (grind (arith, common_steps, c.len.ensures))
-    (c.in_ok-push.ensures.items ∙ ap (λ l. c.args.self.now.lines.items ++ l ∷ []) c.in_ok-line.ensures)
+    (c.in_ok-add.ensures ∙ ap (λ l. c.args.self.now.lines.items ++ l ∷ []) c.in_ok-line.ensures)
     c.in_ok-add_line.ensures.known
     c.in_ok-add_line.ensures.literals
     c.with-self.ensures.unknown_name

@@ -28,7 +28,7 @@ loop-index-preserved c =
     let found = c.loop-index.found.items in
     let later = resolved_operands items known c.args.key (drop (c.loop-index.index + 1) letters) (lent_operands (drop (c.loop-index.index + 1) operands)) in
     let here = resolved_here lent_operand items known c.args.key letters operands c.loop-index.index _ c.in-Some.letter c.resolved_operand.result c.loop-index-test.true (c.at.ensures (length operands) c.loop-index-test.true ∙ c.in-Some.is) c.resolved_operand.ensures in
-    ap (λ f. f ++ later) c.in_ok-push.ensures.items
+    ap (λ f. f ++ later) c.in_ok-add.ensures
     ∙ append_assoc found (c.resolved_operand.result ∷ []) later
     ∙ sym (ap (λ (l : List (Operand Meant)). found ++ l) here)
     ∙ c.loop-index.invariant

@@ -32,5 +32,5 @@ loop-index-preserved c =
     let at = c.at.ensures (length c.args.words.now) c.loop-index-test.true ∙ c.in-Some.is in
     record {
       as_many = c.loop-index.invariant.as_many;
-      so_far = rw (c.in_ok-push-in-Some-operand_of.ensures.items, map-append lent_operand c.loop-index.found.items) (operand_here letters c.args.words.now c.loop-index.index _ c.loop-index-test.true c.in-Some.letter at (lent_operands c.loop-index.found.items) (lent_operand c.in-Some-operand_of.operand) (sym c.operand_of.ensures ∙ ap (option_map lent_operand) c.in-Some-operand_of.is) ∙ c.loop-index.invariant.so_far);
+      so_far = rw (c.in_ok-add-in-Some-operand_of.ensures, map-append lent_operand c.loop-index.found.items) (operand_here letters c.args.words.now c.loop-index.index _ c.loop-index-test.true c.in-Some.letter at (lent_operands c.loop-index.found.items) (lent_operand c.in-Some-operand_of.operand) (sym c.operand_of.ensures ∙ ap (option_map lent_operand) c.in-Some-operand_of.is) ∙ c.loop-index.invariant.so_far);
     }
