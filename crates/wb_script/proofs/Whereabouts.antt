@@ -1,6 +1,7 @@
 -- Where lines stand, by the blocks that are open before them: in the head of a class, whose fields so far are known, or in a body,
 -- where the class of `self` is known.
 use Rattle.std.proofs.Common.{◌≡◌, refl, sym, ap, subst, ◌∙◌, ℕ, suc, ◌+◌, ◌-◌, ◌<◌, List, [], ◌∷◌, ◌++◌, Bool, true, false, ◌&&◌, length, Option, Some, None, add-zero, length-append, arith}
+use Rattle.std.proofs.lemmas.Bool.{false≢true}
 use Rattle.std.specs.Prelude.{if◌then◌else◌}
 use Rattle.std.specs.List.{list_all}
 use Rattle.std.specs.Option.{option_and_then}
@@ -106,7 +107,7 @@ never_in_body (Made ∷ below) next role.Field needs free is = cc
 never_in_body (Made ∷ below) next role.Construct needs free is = cc
 never_in_body (place ∷ below) next role.Field needs free is = cc
 never_in_body (place ∷ below) next role.Construct needs free is = cc
-never_in_body stack next _ needs free is = cc
+never_in_body stack next _ needs free is = false≢true needs
 
 -- what may stand in bodies alone
 abbrev needs_body : Role → Bool
@@ -167,11 +168,11 @@ one_field_more (count ∷ next ∷ other ∷ classes) some = one_field_more (nex
 -- a line whose first word declares a name
 pub one_name : (form : Form Text) → is_typed form ≡ true → role_of_form form ≡ role.Field → length (first_name form) ≡ 1
 one_name (Line key.Field (Name n ∷ os)) typed is = refl
-one_name (Line key.Field []) typed is = let clash : ⊥ = cc in absurd clash
-one_name (Line key.Field (_ ∷ os)) typed is = let clash : ⊥ = cc in absurd clash
+one_name (Line key.Field []) typed is = absurd (false≢true typed)
+one_name (Line key.Field (_ ∷ os)) typed is = absurd (false≢true typed)
 one_name (Line key.ClassField (Name n ∷ os)) typed is = refl
-one_name (Line key.ClassField []) typed is = let clash : ⊥ = cc in absurd clash
-one_name (Line key.ClassField (_ ∷ os)) typed is = let clash : ⊥ = cc in absurd clash
+one_name (Line key.ClassField []) typed is = absurd (false≢true typed)
+one_name (Line key.ClassField (_ ∷ os)) typed is = absurd (false≢true typed)
 one_name (Line _ operands) typed is = let clash : ⊥ = cc in absurd clash
 one_name _ typed is = let clash : ⊥ = cc in absurd clash
 
@@ -221,8 +222,8 @@ module _ (own : List Item) (known : Known) (counts : Counts) (counted : Counted 
   this_begun (Line key.Destructor operands) begins = last_class
   this_begun (Line key.Proc operands) begins = refl
   this_begun (Line key.Op operands) begins = refl
-  this_begun (Line _ operands) begins = let clash : ⊥ = cc in absurd clash
-  this_begun _ begins = let clash : ⊥ = cc in absurd clash
+  this_begun (Line _ operands) begins = absurd (false≢true begins)
+  this_begun _ begins = absurd (false≢true begins)
 
   -- a class begins without fields
   class_begun : (form : Form Text) → role_of_form form ≡ role.Class → IsWhere (next_known form) (next_counts form) (Fields ∷ [])

@@ -1,6 +1,6 @@
 //! What a line says: the first key whose text and letters fit its words, and its operands.
 
-ghost use Rattle.std.specs.Prelude.{◌≡◌, length, IfOk, IfErr};
+ghost use Rattle.std.specs.Prelude.{◌≡◌, [], ◌∷◌, ◌++◌, length, IfOk, IfErr, OnOk};
 ghost use Rattle.std.specs.Option.{option_map};
 ghost use Rattle.std.specs.Str.{bytes_eq};
 ghost use Rattle.wb_model.specs.declared.script_lines.Operand.TheVariants.{Name, Number, Literal};
@@ -232,6 +232,16 @@ pub(crate) fn line_form<'a>(alloc: Global, line: &'a [u8]) -> Result<Form<&'a [u
     form_of(alloc, &words)
 }
 
+fn add_form<'a>(
+    alloc: Global,
+    forms: &mut Vec<Form<&'a [u8]>>,
+    line: &'a [u8],
+) -> Result<(), AllocError>
+    ensures { OnOk result (lent_forms forms.new.items ≡ lent_forms forms.old.items ++ line_form line.now ∷ []) }
+{
+    add(forms, line_form(alloc, line)?)
+}
+
 /// The forms of lines, one for each.
 pub(crate) fn forms<'a>(
     alloc: Global,
@@ -241,7 +251,7 @@ pub(crate) fn forms<'a>(
 {
     let mut found = Vec::new(alloc);
     for line in lines {
-        add(&mut found, line_form(alloc, *line)?)?;
+        add_form(alloc, &mut found, line)?;
     }
     Ok(found)
 }
