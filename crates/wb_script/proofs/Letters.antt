@@ -2,7 +2,7 @@
 use Rattle.std.proofs.Common.{◌≡◌, ℕ, zero, suc, ◌+◌, ◌<◌, ◌≤◌, List, [], ◌∷◌, ◌++◌, length, drop, map, Option, Some, None, Bool, true, false, ◌&&◌, refl, sym, ap, ◌∙◌, append_assoc, get_or, add-one, drop-cons, arith}
 use Rattle.std.specs.Prelude.{slice_get}
 use Rattle.std.specs.Borrow.{Bor}
-use Rattle.std.specs.Option.{option_map}
+use Rattle.std.specs.Option.{option_and_then, option_map}
 use Rattle.std.proofs.lemmas.List.{drop_all}
 use Rattle.std.proofs.lemmas.Option.{slice_get_within, get_or_from_slice_get}
 use Rattle.wb_model.specs.declared.script_lines.Letter.{Letter}
@@ -47,22 +47,29 @@ as_many (letter ∷ letters) (word ∷ words) differ = ap (onto (operand_of lett
     none None = refl
     none (Some operand) = refl
 
-module _ (letters : List Letter) (words : List (Bor Text)) (i : ℕ) (d : Bor Text) (lt : i < length words) (letter : Letter) (at : slice_get letters i ≡ Some letter) where
-  words_here : operands_of (drop i letters) (lent_texts (drop i words)) ≡ onto (operand_of letter (get_or words i d).now) (operands_of (drop (i + 1) letters) (lent_texts (drop (i + 1) words)))
-  words_here = rw (drop_some letters i letter at, drop-cons words i d lt, add-one i) refl
+module _ (letters : List Letter) (words : List (Bor Text)) (many : length letters ≡ length words) (i : ℕ) (d : Bor Text) (lt : i < length words) where
+  abbrev later : Option (List (Operand Text))
+  later = operands_of (drop (i + 1) letters) (lent_texts (drop (i + 1) words))
+
+  words_here : (o : Option (Operand Text)) → option_and_then (λ letter. operand_of letter (get_or words i d).now) (slice_get letters i) ≡ o → operands_of (drop i letters) (lent_texts (drop i words)) ≡ onto o later
+  words_here o is = go (slice_get letters i) refl is
+    where
+      go : (at : Option Letter) → slice_get letters i ≡ at → option_and_then (λ letter. operand_of letter (get_or words i d).now) at ≡ o → operands_of (drop i letters) (lent_texts (drop i words)) ≡ onto o later
+      go None at is = absurd (omega (arith, none_past letters i at, many, lt))
+      go (Some letter) at is = rw (drop_some letters i letter at, drop-cons words i d lt, add-one i, is) refl
 
   -- a word that is an operand
-  pub operand_here : (found : List (Operand Text)) (operand : Operand Text) → operand_of letter (get_or words i d).now ≡ Some operand →
-      option_map (λ (rest : List (Operand Text)). (found ++ operand ∷ []) ++ rest) (operands_of (drop (i + 1) letters) (lent_texts (drop (i + 1) words))) ≡ option_map (λ (rest : List (Operand Text)). found ++ rest) (operands_of (drop i letters) (lent_texts (drop i words)))
-  operand_here found operand is = rw (words_here, is) (go (operands_of (drop (i + 1) letters) (lent_texts (drop (i + 1) words))))
+  pub operand_here : (found : List (Operand Text)) (operand : Operand Text) → option_and_then (λ letter. operand_of letter (get_or words i d).now) (slice_get letters i) ≡ Some operand →
+      option_map (λ (rest : List (Operand Text)). (found ++ operand ∷ []) ++ rest) later ≡ option_map (λ (rest : List (Operand Text)). found ++ rest) (operands_of (drop i letters) (lent_texts (drop i words)))
+  operand_here found operand is = rw (words_here (Some operand) is) (go later)
     where
       go : (o : Option (List (Operand Text))) → option_map (λ (rest : List (Operand Text)). (found ++ operand ∷ []) ++ rest) o ≡ option_map (λ (rest : List (Operand Text)). found ++ rest) (onto (Some operand) o)
       go None = refl
       go (Some rest) = ap Some (append_assoc found (operand ∷ []) rest)
 
   -- and one that is none
-  pub no_operand_here : (found : List (Operand Text)) → operand_of letter (get_or words i d).now ≡ None → option_map (λ (rest : List (Operand Text)). found ++ rest) (operands_of (drop i letters) (lent_texts (drop i words))) ≡ None
-  no_operand_here found is = rw (words_here, is) refl
+  pub no_operand_here : (found : List (Operand Text)) → option_and_then (λ letter. operand_of letter (get_or words i d).now) (slice_get letters i) ≡ None → option_map (λ (rest : List (Operand Text)). found ++ rest) (operands_of (drop i letters) (lent_texts (drop i words))) ≡ None
+  no_operand_here found is = rw (words_here None is) refl
 
 module _ (letters : List Letter) (operands : List (Operand Meant)) (i : ℕ) where
   -- whether an operand is right, and the ones behind it

@@ -1,7 +1,7 @@
 //! What a line says: the first key whose text and letters fit its words, and its operands.
 
-ghost use Rattle.std.specs.Prelude.{◌≡◌, [], ◌∷◌, ◌++◌, length, IfOk, IfErr, OnOk};
-ghost use Rattle.std.specs.Option.{option_map};
+ghost use Rattle.std.specs.Prelude.{◌≡◌, ◌<◌, ℕ, [], ◌∷◌, ◌++◌, length, slice_get, IfOk, IfErr, OnOk};
+ghost use Rattle.std.specs.Option.{option_and_then, option_map};
 ghost use Rattle.std.specs.Str.{bytes_eq};
 ghost use Rattle.wb_model.specs.declared.script_lines.Operand.TheVariants.{Name, Number, Literal};
 ghost use Rattle.wb_model.specs.Forms.{renamed_taken, size_of, field_of, parameter_of, operand_as, operand_among, operand_of, operands_of, operands_if, form_in, form_of, forms_of, line_form, begins_comment, role_of_form};
@@ -131,6 +131,16 @@ fn operand_of<'a>(letter: Letter, word: &'a [u8]) -> Option<Operand<&'a [u8]>>
     operand_among(word_kinds(letter), word)
 }
 
+/// What a word is by its index behind a key; none where no such word stands there.
+fn operand_at<'a>(letters: Letters, index: usize, word: &'a [u8]) -> Option<Operand<&'a [u8]>>
+    ensures { (count : ℕ) → index < count → option_and_then (λ letter. operand_of letter word.now) (slice_get (letters_with letters.fixed.now letters.rest count) index) ≡ option_map lent_operand result }
+{
+    match letters.at(index) {
+        Some(letter) => operand_of(letter, word),
+        None => None,
+    }
+}
+
 /// What the words behind a key are; none where they do not fit. Memory is asked for only where there may be so many words.
 fn operands_of<'a>(
     alloc: Global,
@@ -146,10 +156,7 @@ fn operands_of<'a>(
     }
     let mut found = Vec::new(alloc);
     for (index, word) in words.iter().enumerate() {
-        let Some(letter) = letters.at(index) else {
-            return Ok(None);
-        };
-        match operand_of(letter, word) {
+        match operand_at(letters, index, word) {
             None => return Ok(None),
             Some(operand) => add(&mut found, operand)?,
         }
