@@ -1,21 +1,22 @@
--- One more line of the tree where nothing is open: the first of a class or of a procedure.
+-- One more line of the tree where nothing is open: the first of a class, of a procedure or of an operation.
 use Rattle.std.proofs.Common.{◌≡◌, refl, sym, ap, ◌∙◌, ℕ, ◌<◌, ◌≤◌, List, [], ◌∷◌, ◌++◌, length, Some, None, true, ◌&&◌, nat_eq, nat_le, append-nil, arith}
 use Rattle.std.proofs.lemmas.Bool.{false≢true}
 use Rattle.std.proofs.lemmas.Bool.Decides.{nat_tests}
 use Rattle.wb_model.specs.declared.limits.TheConstants.{MOST_CLASSES, MOST_EXTRA}
-use Rattle.wb_model.specs.declared.script.Parameter.{Parameter}
+use Rattle.wb_model.specs.declared.script.Parameter as kinds
 use Rattle.wb_model.specs.declared.script_lines.Key.TheVariants as key
 use Rattle.wb_model.specs.declared.script_lines.Meant.{Meant}
 use Rattle.wb_model.specs.declared.script_lines.Meant.TheVariants as meant
 use Rattle.wb_model.specs.declared.script_lines.Operand.{Operand}
-use Rattle.wb_model.specs.declared.script_lines.Operand.TheVariants.{Name, Size}
+use Rattle.wb_model.specs.declared.script_lines.Operand.TheVariants.{Name, Parameter, Size}
+use Rattle.wb_model.specs.declared.script_lines.Taken.TheVariants as taken
 use Rattle.wb_model.specs.declared.script_lines.Form.TheVariants.{Line}
-use Rattle.wb_model.specs.Sound.{Declared}
+use Rattle.wb_model.specs.Sound.{Declared, its_parameters}
 use Rattle.wb_model.specs.Trees.{Indexed, Marked, all_lines, and_operand, line_or_unknown}
 use Rattle.wb_script.specs.declared.tree.whole.WholeItems.{WholeItems}
 use Rattle.wb_script.specs.declared.tree.whole.Owner.TheVariants as of
 use Rattle.wb_script.specs.Building.{counts_after}
-use Rattle.wb_script.specs.Growing.{AreBelow, AreSound, Grows, are_parameters, has_room, in_body, in_class, is_procedure_head, items_in_order, new_body, outside, parameters_taken}
+use Rattle.wb_script.specs.Growing.{AreBelow, AreSound, Grows, are_parameters, has_room, in_body, in_class, is_operation_head, is_procedure_head, items_in_order, new_body, outside, parameters_taken}
 use Rattle.wb_script.proofs.Beginnings.{new_sound, spelled_parameters}
 use Rattle.wb_script.proofs.Tests.{parts, together, within_of}
 
@@ -48,7 +49,7 @@ module _ (declared : Declared) (number : ℕ) (b : WholeItems) (sound : AreSound
       let same : name ≡ length b.procedures = equal_of name (length b.procedures) named in
       let spelled = spelled_parameters (length declared.fields) rest all in
       let operands : List (Operand Meant) = Name (meant.Declared name) ∷ rest in
-      let ps : List Parameter = parameters_taken rest in
+      let ps : List kinds.Parameter = parameters_taken rest in
       let within : length ps ≤ 4 = omega (arith, spelled.many, within_of (length rest) 4 few) in
       record {
         lines =
@@ -64,3 +65,18 @@ module _ (declared : Declared) (number : ℕ) (b : WholeItems) (sound : AreSound
         places = refl;
       }
   procedure_grows _ room is = absurd (false≢true is)
+
+  pub operation_grows : (operands : List (Operand Meant)) → has_room b ≡ true → is_operation_head (length b.operations) operands ≡ true →
+      Grows declared number (Line key.Op operands) (outside b) (in_body b (of.Operation number) (new_body None its_parameters))
+  operation_grows (Name (meant.Declared name) ∷ Parameter meant.Parameter taken.Pointer ∷ []) room is =
+      let operands : List (Operand Meant) = Name (meant.Declared name) ∷ Parameter meant.Parameter taken.Pointer ∷ [] in
+      record {
+        lines =
+            ap (λ n. front ++ (Some number, Line key.Op (Name (meant.Declared n) ∷ Parameter meant.Parameter taken.Pointer ∷ [])) ∷ []) (sym (equal_of name (length b.operations) is))
+            ∙ first_line (Line key.Op operands);
+        sound = record { stands = (sound, (room, refl, refl), new_sound declared None its_parameters refl (omega arith)) };
+        below = record { stands = (below, omega arith) };
+        counts = λ counts are. ap (λ q. counts_after q (Line key.Op operands)) are;
+        places = refl;
+      }
+  operation_grows _ room is = absurd (false≢true is)

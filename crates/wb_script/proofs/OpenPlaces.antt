@@ -1,9 +1,15 @@
 -- A body that is open has a place, and what is below it stays.
-use Rattle.std.proofs.Common.{◌≡◌, refl, sym, ap, subst, ◌∙◌, List, [], ◌∷◌, ◌++◌, fold, Option, Some, None}
+use Rattle.std.proofs.Common.{◌≡◌, refl, sym, ap, subst, ◌∙◌, List, [], ◌∷◌, ◌++◌, fold, Option, Some, None, Bool, true, false}
+use Rattle.wb_model.specs.declared.script_lines.Key.{Key}
+use Rattle.wb_model.specs.declared.script_lines.Key.TheVariants as key
 use Rattle.wb_model.specs.declared.script_lines.Role.{Role}
+use Rattle.wb_model.specs.declared.script_lines.Role.TheVariants as role
+use Rattle.wb_model.specs.Keys.{role_of}
 use Rattle.wb_script.specs.declared.checks.nesting.Move.{Move}
 use Rattle.wb_script.specs.declared.checks.nesting.Move.TheVariants.{Close, Stay, Enter}
 use Rattle.wb_script.specs.declared.checks.nesting.Open.{Open}
+use Rattle.wb_script.specs.declared.checks.nesting.Open.TheVariants.{Block, Branch, Declarations, Statements}
+use Rattle.wb_model.specs.declared.script.Body.{Body}
 use Rattle.wb_model.specs.declared.script.Class.{Class}
 use Rattle.wb_script.specs.declared.tree.bodies.OpenBody.{OpenBody}
 use Rattle.wb_script.specs.declared.tree.whole.Building.{Building}
@@ -12,8 +18,8 @@ use Rattle.wb_script.specs.declared.tree.whole.Stage.TheVariants.{InBody, InClas
 use Rattle.wb_script.specs.declared.tree.blocks.Nest.{Nest}
 use Rattle.wb_script.specs.declared.tree.blocks.OpenBlock.{OpenBlock}
 use Rattle.wb_script.specs.Building.{nest_places, place_in_block, place_in_body}
-use Rattle.wb_script.specs.Growing.{building_places, class_place, owner_places, stage_places}
-use Rattle.wb_script.specs.Machine.{move_of, moved, step}
+use Rattle.wb_script.specs.Growing.{building_places, class_place, owner_places, place_behind, stage_places}
+use Rattle.wb_script.specs.Machine.{after_line, move_of, moved, step}
 
 pub record HasPlace (places : List Open) : Type 0 where
   pub place : Open
@@ -66,3 +72,44 @@ never_in_body b owner p is none = never_outside p.nest (owner_places owner) (sym
 
 pub never_in_class : (b : Building) (c : Class) → b.stage ≡ InClass c → building_places b ≡ [] → ⊥
 never_in_class b c is none = let clash : class_place c ∷ [] ≡ [] = sym (ap stage_places is) ∙ none in cc
+
+-- a line that can't be read has no place
+pub unknown_stuck : (stack : List Open) → after_line stack role.Unknown ≡ None
+unknown_stuck [] = refl
+unknown_stuck (Declarations ∷ below) = refl
+unknown_stuck (Statements ∷ below) = refl
+unknown_stuck (Branch ∷ below) = refl
+unknown_stuck (Block ∷ below) = refl
+unknown_stuck (_ ∷ below) = refl
+
+-- what has a place in a class
+abbrev is_of_class : Role → Bool
+is_of_class role.Skip = true
+is_of_class role.Field = true
+is_of_class role.Construct = true
+is_of_class role.Destroy = true
+is_of_class role.End = true
+is_of_class _ = false
+
+of_class : (k : Key) → (k ≡ key.Field → ⊥) → (k ≡ key.ClassField → ⊥) → (k ≡ key.Constructor → ⊥) → (k ≡ key.Destructor → ⊥) → (k ≡ key.End → ⊥) → is_of_class (role_of k) ≡ false
+of_class key.Field field class_field constructor destructor end = absurd (field refl)
+of_class key.ClassField field class_field constructor destructor end = absurd (class_field refl)
+of_class key.Constructor field class_field constructor destructor end = absurd (constructor refl)
+of_class key.Destructor field class_field constructor destructor end = absurd (destructor refl)
+of_class key.End field class_field constructor destructor end = absurd (end refl)
+of_class _ field class_field constructor destructor end = refl
+
+stuck_in_class : (r : Role) (construct destroy : Option Body) → is_of_class r ≡ false → after_line (place_behind construct destroy ∷ []) r ≡ None
+stuck_in_class role.Skip construct destroy not = let clash : ⊥ = cc in absurd clash
+stuck_in_class role.Field construct destroy not = let clash : ⊥ = cc in absurd clash
+stuck_in_class role.Construct construct destroy not = let clash : ⊥ = cc in absurd clash
+stuck_in_class role.Destroy construct destroy not = let clash : ⊥ = cc in absurd clash
+stuck_in_class role.End construct destroy not = let clash : ⊥ = cc in absurd clash
+stuck_in_class _ None None not = refl
+stuck_in_class _ (Some body) None not = refl
+stuck_in_class _ None (Some body) not = refl
+stuck_in_class _ (Some body) (Some other) not = refl
+
+-- a line that no class takes
+pub no_part : (c : Class) (k : Key) → (k ≡ key.Field → ⊥) → (k ≡ key.ClassField → ⊥) → (k ≡ key.Constructor → ⊥) → (k ≡ key.Destructor → ⊥) → (k ≡ key.End → ⊥) → after_line (class_place c ∷ []) (role_of k) ≡ None
+no_part c k field class_field constructor destructor end = stuck_in_class (role_of k) c.construct c.destroy (of_class k field class_field constructor destructor end)

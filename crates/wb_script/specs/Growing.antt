@@ -28,6 +28,8 @@ use Rattle.wb_script.specs.declared.tree.whole.Owner.TheVariants as of
 use Rattle.wb_script.specs.declared.tree.whole.Stage.{Stage}
 use Rattle.wb_script.specs.declared.tree.whole.Stage.TheVariants.{Outside, InClass, InBody}
 use Rattle.wb_script.specs.declared.tree.whole.Building.{Building}
+use Rattle.wb_script.specs.declared.tree.classes.ClassLine.{ClassLine}
+use Rattle.wb_script.specs.declared.tree.classes.ClassLine.TheVariants as says
 use Rattle.wb_script.specs.declared.tree.bodies.OpenBody.{OpenBody}
 use Rattle.wb_script.specs.declared.tree.bodies.Left.{Left}
 use Rattle.wb_script.specs.declared.tree.bodies.Left.TheVariants.{Inside, Done}
@@ -330,3 +332,24 @@ GrowsWhereFit declared number line b next =
     MatchOption next
     ((counts : Counts) → AreCounts b counts → IsTrue (fits declared counts line) → after_line (building_places b) (role_of_form line) ≡ None)
     (Grows declared number line b)
+
+-- what is open behind a line that leaves what is whole, or nothing, where a line that fits has no place
+abbrev pub OpensWhereFit : Declared → ℕ → Indexed → WholeItems → Option Stage → Type 0
+OpensWhereFit declared number line b next =
+    MatchOption next
+    ((counts : Counts) → AreCounts (outside b) counts → IsTrue (fits declared counts line) → after_line (building_places (outside b)) (role_of_form line) ≡ None)
+    (λ stage. Grows declared number line (outside b) (record { whole = b; stage = stage }))
+
+-- the tree behind what a line of an open class says
+abbrev pub behind : WholeItems → Class → ClassLine → Building
+behind b c (says.Field field) = in_class b (record c { fields = c.fields ++ field ∷ [] })
+behind b c (says.Constructor p) = in_body b (of.Constructor c) p
+behind b c (says.Destructor p) = in_body b (of.Destructor c) p
+behind b c says.End = outside (with_class b c)
+
+-- what a line says to an open class, or nothing, where a line that fits has no place
+abbrev pub SaysWhereFit : Declared → ℕ → Indexed → WholeItems → Class → Option ClassLine → Type 0
+SaysWhereFit declared number line b c said =
+    MatchOption said
+    ((counts : Counts) → AreCounts (in_class b c) counts → IsTrue (fits declared counts line) → after_line (building_places (in_class b c)) (role_of_form line) ≡ None)
+    (λ s. Grows declared number line (in_class b c) (behind b c s))

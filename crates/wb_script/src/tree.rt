@@ -14,15 +14,15 @@ mod statements;
 mod text_statements;
 mod whole;
 
-ghost use Rattle.std.specs.Prelude.{◌≡◌, ◌≤◌, length, map, IfOk};
+ghost use Rattle.std.specs.Prelude.{◌≡◌, ◌≢◌, ◌≤◌, length, map, IfOk};
 ghost use Rattle.wb_model.specs.declared.limits.TheConstants.{LONGEST_SCRIPT};
-ghost use Rattle.wb_model.specs.declared.script_lines.Form.TheVariants.{Line};
+ghost use Rattle.wb_model.specs.declared.script_lines.Form.TheVariants.{Line, Unknown};
 ghost use Rattle.wb_model.specs.Forms.{role_of_form};
 ghost use Rattle.wb_model.specs.Grammar.{IsGrammatical};
 ghost use Rattle.wb_model.specs.Sound.{fields_declared, signatures_of};
 ghost use Rattle.wb_model.specs.Trees.{counted_from, all_lines};
 ghost use Rattle.wb_script.specs.Building.{AllFit, counts_of};
-ghost use Rattle.wb_script.specs.Growing.{AreSound, GrowsWhereFit, IsBelow, IsSound, declared_in_space, in_body, items_in_order, outside};
+ghost use Rattle.wb_script.specs.Growing.{AreSound, GrowsWhereFit, IsBelow, IsSound, OpensWhereFit, declared_in_space, in_body, items_in_order, outside};
 ghost use Rattle.wb_script.specs.Lent.{declared_by};
 
 use crate::checks::items::Item;
@@ -36,8 +36,29 @@ use wb_model::items::Items;
 use wb_model::limits::LONGEST_SCRIPT;
 use wb_model::script_lines::{Form, Key, Meant, Operand};
 
-/// Adds a line where nothing is open, with its number; none where it has no place there.
+/// What a line opens where nothing is open, with its number; none where it has no place there.
 fn begun(
+    alloc: Global,
+    space: Space,
+    whole: &WholeItems,
+    number: u32,
+    key: Key,
+    operands: &[Operand<Meant>],
+) -> Result<Option<Stage>, AllocError>
+    requires sound { IsSound (declared_in_space space) (outside whole.now) }
+    requires below { IsBelow number (outside whole.now) }
+    ensures { IfOk result (OpensWhereFit (declared_in_space space.entry) number (Line key operands.now) whole.now) }
+{
+    match key {
+        Key::Class => Ok(begun_class(alloc, space, whole, number, operands)),
+        Key::Proc => begun_procedure(alloc, space, whole, number, operands),
+        Key::Op => begun_operation(alloc, space, whole, number, operands),
+        _ => Ok(None),
+    }
+}
+
+/// Adds a line where nothing is open, with its number; none where it has no place.
+fn with_begun(
     alloc: Global,
     space: Space,
     whole: WholeItems,
@@ -49,11 +70,9 @@ fn begun(
     requires below { IsBelow number (outside whole) }
     ensures { IfOk result (GrowsWhereFit (declared_in_space space.entry) number (Line key operands.now) (outside whole)) }
 {
-    match key {
-        Key::Class => Ok(begun_class(alloc, space, whole, number, operands)),
-        Key::Proc => begun_procedure(alloc, space, whole, number, operands),
-        Key::Op => begun_operation(alloc, space, whole, number, operands),
-        _ => Ok(None),
+    match begun(alloc, space, &whole, number, key, operands)? {
+        Some(stage) => Ok(Some(Building { whole, stage })),
+        None => Ok(None),
     }
 }
 
@@ -99,7 +118,7 @@ fn add_line(
 {
     let whole = building.whole;
     match building.stage {
-        Stage::Outside => begun(alloc, space, whole, number, key, operands),
+        Stage::Outside => with_begun(alloc, space, whole, number, key, operands),
         Stage::InClass(class) => in_class(alloc, space, whole, class, number, key, operands),
         Stage::InBody(owner, current) => {
             continued(alloc, space, whole, owner, current, number, key, operands)
@@ -107,7 +126,7 @@ fn add_line(
     }
 }
 
-/// Adds a line to the tree, with its number; none where it has no place there.
+/// Adds a line that can be read to the tree, with its number; none where it has no place there.
 fn add_form(
     alloc: Global,
     space: Space,
@@ -117,11 +136,12 @@ fn add_form(
 ) -> Result<Option<Building>, AllocError>
     requires sound { IsSound (declared_in_space space) building }
     requires below { IsBelow number building }
+    requires known { line.now ≢ Unknown }
     ensures { IfOk result (GrowsWhereFit (declared_in_space space.entry) number line.now building) }
 {
     match line {
         Form::Skip => Ok(Some(building)),
-        Form::Unknown => Ok(None),
+        Form::Unknown => unreachable!(),
         Form::Line(key, operands) => {
             add_line(alloc, space, building, number, *key, operands.as_slice())
         }
@@ -157,8 +177,9 @@ fn items_from(alloc: Global, space: Space, lines: &[Form<Meant>]) -> Result<Whol
     }
     match building.stage {
         Stage::Outside => Ok(building.whole),
-        Stage::InClass(_) => unreachable!(),
-        Stage::InBody(_, _) => unreachable!(),
+        // Named, so that an arm that is left has nothing of the stage to drop.
+        Stage::InClass(_class) => unreachable!(),
+        Stage::InBody(_owner, _body) => unreachable!(),
     }
 }
 

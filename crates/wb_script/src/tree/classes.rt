@@ -1,6 +1,6 @@
 //! The lines of a class: its first, its fields, the first lines of its bodies, and its end.
 
-ghost use Rattle.std.specs.Prelude.{◌≡◌, ◌<◌, ◌≤◌, ℕ, [], ◌∷◌, Some, is_some, length, nat_le, IfOk, IfSome, IsTrue};
+ghost use Rattle.std.specs.Prelude.{◌≡◌, ◌<◌, ◌≤◌, ℕ, [], ◌∷◌, ◌++◌, Some, is_some, length, nat_le, IfOk, IfSome, IsTrue};
 ghost use Rattle.wb_model.specs.declared.limits.TheConstants.{MOST_CLASSES, MOST_EXTRA};
 ghost use Rattle.wb_model.specs.declared.script_lines.Form.TheVariants.{Line};
 ghost use Rattle.wb_model.specs.declared.script_lines.Key.TheVariants as key;
@@ -13,7 +13,7 @@ ghost use Rattle.wb_model.specs.Sound.{Declared, Scope, is_class_among};
 ghost use Rattle.wb_model.specs.Trees.{field_line};
 ghost use Rattle.wb_script.specs.Building.{declares, is_small};
 ghost use Rattle.wb_script.specs.Fitting.{letters_fit, operands_fit};
-ghost use Rattle.wb_script.specs.Growing.{GrowsWhereFit, IsBelow, IsSound, declared_in_space, in_class, new_body, outside};
+ghost use Rattle.wb_script.specs.Growing.{GrowsWhereFit, IsBelow, IsSound, OpensWhereFit, SaysWhereFit, behind, declared_in_space, in_class, new_body, outside};
 
 use crate::tree::bodies::OpenBody;
 use crate::tree::openings::new_body;
@@ -46,13 +46,13 @@ fn extra_of(index: usize, operands: &[Operand<Meant>]) -> Option<u32>
 pub(crate) fn begun_class(
     alloc: Global,
     space: Space,
-    whole: WholeItems,
+    whole: &WholeItems,
     number: u32,
     operands: &[Operand<Meant>],
-) -> Option<Building>
-    requires sound { IsSound (declared_in_space space) (outside whole) }
-    requires below { IsBelow number (outside whole) }
-    ensures { GrowsWhereFit (declared_in_space space.entry) number (Line key.Class operands.now) (outside whole) result }
+) -> Option<Stage>
+    requires sound { IsSound (declared_in_space space) (outside whole.now) }
+    requires below { IsBelow number (outside whole.now) }
+    ensures { OpensWhereFit (declared_in_space space.entry) number (Line key.Class operands.now) whole.now result }
 {
     if whole.classes.len() >= MOST_CLASSES as usize {
         return None;
@@ -66,8 +66,7 @@ pub(crate) fn begun_class(
                 construct: None,
                 destroy: None,
             };
-            let stage = Stage::InClass(class);
-            Some(Building { whole, stage })
+            Some(Stage::InClass(class))
         }
         None => None,
     }
@@ -127,34 +126,38 @@ fn declared_field(
     }
 }
 
-/// Adds a field to the class that is open; none where it has no place.
-fn with_field(
+/// What a line says to the class that is open.
+pub(crate) enum ClassLine {
+    /// One more field, of this class where it has one.
+    Field(Option<u16>),
+    Constructor(OpenBody),
+    Destructor(OpenBody),
+    End,
+}
+
+/// A line that declares a field; none where it has no place.
+fn field_said(
     space: Space,
-    whole: WholeItems,
-    class: Class,
+    whole: &WholeItems,
+    class: &Class,
     number: u32,
     key: Key,
     operands: &[Operand<Meant>],
-) -> Result<Option<Building>, AllocError>
-    requires sound { IsSound (declared_in_space space) (in_class whole class) }
-    requires below { IsBelow number (in_class whole class) }
+) -> Option<ClassLine>
+    requires sound { IsSound (declared_in_space space) (in_class whole.now class.now) }
+    requires below { IsBelow number (in_class whole.now class.now) }
     requires field { role_of key ≡ role.Field }
-    ensures { IfOk result (GrowsWhereFit (declared_in_space space.entry) number (Line key operands.now) (in_class whole class)) }
+    ensures { SaysWhereFit (declared_in_space space.entry) number (Line key operands.now) whole.now class.now result }
 {
     if class.construct.is_some() || class.destroy.is_some() {
-        return Ok(None);
+        return None;
     }
     if class.fields.len() >= MOST_FIELDS as usize {
-        return Ok(None);
+        return None;
     }
     match declared_field(class.fields.len(), space.fields, key, operands) {
-        Some(field) => {
-            let mut fields = class.fields;
-            fields.push(field)?;
-            let stage = Stage::InClass(Class { fields, ..class });
-            Ok(Some(Building { whole, stage }))
-        }
-        None => Ok(None),
+        Some(field) => Some(ClassLine::Field(field)),
+        None => None,
     }
 }
 
@@ -167,18 +170,18 @@ fn own_body(alloc: Global, whole: &WholeItems) -> Result<OpenBody, AllocError>
     new_body(alloc, Some(this), Items::new(alloc))
 }
 
-/// Begins the `construct` of the class that is open; none where it has no place.
-fn begun_constructor(
+/// The first line of `construct`; none where it has no place.
+fn constructor_said(
     alloc: Global,
     space: Space,
-    whole: WholeItems,
-    class: Class,
+    whole: &WholeItems,
+    class: &Class,
     number: u32,
     operands: &[Operand<Meant>],
-) -> Result<Option<Building>, AllocError>
-    requires sound { IsSound (declared_in_space space) (in_class whole class) }
-    requires below { IsBelow number (in_class whole class) }
-    ensures { IfOk result (GrowsWhereFit (declared_in_space space.entry) number (Line key.Constructor operands.now) (in_class whole class)) }
+) -> Result<Option<ClassLine>, AllocError>
+    requires sound { IsSound (declared_in_space space) (in_class whole.now class.now) }
+    requires below { IsBelow number (in_class whole.now class.now) }
+    ensures { IfOk result (SaysWhereFit (declared_in_space space.entry) number (Line key.Constructor operands.now) whole.now class.now) }
 {
     if class.construct.is_some() || class.destroy.is_some() {
         return Ok(None);
@@ -186,23 +189,22 @@ fn begun_constructor(
     if !operands.is_empty() {
         return Ok(None);
     }
-    let body = own_body(alloc, &whole)?;
-    let stage = Stage::InBody(Owner::Constructor(class), body);
-    Ok(Some(Building { whole, stage }))
+    let body = own_body(alloc, whole)?;
+    Ok(Some(ClassLine::Constructor(body)))
 }
 
-/// Begins the `destroy` of the class that is open; none where it has no place.
-fn begun_destructor(
+/// The first line of `destroy`; none where it has no place.
+fn destructor_said(
     alloc: Global,
     space: Space,
-    whole: WholeItems,
-    class: Class,
+    whole: &WholeItems,
+    class: &Class,
     number: u32,
     operands: &[Operand<Meant>],
-) -> Result<Option<Building>, AllocError>
-    requires sound { IsSound (declared_in_space space) (in_class whole class) }
-    requires below { IsBelow number (in_class whole class) }
-    ensures { IfOk result (GrowsWhereFit (declared_in_space space.entry) number (Line key.Destructor operands.now) (in_class whole class)) }
+) -> Result<Option<ClassLine>, AllocError>
+    requires sound { IsSound (declared_in_space space) (in_class whole.now class.now) }
+    requires below { IsBelow number (in_class whole.now class.now) }
+    ensures { IfOk result (SaysWhereFit (declared_in_space space.entry) number (Line key.Destructor operands.now) whole.now class.now) }
 {
     if class.destroy.is_some() {
         return Ok(None);
@@ -210,31 +212,86 @@ fn begun_destructor(
     if !operands.is_empty() {
         return Ok(None);
     }
-    let body = own_body(alloc, &whole)?;
-    let stage = Stage::InBody(Owner::Destructor(class), body);
-    Ok(Some(Building { whole, stage }))
+    let body = own_body(alloc, whole)?;
+    Ok(Some(ClassLine::Destructor(body)))
 }
 
-/// The class that is open ends; none where the line has operands.
-fn ended(
+/// The end of the class; none where the line has operands.
+fn end_said(
     space: Space,
-    whole: WholeItems,
-    class: Class,
+    whole: &WholeItems,
+    class: &Class,
     number: u32,
     operands: &[Operand<Meant>],
-) -> Result<Option<Building>, AllocError>
-    requires sound { IsSound (declared_in_space space) (in_class whole class) }
-    requires below { IsBelow number (in_class whole class) }
-    ensures { IfOk result (GrowsWhereFit (declared_in_space space.entry) number (Line key.End operands.now) (in_class whole class)) }
+) -> Option<ClassLine>
+    requires sound { IsSound (declared_in_space space) (in_class whole.now class.now) }
+    requires below { IsBelow number (in_class whole.now class.now) }
+    ensures { SaysWhereFit (declared_in_space space.entry) number (Line key.End operands.now) whole.now class.now result }
 {
-    if !operands.is_empty() {
-        return Ok(None);
+    if operands.is_empty() {
+        Some(ClassLine::End)
+    } else {
+        None
     }
-    let whole = with_class(whole, class)?;
-    Ok(Some(Building {
-        whole,
-        stage: Stage::Outside,
-    }))
+}
+
+/// What a line says to the class that is open; none where it has no place there.
+fn said(
+    alloc: Global,
+    space: Space,
+    whole: &WholeItems,
+    class: &Class,
+    number: u32,
+    key: Key,
+    operands: &[Operand<Meant>],
+) -> Result<Option<ClassLine>, AllocError>
+    requires sound { IsSound (declared_in_space space) (in_class whole.now class.now) }
+    requires below { IsBelow number (in_class whole.now class.now) }
+    ensures { IfOk result (SaysWhereFit (declared_in_space space.entry) number (Line key operands.now) whole.now class.now) }
+{
+    match key {
+        Key::Field | Key::ClassField => Ok(field_said(space, whole, class, number, key, operands)),
+        Key::Constructor => constructor_said(alloc, space, whole, class, number, operands),
+        Key::Destructor => destructor_said(alloc, space, whole, class, number, operands),
+        Key::End => Ok(end_said(space, whole, class, number, operands)),
+        _ => Ok(None),
+    }
+}
+
+/// The class with one more field.
+fn with_field(class: Class, field: Option<u16>) -> Result<Class, AllocError>
+    ensures { IfOk result (λ c. c ≡ record class { fields = class.fields ++ field ∷ [] }) }
+{
+    let mut fields = class.fields;
+    fields.push(field)?;
+    Ok(Class { fields, ..class })
+}
+
+/// The tree behind what a line says to the class that is open.
+fn behind(whole: WholeItems, class: Class, said: ClassLine) -> Result<Building, AllocError>
+    ensures { IfOk result (λ next. next ≡ behind whole class said) }
+{
+    match said {
+        ClassLine::Field(field) => {
+            let stage = Stage::InClass(with_field(class, field)?);
+            Ok(Building { whole, stage })
+        }
+        ClassLine::Constructor(body) => {
+            let stage = Stage::InBody(Owner::Constructor(class), body);
+            Ok(Building { whole, stage })
+        }
+        ClassLine::Destructor(body) => {
+            let stage = Stage::InBody(Owner::Destructor(class), body);
+            Ok(Building { whole, stage })
+        }
+        ClassLine::End => {
+            let whole = with_class(whole, class)?;
+            Ok(Building {
+                whole,
+                stage: Stage::Outside,
+            })
+        }
+    }
 }
 
 /// Adds a line to the class that is open, with its number; none where it has no place there.
@@ -251,11 +308,8 @@ pub(crate) fn in_class(
     requires below { IsBelow number (in_class whole class) }
     ensures { IfOk result (GrowsWhereFit (declared_in_space space.entry) number (Line key operands.now) (in_class whole class)) }
 {
-    match key {
-        Key::Field | Key::ClassField => with_field(space, whole, class, number, key, operands),
-        Key::Constructor => begun_constructor(alloc, space, whole, class, number, operands),
-        Key::Destructor => begun_destructor(alloc, space, whole, class, number, operands),
-        Key::End => ended(space, whole, class, number, operands),
-        _ => Ok(None),
+    match said(alloc, space, &whole, &class, number, key, operands)? {
+        Some(said) => Ok(Some(behind(whole, class, said)?)),
+        None => Ok(None),
     }
 }

@@ -5,12 +5,12 @@ ghost use Rattle.wb_model.specs.declared.limits.TheConstants.{MOST_CLASSES, MOST
 ghost use Rattle.wb_model.specs.declared.script_lines.Form.TheVariants.{Line};
 ghost use Rattle.wb_model.specs.declared.script_lines.Key.TheVariants as key;
 ghost use Rattle.wb_model.specs.Sound.{local_of_parameter};
-ghost use Rattle.wb_script.specs.Growing.{AreParametersOf, AreTaken, GrowsWhereFit, IsBelow, IsSound, IsTaken, declared_in_space, has_room, is_operation_head, new_body, outside};
+ghost use Rattle.wb_script.specs.Growing.{AreParametersOf, AreTaken, IsBelow, IsSound, IsTaken, OpensWhereFit, declared_in_space, has_room, is_operation_head, new_body, outside};
 
 use crate::tree::blocks::Nest;
 use crate::tree::bodies::OpenBody;
 use crate::tree::space::Space;
-use crate::tree::whole::{Building, Owner, Stage, WholeItems};
+use crate::tree::whole::{Owner, Stage, WholeItems};
 use std::alloc::{AllocError, Global};
 use wb_model::items::Items;
 use wb_model::limits::{MOST_PARAMETERS, MOST_PROCEDURES};
@@ -137,23 +137,22 @@ fn begins_operation(index: usize, operands: &[Operand<Meant>]) -> bool
 pub(crate) fn begun_procedure(
     alloc: Global,
     space: Space,
-    whole: WholeItems,
+    whole: &WholeItems,
     number: u32,
     operands: &[Operand<Meant>],
-) -> Result<Option<Building>, AllocError>
-    requires sound { IsSound (declared_in_space space) (outside whole) }
-    requires below { IsBelow number (outside whole) }
-    ensures { IfOk result (GrowsWhereFit (declared_in_space space.entry) number (Line key.Proc operands.now) (outside whole)) }
+) -> Result<Option<Stage>, AllocError>
+    requires sound { IsSound (declared_in_space space) (outside whole.now) }
+    requires below { IsBelow number (outside whole.now) }
+    ensures { IfOk result (OpensWhereFit (declared_in_space space.entry) number (Line key.Proc operands.now) whole.now) }
 {
-    if !has_room(&whole) {
+    if !has_room(whole) {
         return Ok(None);
     }
     let index = whole.procedures.len();
     match parameters_behind(alloc, space.fields.len(), index, operands)? {
         Some(parameters) => {
             let body = new_body(alloc, None, parameters)?;
-            let stage = Stage::InBody(Owner::Procedure(number), body);
-            Ok(Some(Building { whole, stage }))
+            Ok(Some(Stage::InBody(Owner::Procedure(number), body)))
         }
         None => Ok(None),
     }
@@ -163,15 +162,15 @@ pub(crate) fn begun_procedure(
 pub(crate) fn begun_operation(
     alloc: Global,
     space: Space,
-    whole: WholeItems,
+    whole: &WholeItems,
     number: u32,
     operands: &[Operand<Meant>],
-) -> Result<Option<Building>, AllocError>
-    requires sound { IsSound (declared_in_space space) (outside whole) }
-    requires below { IsBelow number (outside whole) }
-    ensures { IfOk result (GrowsWhereFit (declared_in_space space.entry) number (Line key.Op operands.now) (outside whole)) }
+) -> Result<Option<Stage>, AllocError>
+    requires sound { IsSound (declared_in_space space) (outside whole.now) }
+    requires below { IsBelow number (outside whole.now) }
+    ensures { IfOk result (OpensWhereFit (declared_in_space space.entry) number (Line key.Op operands.now) whole.now) }
 {
-    if !has_room(&whole) {
+    if !has_room(whole) {
         return Ok(None);
     }
     if !begins_operation(whole.operations.len(), operands) {
@@ -180,6 +179,5 @@ pub(crate) fn begun_operation(
     let mut parameters = Items::new(alloc);
     parameters.push(Parameter::OfPointer(None))?;
     let body = new_body(alloc, None, parameters)?;
-    let stage = Stage::InBody(Owner::Operation(number), body);
-    Ok(Some(Building { whole, stage }))
+    Ok(Some(Stage::InBody(Owner::Operation(number), body)))
 }

@@ -3,11 +3,18 @@ use Rattle.std.proofs.lemmas.List.{take_all}
 use Rattle.wb_model.specs.Forms.{role_of_form}
 use Rattle.wb_model.specs.Trees.{counted, counted_from}
 use Rattle.wb_script.specs.Building.{counts_of, fits}
-use Rattle.wb_script.specs.Growing.{AreCounts, GrowsWhereFit, declared_in_space}
+use Rattle.wb_script.specs.Growing.{AreCounts, GrowsWhereFit, building_places, declared_in_space}
+use Rattle.wb_script.specs.Machine.{after_line}
 use Rattle.wb_script.proofs.Misfits.{blocks_after, none_open}
-use Rattle.wb_script.proofs.OpenPlaces.{never_in_body, never_in_class}
+use Rattle.wb_script.proofs.OpenPlaces.{never_in_body, never_in_class, unknown_stuck}
 use Rattle.wb_script.proofs.Steps.{counted_more, line_step, never_none, line_fits, counts_more}
 use Rattle.wb_script.proofs.tree.items_from.Goals as goal
+
+pub add_form-requires-clause-known : goal.add_form-requires-clause-known
+add_form-requires-clause-known c = λ is.
+    let places = building_places c.loop-line.building in
+    never_none c.args.lines.now _ c.requires.grammar
+    (line_step c.args.lines.now c.loop-line.line-index c.line-item.result _ c.loop-line-test.true c.line-item.is c.loop-line.invariant.places ∙ ap (λ l. after_line places (role_of_form l)) is ∙ unknown_stuck places)
 
 pub unreachable-requires : goal.unreachable-requires
 unreachable-requires c =
@@ -34,13 +41,13 @@ pub unreachable-requires-in-InClass : goal.unreachable-requires-in-InClass
 unreachable-requires-in-InClass c =
     let whole = take_all c.loop-line.line-index c.args.lines.now c.loop-line-test.false in
     let none = none_open (map role_of_form c.args.lines.now) _ c.requires.grammar (ap (λ l. blocks_after (map role_of_form l)) (sym whole) ∙ c.loop-line.invariant.places) in
-    never_in_class c.loop-line.building c.in-InClass.field-0 c.in-InClass.is none
+    never_in_class c.loop-line.building c.in-InClass._class c.in-InClass.is none
 
 pub unreachable-requires-in-InBody : goal.unreachable-requires-in-InBody
 unreachable-requires-in-InBody c =
     let whole = take_all c.loop-line.line-index c.args.lines.now c.loop-line-test.false in
     let none = none_open (map role_of_form c.args.lines.now) _ c.requires.grammar (ap (λ l. blocks_after (map role_of_form l)) (sym whole) ∙ c.loop-line.invariant.places) in
-    never_in_body c.loop-line.building c.in-InBody.field-0 c.in-InBody.field-1 c.in-InBody.is none
+    never_in_body c.loop-line.building c.in-InBody._owner c.in-InBody._body c.in-InBody.is none
 
 pub add_form-requires-clause-sound : goal.add_form-requires-clause-sound
 add_form-requires-clause-sound c = c.loop-line.invariant.sound

@@ -15,7 +15,7 @@ returns-in-None c = λ counts are fit.
     let declared = declared_in_space c.args.space in
     let operands = c.args.operands.now in
     let it = fit_class declared counts operands fit in
-    let next = subst (λ n. IsTrue (declares n operands)) (class_index c.args.whole counts are ∙ sym c.len-2.ensures) it.next in
+    let next = subst (λ n. IsTrue (declares n operands)) (class_index c.args.whole.now counts are ∙ sym c.len-2.ensures) it.next in
     let some : is_some c.extra_of.result ≡ true = c.extra_of.ensures.found declared.literals (scope_at declared counts) it.letters next it.small in
     let clash : false ≡ true = sym (ap is_some c.in-None.is) ∙ some in
     absurd cc
@@ -23,7 +23,7 @@ returns-in-None c = λ counts are fit.
 pub returns-in-Some : goal.returns-in-Some
 returns-in-Some c =
     let is = c.in-Some.ensures.extra.0 ∙ ap (λ n. Name (meant.Declared n) ∷ Size c.in-Some.extra ∷ []) c.len-2.ensures in
-    let grown = class_grows (declared_in_space c.args.space) c.args.number c.args.whole c.requires.sound.stands c.requires.below.stands c.args.operands.now c.in-Some.extra is c.in-Some.ensures.extra.1 (omega (arith, c.len.ensures, c.if-len.false)) in
+    let grown = class_grows (declared_in_space c.args.space) c.args.number c.args.whole.now c.requires.sound.stands c.requires.below.stands c.args.operands.now c.in-Some.extra is c.in-Some.ensures.extra.1 (omega (arith, c.len.ensures, c.if-len.false)) in
     subst
-    (λ l. Grows (declared_in_space c.args.space) c.args.number (Line key.Class c.args.operands.now) (outside c.args.whole) (in_class c.args.whole (record { line = c.args.number; extra = c.in-Some.extra; fields = l; construct = None; destroy = None })))
+    (λ l. Grows (declared_in_space c.args.space) c.args.number (Line key.Class c.args.operands.now) (outside c.args.whole.now) (in_class c.args.whole.now (record { line = c.args.number; extra = c.in-Some.extra; fields = l; construct = None; destroy = None })))
     (sym c.new.ensures) grown

@@ -11,7 +11,7 @@ use Rattle.wb_script.proofs.tree.openings.begun_procedure.Goals as goal
 pub returns-in_ok-body-in-Some : goal.returns-in_ok-body-in-Some
 returns-in_ok-body-in-Some c =
     let declared = declared_in_space c.args.space in
-    let whole = c.args.whole in
+    let whole = c.args.whole.now in
     let operands = c.args.operands.now in
     let fields = c.args.space.fields.now in
     let told = subst (AreParametersOf (length fields) c.len-index.result operands) c.in-Some.is c.in_ok-parameters.ensures in
@@ -28,6 +28,6 @@ returns-in-None c = λ counts are fit.
     let none = subst (AreParametersOf (length fields) c.len-index.result operands) c.in-None.is c.in_ok-parameters.ensures in
     let head : is_procedure_head (length declared.fields) (length counts.procedures) operands ≡ true = (fit_procedure declared counts operands fit).1 in
     let other : is_procedure_head (length declared.fields) (length counts.procedures) operands ≡ false =
-    ap (λ i. is_procedure_head (length declared.fields) i operands) (procedure_index c.args.whole counts are ∙ sym c.len-index.ensures)
+    ap (λ i. is_procedure_head (length declared.fields) i operands) (procedure_index c.args.whole.now counts are ∙ sym c.len-index.ensures)
     ∙ ap (λ (l : List ℕ). is_procedure_head (length l) c.len-index.result operands) (sym c.args.space.counted) ∙ none in
     not_both _ other head
