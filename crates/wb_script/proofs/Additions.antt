@@ -1,11 +1,13 @@
 -- One more line of an open body.
 use Rattle.std.proofs.Common.{◌≡◌, refl, sym, ap, subst, ◌∙◌, ℕ, suc, ◌+◌, ◌<◌, ◌≤◌, nat_le, nat_lt, ◌==◌, List, [], ◌∷◌, ◌++◌, length, map, Option, Some, None, Bool, true, false, ◌&&◌, IsTrue, append_assoc, append-nil, add-zero, length-append, arith}
 use Rattle.std.proofs.lemmas.Bool.{false≢true}
+use Rattle.std.specs.Prelude.{is_some}
+use Rattle.std.specs.Option.{IfSome}
 use Rattle.std.proofs.lemmas.List.{length-map}
 use Rattle.std.specs.List.{list_all, list_any}
 use Rattle.std.proofs.lemmas.List.Folds.{list_all-append}
 use Rattle.std.proofs.lemmas.Bool.Decides.{nat_tests}
-use Rattle.wb_model.specs.declared.limits.TheConstants.{MOST_LOCALS, DEEPEST_BLOCK}
+use Rattle.wb_model.specs.declared.limits.TheConstants.{LARGEST_BUFFER, MOST_LOCALS, DEEPEST_BLOCK}
 use Rattle.wb_model.specs.declared.script.Condition.TheVariants.{IsNull, NotNull, Equal, Less}
 use Rattle.wb_model.specs.declared.script.Local.{Local}
 use Rattle.wb_model.specs.declared.script.Numbered.{Numbered}
@@ -32,8 +34,8 @@ use Rattle.wb_script.specs.declared.tree.blocks.Nest.{Nest}
 use Rattle.wb_script.specs.declared.tree.blocks.OpenBlock.{OpenBlock}
 use Rattle.wb_script.specs.declared.tree.bodies.OpenBody.{OpenBody}
 use Rattle.wb_script.specs.declared.tree.bodies.Left.TheVariants.{Inside, Done}
-use Rattle.wb_script.specs.Building.{fits, is_due, declares, begins, begins_block, AreOpen, BecomesElse, ClosesBlock, Counts, is_head, head_key, head_form, first_part, nest_lines, nest_places, place_in_block, keys_of_blocks, counts_after, locals_after, procedures_after, operations_after, classes_after, this_after}
-use Rattle.wb_script.specs.Growing.{Adds, IsSoundOpen, TakesLocal, inside_lines, counts_in, scope_in_body}
+use Rattle.wb_script.specs.Building.{fits, is_due, is_small, declares, begins, local_of, begins_block, AreOpen, BecomesElse, ClosesBlock, Counts, is_head, head_key, head_form, first_part, nest_lines, nest_places, place_in_block, keys_of_blocks, counts_after, locals_after, procedures_after, operations_after, classes_after, this_after}
+use Rattle.wb_script.specs.Growing.{Adds, IsSoundOpen, TakesLocal, TakesWhereFit, inside_lines, counts_in, scope_in_body}
 use Rattle.wb_script.specs.Fitting.{operands_fit}
 use Rattle.wb_script.specs.Machine.{step}
 use Rattle.wb_script.specs.Stated.{IsOneLine}
@@ -326,3 +328,30 @@ pub done_adds_where : (declared : Declared) (number : ℕ) (p : OpenBody) (opera
     Adds declared number (Line key.End operands) p (Done p.parameters (record { locals = p.locals; statements = statements }))
 done_adds_where declared number p operands statements empty sound outside same =
     subst (λ o. Adds declared number (Line key.End o) p (Done p.parameters (record { locals = p.locals; statements = statements }))) (sym (nothing operands empty)) (done_adds declared number p statements sound outside same)
+
+none_of : {X : Type 0} (l : List X) → length l ≤ 0 → l ≡ []
+none_of [] le = refl
+none_of (x ∷ l) le = absurd (omega arith)
+
+-- what a line declares as the next local, by the index of it and how many fields each class has
+pub takes_local : (declared : Declared) (p : OpenBody) (k : Key) (operands : List (Operand Meant)) (index : ℕ) (fields : List ℕ) (found : Option Local) → index ≡ length p.scope → fields ≡ declared.fields →
+    length p.nest.blocks ≤ 0 → length p.nest.statements ≤ 0 → length p.scope < MOST_LOCALS → role_of k ≡ role.Declaration →
+    IfSome found (λ l. local_line index l ≡ Line k operands) → IfSome found (λ l. local_of k operands ≡ Some l) → IfSome found (λ l. IsTrue (is_local (length fields) l)) →
+    (IsTrue (operands_fit declared (scope_in_body declared p) k operands) → IsTrue (declares index operands) → IsTrue (is_small LARGEST_BUFFER operands) → IsTrue (is_some found)) →
+    TakesWhereFit declared p k operands found
+takes_local declared p k operands index fields (Some l) next counted blocks statements room is line told sound some = record {
+  outside = none_of p.nest.blocks blocks;
+  first = none_of p.nest.statements statements;
+  line = ap (λ n. local_line n l) (sym next) ∙ line;
+  declared_as = told;
+  sound = subst (λ (f : List ℕ). IsTrue (is_local (length f) l)) counted sound;
+  room = room;
+}
+takes_local declared p k operands index fields None next counted blocks statements room is line told sound some = λ before fit.
+    let here = counts_in before p in
+    let rest = second (operands_fit declared (scope_in_body declared p) k operands) _ fit in
+    let due : IsTrue (is_due role.Declaration here (Line k operands) operands) = subst (λ r. IsTrue (is_due r here (Line k operands) operands)) is (first _ _ rest) in
+    let named = subst (λ n. IsTrue (declares n operands)) (sym next) (first (declares (length p.scope) operands) _ due) in
+    let small = second (nat_lt (length p.scope) MOST_LOCALS) (is_small LARGEST_BUFFER operands) (second (declares (length p.scope) operands) _ due) in
+    let clash : false ≡ true = some (first (operands_fit declared (scope_in_body declared p) k operands) _ fit) named small in
+    absurd cc

@@ -4,6 +4,7 @@ use Rattle.std.specs.Borrow.{Bor}
 use Rattle.std.specs.List.{list_any}
 use Rattle.wb_model.specs.declared.script_lines.Key.{Key}
 use Rattle.wb_model.specs.declared.script_lines.Key.TheVariants as key
+use Rattle.wb_model.specs.declared.script_lines.Keyword.{Keyword}
 use Rattle.wb_model.specs.declared.script_lines.Role.{Role}
 use Rattle.wb_model.specs.declared.script_lines.Role.TheVariants.{Plain}
 use Rattle.wb_model.specs.declared.script_lines.Letter.{Letter}
@@ -32,7 +33,7 @@ use Rattle.wb_model.specs.Names as names
 use Rattle.wb_model.specs.Names.{Text}
 use Rattle.wb_model.specs.Sound as model
 use Rattle.wb_model.specs.Sound.{Declared, is_pointer_local, is_pointer, is_target, is_number, is_statement, is_simple, is_nested, are_passed, is_call}
-use Rattle.wb_model.specs.Trees.{Spelled, all_spelled, argument_operand, holder_meant, set_key, pointer_operand, number_operand, procedure_operand, operation_operand, statement_line, lines_of_statement}
+use Rattle.wb_model.specs.Trees.{Spelled, all_spelled, argument_operand, holder_meant, keyword_operand, set_key, pointer_operand, number_operand, procedure_operand, operation_operand, statement_line, lines_of_statement}
 use Rattle.std.specs.Prelude.{slice_get}
 use Rattle.wb_script.specs.declared.tree.scope.Scope.{Scope}
 use Rattle.wb_script.specs.declared.tree.blocks.Head.{Head}
@@ -154,6 +155,13 @@ takes_number key.CheckAll = true
 takes_number key.FailNext = true
 takes_number key.FailEvery = true
 takes_number _ = false
+
+-- the numbers that a line compares, behind this keyword
+abbrev pub AreCompared : Scope → Keyword → List (Operand Meant) → Option (Number × Number) → Type 0
+AreCompared scope keyword operands result =
+    MatchOption result
+    (letters_fit scope.literals (scope_in scope) (letter.Keyword keyword ∷ letter.Value ∷ letter.Value ∷ []) operands ≡ false)
+    (λ r. (all_spelled (keyword_operand ∷ number_operand r.0 ∷ number_operand r.1 ∷ []) ≡ Some operands) × IsTrue (is_number scope.locals.now r.0 && is_number scope.locals.now r.1))
 
 -- what the first line of a block begins
 pub record IsHead (scope : Scope) (key : Key) (operands : List (Operand Meant)) (head : Head) : Type 0 where

@@ -2,12 +2,13 @@
 
 ghost use Rattle.wb_model.specs.declared.script_lines.Key.TheVariants as key;
 ghost use Rattle.std.specs.Prelude.{IsTrue};
+ghost use Rattle.wb_model.specs.declared.script_lines.Keyword.{Keyword};
 ghost use Rattle.wb_script.specs.Building.{begins_block};
-ghost use Rattle.wb_script.specs.Stated.{IsHeadOf};
+ghost use Rattle.wb_script.specs.Stated.{AreCompared, IsHeadOf};
 
 use crate::tree::blocks::Head;
 use crate::tree::scope::Scope;
-use wb_model::script::Condition;
+use wb_model::script::{Condition, Number};
 use wb_model::script_lines::{Key, Meant, Operand};
 
 fn if_null(here: Scope, operands: &[Operand<Meant>]) -> Option<Head>
@@ -28,27 +29,31 @@ fn if_some(here: Scope, operands: &[Operand<Meant>]) -> Option<Head>
     }
 }
 
+/// The two numbers that a line compares, behind its keyword.
+fn compared(here: Scope, operands: &[Operand<Meant>]) -> Option<(Number, Number)>
+    ensures { (keyword : Keyword) → AreCompared here.entry keyword operands.now result }
+{
+    match operands {
+        [Operand::Keyword, left, right] => Some((here.number(left)?, here.number(right)?)),
+        _ => None,
+    }
+}
+
 fn if_equal(here: Scope, operands: &[Operand<Meant>]) -> Option<Head>
     ensures { IsHeadOf here.entry key.IfEqual operands.now result }
 {
-    match operands {
-        [Operand::Keyword, left, right] => Some(Head::If(Condition::Equal(
-            here.number(left)?,
-            here.number(right)?,
-        ))),
-        _ => None,
+    match compared(here, operands) {
+        Some((left, right)) => Some(Head::If(Condition::Equal(left, right))),
+        None => None,
     }
 }
 
 fn if_less(here: Scope, operands: &[Operand<Meant>]) -> Option<Head>
     ensures { IsHeadOf here.entry key.IfLess operands.now result }
 {
-    match operands {
-        [Operand::Keyword, left, right] => Some(Head::If(Condition::Less(
-            here.number(left)?,
-            here.number(right)?,
-        ))),
-        _ => None,
+    match compared(here, operands) {
+        Some((left, right)) => Some(Head::If(Condition::Less(left, right))),
+        None => None,
     }
 }
 

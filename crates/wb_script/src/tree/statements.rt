@@ -1,6 +1,6 @@
 //! The statements of lines, each from its operands.
 
-ghost use Rattle.std.specs.Prelude.{◌≡◌, [], false, IsTrue, MatchOption};
+ghost use Rattle.std.specs.Prelude.{◌≡◌, [], ◌∷◌, false, IsTrue, MatchOption};
 ghost use Rattle.wb_model.specs.declared.script_lines.Key.TheVariants as key;
 ghost use Rattle.wb_model.specs.declared.script_lines.Letter.TheVariants as letter;
 ghost use Rattle.wb_model.specs.Sound.{is_pointer, is_number};
@@ -45,18 +45,25 @@ fn one_number(here: Scope, operands: &[Operand<Meant>]) -> Option<Number>
     here.number(number)
 }
 
+/// A `set` of a local to a source: of one that holds a pointer, or of one that holds a number.
+fn set_local(here: Scope, target: &Operand<Meant>, source: &Operand<Meant>) -> Option<Statement>
+    ensures { IsStatementOf here.entry key.Set (target.now ∷ source.now ∷ []) result }
+{
+    match here.receiver(target) {
+        Some(local) => Some(Statement::Set(
+            Pointer::Held(Holder::Local(local)),
+            here.pointer(source)?,
+        )),
+        None => Some(Statement::SetNumber(here.variable(target)?, here.number(source)?)),
+    }
+}
+
 /// A `set` of a local that holds a pointer or a number, by what its target is.
 fn set(here: Scope, operands: &[Operand<Meant>]) -> Option<Statement>
     ensures { IsStatementOf here.entry key.Set operands.now result }
 {
     match operands {
-        [target, source] => match here.receiver(target) {
-            Some(local) => Some(Statement::Set(
-                Pointer::Held(Holder::Local(local)),
-                here.pointer(source)?,
-            )),
-            None => Some(Statement::SetNumber(here.variable(target)?, here.number(source)?)),
-        },
+        [target, source] => set_local(here, target, source),
         _ => None,
     }
 }
