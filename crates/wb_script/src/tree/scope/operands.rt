@@ -1,6 +1,7 @@
 //! What the operands of a line spell, in the body where it stands: pointers, numbers, texts and classes.
 
-ghost use Rattle.std.specs.Prelude.{◌≡◌, length, nat_lt, IfSome};
+ghost use Rattle.std.specs.Prelude.{◌≡◌, ◌<◌, length, nat_lt, slice_get, IfSome, IsSome};
+ghost use Rattle.wb_model.specs.declared.limits.TheConstants.{MOST_LOCALS};
 ghost use Rattle.wb_model.specs.declared.script_lines.Key.TheVariants as key;
 ghost use Rattle.wb_model.specs.declared.script_lines.Letter.TheVariants as letter;
 ghost use Rattle.wb_model.specs.Sound.{is_pointer, is_target, is_variable, is_number, is_view, is_writable, is_readable};
@@ -14,11 +15,22 @@ use wb_model::script::{Holder, Local, Number, Pointer, Readable, Writable};
 use wb_model::script_lines::{Meant, Operand};
 
 impl<'a> Scope<'a> {
+    /// The local with an index.
+    fn local(self, index: usize) -> Option<Local>
+        ensures found { result ≡ slice_get self.entry.locals.now index }
+        ensures few { IsSome result → index < MOST_LOCALS }
+    {
+        match self.locals.get(index) {
+            Some(local) => Some(*local),
+            None => None,
+        }
+    }
+
     /// The local with an index, where it holds a pointer.
     fn pointer_local(self, index: usize) -> Option<u8>
         ensures { IsPointerLocal (scope_in self.entry) index result }
     {
-        match self.locals.get(index) {
+        match self.local(index) {
             Some(Local::OfPointer(_)) => Some(index as u8),
             _ => None,
         }
@@ -43,8 +55,8 @@ impl<'a> Scope<'a> {
         ensures { result ≡ Rattle.wb_model.specs.Sound.class_held (scope_in self.entry) holder }
     {
         match holder {
-            Holder::Local(index) => match self.locals.get(index as usize) {
-                Some(Local::OfPointer(class)) => *class,
+            Holder::Local(index) => match self.local(index as usize) {
+                Some(Local::OfPointer(class)) => class,
                 _ => None,
             },
             Holder::This => self.this,
@@ -133,7 +145,7 @@ impl<'a> Scope<'a> {
         ensures { IsSpelled variable_operand (is_variable self.entry.locals.now) self.entry.literals (scope_in self.entry) letter.Variable operand.now result }
     {
         match operand {
-            Operand::Name(Meant::Number(index)) => match self.locals.get(*index) {
+            Operand::Name(Meant::Number(index)) => match self.local(*index) {
                 Some(Local::OfNumber) => Some(*index as u8),
                 _ => None,
             },
@@ -162,7 +174,7 @@ impl<'a> Scope<'a> {
         ensures { IsSpelled view_operand (is_view self.entry.locals.now) self.entry.literals (scope_in self.entry) letter.ViewName operand.now result }
     {
         match operand {
-            Operand::Name(Meant::View(index)) => match self.locals.get(*index) {
+            Operand::Name(Meant::View(index)) => match self.local(*index) {
                 Some(Local::OfView) => Some(*index as u8),
                 _ => None,
             },
@@ -175,7 +187,7 @@ impl<'a> Scope<'a> {
         ensures { IsSpelled writable_operand (is_writable (scope_in self.entry)) self.entry.literals (scope_in self.entry) letter.Writable operand.now result }
     {
         match operand {
-            Operand::Name(Meant::Buffer(index)) => match self.locals.get(*index) {
+            Operand::Name(Meant::Buffer(index)) => match self.local(*index) {
                 Some(Local::OfBuffer(_)) => Some(Writable::OwnBuffer(*index as u8)),
                 _ => None,
             },
