@@ -73,7 +73,10 @@ fn set_field(here: Scope, operands: &[Operand<Meant>]) -> Option<Statement>
     ensures { IsStatementOf here.entry key.SetField operands.now result }
 {
     let (target, source) = two(operands)?;
-    Some(Statement::Set(here.field_target(target)?, here.pointer(source)?))
+    match (here.field_target(target), here.pointer(source)) {
+        (Some(target), Some(source)) => Some(Statement::Set(target, source)),
+        _ => None,
+    }
 }
 
 fn set_null(here: Scope, operands: &[Operand<Meant>]) -> Option<Statement>
@@ -88,7 +91,10 @@ fn new_object(here: Scope, operands: &[Operand<Meant>], refusal: Refusal) -> Opt
     ensures { IsStatementOf here.entry (new_key refusal) operands.now result }
 {
     let (target, class) = two(operands)?;
-    Some(Statement::New(here.written(target)?, here.class(class)?, refusal))
+    match (here.written(target), here.class(class)) {
+        (Some(target), Some(class)) => Some(Statement::New(target, class, refusal)),
+        _ => None,
+    }
 }
 
 /// The operands of a line that writes a pointer, by a number.
@@ -96,7 +102,10 @@ fn pointer_and_number(here: Scope, operands: &[Operand<Meant>]) -> Option<(Point
     ensures { IsPairSpelled here.entry operands.now result }
 {
     let (target, number) = two(operands)?;
-    Some((here.written(target)?, here.number(number)?))
+    match (here.written(target), here.number(number)) {
+        (Some(target), Some(number)) => Some((target, number)),
+        _ => None,
+    }
 }
 
 /// The operands of a line that writes a pointer, by another and a number.
@@ -107,11 +116,14 @@ fn pointers_and_number(
     ensures { IsTripleSpelled here.entry operands.now result }
 {
     let (target, source, number) = three(operands)?;
-    Some((
-        here.written(target)?,
-        here.pointer(source)?,
-        here.number(number)?,
-    ))
+    match (
+        here.written(target),
+        here.pointer(source),
+        here.number(number),
+    ) {
+        (Some(target), Some(source), Some(number)) => Some((target, source, number)),
+        _ => None,
+    }
 }
 
 fn alloc(here: Scope, operands: &[Operand<Meant>], refusal: Refusal) -> Option<Statement>
@@ -146,36 +158,50 @@ fn alloc_len(here: Scope, operands: &[Operand<Meant>]) -> Option<Statement>
     ensures { IsStatementOf here.entry key.AllocLen operands.now result }
 {
     let (variable, pointer) = two(operands)?;
-    Some(Statement::AllocLen(here.variable(variable)?, here.pointer(pointer)?))
+    match (here.variable(variable), here.pointer(pointer)) {
+        (Some(variable), Some(pointer)) => Some(Statement::AllocLen(variable, pointer)),
+        _ => None,
+    }
 }
 
 fn store(here: Scope, operands: &[Operand<Meant>]) -> Option<Statement>
     ensures { IsStatementOf here.entry key.Store operands.now result }
 {
     let (pointer, index, value) = three(operands)?;
-    Some(Statement::Store(
-        here.pointer(pointer)?,
-        here.number(index)?,
-        here.number(value)?,
-    ))
+    match (
+        here.pointer(pointer),
+        here.number(index),
+        here.number(value),
+    ) {
+        (Some(pointer), Some(index), Some(value)) => Some(Statement::Store(pointer, index, value)),
+        _ => None,
+    }
 }
 
 fn load(here: Scope, operands: &[Operand<Meant>]) -> Option<Statement>
     ensures { IsStatementOf here.entry key.Load operands.now result }
 {
     let (variable, pointer, index) = three(operands)?;
-    Some(Statement::Load(
-        here.variable(variable)?,
-        here.pointer(pointer)?,
-        here.number(index)?,
-    ))
+    match (
+        here.variable(variable),
+        here.pointer(pointer),
+        here.number(index),
+    ) {
+        (Some(variable), Some(pointer), Some(index)) => Some(Statement::Load(
+            variable, pointer, index,
+        )),
+        _ => None,
+    }
 }
 
 fn add(here: Scope, operands: &[Operand<Meant>]) -> Option<Statement>
     ensures { IsStatementOf here.entry key.Add operands.now result }
 {
     let (variable, number) = two(operands)?;
-    Some(Statement::Add(here.variable(variable)?, here.number(number)?))
+    match (here.variable(variable), here.number(number)) {
+        (Some(variable), Some(number)) => Some(Statement::Add(variable, number)),
+        _ => None,
+    }
 }
 
 /// The statement of a line that takes one pointer.

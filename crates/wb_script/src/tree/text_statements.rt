@@ -13,91 +13,119 @@ pub(crate) fn copy(here: Scope, operands: &[Operand<Meant>]) -> Option<Statement
     ensures { IsStatementOf here.entry key.Copy operands.now result }
 {
     let (target, source) = two(operands)?;
-    Some(Statement::Copy(here.writable(target)?, here.readable(source)?))
+    match (here.writable(target), here.readable(source)) {
+        (Some(target), Some(source)) => Some(Statement::Copy(target, source)),
+        _ => None,
+    }
 }
 
 pub(crate) fn append(here: Scope, operands: &[Operand<Meant>]) -> Option<Statement>
     ensures { IsStatementOf here.entry key.Append operands.now result }
 {
     let (target, source) = two(operands)?;
-    Some(Statement::Append(here.writable(target)?, here.readable(source)?))
+    match (here.writable(target), here.readable(source)) {
+        (Some(target), Some(source)) => Some(Statement::Append(target, source)),
+        _ => None,
+    }
 }
 
 pub(crate) fn insert(here: Scope, operands: &[Operand<Meant>]) -> Option<Statement>
     ensures { IsStatementOf here.entry key.Insert operands.now result }
 {
     let (target, position, source) = three(operands)?;
-    Some(Statement::Insert(
-        here.writable(target)?,
-        here.number(position)?,
-        here.readable(source)?,
-    ))
+    match (
+        here.writable(target),
+        here.number(position),
+        here.readable(source),
+    ) {
+        (Some(target), Some(position), Some(source)) => Some(Statement::Insert(
+            target, position, source,
+        )),
+        _ => None,
+    }
 }
 
 pub(crate) fn delete_text(here: Scope, operands: &[Operand<Meant>]) -> Option<Statement>
     ensures { IsStatementOf here.entry key.DelText operands.now result }
 {
     let (target, position, count) = three(operands)?;
-    Some(Statement::DeleteText(
-        here.writable(target)?,
-        here.number(position)?,
-        here.number(count)?,
-    ))
+    match (
+        here.writable(target),
+        here.number(position),
+        here.number(count),
+    ) {
+        (Some(target), Some(position), Some(count)) => Some(Statement::DeleteText(
+            target, position, count,
+        )),
+        _ => None,
+    }
 }
 
 pub(crate) fn set_length(here: Scope, operands: &[Operand<Meant>]) -> Option<Statement>
     ensures { IsStatementOf here.entry key.SetLength operands.now result }
 {
     let (target, length) = two(operands)?;
-    Some(Statement::SetLength(here.writable(target)?, here.number(length)?))
+    match (here.writable(target), here.number(length)) {
+        (Some(target), Some(length)) => Some(Statement::SetLength(target, length)),
+        _ => None,
+    }
 }
 
 pub(crate) fn left(here: Scope, operands: &[Operand<Meant>]) -> Option<Statement>
     ensures { IsStatementOf here.entry key.Left operands.now result }
 {
     let (view, source, count) = three(operands)?;
-    Some(Statement::Left(
-        here.view(view)?,
-        here.readable(source)?,
-        here.number(count)?,
-    ))
+    match (here.view(view), here.readable(source), here.number(count)) {
+        (Some(view), Some(source), Some(count)) => Some(Statement::Left(view, source, count)),
+        _ => None,
+    }
 }
 
 pub(crate) fn right(here: Scope, operands: &[Operand<Meant>]) -> Option<Statement>
     ensures { IsStatementOf here.entry key.Right operands.now result }
 {
     let (view, source, count) = three(operands)?;
-    Some(Statement::Right(
-        here.view(view)?,
-        here.readable(source)?,
-        here.number(count)?,
-    ))
+    match (here.view(view), here.readable(source), here.number(count)) {
+        (Some(view), Some(source), Some(count)) => Some(Statement::Right(view, source, count)),
+        _ => None,
+    }
 }
 
 pub(crate) fn mid(here: Scope, operands: &[Operand<Meant>]) -> Option<Statement>
     ensures { IsStatementOf here.entry key.Mid operands.now result }
 {
     let (view, source, position, count) = four(operands)?;
-    Some(Statement::Mid(
-        here.view(view)?,
-        here.readable(source)?,
-        here.number(position)?,
-        here.number(count)?,
-    ))
+    match (
+        here.view(view),
+        here.readable(source),
+        here.number(position),
+        here.number(count),
+    ) {
+        (Some(view), Some(source), Some(position), Some(count)) => Some(Statement::Mid(
+            view, source, position, count,
+        )),
+        _ => None,
+    }
 }
 
 pub(crate) fn get_length(here: Scope, operands: &[Operand<Meant>]) -> Option<Statement>
     ensures { IsStatementOf here.entry key.GetLen operands.now result }
 {
     let (variable, source) = two(operands)?;
-    Some(Statement::GetLength(here.variable(variable)?, here.readable(source)?))
+    match (here.variable(variable), here.readable(source)) {
+        (Some(variable), Some(source)) => Some(Statement::GetLength(variable, source)),
+        _ => None,
+    }
 }
 
 pub(crate) fn get_maximum(here: Scope, operands: &[Operand<Meant>]) -> Option<Statement>
     ensures { IsStatementOf here.entry key.GetMax operands.now result }
 {
     let (variable, target) = two(operands)?;
-    Some(Statement::GetMaximum(here.variable(variable)?, here.writable(target)?))
+    match (here.variable(variable), here.writable(target)) {
+        (Some(variable), Some(target)) => Some(Statement::GetMaximum(variable, target)),
+        _ => None,
+    }
 }
 
 /// A `print` of what one operand spells.
