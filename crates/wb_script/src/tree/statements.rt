@@ -54,7 +54,10 @@ fn set_local(here: Scope, target: &Operand<Meant>, source: &Operand<Meant>) -> O
             Pointer::Held(Holder::Local(local)),
             here.pointer(source)?,
         )),
-        None => Some(Statement::SetNumber(here.variable(target)?, here.number(source)?)),
+        None => match (here.variable(target), here.number(source)) {
+            (Some(target), Some(source)) => Some(Statement::SetNumber(target, source)),
+            _ => None,
+        },
     }
 }
 
