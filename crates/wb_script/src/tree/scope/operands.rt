@@ -1,6 +1,7 @@
 //! What the operands of a line spell, in the body where it stands: pointers, numbers, texts and classes.
 
-ghost use Rattle.std.specs.Prelude.{◌≡◌, ◌<◌, length, nat_lt, slice_get, IfSome, IsSome};
+ghost use Rattle.std.specs.Prelude.{◌≡◌, ◌<◌, length, nat_lt, slice_get, false, IfSome, IsSome, IsTrue, MatchOption};
+ghost use Rattle.wb_model.specs.declared.script.Pointer.TheVariants as P;
 ghost use Rattle.wb_model.specs.declared.limits.TheConstants.{MOST_LOCALS};
 ghost use Rattle.wb_model.specs.declared.script_lines.Key.TheVariants as key;
 ghost use Rattle.wb_model.specs.declared.script_lines.Letter.TheVariants as letter;
@@ -63,21 +64,43 @@ impl<'a> Scope<'a> {
         }
     }
 
-    /// The field of what a name stands for, where it is of the class that this is declared with.
-    fn field(self, base: Meant, field: Meant) -> Option<Pointer>
-        ensures { IsFieldOf (scope_in self.entry) base field result }
+    /// How many fields the class with an index has.
+    fn field_count(self, class: usize) -> Option<u8>
+        ensures { result ≡ slice_get self.entry.fields.now class }
     {
-        match field {
-            Meant::Field(class, index) => {
-                let holder = self.holder(base)?;
-                let own = self.class_held(holder)?;
-                let count = *self.fields.get(class)?;
+        match self.fields.get(class) {
+            Some(count) => Some(*count),
+            None => None,
+        }
+    }
+
+    /// The field with an index in a class, of what holds an object, where this is declared with that class.
+    fn field_of(self, holder: Holder, class: usize, index: usize) -> Option<Pointer>
+        ensures { MatchOption result
+            (is_pointer (scope_in self.entry) (P.Field holder class index) ≡ false)
+            (λ p. (p ≡ P.Field holder class index) × IsTrue (is_pointer (scope_in self.entry) p)) }
+    {
+        match (self.class_held(holder), self.field_count(class)) {
+            (Some(own), Some(count)) => {
                 if own as usize == class && index < count as usize {
                     Some(Pointer::Field(holder, own, index as u8))
                 } else {
                     None
                 }
             }
+            _ => None,
+        }
+    }
+
+    /// The field of what a name stands for, where it is of the class that this is declared with.
+    fn field(self, base: Meant, field: Meant) -> Option<Pointer>
+        ensures { IsFieldOf (scope_in self.entry) base field result }
+    {
+        match field {
+            Meant::Field(class, index) => match self.holder(base) {
+                Some(holder) => self.field_of(holder, class, index),
+                None => None,
+            },
             _ => None,
         }
     }
