@@ -97,10 +97,7 @@ impl<'a> Scope<'a> {
         ensures { IsFieldOf (scope_in self.entry) base field result }
     {
         match field {
-            Meant::Field(class, index) => match self.holder(base) {
-                Some(holder) => self.field_of(holder, class, index),
-                None => None,
-            },
+            Meant::Field(class, index) => self.field_of(self.holder(base)?, class, index),
             _ => None,
         }
     }
