@@ -213,4 +213,3 @@ fn write_whole<W: Sink>(writer: &mut W, text: &[u8]) -> Result<(), StreamFault>
     }
     Ok(())
 }
-

@@ -390,4 +390,3 @@ fn between<'a>(least: u32, most: u32) -> ValueParser<'a>
 pub fn words_are_read()
     ensures { (words : List Text) → All IsUtf8 words → AreRead words }
 {}
-

@@ -101,4 +101,3 @@ fn status_of(fault: &WordsFault) -> u8
             COMMAND_LINE_FAULT,
     }
 }
-

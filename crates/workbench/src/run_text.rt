@@ -178,4 +178,3 @@ fn put_cut(text: &mut Vec<u8>, why: Why) -> Result<(), NoMemory>
     };
     appended(put)
 }
-
