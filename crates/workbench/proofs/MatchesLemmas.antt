@@ -1,6 +1,6 @@
 -- From what a parse found to what the words spell.
-use Rattle.std.proofs.Common.{◌≡◌, ◌∙◌, ◌<◌, ◌≤◌, ◌^◌, ◌%◌, ◌||◌, ℕ, Bool, nat_eq, arith, true, false, eqb-true, refl, sym, ap, ap₂, subst, List, [], Option, Some, None, Result, Ok, codes, option_and_then, option_map}
-use Rattle.std.specs.Prelude.{Box, IfSome, IsSome, MatchOption, pos, unwrap_or}
+use Rattle.std.proofs.Common.{◌≡◌, ◌∙◌, ◌<◌, ◌≤◌, ◌^◌, ◌%◌, ◌||◌, ℕ, Bool, nat_eq, arith, true, false, eqb-true, refl, sym, ap, ap₂, subst, List, [], Option, Some, None, Result, Ok, Err, inl, inr, codes, option_and_then, option_map}
+use Rattle.std.specs.Prelude.{Box, IfOk, IfSome, IsSome, MatchOption, pos, unwrap_or}
 use Rattle.std.specs.Option.{option_map_or}
 use Rattle.std.specs.Str.{bytes_eq}
 use Rattle.std.specs.Box.{box_value}
@@ -23,8 +23,13 @@ use Rattle.wb_model.specs.declared.limits.TheConstants.{CEILING, LARGEST_BUDGET,
 use Rattle.wb_model.specs.declared.heap.Shape.{Shape}
 use Rattle.workbench.specs.Command.{is_sixteenfold}
 use Rattle.workbench.specs.CommandLine.{command_line, run_level}
-use Rattle.workbench.specs.Spelled.{command_of, decimal, doubles, flag_of, number_of, spell_both, spelled}
+use Rattle.workbench.specs.Fault.{IsAfterUsage, IsFaultOf, IsFaultOfOptions}
+use Rattle.workbench.specs.Spelled.{IsMeantBy, IsSpelledBy, command_of, decimal, doubles, flag_of, number_of, spell_both, spelled}
 use Rattle.workbench.specs.Subcommands.{Subcommand, subcommand_named}
+use Rattle.workbench.specs.declared.command.Command.{Command}
+use Rattle.workbench.specs.declared.command.CommandFault.{CommandFault}
+use Rattle.workbench.specs.declared.command.CommandFault.TheVariants.{Usage, Both, NoMemory}
+use Rattle.workbench.specs.declared.command.CommandFault.TheVariants as F
 use Rattle.workbench.proofs.CommandLineLemmas.{one_is_met, text_is}
 use Rattle.workbench.proofs.LevelLemmas.{budget_rule, fail_rule, json_rule, level_wide, limit_rule, min_rule, only_budget, only_fail, only_json, only_limit, only_min, only_step, step_rule}
 use Rattle.workbench.specs.Passed.{RowsPass}
@@ -84,6 +89,27 @@ is_parsed words m met name rows is_name are_rows =
       meaning = ap (option_and_then command_of) both;
       doubled = ap (λ (o : Option (Text × List Row)). option_map_or (λ p. doubles p.0 p.1) o false) both;
     }
+
+-- a command that the options mean is spelled by the words, and their fault is one of the words
+module _ (words : List Text) (m : ArgMatches) (name : Text) (rows : List Row) (met : IsParsed words m name rows) where
+  pub spelled_by : (command : Command) → IsMeantBy name rows command → IsSpelledBy words command
+  spelled_by command meant = record { faultless = met.faultless; one_rule = met.doubled ∙ meant.one_rule; meaning = met.meaning ∙ meant.meaning }
+
+  pub if_spelled : (r : Result Command CommandFault) → IfOk r (IsMeantBy name rows) → IfOk r (IsSpelledBy words)
+  if_spelled (Ok command) meant = spelled_by command meant
+  if_spelled (Err fault) meant = tt
+
+  pub fault_by : (fault : CommandFault) → IsFaultOfOptions name rows fault → IsFaultOf words fault
+  fault_by (Usage e) none = absurd none
+  fault_by Both doubled = record { faultless = met.faultless; doubled = met.doubled ∙ doubled }
+  fault_by F.Shape bad = record { command = bad.command; spelled = spelled_by bad.command bad.meant; misshapen = bad.misshapen }
+  fault_by NoMemory want = tt
+
+  pub after_usage : (fault : CommandFault) → IsFaultOfOptions name rows fault → IsAfterUsage fault
+  after_usage (Usage e) none = absurd none
+  after_usage Both doubled = inl refl
+  after_usage F.Shape bad = inr (inl refl)
+  after_usage NoMemory want = inr (inr refl)
 
 -- ---- numbers
 

@@ -1,12 +1,12 @@
 -- What becomes of an error of clap, and of a fault of the command line.
 use Rattle.std.specs.Prelude.{◌≡◌, ◌≢◌, ◌⊎◌, ⊤, ℕ, List, [], Bool, true, false, if◌then◌else◌}
-use Rattle.clap.specs.Words.{IsAmong, Text, fault_of, kind_of}
+use Rattle.clap.specs.Words.{IsAmong, Row, Text, fault_of, kind_of}
 use Rattle.clap.specs.declared.error.Error.{Error}
 use Rattle.clap.specs.declared.error.kind.ErrorKind.{ErrorKind}
 use Rattle.clap.specs.declared.error.kind.ErrorKind.TheVariants.{OutOfMemory}
 use Rattle.workbench.specs.CommandLine.{command_line}
 use Rattle.workbench.specs.Command.{is_sixteenfold}
-use Rattle.workbench.specs.Spelled.{IsSpelledBy, spell_both}
+use Rattle.workbench.specs.Spelled.{IsMeantBy, IsSpelledBy, doubles, spell_both}
 use Rattle.workbench.specs.declared.command.Command.{Command}
 use Rattle.workbench.specs.declared.command.CommandFault.{CommandFault}
 use Rattle.workbench.specs.declared.command.CommandFault.TheVariants.{Usage, Both, Shape, NoMemory}
@@ -37,6 +37,19 @@ IsFaultOf words (Usage e) = (kind_of e ≢ OutOfMemory) × IsAmong (kind_of e) (
 IsFaultOf words Both = IsDoubled words
 IsFaultOf words Shape = IsMisshapen words
 IsFaultOf words NoMemory = ⊤
+
+-- not both a limit and a number are given, but the heap's minimum length or step is no multiple of 16
+pub record AreMisshapen (name : Text) (rows : List Row) : Type 0 where
+  pub command : Command
+  pub meant : IsMeantBy name rows command
+  pub misshapen : is_sixteenfold command.shape ≡ false
+
+-- the fault is one of a subcommand's options, which clap has taken, or memory ran out
+abbrev pub IsFaultOfOptions : Text → List Row → CommandFault → Type 0
+IsFaultOfOptions name rows (Usage e) = ⊥
+IsFaultOfOptions name rows Both = doubles name rows ≡ true
+IsFaultOfOptions name rows Shape = AreMisshapen name rows
+IsFaultOfOptions name rows NoMemory = ⊤
 
 -- no fault of usage
 abbrev pub IsAfterUsage : CommandFault → Type 0

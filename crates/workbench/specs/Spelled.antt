@@ -69,6 +69,11 @@ command_of p = option_map (command_with p.1) (task_of p.0 p.1)
 abbrev pub doubles : Text → List Row → Bool
 doubles name rows = option_map_or (λ s. s.takes_rule) (subcommand_named name) false && gives_both rows
 
+-- not both a limit and a number are given, and this is the command
+pub record IsMeantBy (name : Text) (rows : List Row) (command : Command) : Type 0 where
+  pub one_rule : doubles name rows ≡ false
+  pub meaning : command_of (name, rows) ≡ Some command
+
 -- the command that the words spell, where clap takes them
 abbrev pub spelled : List Text → Option Command
 spelled words = option_and_then command_of (subcommand_of command_line words)

@@ -8,9 +8,9 @@ ghost use Rattle.clap.specs.declared.builder.command.Command.TheViews.{out-Comma
 ghost use Rattle.wb_model.specs.Space.{is_shape};
 ghost use Rattle.workbench.specs.Command.{is_answerable, is_in_range, is_sixteenfold};
 ghost use Rattle.workbench.specs.CommandLine.{command_line, file_argument, json_flag, line_of, option_rule, rule_options, run_level, shared_options, with_level, with_option, with_rules};
-ghost use Rattle.workbench.specs.Fault.{IsAfterUsage, IsFaultOf};
+ghost use Rattle.workbench.specs.Fault.{IsAfterUsage, IsFaultOf, IsFaultOfOptions};
 ghost use Rattle.workbench.specs.Passed.{RowsPass};
-ghost use Rattle.workbench.specs.Spelled.{IsSpelledBy, budget_of as spelled_budget, doubles, flag_of, gives_both, rule_of as spelled_rule, shape_of as spelled_shape, task_of};
+ghost use Rattle.workbench.specs.Spelled.{IsMeantBy, IsSpelledBy, budget_of as spelled_budget, doubles, flag_of, gives_both, rule_of as spelled_rule, shape_of as spelled_shape, task_of};
 ghost use Rattle.workbench.specs.Subcommands.{subcommand_named};
 ghost use Rattle.workbench.specs.WordByWord.{AreRead};
 
@@ -50,6 +50,17 @@ pub fn command<'a, S: AsStr>(alloc: Global, words: &'a [S]) -> Result<Command, C
 
     // Words that pass name a subcommand, and `help` never passes.
     let (name, options) = matches.subcommand().unwrap();
+    command_in(alloc, name, options)
+}
+
+/// The command of a subcommand with these options, or `Both` or `Shape`.
+fn command_in(alloc: Global, name: &str, options: &ArgMatches) -> Result<Command, CommandFault>
+    requires named { IsSome (subcommand_named name.now) }
+    requires passed { RowsPass run_level.rules (rows_of (found_of options.now)) }
+    ensures meant { IfOk result (IsMeantBy name.now (rows_of (found_of options.now))) }
+    ensures numbers { IfOk result (λ command. IsTrue (is_answerable command)) }
+    ensures fault { IfErr result (IsFaultOfOptions name.now (rows_of (found_of options.now))) }
+{
     let task = task_in(name, options)?;
     let shape = shape_in(options)?;
     Ok(Command {

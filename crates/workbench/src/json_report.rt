@@ -7,7 +7,7 @@ ghost use Rattle.workbench.specs.JsonReport.{count_or_null, failing_number, json
 
 use crate::figures::Failing;
 use crate::report::Report;
-use serde_json::{Map, Value, json, put};
+use serde_json::{Map, Value, put};
 use std::alloc::{AllocError, Global};
 use wb_model::memory::NoMemory;
 use wb_model::size::Rise;
@@ -33,16 +33,17 @@ fn report_object(alloc: Global, report: &Report) -> Result<Value, AllocError>
     ensures { IfOk result (λ object. view object
         ≡ report_object report.now.text.items report.now.figures report.now.status) }
 {
-    let attempts = count_or_null(report.figures.attempts);
-    let lines = line_strings(alloc, report.text.as_slice())?;
-    let number = failing_number(alloc, report.figures.number)?;
-    let required = count_or_null(report.figures.required);
-    let rises = rise_pairs(alloc, &report.figures.rises)?;
+    let figures = &report.figures;
     let mut members = Map::new(alloc);
+    let attempts = count_or_null(figures.attempts);
     put(&mut members, alloc, "attempts", attempts)?;
+    let lines = line_strings(alloc, report.text.as_slice())?;
     put(&mut members, alloc, "lines", lines)?;
+    let number = failing_number(alloc, figures.number)?;
     put(&mut members, alloc, "number", number)?;
+    let required = count_or_null(figures.required);
     put(&mut members, alloc, "required", required)?;
+    let rises = rise_pairs(alloc, &figures.rises)?;
     put(&mut members, alloc, "rises", rises)?;
     put(&mut members, alloc, "status", Value::from(report.status))?;
     put(&mut members, alloc, "version", Value::from(VERSION))?;
@@ -113,7 +114,8 @@ fn all_pairs(alloc: Global, rises: &[Rise]) -> Result<Vec<Value>, AllocError>
 {
     let mut pairs = Vec::new(alloc);
     for rise in rises {
-        pairs.push(json!(in alloc; [rise.number, rise.top])?)?;
+        let pair = vec![in alloc; Value::from(rise.number), Value::from(rise.top)]?;
+        pairs.push(Value::Array(pair))?;
     }
     Ok(pairs)
 }

@@ -3,7 +3,7 @@
 
 ghost use Rattle.std.specs.Prelude.{◌≡◌, ◌++◌, OnOk};
 ghost use Rattle.std.specs.List.{flat_map};
-ghost use Rattle.workbench.specs.RunText.{print_line, note_line, attempt_line, leak_line, leaks_text, end_line, panic_line, cut_line, outcome_text, run_text};
+ghost use Rattle.workbench.specs.RunText.{answer_word, print_line, note_line, attempt_line, leak_line, leaks_text, end_line, panic_line, cut_line, outcome_text, run_text};
 
 use crate::appended::appended;
 use std::io::Write;
@@ -83,27 +83,21 @@ fn put_attempt(text: &mut Vec<u8>, attempt: Attempt) -> Result<(), NoMemory>
         place,
         answer,
     } = attempt;
-    let put = match answer {
-        Answer::Granted => {
-            writeln!(
-                text,
-                "attempt {number} length {length} place {place} granted"
-            )
-        }
-        Answer::Simulated => {
-            writeln!(
-                text,
-                "attempt {number} length {length} place {place} simulated"
-            )
-        }
-        Answer::Refused => {
-            writeln!(
-                text,
-                "attempt {number} length {length} place {place} refused"
-            )
-        }
-    };
-    appended(put)
+    let word = answer_word(answer);
+    appended(writeln!(
+        text,
+        "attempt {number} length {length} place {place} {word}"
+    ))
+}
+
+fn answer_word(answer: Answer) -> &'static str
+    ensures { result.now ≡ answer_word answer }
+{
+    match answer {
+        Answer::Granted => "granted",
+        Answer::Simulated => "simulated",
+        Answer::Refused => "refused",
+    }
 }
 
 fn put_outcome(text: &mut Vec<u8>, outcome: &Outcome) -> Result<(), NoMemory>

@@ -1,7 +1,7 @@
 //! Answers over readers and writers in memory, some of which fail. The scripts' texts are worked by hand. Those of the
 //! two numbers stand in `numbers`, and JSON in `json`.
 
-ghost use Rattle.std.specs.Prelude.{IsTrue};
+ghost use Rattle.std.specs.Prelude.{◌≤◌, IsTrue};
 ghost use Rattle.workbench.specs.Command.{is_answerable, is_in_range};
 
 mod json;
@@ -129,10 +129,26 @@ impl Write for FailingOnce<Taker> {
     }
 }
 
-fn run_command() -> Command
-    ensures { IsTrue (is_answerable result) }
+/// What a command asks for: a run, one whose second attempt fails, or another task.
+#[derive(Clone, Copy)]
+enum Asked {
+    Run,
+    RunWithoutItsSecond,
+    Size,
+    Sweep,
+    Check,
+}
+
+fn task_of(asked: Asked) -> Task
+    ensures { IsTrue (is_in_range result) }
 {
-    command(Task::Run(Rule::Unlimited))
+    match asked {
+        Asked::Run => Task::Run(Rule::Unlimited),
+        Asked::RunWithoutItsSecond => Task::Run(Rule::Number(2)),
+        Asked::Size => Task::Size,
+        Asked::Sweep => Task::Sweep,
+        Asked::Check => Task::Check,
+    }
 }
 
 fn command(task: Task) -> Command
@@ -149,6 +165,12 @@ fn command(task: Task) -> Command
         },
         json: false,
     }
+}
+
+fn run_command() -> Command
+    ensures { IsTrue (is_answerable result) }
+{
+    command(Task::Run(Rule::Unlimited))
 }
 
 fn giving(bytes: &[u8], then: Option<ErrorKind>) -> Giver<'_> {
@@ -180,31 +202,56 @@ leak 2 length 32 place 144
 steps 1
 ";
 
+/// What is asked for, a script, and the text and the status of the answer.
+type Worked = (Asked, &'static [u8], &'static [u8], u8);
+
+/// The index of the first answer that is another, by commands of this budget.
+fn first_other(alloc: Global, budget: u32, json: bool, answers: &[Worked]) -> Option<usize>
+    requires least { 1 ≤ budget }
+    requires most { budget ≤ 10000 }
+{
+    for (index, (asked, script, text, status)) in answers.iter().enumerate() {
+        let mut told = command(task_of(*asked));
+        told.budget = budget;
+        told.json = json;
+        let mut reader = *script;
+        let mut writer = Vec::new(alloc);
+        let got = answer(alloc, &told, &mut reader, &mut writer);
+        if writer.as_slice() != *text || got != *status {
+            return Some(index);
+        }
+    }
+    None
+}
+
+/// Runs, and scripts that are refused.
+static RUNS: [Worked; 6] = [
+    (Asked::Run, LEAKING, LEAKING_REPORT, 1),
+    (
+        Asked::Run,
+        b"proc main\nprint \"hi\"\nprint -7\nend",
+        b"print hi\nprint -7\nattempt 1 length 144 place 0 granted\nended\nleaks 0\nsteps 2\n",
+        0,
+    ),
+    (
+        Asked::Run,
+        b"proc main\nptr a\nalloc a 1048577\nend\n",
+        b"attempt 1 length 144 place 0 granted\npanic WORKBENCH 9\nsteps 1\n",
+        1,
+    ),
+    (Asked::Run, b"", b"refused 8\n", 2),
+    (
+        Asked::Run,
+        b"proc main\nprint \x80\nend\n",
+        b"refused 2 line 2\n",
+        2,
+    ),
+    (Asked::Run, b"proc main\n", b"refused 3 line 2\n", 2),
+];
+
 #[test]
 fn reports_what_the_bytes_come_to(rt: HostRuntime) {
-    let cases: [(&[u8], &[u8], u8); 6] = [
-        (LEAKING, LEAKING_REPORT, 1),
-        (
-            b"proc main\nprint \"hi\"\nprint -7\nend",
-            b"print hi\nprint -7\nattempt 1 length 144 place 0 granted\nended\nleaks 0\nsteps 2\n",
-            0,
-        ),
-        (
-            b"proc main\nptr a\nalloc a 1048577\nend\n",
-            b"attempt 1 length 144 place 0 granted\npanic WORKBENCH 9\nsteps 1\n",
-            1,
-        ),
-        (b"", b"refused 8\n", 2),
-        (b"proc main\nprint \x80\nend\n", b"refused 2 line 2\n", 2),
-        (b"proc main\n", b"refused 3 line 2\n", 2),
-    ];
-    for (script, text, status) in cases {
-        let mut reader = script;
-        let mut writer = Vec::new(rt.alloc());
-        let got = answer(rt.alloc(), &run_command(), &mut reader, &mut writer);
-        assert_eq!(rt; writer.as_slice(), text);
-        assert_eq!(rt; got, status);
-    }
+    assert_eq!(rt; first_other(rt.alloc(), 10_000, false, &RUNS), None);
 }
 
 #[test]
@@ -213,7 +260,7 @@ fn says_that_a_read_failed(rt: HostRuntime) {
         let mut reader = giving(LEAKING, Some(kind));
         let mut writer = Vec::new(rt.alloc());
         let status = answer(rt.alloc(), &run_command(), &mut reader, &mut writer);
-        assert_eq!(rt; writer.as_slice(), b"read fault\n".as_slice());
+        assert!(rt; writer.as_slice() == b"read fault\n".as_slice());
         assert_eq!(rt; status, 5);
     }
 }
@@ -226,7 +273,7 @@ fn reads_no_more_where_a_read_failed(rt: HostRuntime) {
             let mut reader = FailingOnce::new(giving(LEAKING, None), at, Some(kind));
             let mut writer = Vec::new(rt.alloc());
             let status = answer(rt.alloc(), &run_command(), &mut reader, &mut writer);
-            assert_eq!(rt; writer.as_slice(), b"read fault\n".as_slice());
+            assert!(rt; writer.as_slice() == b"read fault\n".as_slice());
             assert_eq!(rt; status, 5);
             assert_eq!(rt; reader.calls, at + 1);
         }
@@ -245,10 +292,7 @@ fn writes_no_more_where_a_write_failed(rt: HostRuntime) {
                 &mut giving(LEAKING, None),
                 &mut writer,
             );
-            assert_eq!(rt;
-                Some(writer.stream.taken.as_slice()),
-                LEAKING_REPORT.get(..5 * at)
-            );
+            assert!(rt; Some(writer.stream.taken.as_slice()) == LEAKING_REPORT.get(..5 * at));
             assert_eq!(rt; status, 5);
             assert_eq!(rt; writer.calls, at + 1);
         }
@@ -277,7 +321,7 @@ fn check_stop(
 ) {
     let mut writer = taking(rt.alloc(), 6, then);
     let status = answer(rt.alloc(), &run_command(), reader, &mut writer);
-    assert_eq!(rt; Some(writer.taken.as_slice()), text.get(..6));
+    assert!(rt; Some(writer.taken.as_slice()) == text.get(..6));
     assert_eq!(rt; status, 5);
 }
 
@@ -290,38 +334,52 @@ fn reads_and_writes_no_oftener_than_there_are_bytes(rt: HostRuntime) -> Result<(
     writer.at_once = 1;
     let status = answer(rt.alloc(), &run_command(), &mut reader, &mut writer);
     assert_eq!(rt; reader.reads, 65_537);
-    assert_eq!(rt; writer.taken.as_slice(), b"refused 1\n".as_slice());
+    assert!(rt; writer.taken.as_slice() == b"refused 1\n".as_slice());
     assert_eq!(rt; writer.writes, 10);
     assert_eq!(rt; status, 2);
     Ok(())
 }
 
-/// Two thousand numbers are printed, and then as many cells of 32 bytes lie end to end behind the cleanup
-/// stack's, the first of them at 144, and all of them leak.
-#[test]
-fn writes_thousands_of_lines(rt: HostRuntime) -> Result<(), Fail> {
-    let mut script = Vec::new(rt.alloc());
-    let mut report = Vec::new(rt.alloc());
-    let mut leaks = Vec::new(rt.alloc());
+/// Two thousand numbers are printed, and then as many cells of 32 bytes are allocated.
+fn long_script(alloc: Global) -> Result<Vec<u8>, Fail> {
+    let mut script = Vec::new(alloc);
     writeln!(script, "proc main\nptr a")?;
     for number in 1..=2000u32 {
         writeln!(script, "print {number}")?;
+    }
+    for _ in 0..2000u32 {
+        writeln!(script, "alloc a 1")?;
+    }
+    writeln!(script, "end")?;
+    Ok(script)
+}
+
+/// The cells lie end to end behind the cleanup stack's, the first of them at 144, and all of them leak.
+fn long_report(alloc: Global) -> Result<Vec<u8>, Fail> {
+    let mut report = Vec::new(alloc);
+    for number in 1..=2000u32 {
         writeln!(report, "print {number}")?;
     }
     writeln!(report, "attempt 1 length 144 place 0 granted")?;
     for (number, place) in (2..=2001u32).zip((144..64_144u32).step_by(32)) {
-        writeln!(script, "alloc a 1")?;
         writeln!(report, "attempt {number} length 32 place {place} granted")?;
-        writeln!(leaks, "leak {number} length 32 place {place}")?;
     }
-    writeln!(script, "end")?;
     writeln!(report, "ended\nleaks 2000")?;
-    report.extend_from_slice(leaks.as_slice())?;
+    for (number, place) in (2..=2001u32).zip((144..64_144u32).step_by(32)) {
+        writeln!(report, "leak {number} length 32 place {place}")?;
+    }
     writeln!(report, "steps 4000")?;
+    Ok(report)
+}
+
+#[test]
+fn writes_thousands_of_lines(rt: HostRuntime) -> Result<(), Fail> {
+    let script = long_script(rt.alloc())?;
+    let report = long_report(rt.alloc())?;
     let mut reader = script.as_slice();
     let mut writer = Vec::new(rt.alloc());
     let status = answer(rt.alloc(), &run_command(), &mut reader, &mut writer);
-    assert_eq!(rt; writer.as_slice(), report.as_slice());
+    assert!(rt; writer.as_slice() == report.as_slice());
     assert_eq!(rt; status, 1);
     Ok(())
 }

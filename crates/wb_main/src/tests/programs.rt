@@ -5,7 +5,6 @@ ghost use Rattle.std.specs.Prelude.{⊤};
 use std::alloc::Global;
 use std::io;
 use std::io::ErrorKind;
-use std::process::Abort;
 use std::test::Fail;
 use workbench::host::Host;
 use workbench::program::program;
@@ -67,116 +66,58 @@ fn full_desk() -> Desk<'static> {
 
 /// What a run of the program should come to.
 #[derive(Clone, Copy)]
-struct Wanted<'a> {
-    output: &'a str,
-    messages: &'a str,
+struct Wanted {
+    output: &'static str,
+    messages: &'static str,
     status: u8,
     opened: usize,
     lent: usize,
 }
 
-fn check(
-    rt: &(impl Abort + AllocGlobal),
-    words: io::Result<Vec<&'static str>>,
-    wanted: &Wanted<'_>,
-) {
-    let mut desk = full_desk();
-    let mut output = Vec::new(rt.alloc());
-    let mut messages = Vec::new(rt.alloc());
-    let status = program(rt.alloc(), words, &mut desk, &mut output, &mut messages);
-    assert_eq!(rt; output.as_slice(), wanted.output.as_bytes());
-    assert_eq!(rt; messages.as_slice(), wanted.messages.as_bytes());
-    assert_eq!(rt; status, wanted.status);
-    assert_eq!(rt; desk.opened, wanted.opened);
-    assert_eq!(rt; desk.lent, wanted.lent);
-}
-
-/// The words, the program's name first.
-fn words(alloc: Global, rest: &[&'static str]) -> Result<Vec<&'static str>, Fail> {
-    let mut words = vec![in alloc; "workbench"]?;
-    words.extend_from_slice(rest)?;
-    Ok(words)
-}
-
-#[test]
-fn reads_what_the_words_name(rt: HostRuntime) -> Result<(), Fail> {
-    let from_input = Wanted {
-        output: INPUT_REPORT,
-        messages: "",
-        status: 0,
-        opened: 0,
-        lent: 1,
-    };
-    check(&rt, Ok(words(rt.alloc(), &["run"])?), &from_input);
-    let from_file = Wanted {
-        output: FILE_REPORT,
-        messages: "",
-        status: 0,
-        opened: 1,
-        lent: 0,
-    };
-    check(&rt, Ok(words(rt.alloc(), &["run", "-"])?), &from_file);
-    check(&rt, Ok(words(rt.alloc(), &["run", "--", "-"])?), &from_file);
-    Ok(())
-}
-
-#[test]
-fn says_that_a_file_cannot_be_opened(rt: HostRuntime) -> Result<(), Fail> {
-    let unopened = Wanted {
-        output: "read fault\n",
-        messages: "",
-        status: 5,
-        opened: 1,
-        lent: 0,
-    };
-    check(&rt, Ok(words(rt.alloc(), &["run", "a.oom"])?), &unopened);
-    Ok(())
-}
-
-/// The words are no command: this is told, and nothing else is touched.
-fn check_refused(
-    rt: &(impl Abort + AllocGlobal),
-    words: io::Result<Vec<&'static str>>,
-    messages: &str,
-    status: u8,
-) {
-    let refused = Wanted {
-        output: "",
-        messages,
-        status,
-        opened: 0,
-        lent: 0,
-    };
-    check(rt, words, &refused);
-}
-
-#[test]
-fn says_why_words_are_no_command(rt: HostRuntime) -> Result<(), Fail> {
-    let both = words(rt.alloc(), &["run", "-", "--limit", "176", "--fail", "2"])?;
-    let both_message = "error: give '--limit' or '--fail', not both\n";
-    check_refused(&rt, Ok(both), both_message, 6);
-    let misshapen = words(rt.alloc(), &["run", "--min", "8"])?;
-    let shape_message = "error: the values of '--min' and '--step' are multiples of 16\n";
-    check_refused(&rt, Ok(misshapen), shape_message, 6);
-    let unknown = words(rt.alloc(), &["walk"])?;
-    let unknown_message = "error: unrecognized subcommand 'walk'
-
-Usage: workbench <COMMAND>
-
-For more information, try '--help'.
-";
-    check_refused(&rt, Ok(unknown), unknown_message, 6);
-    Ok(())
-}
-
-#[test]
-fn says_why_there_are_no_words(rt: HostRuntime) {
-    let no_memory = Err(io::Error::from(ErrorKind::OutOfMemory));
-    check_refused(&rt, no_memory, "error: no memory\n", 4);
-    let not_text = Err(io::Error::from(ErrorKind::InvalidData));
-    let message = "error: a word of the command line is not UTF-8\n";
-    check_refused(&rt, not_text, message, 6);
-}
+/// Words behind the program's name that are a command, and what it comes to.
+static COMMANDS: [(&[&str], Wanted); 4] = [
+    (
+        &["run"],
+        Wanted {
+            output: INPUT_REPORT,
+            messages: "",
+            status: 0,
+            opened: 0,
+            lent: 1,
+        },
+    ),
+    (
+        &["run", "-"],
+        Wanted {
+            output: FILE_REPORT,
+            messages: "",
+            status: 0,
+            opened: 1,
+            lent: 0,
+        },
+    ),
+    (
+        &["run", "--", "-"],
+        Wanted {
+            output: FILE_REPORT,
+            messages: "",
+            status: 0,
+            opened: 1,
+            lent: 0,
+        },
+    ),
+    // There is no such file.
+    (
+        &["run", "a.oom"],
+        Wanted {
+            output: "read fault\n",
+            messages: "",
+            status: 5,
+            opened: 1,
+            lent: 0,
+        },
+    ),
+];
 
 const HELP: &str = "Runs scripts against a simulated heap that may refuse
 
@@ -255,26 +196,103 @@ Options:
   -h, --help        Print help
 ";
 
+/// Words behind the program's name that are no command, and the message of that.
+static REFUSED: [(&[&str], &str); 16] = [
+    (
+        &["run", "-", "--limit", "176", "--fail", "2"],
+        "error: give '--limit' or '--fail', not both\n",
+    ),
+    (
+        &["run", "--min", "8"],
+        "error: the values of '--min' and '--step' are multiples of 16\n",
+    ),
+    (
+        &["walk"],
+        "error: unrecognized subcommand 'walk'
+
+Usage: workbench <COMMAND>
+
+For more information, try '--help'.
+",
+    ),
+    (&["--help"], HELP),
+    (&["help"], HELP),
+    (&["run", "--help"], RUN_HELP),
+    (&["help", "run"], RUN_HELP),
+    (&["size", "--help"], SIZE_HELP),
+    (&["size", "a.oom", "-h"], SIZE_HELP),
+    (&["help", "size"], SIZE_HELP),
+    (&["sweep", "--help"], SWEEP_HELP),
+    (&["sweep", "a.oom", "-h"], SWEEP_HELP),
+    (&["help", "sweep"], SWEEP_HELP),
+    (&["check", "--help"], CHECK_HELP),
+    (&["check", "a.oom", "-h"], CHECK_HELP),
+    (&["help", "check"], CHECK_HELP),
+];
+
+/// Whether the words, or why there are none, come to this.
+fn comes_to(alloc: Global, words: io::Result<Vec<&'static str>>, wanted: &Wanted) -> bool {
+    let mut desk = full_desk();
+    let mut output = Vec::new(alloc);
+    let mut messages = Vec::new(alloc);
+    let status = program(alloc, words, &mut desk, &mut output, &mut messages);
+    output.as_slice() == wanted.output.as_bytes()
+        && messages.as_slice() == wanted.messages.as_bytes()
+        && status == wanted.status
+        && desk.opened == wanted.opened
+        && desk.lent == wanted.lent
+}
+
+/// Whether nothing but this message and this status comes of them.
+fn is_refused(
+    alloc: Global,
+    words: io::Result<Vec<&'static str>>,
+    messages: &'static str,
+    status: u8,
+) -> bool {
+    let refused = Wanted {
+        output: "",
+        messages,
+        status,
+        opened: 0,
+        lent: 0,
+    };
+    comes_to(alloc, words, &refused)
+}
+
+/// The words, the program's name first.
+fn words(alloc: Global, rest: &[&'static str]) -> Result<Vec<&'static str>, Fail> {
+    let mut words = vec![in alloc; "workbench"]?;
+    words.extend_from_slice(rest)?;
+    Ok(words)
+}
+
 #[test]
-fn helps(rt: HostRuntime) -> Result<(), Fail> {
-    check_refused(&rt, Ok(words(rt.alloc(), &["--help"])?), HELP, 6);
-    check_refused(&rt, Ok(words(rt.alloc(), &["help"])?), HELP, 6);
-    check_refused(&rt, Ok(words(rt.alloc(), &["run", "--help"])?), RUN_HELP, 6);
-    check_refused(&rt, Ok(words(rt.alloc(), &["help", "run"])?), RUN_HELP, 6);
+fn carries_out_what_the_words_say(rt: HostRuntime) -> Result<(), Fail> {
+    for (index, (rest, wanted)) in COMMANDS.iter().enumerate() {
+        let words = words(rt.alloc(), rest)?;
+        assert!(rt; comes_to(rt.alloc(), Ok(words), wanted), "row {index}");
+    }
     Ok(())
 }
 
-/// The subcommand's help, called for in each way.
-fn helps_with(rt: &(impl Abort + AllocGlobal), name: &'static str, help: &str) -> Result<(), Fail> {
-    check_refused(rt, Ok(words(rt.alloc(), &[name, "--help"])?), help, 6);
-    check_refused(rt, Ok(words(rt.alloc(), &[name, "a.oom", "-h"])?), help, 6);
-    check_refused(rt, Ok(words(rt.alloc(), &["help", name])?), help, 6);
+#[test]
+fn says_why_words_are_no_command(rt: HostRuntime) -> Result<(), Fail> {
+    for (index, (rest, message)) in REFUSED.iter().enumerate() {
+        let words = words(rt.alloc(), rest)?;
+        assert!(rt;
+            is_refused(rt.alloc(), Ok(words), message, 6),
+            "row {index}"
+        );
+    }
     Ok(())
 }
 
 #[test]
-fn helps_with_each_other_subcommand(rt: HostRuntime) -> Result<(), Fail> {
-    helps_with(&rt, "size", SIZE_HELP)?;
-    helps_with(&rt, "sweep", SWEEP_HELP)?;
-    helps_with(&rt, "check", CHECK_HELP)
+fn says_why_there_are_no_words(rt: HostRuntime) {
+    let no_memory = Err(io::Error::from(ErrorKind::OutOfMemory));
+    assert!(rt; is_refused(rt.alloc(), no_memory, "error: no memory\n", 4));
+    let not_text = Err(io::Error::from(ErrorKind::InvalidData));
+    let message = "error: a word of the command line is not UTF-8\n";
+    assert!(rt; is_refused(rt.alloc(), not_text, message, 6));
 }

@@ -1,12 +1,11 @@
 //! That words are taken at all, which no clause says, since any growth may be refused; and the faults of words
 //! that `clap` takes.
 
-use std::alloc::Global;
-use std::process::Abort;
 use std::test::Fail;
 use wb_model::heap::{Rule, Shape};
-use workbench::command::{CommandFault, Task};
+use workbench::command::{Command, CommandFault, Task};
 use workbench::command_line::command;
+use workbench::file_name::FileName;
 
 const DEFAULT_SHAPE: Shape = Shape {
     min: 4096,
@@ -14,251 +13,309 @@ const DEFAULT_SHAPE: Shape = Shape {
 };
 
 /// The subcommands, and what each asks for where no option is given.
-const SUBCOMMANDS: [(&str, Task); 4] = [
+static SUBCOMMANDS: [(&str, Task); 4] = [
     ("run", Task::Run(Rule::Unlimited)),
     ("size", Task::Size),
     ("sweep", Task::Sweep),
     ("check", Task::Check),
 ];
 
-/// What words should spell, beside a file.
-#[derive(Clone, Copy)]
-struct Wanted {
-    task: Task,
-    budget: u32,
-    shape: Shape,
-}
+/// The budget, the shape, whether JSON is asked for, and the file.
+type Spelled = (u32, Shape, bool, Option<&'static str>);
 
-/// The words spell this, and name no file.
-fn takes(rt: &impl Abort, alloc: Global, words: &[&str], wanted: Wanted) -> Result<(), Fail> {
-    let command = command(alloc, words)?;
-    assert_eq!(rt; command.task, wanted.task);
-    assert_eq!(rt; command.budget, wanted.budget);
-    assert_eq!(rt; command.shape, wanted.shape);
-    assert!(rt; command.file.is_none());
-    assert!(rt; !command.json);
-    Ok(())
-}
-
-#[test]
-fn takes_each_subcommand_on_standard_input(rt: HostRuntime) -> Result<(), Fail> {
-    for (name, task) in SUBCOMMANDS {
-        let wanted = Wanted {
-            task,
-            budget: 10_000,
-            shape: DEFAULT_SHAPE,
-        };
-        takes(&rt, rt.alloc(), &["workbench", name], wanted)?;
-        takes(&rt, rt.alloc(), &["workbench", name, "--"], wanted)?;
-    }
-    Ok(())
-}
-
-#[test]
-fn takes_a_budget_after_each_subcommand(rt: HostRuntime) -> Result<(), Fail> {
-    let alloc = rt.alloc();
-    for (name, task) in SUBCOMMANDS {
-        let least = Wanted {
-            task,
-            budget: 1,
-            shape: DEFAULT_SHAPE,
-        };
-        takes(&rt, alloc, &["workbench", name, "--budget", "1"], least)?;
-        let most = Wanted {
-            task,
-            budget: 1_000_000,
-            shape: DEFAULT_SHAPE,
-        };
-        takes(&rt, alloc, &["workbench", name, "--budget=1000000"], most)?;
-        takes(
-            &rt,
-            alloc,
-            &["workbench", name, "--budget", "+001000000"],
-            most,
-        )?;
-    }
-    Ok(())
-}
-
-#[test]
-fn takes_a_shape_after_each_subcommand(rt: HostRuntime) -> Result<(), Fail> {
-    let alloc = rt.alloc();
-    for (name, task) in SUBCOMMANDS {
-        let low = Wanted {
-            task,
-            budget: 10_000,
-            shape: Shape { min: 0, step: 4096 },
-        };
-        takes(&rt, alloc, &["workbench", name, "--min", "0"], low)?;
-        let fine = Wanted {
-            task,
-            budget: 10_000,
-            shape: Shape {
+/// Words that every subcommand takes, and what they spell.
+static AFTER_EACH: [(&[&str], Spelled); 16] = [
+    (&[], (10_000, DEFAULT_SHAPE, false, None)),
+    (&["--"], (10_000, DEFAULT_SHAPE, false, None)),
+    (&["--budget", "1"], (1, DEFAULT_SHAPE, false, None)),
+    (
+        &["--budget=1000000"],
+        (1_000_000, DEFAULT_SHAPE, false, None),
+    ),
+    (
+        &["--budget", "+001000000"],
+        (1_000_000, DEFAULT_SHAPE, false, None),
+    ),
+    (
+        &["--min", "0"],
+        (10_000, Shape { min: 0, step: 4096 }, false, None),
+    ),
+    (
+        &["--step=16"],
+        (
+            10_000,
+            Shape {
                 min: 4096,
                 step: 16,
             },
-        };
-        takes(&rt, alloc, &["workbench", name, "--step=16"], fine)?;
-        let all = Wanted {
-            task,
-            budget: 500,
-            shape: Shape { min: 256, step: 64 },
-        };
-        let words = [
+            false,
+            None,
+        ),
+    ),
+    (
+        &["--step", "64", "--budget=500", "--min=256"],
+        (500, Shape { min: 256, step: 64 }, false, None),
+    ),
+    (&["--json"], (10_000, DEFAULT_SHAPE, true, None)),
+    (
+        &["--budget=7", "--json", "a.oom"],
+        (7, DEFAULT_SHAPE, true, Some("a.oom")),
+    ),
+    (
+        &["a.oom", "--min", "32", "--json"],
+        (
+            10_000,
+            Shape {
+                min: 32,
+                step: 4096,
+            },
+            true,
+            Some("a.oom"),
+        ),
+    ),
+    (
+        &["--", "--json"],
+        (10_000, DEFAULT_SHAPE, false, Some("--json")),
+    ),
+    (&["size"], (10_000, DEFAULT_SHAPE, false, Some("size"))),
+    (
+        &["--min=32", "a.oom"],
+        (
+            10_000,
+            Shape {
+                min: 32,
+                step: 4096,
+            },
+            false,
+            Some("a.oom"),
+        ),
+    ),
+    (
+        &["-", "--budget", "7"],
+        (7, DEFAULT_SHAPE, false, Some("-")),
+    ),
+    (
+        &["--", "--limit"],
+        (10_000, DEFAULT_SHAPE, false, Some("--limit")),
+    ),
+];
+
+/// Words that spell a run of the default budget, its rule, its shape and its file.
+static RUNS: [(&[&str], Rule, Shape, Option<&str>); 19] = [
+    (
+        &["workbench", "run", "a.oom"],
+        Rule::Unlimited,
+        DEFAULT_SHAPE,
+        Some("a.oom"),
+    ),
+    (
+        &["another/name", "run", "run"],
+        Rule::Unlimited,
+        DEFAULT_SHAPE,
+        Some("run"),
+    ),
+    (
+        &["workbench", "run", "-"],
+        Rule::Unlimited,
+        DEFAULT_SHAPE,
+        Some("-"),
+    ),
+    (
+        &["workbench", "run", ""],
+        Rule::Unlimited,
+        DEFAULT_SHAPE,
+        Some(""),
+    ),
+    (
+        &["workbench", "run", "--", "--help"],
+        Rule::Unlimited,
+        DEFAULT_SHAPE,
+        Some("--help"),
+    ),
+    (
+        &["workbench", "run", "--", "--"],
+        Rule::Unlimited,
+        DEFAULT_SHAPE,
+        Some("--"),
+    ),
+    (
+        &["workbench", "run", "a.oom", "--"],
+        Rule::Unlimited,
+        DEFAULT_SHAPE,
+        Some("a.oom"),
+    ),
+    (
+        &["workbench", "run", "--limit", "303"],
+        Rule::Limit(303),
+        DEFAULT_SHAPE,
+        None,
+    ),
+    (
+        &["workbench", "run", "--limit=0"],
+        Rule::Limit(0),
+        DEFAULT_SHAPE,
+        None,
+    ),
+    (
+        &["workbench", "run", "--limit", "16777216"],
+        Rule::Limit(16_777_216),
+        DEFAULT_SHAPE,
+        None,
+    ),
+    (
+        &["workbench", "run", "--min", "256", "--step", "64"],
+        Rule::Unlimited,
+        Shape { min: 256, step: 64 },
+        None,
+    ),
+    (
+        &["workbench", "run", "--step=16", "--min=0"],
+        Rule::Unlimited,
+        Shape { min: 0, step: 16 },
+        None,
+    ),
+    (
+        &["workbench", "run", "--min=1048576", "--step=1048576"],
+        Rule::Unlimited,
+        Shape {
+            min: 1_048_576,
+            step: 1_048_576,
+        },
+        None,
+    ),
+    (
+        &["workbench", "run", "--limit", "+5", "--min", "0000032"],
+        Rule::Limit(5),
+        Shape {
+            min: 32,
+            step: 4096,
+        },
+        None,
+    ),
+    (
+        &["workbench", "run", "--fail", "3"],
+        Rule::Number(3),
+        DEFAULT_SHAPE,
+        None,
+    ),
+    (
+        &["workbench", "run", "--fail", "0"],
+        Rule::Number(0),
+        DEFAULT_SHAPE,
+        None,
+    ),
+    (
+        &["workbench", "run", "--fail=16777216"],
+        Rule::Number(16_777_216),
+        DEFAULT_SHAPE,
+        None,
+    ),
+    (
+        &["workbench", "run", "--min=32", "--fail", "2", "--step=16"],
+        Rule::Number(2),
+        Shape { min: 32, step: 16 },
+        None,
+    ),
+    (
+        &[
             "workbench",
-            name,
-            "--step",
-            "64",
-            "--budget=500",
-            "--min=256",
-        ];
-        takes(&rt, alloc, &words, all)?;
-    }
-    Ok(())
-}
-
-/// Whether the words ask for JSON.
-fn asks_for_json(alloc: Global, words: &[&str]) -> Result<bool, Fail> {
-    Ok(command(alloc, words)?.json)
-}
-
-#[test]
-fn takes_json_after_each_subcommand(rt: HostRuntime) -> Result<(), Fail> {
-    let alloc = rt.alloc();
-    for (name, _) in SUBCOMMANDS {
-        let alone = ["workbench", name, "--json"];
-        assert!(rt; asks_for_json(alloc, &alone)?);
-        let before_a_file = ["workbench", name, "--budget=7", "--json", "a.oom"];
-        assert!(rt; asks_for_json(alloc, &before_a_file)?);
-        let behind_a_file = ["workbench", name, "a.oom", "--min", "32", "--json"];
-        assert!(rt; asks_for_json(alloc, &behind_a_file)?);
-        let a_file = ["workbench", name, "--", "--json"];
-        assert!(rt; !asks_for_json(alloc, &a_file)?);
-    }
-    Ok(())
-}
-
-/// The words name this file.
-fn takes_file(rt: &impl Abort, alloc: Global, words: &[&str], file: &str) -> Result<(), Fail> {
-    let command = command(alloc, words)?;
-    let name = command.file.as_ref().ok_or("a file")?;
-    assert!(rt; name.as_str() == file);
-    Ok(())
-}
-
-#[test]
-fn takes_a_run_of_a_file(rt: HostRuntime) -> Result<(), Fail> {
-    let alloc = rt.alloc();
-    takes_file(&rt, alloc, &["workbench", "run", "a.oom"], "a.oom")?;
-    takes_file(&rt, alloc, &["another/name", "run", "run"], "run")?;
-    takes_file(&rt, alloc, &["workbench", "run", "-"], "-")?;
-    takes_file(&rt, alloc, &["workbench", "run", ""], "")?;
-    takes_file(&rt, alloc, &["workbench", "run", "--", "--help"], "--help")?;
-    takes_file(&rt, alloc, &["workbench", "run", "--", "--"], "--")?;
-    takes_file(&rt, alloc, &["workbench", "run", "a.oom", "--"], "a.oom")
-}
-
-#[test]
-fn takes_a_file_after_each_subcommand(rt: HostRuntime) -> Result<(), Fail> {
-    let alloc = rt.alloc();
-    for (name, _) in SUBCOMMANDS {
-        takes_file(&rt, alloc, &["workbench", name, "size"], "size")?;
-        takes_file(
-            &rt,
-            alloc,
-            &["workbench", name, "--min=32", "a.oom"],
+            "run",
+            "--min",
+            "32",
             "a.oom",
-        )?;
-        takes_file(&rt, alloc, &["workbench", name, "-", "--budget", "7"], "-")?;
-        takes_file(&rt, alloc, &["workbench", name, "--", "--limit"], "--limit")?;
+            "--limit=190",
+            "--step",
+            "16",
+        ],
+        Rule::Limit(190),
+        Shape { min: 32, step: 16 },
+        Some("a.oom"),
+    ),
+];
+
+/// Whether the command has this task and these options.
+fn is_spelled(command: &Command, task: Task, spelled: Spelled) -> bool {
+    let (budget, shape, json, file) = spelled;
+    command.task == task
+        && command.budget == budget
+        && command.shape == shape
+        && command.json == json
+        && command.file.as_ref().map(FileName::as_str) == file
+}
+
+#[test]
+fn takes_words_after_each_subcommand(rt: HostRuntime) -> Result<(), Fail> {
+    for (name, task) in &SUBCOMMANDS {
+        for (index, (rest, spelled)) in AFTER_EACH.iter().enumerate() {
+            let mut words = vec![in rt.alloc(); "workbench", name]?;
+            words.extend_from_slice(rest)?;
+            let command = command(rt.alloc(), words.as_slice())?;
+            assert!(rt;
+                is_spelled(&command, *task, *spelled),
+                "{name}, row {index}"
+            );
+        }
     }
     Ok(())
 }
 
-/// The words spell this rule and this shape, and name no file.
-fn takes_options(
-    rt: &impl Abort,
-    alloc: Global,
-    words: &[&str],
-    rule: Rule,
-    shape: Shape,
-) -> Result<(), Fail> {
-    let command = command(alloc, words)?;
-    assert_eq!(rt; command.task, Task::Run(rule));
-    assert_eq!(rt; command.shape, shape);
-    assert!(rt; command.file.is_none());
+#[test]
+fn takes_words_of_a_run(rt: HostRuntime) -> Result<(), Fail> {
+    for (index, (words, rule, shape, file)) in RUNS.iter().enumerate() {
+        let command = command(rt.alloc(), words)?;
+        let spelled = (10_000, *shape, false, *file);
+        assert!(rt;
+            is_spelled(&command, Task::Run(*rule), spelled),
+            "row {index}"
+        );
+    }
     Ok(())
 }
 
-#[test]
-fn takes_options_of_a_run(rt: HostRuntime) -> Result<(), Fail> {
-    let alloc = rt.alloc();
-    let limited = ["workbench", "run", "--limit", "303"];
-    takes_options(&rt, alloc, &limited, Rule::Limit(303), DEFAULT_SHAPE)?;
-    let no_room = ["workbench", "run", "--limit=0"];
-    takes_options(&rt, alloc, &no_room, Rule::Limit(0), DEFAULT_SHAPE)?;
-    let most = ["workbench", "run", "--limit", "16777216"];
-    takes_options(&rt, alloc, &most, Rule::Limit(16_777_216), DEFAULT_SHAPE)?;
-    let shaped = ["workbench", "run", "--min", "256", "--step", "64"];
-    let small = Shape { min: 256, step: 64 };
-    takes_options(&rt, alloc, &shaped, Rule::Unlimited, small)?;
-    let least = ["workbench", "run", "--step=16", "--min=0"];
-    let tight = Shape { min: 0, step: 16 };
-    takes_options(&rt, alloc, &least, Rule::Unlimited, tight)?;
-    let greatest = ["workbench", "run", "--min=1048576", "--step=1048576"];
-    let wide = Shape {
-        min: 1_048_576,
-        step: 1_048_576,
-    };
-    takes_options(&rt, alloc, &greatest, Rule::Unlimited, wide)?;
-    let spelled = ["workbench", "run", "--limit", "+5", "--min", "0000032"];
-    let other = Shape {
-        min: 32,
-        step: 4096,
-    };
-    takes_options(&rt, alloc, &spelled, Rule::Limit(5), other)
-}
+/// Words that are taken, but give both a limit and a number.
+static DOUBLED: [&[&str]; 3] = [
+    &["workbench", "run", "--limit", "176", "--fail", "2"],
+    &["workbench", "run", "--fail=0", "a.oom", "--limit=0"],
+    &["workbench", "run", "--min=8", "--fail=1", "--limit=1"],
+];
 
 #[test]
-fn takes_the_number_of_an_attempt(rt: HostRuntime) -> Result<(), Fail> {
-    let alloc = rt.alloc();
-    let number = ["workbench", "run", "--fail", "3"];
-    takes_options(&rt, alloc, &number, Rule::Number(3), DEFAULT_SHAPE)?;
-    let none = ["workbench", "run", "--fail", "0"];
-    takes_options(&rt, alloc, &none, Rule::Number(0), DEFAULT_SHAPE)?;
-    let most = ["workbench", "run", "--fail=16777216"];
-    takes_options(&rt, alloc, &most, Rule::Number(16_777_216), DEFAULT_SHAPE)?;
-    let shaped = ["workbench", "run", "--min=32", "--fail", "2", "--step=16"];
-    let small = Shape { min: 32, step: 16 };
-    takes_options(&rt, alloc, &shaped, Rule::Number(2), small)
-}
-
-/// The words are taken, but they give both a limit and a number.
-fn doubles(rt: &impl Abort, alloc: Global, words: &[&str]) -> Result<(), Fail> {
-    match command(alloc, words) {
-        Err(CommandFault::Both) => Ok(()),
-        _ => Err(Fail::from("a fault of two rules")),
+fn refuses_a_limit_together_with_a_number(rt: HostRuntime) {
+    for (index, words) in DOUBLED.iter().enumerate() {
+        let is_both = match command(rt.alloc(), words) {
+            Err(CommandFault::Both) => true,
+            _ => false,
+        };
+        assert!(rt; is_both, "row {index}");
     }
 }
 
+/// Words that are taken, but for their shape.
+static MISSHAPEN: [&[&str]; 7] = [
+    &["workbench", "run", "--min", "8"],
+    &["workbench", "run", "--step", "17"],
+    &["workbench", "size", "--step", "17"],
+    &["workbench", "sweep", "--min=1"],
+    &["workbench", "check", "--min=40", "--step", "16"],
+    &["workbench", "run", "--min=1048575", "--step=24", "a.oom"],
+    &[
+        "workbench",
+        "run",
+        "--limit=1",
+        "--min=16",
+        "--step=1048575",
+    ],
+];
+
 #[test]
-fn refuses_a_limit_together_with_a_number(rt: HostRuntime) -> Result<(), Fail> {
-    let alloc = rt.alloc();
-    doubles(
-        &rt,
-        alloc,
-        &["workbench", "run", "--limit", "176", "--fail", "2"],
-    )?;
-    doubles(
-        &rt,
-        alloc,
-        &["workbench", "run", "--fail=0", "a.oom", "--limit=0"],
-    )?;
-    doubles(
-        &rt,
-        alloc,
-        &["workbench", "run", "--min=8", "--fail=1", "--limit=1"],
-    )
+fn refuses_shapes_that_are_no_multiples_of_16(rt: HostRuntime) {
+    for (index, words) in MISSHAPEN.iter().enumerate() {
+        let is_shape = match command(rt.alloc(), words) {
+            Err(CommandFault::Shape) => true,
+            _ => false,
+        };
+        assert!(rt; is_shape, "row {index}");
+    }
 }
 
 #[test]
@@ -270,61 +327,4 @@ fn says_what_is_wrong_with_words_that_clap_takes(rt: HostRuntime) -> Result<(), 
         shape.as_str() == "error: the values of '--min' and '--step' are multiples of 16\n"
     );
     Ok(())
-}
-
-#[test]
-fn takes_options_around_a_file(rt: HostRuntime) -> Result<(), Fail> {
-    let words = [
-        "workbench",
-        "run",
-        "--min",
-        "32",
-        "a.oom",
-        "--limit=190",
-        "--step",
-        "16",
-    ];
-    let command = command(rt.alloc(), &words)?;
-    assert_eq!(rt; command.task, Task::Run(Rule::Limit(190)));
-    assert_eq!(rt; command.shape, Shape { min: 32, step: 16 });
-    assert!(rt; command.file.is_some_and(|name| name.as_str() == "a.oom"));
-    Ok(())
-}
-
-/// The words are taken, but for their shape.
-fn misshapes(rt: &impl Abort, alloc: Global, words: &[&str]) -> Result<(), Fail> {
-    match command(alloc, words) {
-        Err(CommandFault::Shape) => Ok(()),
-        _ => Err(Fail::from("a fault of the shape")),
-    }
-}
-
-#[test]
-fn refuses_shapes_that_are_no_multiples_of_16(rt: HostRuntime) -> Result<(), Fail> {
-    let alloc = rt.alloc();
-    misshapes(&rt, alloc, &["workbench", "run", "--min", "8"])?;
-    misshapes(&rt, alloc, &["workbench", "run", "--step", "17"])?;
-    misshapes(&rt, alloc, &["workbench", "size", "--step", "17"])?;
-    misshapes(&rt, alloc, &["workbench", "sweep", "--min=1"])?;
-    misshapes(
-        &rt,
-        alloc,
-        &["workbench", "check", "--min=40", "--step", "16"],
-    )?;
-    misshapes(
-        &rt,
-        alloc,
-        &["workbench", "run", "--min=1048575", "--step=24", "a.oom"],
-    )?;
-    misshapes(
-        &rt,
-        alloc,
-        &[
-            "workbench",
-            "run",
-            "--limit=1",
-            "--min=16",
-            "--step=1048575",
-        ],
-    )
 }
