@@ -135,8 +135,8 @@ class Trial:
         standing = edits + [it for it in chain.standing if is_round and it.can_stay(edits)]
         replace_sources(chain.room, chain.crate, self.repository.root / "crates" / chain.crate / "src")
         apply(standing, chain.room / "crates" / chain.crate)
+        verdict = check(chain.room, chain.crate, sorted({it.function for it in edits}), jobs)
         wrong = {it.function for it in standing}
-        verdict = check(chain.room, chain.crate, sorted(wrong), jobs)
         strays = [name for name, said in verdict.functions.items() if said.is_refused() and name not in wrong]
         if len(edits) > 1 and (verdict.unread or strays):
             # one edit that can't be read silences all, and one that breaks another function may break an edited one

@@ -1,6 +1,5 @@
-//! How the words of a command line are read: `workbench run [--limit L | --fail N] [--budget B] [--min M]
-//! [--step G] [--json] [FILE]`, and the same without a limit or a number after `size`, `sweep` and `check`. Nothing is
-//! opened or run here.
+//! How the words of a command line are read: `workbench run [--limit L | --fail N] [--budget B] [--min M] [--step G] [--json]
+//! [FILE]`, and the same without a limit or a number after `size`, `sweep` and `check`. Nothing is opened or run here.
 ghost use Rattle.std.specs.Prelude.{◌≡◌, ◌≤◌, All, IfErr, IfOk, IsSome, IsTrue, List, Some, OnErr, OnOk, codes, false, fold, map, pos, true};
 ghost use Rattle.std.specs.Str.{IsUtf8};
 ghost use Rattle.clap.specs.Words.{Text, app_of, first_of, found_of, new_app, rows_of, rule_of, takes, with_rule, with_subcommand};
@@ -35,10 +34,9 @@ const GRANULE: u32 = 16;
 /// The command that the words spell; the first of them is the program's name, and is not looked at. What the
 /// words don't say has its default, and the numbers are in their ranges.
 ///
-/// Words that `clap` doesn't take, and calls for help, are `Usage`. Where it takes them, a limit together with
-/// the number of an attempt is `Both`, and else a minimum length or a step that is no multiple of 16 is
-/// `Shape`. `NoMemory` comes where a growth was refused, of the workbench or of `clap`, and says nothing of the
-/// words.
+/// Words that `clap` doesn't take, and calls for help, are `Usage`. Where it takes them, a limit together with the number
+/// of an attempt is `Both`, and else a minimum length or a step that is no multiple of 16 is `Shape`. `NoMemory` comes
+/// where a growth was refused, of the workbench or of `clap`, and says nothing of the words.
 pub fn command<'a, S: AsStr>(alloc: Global, words: &'a [S]) -> Result<Command, CommandFault>
     ensures spelled { IfOk result (IsSpelledBy (map S.text words.now)) }
     ensures numbers { IfOk result (λ command. IsTrue (is_answerable command)) }
@@ -394,10 +392,9 @@ fn between<'a>(least: u32, most: u32) -> ValueParser<'a>
     value_parser!(u32).range(i64::from(least)..=i64::from(most))
 }
 
-/// Law: which words the command line takes, and what they spell, word by word. After the program's name and
-/// that of a subcommand stands one FILE or none, and one `--` or none before or after it. FILE begins with no
-/// hyphen or is `-`, but after `--` it is any word. What is an option of another subcommand is a word that
-/// begins with a hyphen.
+/// Law: which words the command line takes, and what they spell, word by word. After the program's name and that of a
+/// subcommand stands one FILE or none, and one `--` or none before or after it. FILE begins with no hyphen or is `-`, but
+/// after `--` it is any word. What is an option of another subcommand is a word that begins with a hyphen.
 pub fn words_are_read()
     ensures { (words : List Text) → All IsUtf8 words → AreRead words }
 {}
