@@ -7,9 +7,10 @@ A wrong body is a file `crates/NAME/wrong-bodies/*.edit`: a first line `function
 refused, as a check names it; a line `file: src/..`; and pairs of lines `old: TEXT`, `new: TEXT`, where the old text stands
 once in that file. A function's proof reads the contracts of what it calls, and not the bodies; so one check of a copy of
 the crate (a round) judges wrong bodies of many functions, and tells of each function whether its own proof stands or only
-waits for another's. The edits of a crate are tried round after round on one copy, over what the rounds before it kept: a
-function stays wrong until it gets its next wrong body, so that only what no edit changes is ever proved as it is. All that
-is must be proved, or wait for a function that is wrong.
+waits for another's. A function with several is given a twin for each further one, so that one round is nearly always enough.
+Where there are more, they are tried on one copy, over what the rounds before kept: a function stays wrong until it gets its
+next wrong body, so that only what no edit changes is ever proved as it is. All that is must be proved, or wait for a
+function that is wrong.
 
 It prints a line for each edit, and at last `N passed, M failed`; the exit status is 1 where one failed. The
 repository's own files stay as they are, what checks kept in `out/` too. `--must-fail` tries the edits of
@@ -31,6 +32,7 @@ from threading import Lock
 
 from wrong_body_checks import Repository, Verdict, build, check, copy_room, replace_sources, trust_libraries
 from wrong_body_edits import MUST_FAIL, WRONG_BODIES, Edit, apply, read_edits, rounds_of
+from wrong_body_twins import Twins, add_proof_files
 
 ROOT = Path(__file__).resolve().parent.parent
 # what a check of a large crate takes, in bytes, with some to spare
@@ -121,7 +123,7 @@ class Trial:
         if unbuilt or not edits:
             return []
         copy_room(room, own := self.room(), crate)
-        return self.next(Chain(crate, own, rounds_of(edits)))
+        return self.next(Chain(crate, own, rounds_of(Twins(self.repository.root / "crates" / crate).apart(edits))))
 
     def next(self, chain: Chain) -> list[Step]:
         """The step that judges the next edits of a crate, if some are left."""
@@ -133,8 +135,11 @@ class Trial:
         is_round = bool(chain.rounds)
         edits = chain.rounds.pop(0) if is_round else [chain.alone.pop()]
         standing = edits + [it for it in chain.standing if is_round and it.can_stay(edits)]
-        replace_sources(chain.room, chain.crate, self.repository.root / "crates" / chain.crate / "src")
-        apply(standing, chain.room / "crates" / chain.crate)
+        copy = chain.room / "crates" / chain.crate
+        replace_sources(self.repository.root / "crates" / chain.crate, copy)
+        apply(standing, copy)
+        for it in standing:
+            add_proof_files(it, copy)
         verdict = check(chain.room, chain.crate, sorted({it.function for it in edits}), jobs)
         wrong = {it.function for it in standing}
         strays = [name for name, said in verdict.functions.items() if said.is_refused() and name not in wrong]

@@ -162,16 +162,17 @@ def copy_kept(source: Path, target: Path) -> None:
 def copy_room(base: Path, room: Path, crate: str) -> None:
     """Copies a room, for checks of the crate after changes to its source."""
     own = base / "crates" / crate
-    apart = {own: {"src"}, own / KEPT.parent: {KEPT.name}}
+    apart = {own: set(PARTS), own / KEPT.parent: {KEPT.name}}
     shutil.copytree(base, room, copy_function=link, ignore=lambda folder, _: apart.get(Path(folder), set()))
     copy_kept(own, room / "crates" / crate)
 
 
-def replace_sources(room: Path, crate: str, sources: Path) -> None:
-    """Puts these sources in the place of those of the crate in a room."""
-    target = room / "crates" / crate / "src"
-    shutil.rmtree(target, ignore_errors=True)
-    shutil.copytree(sources, target)
+def replace_sources(source: Path, target: Path) -> None:
+    """Puts the sources and proofs of a crate in the place of those of its copy."""
+    for part in PARTS:
+        shutil.rmtree(target / part, ignore_errors=True)
+        if (source / part).is_dir():
+            shutil.copytree(source / part, target / part)
 
 
 def link(source: str, target: str) -> str:

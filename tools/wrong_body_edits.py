@@ -26,6 +26,9 @@ class Hunk:
     lines: tuple[str, ...]
 
     def touches(self, other: "Hunk") -> bool:
+        # a twin is added behind a function, where no body reaches
+        if self.start == self.end or other.start == other.end:
+            return False
         return self.file == other.file and self.start <= other.end and other.start <= self.end
 
 
@@ -38,6 +41,8 @@ class Edit:
     hunks: tuple[Hunk, ...]
     # whether it changes more than its function's body, so that it may also change what is said of other functions
     is_wide: bool
+    # the function that `function` is a twin of, if it is one
+    twin_of: str = ""
 
     def can_join(self, others: list["Edit"]) -> bool:
         """Whether one check can judge the edit together with these."""
@@ -122,18 +127,27 @@ def hunks_of(file: str, before: str, after: str) -> list[Hunk]:
     return [Hunk(file, start, end, tuple(new[at:to])) for word, start, end, at, to in steps if word != "equal"]
 
 
-def bodies_of(name: str, lines: list[str]) -> list[range]:
-    """The lines of the bodies of the functions of that name, by the layout that `rt fmt` gives."""
+def functions_of(name: str, lines: list[str]) -> list[range]:
+    """The lines of the functions of that name, with what stands right above them, by the layout that `rt fmt` gives."""
     found = []
     for at, line in enumerate(lines):
         head = re.match(rf"( *)(?:pub(?:\([^)]*\))? )?(?:const |unsafe )*fn {re.escape(name)}\b", line)
-        if not head:
-            continue
-        here = [to for to in range(at, len(lines)) if re.match(rf"{head[1]}\S", lines[to])]
-        start = next((to for to in here if lines[to].endswith("{")), len(lines))
-        end = next((to for to in here if to > start and lines[to] == f"{head[1]}}}"), None)
+        end = next((to for to in range(at, len(lines)) if lines[to].rstrip() == f"{head[1]}}}"), None) if head else None
         if end is not None:
-            found.append(range(start + 1, end))
+            above = next((to for to in range(at, 0, -1) if not lines[to - 1].strip() or lines[to - 1].rstrip()[-1] in "{}"), 0)
+            found.append(range(above, end + 1))
+    return found
+
+
+def bodies_of(name: str, lines: list[str]) -> list[range]:
+    """The lines of the bodies of the functions of that name."""
+    found = []
+    for whole in functions_of(name, lines):
+        head = next(it for it in whole if re.search(rf"\bfn {re.escape(name)}\b", lines[it]) and not lines[it].lstrip().startswith("//"))
+        indent = lines[head][: len(lines[head]) - len(lines[head].lstrip())]
+        start = next((it for it in whole if it >= head and re.match(rf"{indent}\S", lines[it]) and lines[it].rstrip().endswith("{")), None)
+        if start is not None:
+            found.append(range(start + 1, whole.stop - 1))
     return found
 
 

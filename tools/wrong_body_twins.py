@@ -1,0 +1,95 @@
+"""Gives a function that has several wrong bodies a twin for each but the first, so that one check judges them all.
+
+A twin is the whole function with a wrong body, under a name of its own, right behind the function. It keeps the contract, and
+nothing calls it. Where the function has proof files, the twin has the same under its name. That says as much of the wrong
+body as the function's own files do, since the name of the function stands in them only where they import what is generated for
+it, and in no file beside them: where that isn't so, there is no twin.
+"""
+
+import re
+from collections import Counter
+from dataclasses import replace
+from pathlib import Path
+
+from wrong_body_edits import Edit, Hunk, functions_of
+
+# what is generated for a function, in modules that its own proof files import
+GENERATED = r"\.(?:Goals|Given|Code|Statement)\b"
+# what a function's proof files may be: a proof by hand in `Proof.antt` exports a name made of the function's
+ANSWERS = {"Answers.antt", "Invariants.antt"}
+
+
+class Twins:
+    """Makes the twins of a crate's functions."""
+
+    def __init__(self, crate: Path) -> None:
+        self.crate = crate
+        self.proofs = {file: file.read_text(encoding="utf-8") for file in (crate / "proofs").rglob("*.antt")}
+
+    def apart(self, edits: list[Edit]) -> list[Edit]:
+        """The edits, each of another function as far as twins can be had."""
+        seen: Counter[str] = Counter()
+        found = []
+        for edit in edits:
+            seen[edit.function] += 1
+            twin = self.twin(edit, seen[edit.function]) if seen[edit.function] > 1 else None
+            found.append(twin or edit)
+        return found
+
+    def twin(self, edit: Edit, number: int) -> Edit | None:
+        """The edit as one that adds a twin of its function, if it changes that function alone and a twin can be had."""
+        first = edit.hunks[0]
+        lines = (self.crate / first.file).read_text(encoding="utf-8").splitlines(keepends=True)
+        path, _, name = edit.function.rpartition("::")
+        whole = next((it for it in functions_of(name, lines) if first.start in it), None)
+        if edit.is_wide or whole is None or is_of_a_trait(lines, whole.start) or not self.can_be_renamed(edit.function):
+            return None
+        text = lines[whole.start : whole.stop]
+        for hunk in sorted(edit.hunks, key=lambda it: -it.start):
+            if hunk.file != first.file or not (hunk.start in whole and hunk.end <= whole.stop):
+                return None
+            text[hunk.start - whole.start : hunk.end - whole.start] = hunk.lines
+        own = f"{name}_wrong_{number}"
+        renamed, count = re.subn(rf"(?m)^( *(?:pub(?:\([^)]*\))? )?(?:const |unsafe )*fn ){name}\b", rf"\g<1>{own}", "".join(text))
+        behind = Hunk(first.file, whole.stop, whole.stop, ("\n", *renamed.splitlines(keepends=True)))
+        return replace(edit, function=f"{path}::{own}", hunks=(behind,), twin_of=edit.function) if count == 1 else None
+
+    def can_be_renamed(self, function: str) -> bool:
+        """Whether the function's proof files, if it has some, are those of another function by changing what they import."""
+        folder = proof_folder(self.crate, function)
+        files = [it for it in self.proofs if folder in it.parents]
+        named = re.compile(re.escape(generated_path(self.crate, function)) + GENERATED)
+        return all(it.name in ANSWERS and it.parent == folder for it in files) and not any(
+            named.search(text) for file, text in self.proofs.items() if file not in files
+        )
+
+
+def add_proof_files(edit: Edit, crate: Path) -> None:
+    """Gives a twin the proof files of its function."""
+    source = proof_folder(crate, edit.twin_of)
+    if not edit.twin_of or not source.is_dir():
+        return
+    old, new = (generated_path(crate, it) for it in (edit.twin_of, edit.function))
+    target = proof_folder(crate, edit.function)
+    target.mkdir()
+    for file in source.iterdir():
+        text = re.sub(re.escape(old) + f"(?={GENERATED})", new, file.read_text(encoding="utf-8"))
+        (target / file.name).write_text(text, encoding="utf-8")
+
+
+def proof_folder(crate: Path, function: str) -> Path:
+    """Where a function's proof files stand, if it has some."""
+    return crate.joinpath("proofs", *function.split("::")[1:])
+
+
+def generated_path(crate: Path, function: str) -> str:
+    """The path of the modules that are generated for a function's proof."""
+    return ".".join(["Rattle", crate.name, "proofs", *function.split("::")[1:]])
+
+
+def is_of_a_trait(lines: list[str], start: int) -> bool:
+    """Whether the function that begins there is a trait's or an implementation of one, which takes no further function."""
+    if not lines[start].startswith(" "):
+        return False
+    outer = next((it for it in reversed(lines[:start]) if re.match(r"(?:pub )?(?:unsafe )?(?:impl|trait)\b", it)), "trait")
+    return " for " in outer or "trait" in outer.partition("<")[0]
