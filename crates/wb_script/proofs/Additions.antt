@@ -26,8 +26,8 @@ use Rattle.wb_model.specs.Kinds.{is_trap}
 use Rattle.wb_model.specs.Names.{with_one, without_last, blocks_after, kind_begun}
 use Rattle.wb_model.specs.Sound.{Declared, is_body, is_local, is_nested, are_statements, local_of_parameter}
 use Rattle.wb_model.specs.Trees.{Indexed, Marked, number_kept, local_line, local_lines, statement_lines, else_line, end_line}
-use Rattle.wb_script.specs.declared.checks.nesting.Open.{Open}
-use Rattle.wb_script.specs.declared.checks.nesting.Open.TheVariants.{Branch, Block}
+use Rattle.wb_nesting.specs.declared.open.Open.{Open}
+use Rattle.wb_nesting.specs.declared.open.Open.TheVariants.{Branch, Block}
 use Rattle.wb_script.specs.declared.tree.blocks.Head.{Head}
 use Rattle.wb_script.specs.declared.tree.blocks.Head.TheVariants as head
 use Rattle.wb_script.specs.declared.tree.blocks.Nest.{Nest}
@@ -37,7 +37,7 @@ use Rattle.wb_script.specs.declared.tree.bodies.Left.TheVariants.{Inside, Done}
 use Rattle.wb_script.specs.Building.{fits, is_due, is_small, declares, begins, local_of, begins_block, AreOpen, BecomesElse, ClosesBlock, Counts, is_head, head_key, head_form, first_part, nest_lines, nest_places, place_in_block, keys_of_blocks, counts_after, locals_after, procedures_after, operations_after, classes_after, this_after}
 use Rattle.wb_script.specs.Growing.{Adds, IsSoundOpen, TakesLocal, TakesWhereFit, inside_lines, counts_in, scope_in_body}
 use Rattle.wb_script.specs.Fitting.{operands_fit}
-use Rattle.wb_script.specs.Machine.{step}
+use Rattle.wb_nesting.specs.Machine.{step}
 use Rattle.wb_script.specs.Stated.{IsOneLine}
 use Rattle.wb_script.proofs.Wholes.{both}
 use Rattle.wb_script.proofs.Nests.{stated_lines, entered_lines, else_lines, closed_lines, stated_open, entered_open, else_open, closed_open, in_trap-outside, keys-last, without_last-last, around, places, places-block, places-stated, step-plain, step-loop, step-if, step-end, step-outer_end, step-else, late_declaration, opens}

@@ -16,13 +16,13 @@ use Rattle.wb_model.specs.Keys.{role_of}
 use Rattle.wb_model.specs.Names.{kind_begun}
 use Rattle.wb_model.specs.Sound.{Declared, are_classes, fields_declared, is_class_among, is_class_of, is_own_body}
 use Rattle.wb_model.specs.Trees.{Indexed, Marked, Lines, class_head, field_line, field_lines, number_kept, own_body_lines, end_line, each_from, lines_of_class, in_order, all_lines}
-use Rattle.wb_script.specs.declared.checks.nesting.Open.TheVariants.{Declarations, Destroyed}
+use Rattle.wb_nesting.specs.declared.open.Open.TheVariants.{Declarations, Destroyed}
 use Rattle.wb_script.specs.declared.tree.whole.WholeItems.{WholeItems}
 use Rattle.wb_script.specs.declared.tree.whole.Owner.TheVariants as of
 use Rattle.wb_script.specs.declared.tree.whole.Stage.TheVariants.{InClass}
 use Rattle.wb_script.specs.Building.{Counts, counts_after, with_field}
 use Rattle.wb_script.specs.Growing.{Grows, IsBelowWhere, IsSoundWhere, class_place, counts_of_class, in_body, in_class, items_in_order, new_body, open_class_lines, outside, place_behind, with_class}
-use Rattle.wb_script.specs.Machine.{after_line, step}
+use Rattle.wb_nesting.specs.Machine.{after_line, step}
 use Rattle.wb_script.proofs.Additions.{counts_as}
 use Rattle.wb_script.proofs.Beginnings.{new_sound}
 use Rattle.wb_script.proofs.Growth.{bodies_before, classes_before, same_step, still_below}

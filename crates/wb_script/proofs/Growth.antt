@@ -15,7 +15,7 @@ use Rattle.wb_model.specs.declared.script_lines.Form.TheVariants.{Skip, Line}
 use Rattle.wb_model.specs.Keys.{role_of}
 use Rattle.wb_model.specs.Sound.{Declared, is_body, is_own_body, is_procedure, is_operation, its_parameters, scope_of}
 use Rattle.wb_model.specs.Trees.{Marked, Lines, mark, class_head, field_lines, own_body_lines, end_line, body_lines, each_from, lines_of_class, lines_of_procedure, lines_of_operation, in_order, all_lines}
-use Rattle.wb_script.specs.declared.checks.nesting.Open.TheVariants.{Made}
+use Rattle.wb_nesting.specs.declared.open.Open.TheVariants.{Made}
 use Rattle.wb_script.specs.declared.tree.whole.WholeItems.{WholeItems}
 use Rattle.wb_script.specs.declared.tree.whole.Owner.{Owner}
 use Rattle.wb_script.specs.declared.tree.whole.Owner.TheVariants as of
@@ -26,13 +26,13 @@ use Rattle.wb_script.specs.declared.tree.bodies.OpenBody.{OpenBody}
 use Rattle.wb_script.specs.declared.tree.bodies.Left.TheVariants.{Inside, Done}
 use Rattle.wb_script.specs.Building.{Counts, counts_after, nest_places}
 use Rattle.wb_script.specs.Growing.{Adds, AreBelow, AreCounts, AreSound, Grows, IsBelow, IsBelowWhere, IsOwned, IsSound, IsSoundClass, IsSoundWhere, building_lines, building_places, class_place, counts_in, counts_owned, counts_whole, finished, has_room, in_body, in_class, inside_lines, items_in_order, left_counts, line_of_owner, outside, owner_lines, owner_places, with_operation, with_procedure}
-use Rattle.wb_script.specs.Machine.{step, after_line}
+use Rattle.wb_nesting.specs.Machine.{step, after_line}
 use Rattle.wb_script.proofs.Nests.{flat_map-last}
 use Rattle.wb_script.proofs.OpenPlaces.{inner_step}
 use Rattle.wb_script.proofs.Orders.{are_before, first_last, second_last, in_order_below, each_from-last, each_below, all_below}
 use Rattle.wb_script.proofs.Tests.{parts, together, below_of, below_test}
 
-pub same_step : (k : Key) (stack : List Rattle.wb_script.specs.declared.checks.nesting.Open.Open) → after_line stack (role_of k) ≡ step stack (role_of k)
+pub same_step : (k : Key) (stack : List Rattle.wb_nesting.specs.declared.open.Open.Open) → after_line stack (role_of k) ≡ step stack (role_of k)
 same_step key.Proc stack = refl
 same_step key.Ptr stack = refl
 same_step _ stack = refl
@@ -240,7 +240,7 @@ done_counts b body p (of.Operation number) before =
 done_counts b body p (of.Constructor c) before = refl
 done_counts b body p (of.Destructor c) before = refl
 
-behind_destroy : (construct : Option Body) (body : Body) → Rattle.wb_script.specs.Growing.place_behind construct (Some body) ≡ Rattle.wb_script.specs.declared.checks.nesting.Open.TheVariants.Destroyed
+behind_destroy : (construct : Option Body) (body : Body) → Rattle.wb_script.specs.Growing.place_behind construct (Some body) ≡ Rattle.wb_nesting.specs.declared.open.Open.TheVariants.Destroyed
 behind_destroy None body = refl
 behind_destroy (Some construct) body = refl
 

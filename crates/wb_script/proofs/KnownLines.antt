@@ -11,10 +11,10 @@ use Rattle.wb_model.specs.Forms.{role_of_form}
 use Rattle.wb_model.specs.Grammar.{IsGrammatical, content}
 use Rattle.wb_model.specs.Keys.{role_of}
 use Rattle.wb_model.specs.Trees.{Indexed, Marked, counted_from}
-use Rattle.wb_script.specs.declared.checks.nesting.Open.{Open}
-use Rattle.wb_script.specs.declared.checks.nesting.Open.TheVariants.{Fields, Made, Destroyed, Declarations, Statements, Branch, Block}
-use Rattle.wb_script.specs.Machine.{step}
-use Rattle.wb_script.proofs.Runs.{run, items_run}
+use Rattle.wb_nesting.specs.declared.open.Open.{Open}
+use Rattle.wb_nesting.specs.declared.open.Open.TheVariants.{Fields, Made, Destroyed, Declarations, Statements, Branch, Block}
+use Rattle.wb_nesting.specs.Machine.{step}
+use Rattle.wb_nesting.proofs.Runs.{run, items_run}
 use Rattle.wb_script.proofs.TypedLemmas.{both}
 
 abbrev is_said : Role → Bool

@@ -15,13 +15,13 @@ use Rattle.wb_model.specs.Kinds.{is_trap}
 use Rattle.wb_model.specs.Names.{without_last}
 use Rattle.wb_model.specs.Sound.{Declared, Scope, is_condition, is_nested, are_within}
 use Rattle.wb_model.specs.Trees.{Marked, condition_line, numbered_lines, statement_lines, else_line, end_line}
-use Rattle.wb_script.specs.declared.checks.nesting.Open.{Open}
-use Rattle.wb_script.specs.declared.checks.nesting.Open.TheVariants.{Declarations, Statements, Branch, Block}
+use Rattle.wb_nesting.specs.declared.open.Open.{Open}
+use Rattle.wb_nesting.specs.declared.open.Open.TheVariants.{Declarations, Statements, Branch, Block}
 use Rattle.wb_script.specs.declared.tree.blocks.Head.{Head}
 use Rattle.wb_script.specs.declared.tree.blocks.Head.TheVariants as head
 use Rattle.wb_script.specs.declared.tree.blocks.OpenBlock.{OpenBlock}
 use Rattle.wb_script.specs.Building.{AreOpen, IsWhole, in_trap, is_head, head_key, head_lines, block_lines, nest_lines, nest_places, place_in_block, place_in_body, keys_of_blocks}
-use Rattle.wb_script.specs.Machine.{step}
+use Rattle.wb_nesting.specs.Machine.{step}
 use Rattle.wb_script.proofs.Wholes.{both, no_trap}
 
 module _ {X : Type 0} where

@@ -5,10 +5,10 @@ use Rattle.wb_model.specs.declared.script_lines.Key.TheVariants as key
 use Rattle.wb_model.specs.declared.script_lines.Role.{Role}
 use Rattle.wb_model.specs.declared.script_lines.Role.TheVariants as role
 use Rattle.wb_model.specs.Keys.{role_of}
-use Rattle.wb_script.specs.declared.checks.nesting.Move.{Move}
-use Rattle.wb_script.specs.declared.checks.nesting.Move.TheVariants.{Close, Stay, Enter}
-use Rattle.wb_script.specs.declared.checks.nesting.Open.{Open}
-use Rattle.wb_script.specs.declared.checks.nesting.Open.TheVariants.{Block, Branch, Declarations, Statements}
+use Rattle.wb_nesting.specs.declared.open.Move.{Move}
+use Rattle.wb_nesting.specs.declared.open.Move.TheVariants.{Close, Stay, Enter}
+use Rattle.wb_nesting.specs.declared.open.Open.{Open}
+use Rattle.wb_nesting.specs.declared.open.Open.TheVariants.{Block, Branch, Declarations, Statements}
 use Rattle.wb_model.specs.declared.script.Body.{Body}
 use Rattle.wb_model.specs.declared.script.Class.{Class}
 use Rattle.wb_script.specs.declared.tree.bodies.OpenBody.{OpenBody}
@@ -19,7 +19,7 @@ use Rattle.wb_script.specs.declared.tree.blocks.Nest.{Nest}
 use Rattle.wb_script.specs.declared.tree.blocks.OpenBlock.{OpenBlock}
 use Rattle.wb_script.specs.Building.{nest_places, place_in_block, place_in_body}
 use Rattle.wb_script.specs.Growing.{building_places, class_place, owner_places, place_behind, stage_places}
-use Rattle.wb_script.specs.Machine.{after_line, move_of, moved, step}
+use Rattle.wb_nesting.specs.Machine.{after_line, move_of, moved, step}
 
 pub record HasPlace (places : List Open) : Type 0 where
   pub place : Open

@@ -9,10 +9,10 @@ use Rattle.wb_model.specs.Grammar.{IsGrammatical}
 use Rattle.wb_model.specs.Passes.{first_bad, state_after}
 use Rattle.wb_model.specs.Sound.{Declared}
 use Rattle.wb_model.specs.Trees.{Indexed, counted, counted_from}
-use Rattle.wb_script.specs.declared.checks.nesting.Open.{Open}
+use Rattle.wb_nesting.specs.declared.open.Open.{Open}
 use Rattle.wb_script.specs.Building.{AllFit, counts_of, fits, unfit, counts_after, nothing_counted}
-use Rattle.wb_script.specs.Machine.{after_line}
-use Rattle.wb_script.proofs.Misfits.{blocks_after, one_line, never_stuck}
+use Rattle.wb_nesting.specs.Machine.{after_line}
+use Rattle.wb_nesting.proofs.Misfits.{blocks_after, one_line, never_stuck}
 
 counted_last : (number : ℕ) (lines : List Indexed) (line : Indexed) → counted_from number (lines ++ line ∷ []) ≡ counted_from number lines ++ counted (number + length lines) line
 counted_last number [] line = append-nil (counted number line) ∙ ap (λ n. counted n line) (sym (add-zero number))

@@ -18,16 +18,16 @@ use Rattle.wb_model.specs.Kinds.{is_outside}
 use Rattle.wb_model.specs.Names.{Text, Known, Item, known_after, begins_body, fields_after, first_name}
 use Rattle.wb_model.specs.Resolved.{has_this, class_of_this, resolved_line}
 use Rattle.wb_script.specs.Building.{Counts, counts_after, classes_after, with_field, last_count}
-use Rattle.wb_script.specs.Machine.{move_of, moved, step}
+use Rattle.wb_nesting.specs.Machine.{move_of, moved, step}
 use Rattle.wb_script.specs.Typed.{is_typed}
-use Rattle.wb_script.specs.declared.checks.nesting.Open.{Open}
-use Rattle.wb_script.specs.declared.checks.nesting.Open.TheVariants.{Fields, Made, Destroyed, Declarations, Statements, Branch, Block}
-use Rattle.wb_script.specs.declared.checks.nesting.Move.{Move}
-use Rattle.wb_script.specs.declared.checks.nesting.Move.TheVariants.{Close, Stay, Enter}
+use Rattle.wb_nesting.specs.declared.open.Open.{Open}
+use Rattle.wb_nesting.specs.declared.open.Open.TheVariants.{Fields, Made, Destroyed, Declarations, Statements, Branch, Block}
+use Rattle.wb_nesting.specs.declared.open.Move.{Move}
+use Rattle.wb_nesting.specs.declared.open.Move.TheVariants.{Close, Stay, Enter}
 use Rattle.wb_script.proofs.CountLemmas.{as_many_with_field}
 use Rattle.wb_script.proofs.CountedLines.{Counted}
 use Rattle.wb_script.proofs.FitLemmas.{both_hold, stands_apart}
-use Rattle.wb_script.proofs.Runs.{run}
+use Rattle.wb_nesting.proofs.Runs.{run}
 use Rattle.wb_script.proofs.TypedLemmas.{both}
 
 -- the first of lines that are read

@@ -32,8 +32,8 @@ use Rattle.wb_model.specs.Names.{with_one, item_begun, parameters_in, blocks_aft
 use Rattle.wb_model.specs.Passes.{first_bad, state_after}
 use Rattle.wb_model.specs.Sound.{Declared, Scope, is_condition, is_number, is_variable, is_nested, are_within, local_of_parameter}
 use Rattle.wb_model.specs.Trees.{Indexed, Marked, lines_of_statement, line, number_operand, variable_operand, condition_line, statement_lines, else_line, end_line}
-use Rattle.wb_script.specs.declared.checks.nesting.Open.{Open}
-use Rattle.wb_script.specs.declared.checks.nesting.Open.TheVariants.{Declarations, Statements, Branch, Block}
+use Rattle.wb_nesting.specs.declared.open.Open.{Open}
+use Rattle.wb_nesting.specs.declared.open.Open.TheVariants.{Declarations, Statements, Branch, Block}
 use Rattle.wb_script.specs.declared.tree.blocks.Head.{Head}
 use Rattle.wb_script.specs.declared.tree.blocks.Head.TheVariants as head
 use Rattle.wb_script.specs.declared.tree.blocks.OpenBlock.{OpenBlock}
@@ -41,7 +41,7 @@ use Rattle.wb_script.specs.declared.tree.blocks.Nest.{Nest}
 use Rattle.wb_script.specs.declared.tree.blocks.Around.{Around}
 use Rattle.wb_script.specs.declared.tree.blocks.Around.TheVariants as around
 use Rattle.wb_script.specs.Fitting.{operands_fit}
-use Rattle.wb_script.specs.Machine.{step}
+use Rattle.wb_nesting.specs.Machine.{step}
 
 -- the local that a line of a key declares
 abbrev pub local_of : Key → List (Operand Meant) → Option Local

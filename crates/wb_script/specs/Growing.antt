@@ -19,8 +19,8 @@ use Rattle.wb_model.specs.Forms.{role_of_form}
 use Rattle.wb_model.specs.Names.{taken_by}
 use Rattle.wb_model.specs.Sound.{Declared, Scope, is_local, is_parameter, is_body, is_class_of, are_classes, is_procedure, is_operation, its_parameters, local_of_parameter, locals_of, scope_of, fields_declared, signatures_of}
 use Rattle.wb_model.specs.Trees.{Indexed, Marked, Lines, mark, counted, line, head_line, local_line, local_lines, field_lines, own_body_lines, class_head, end_line, body_lines, parameter_operand, each_from, lines_of_class, lines_of_procedure, lines_of_operation, in_order, all_lines}
-use Rattle.wb_script.specs.declared.checks.nesting.Open.{Open}
-use Rattle.wb_script.specs.declared.checks.nesting.Open.TheVariants.{Fields, Made, Destroyed}
+use Rattle.wb_nesting.specs.declared.open.Open.{Open}
+use Rattle.wb_nesting.specs.declared.open.Open.TheVariants.{Fields, Made, Destroyed}
 use Rattle.wb_script.specs.declared.tree.space.Space.{Space}
 use Rattle.wb_script.specs.declared.tree.whole.WholeItems.{WholeItems}
 use Rattle.wb_script.specs.declared.tree.whole.Owner.{Owner}
@@ -35,7 +35,7 @@ use Rattle.wb_script.specs.declared.tree.bodies.Left.{Left}
 use Rattle.wb_script.specs.declared.tree.bodies.Left.TheVariants.{Inside, Done}
 use Rattle.wb_script.specs.Building.{Counts, AreOpen, counts_after, fits, keys_of_blocks, local_of, nest_lines, nest_places, parameter_taking}
 use Rattle.wb_script.specs.Lent.{declared_by}
-use Rattle.wb_script.specs.Machine.{step, after_line}
+use Rattle.wb_nesting.specs.Machine.{step, after_line}
 
 -- what the statements of a script may name, whichever body they stand in
 abbrev pub declared_in_space : Space → Declared

@@ -3,7 +3,6 @@ pub mod Growing
 pub mod Checks
 pub mod Fitting
 pub mod Lent
-pub mod Machine
 pub mod Pieces
 pub mod Reads
 pub mod Stated

@@ -6,7 +6,6 @@ pub(crate) mod known;
 pub(crate) mod leaving;
 pub(crate) mod limits;
 pub(crate) mod names;
-pub(crate) mod nesting;
 pub(crate) mod resolved;
 
 ghost use Rattle.std.specs.Prelude.{◌≡◌, ◌+◌, ◌<◌, ◌≤◌, [], ◌∷◌, ◌++◌, List, length, IfOk, OnOk};

@@ -14,7 +14,6 @@ ghost use Rattle.wb_script.specs.Reads.{roles_of, IsFormsFault};
 ghost use Rattle.wb_script.specs.Typed.{AreTyped};
 
 use crate::checks::items::{Item, items_of};
-use crate::checks::nesting::first_misfit;
 use crate::checks::resolved::item_meant;
 use crate::checks::{FirstLines, checked_lines};
 use crate::lines::bytes::{first_foreign_line, is_too_long};
@@ -28,6 +27,7 @@ use wb_model::items::Items;
 use wb_model::limits::LONGEST_SCRIPT;
 use wb_model::script::{Chars, Script};
 use wb_model::script_lines::{Form, Meant, Role};
+use wb_nesting::first_misfit;
 
 fn roles<N>(alloc: Global, forms: &[Form<N>]) -> Result<Vec<Role>, AllocError>
     ensures { IfOk result (λ found. found.items ≡ map role_of_form forms.now) }

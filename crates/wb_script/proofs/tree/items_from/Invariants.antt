@@ -3,7 +3,7 @@ use Rattle.wb_model.specs.Forms.{role_of_form}
 use Rattle.wb_model.specs.Trees.{counted_from}
 use Rattle.wb_script.specs.Building.{counts_of}
 use Rattle.wb_script.specs.Growing.{AreCounts, IsBelow, IsSound, building_lines, building_places, declared_in_space}
-use Rattle.wb_script.proofs.Misfits.{blocks_after}
+use Rattle.wb_nesting.proofs.Misfits.{blocks_after}
 use Rattle.wb_script.proofs.tree.items_from.Given as goal
 
 abbrev pub invariant-loop-line : goal.invariant-loop-line

@@ -3,8 +3,8 @@ use Rattle.std.proofs.Common.{Some}
 use Rattle.std.proofs.lemmas.Grind.{common_steps}
 use Rattle.std.proofs.lemmas.Bool.Decides.{nat_tests}
 use Rattle.std.proofs.lemmas.List.{nil_from_length, length-reverse}
-use Rattle.wb_script.proofs.Misfits.{one_line, all_read, misfit_here, end_missing, grammatical}
-use Rattle.wb_script.proofs.checks.nesting.first_misfit.Goals as goal
+use Rattle.wb_nesting.proofs.Misfits.{one_line, all_read, misfit_here, end_missing, grammatical}
+use Rattle.wb_nesting.proofs.nesting.first_misfit.Goals as goal
 
 pub returns-then-not-branch : goal.returns-then-not-branch
 returns-then-not-branch c =

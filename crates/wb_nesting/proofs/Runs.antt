@@ -4,11 +4,11 @@ use Rattle.std.proofs.lemmas.Option.{option_and_then_some}
 use Rattle.std.specs.Option.{option_and_then}
 use Rattle.wb_model.specs.declared.script_lines.Role.{Role}
 use Rattle.wb_model.specs.declared.script_lines.Role.TheVariants.{Class, Field, Construct, Destroy, Procedure, Declaration, Plain, Loop, If, Else, End}
-use Rattle.wb_script.specs.declared.checks.nesting.Open.{Open}
-use Rattle.wb_script.specs.declared.checks.nesting.Open.TheVariants.{Fields, Made, Destroyed, Declarations, Statements, Branch, Block}
-use Rattle.wb_script.specs.declared.checks.nesting.Move.{Move}
-use Rattle.wb_script.specs.declared.checks.nesting.Move.TheVariants.{Close, Stay, Enter}
-use Rattle.wb_script.specs.Machine.{statement, move_of, after, moved, step}
+use Rattle.wb_nesting.specs.declared.open.Open.{Open}
+use Rattle.wb_nesting.specs.declared.open.Open.TheVariants.{Fields, Made, Destroyed, Declarations, Statements, Branch, Block}
+use Rattle.wb_nesting.specs.declared.open.Move.{Move}
+use Rattle.wb_nesting.specs.declared.open.Move.TheVariants.{Close, Stay, Enter}
+use Rattle.wb_nesting.specs.Machine.{statement, move_of, after, moved, step}
 use Rattle.wb_model.specs.Grammar.{AreStatements, IsBody, AreFields, IsOptional, AreItems}
 
 -- the open blocks after some lines

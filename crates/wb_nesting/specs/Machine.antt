@@ -2,10 +2,10 @@
 use Rattle.std.specs.Prelude.{List, [], ◌∷◌, Option, Some, None}
 use Rattle.wb_model.specs.declared.script_lines.Role.{Role}
 use Rattle.wb_model.specs.declared.script_lines.Role.TheVariants.{Skip, Class, Field, Construct, Destroy, Procedure, Declaration, Plain, Loop, If, Else, End}
-use Rattle.wb_script.specs.declared.checks.nesting.Open.{Open}
-use Rattle.wb_script.specs.declared.checks.nesting.Open.TheVariants.{Fields, Made, Destroyed, Declarations, Statements, Branch, Block}
-use Rattle.wb_script.specs.declared.checks.nesting.Move.{Move}
-use Rattle.wb_script.specs.declared.checks.nesting.Move.TheVariants.{Close, Stay, Enter}
+use Rattle.wb_nesting.specs.declared.open.Open.{Open}
+use Rattle.wb_nesting.specs.declared.open.Open.TheVariants.{Fields, Made, Destroyed, Declarations, Statements, Branch, Block}
+use Rattle.wb_nesting.specs.declared.open.Move.{Move}
+use Rattle.wb_nesting.specs.declared.open.Move.TheVariants.{Close, Stay, Enter}
 
 abbrev pub statement : Open → Role → Option Move
 statement place Plain = Some (Stay place)

@@ -1,42 +1,15 @@
-//! The nesting of blocks.
+//! Reads the lines of a script by their roles, with the blocks that are open, up to the first line without a place.
 
-ghost use Rattle.std.specs.Prelude.{◌≡◌, IfOk, OnOk, MatchOption, MatchBool, reverse};
+ghost use Rattle.std.specs.Prelude.{◌≡◌, ◌∷◌, IfOk, OnOk, MatchOption, MatchBool, reverse};
 ghost use Rattle.wb_model.specs.Grammar.{IsGrammatical, IsFirstMisfit};
-ghost use Rattle.wb_script.specs.Machine.{move_of, after, step, after_line};
+ghost use Rattle.wb_nesting.specs.Machine.{move_of, after, step, after_line};
 
-use crate::lists::add;
+use crate::open::{Move, Open};
 use std::alloc::{AllocError, Global};
 use wb_model::script_lines::Role;
 
-/// A place in an open block: what may stand next in it.
-#[derive(Clone, Copy)]
-pub enum Open {
-    /// A class: fields, bodies or the end.
-    Fields,
-    /// A class after its `construct`.
-    Made,
-    /// A class after its `destroy`.
-    Destroyed,
-    /// A body before its first statement.
-    Declarations,
-    Statements,
-    /// The first part of an `if`.
-    Branch,
-    /// A `repeat`, or the second part of an `if`.
-    Block,
-}
-
-/// What a line does to the innermost open block.
-#[derive(Clone, Copy)]
-pub enum Move {
-    Close,
-    Stay(Open),
-    /// Opens the second inside the first.
-    Enter(Open, Open),
-}
-
 fn statement_in(place: Open, role: Role) -> Option<Move>
-    ensures { result ≡ Rattle.wb_script.specs.Machine.statement place role }
+    ensures { result ≡ Rattle.wb_nesting.specs.Machine.statement place role }
 {
     match role {
         Role::Plain => Some(Move::Stay(place)),
@@ -69,16 +42,24 @@ fn move_of(place: Option<Open>, role: Role) -> Option<Move>
     }
 }
 
+/// Opens a block inside those that are open, with this place in it.
+fn open(stack: &mut Vec<Open>, place: Open) -> Result<(), AllocError>
+    ensures { OnOk result (reverse stack.new.items ≡ place ∷ reverse stack.old.items) }
+{
+    stack.push(place)?;
+    Ok(())
+}
+
 /// Makes a move of the innermost block, which is not among the open ones any more.
 fn make(stack: &mut Vec<Open>, made: Move) -> Result<(), AllocError>
     ensures { OnOk result (reverse stack.new.items ≡ after made (reverse stack.old.items)) }
 {
     match made {
         Move::Close => Ok(()),
-        Move::Stay(place) => add(stack, place),
+        Move::Stay(place) => open(stack, place),
         Move::Enter(outer, inner) => {
-            add(stack, outer)?;
-            add(stack, inner)
+            open(stack, outer)?;
+            open(stack, inner)
         }
     }
 }
@@ -110,8 +91,11 @@ fn read_line(stack: &mut Vec<Open>, role: Role) -> Result<bool, AllocError>
     }
 }
 
-/// The index of the first line that no script has in its place, or the number of lines where only
-/// an `end` is missing.
+/// The index of the first line that no script has in its place, whatever follows it, or the number of lines where only
+/// an `end` is missing; none where the lines are those of a script, as the grammar says.
+///
+/// Lines count from 0, with those that count for nothing (`Role::Skip`), which have a place everywhere. An error means that a growth of the list of
+/// open blocks was refused; it says nothing of the lines.
 pub fn first_misfit(alloc: Global, roles: &[Role]) -> Result<Option<usize>, AllocError>
     ensures { IfOk result (λ found. MatchOption found (IsGrammatical roles.now) (IsFirstMisfit roles.now)) }
 {

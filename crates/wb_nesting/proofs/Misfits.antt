@@ -6,10 +6,10 @@ use Rattle.std.proofs.lemmas.Grind.{flat_map-append}
 use Rattle.std.proofs.lemmas.List.{take_more, get_or_default, take_all, take-append-drop}
 use Rattle.wb_model.specs.declared.script_lines.Role.{Role}
 use Rattle.wb_model.specs.declared.script_lines.Role.TheVariants.{Skip, Class, End}
-use Rattle.wb_script.specs.declared.checks.nesting.Open.{Open}
+use Rattle.wb_nesting.specs.declared.open.Open.{Open}
 use Rattle.wb_model.specs.Grammar.{AreItems, content, IsGrammatical, Begins, EndsComplete, IsFirstMisfit}
-use Rattle.wb_script.proofs.Runs.{run, run_back, run-append, items_run, ends, ends_complete}
-use Rattle.wb_script.specs.Machine.{step, after_line}
+use Rattle.wb_nesting.proofs.Runs.{run, run_back, run-append, items_run, ends, ends_complete}
+use Rattle.wb_nesting.specs.Machine.{step, after_line}
 
 -- the open blocks after lines with skipped ones among them
 abbrev pub blocks_after : List Role → Option (List Open)

@@ -1,0 +1,8 @@
+//! The nesting of blocks: which lines of a script have a place, by their roles alone.
+#![tactic(auto)]
+
+pub mod nesting;
+pub mod open;
+
+pub use nesting::first_misfit;
+pub use open::{Move, Open};
