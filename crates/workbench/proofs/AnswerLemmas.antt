@@ -7,14 +7,14 @@ use Rattle.wb_model.specs.declared.heap.Shape.{Shape}
 use Rattle.wb_model.specs.declared.script.Script.{Script}
 use Rattle.wb_model.specs.Run.{run}
 use Rattle.workbench.specs.declared.answer.TheConstants.{READ_OR_WRITE_FAULT, WANT_OF_MEMORY}
-use Rattle.workbench.specs.declared.command.Command.{Command}
-use Rattle.workbench.specs.declared.command.Task.{Task}
-use Rattle.workbench.specs.declared.command.Task.TheVariants as T
+use Rattle.wb_command_line.specs.declared.command.Command.{Command}
+use Rattle.wb_command_line.specs.declared.command.Task.{Task}
+use Rattle.wb_command_line.specs.declared.command.Task.TheVariants as T
 use Rattle.workbench.specs.declared.figures.Figures.{Figures}
 use Rattle.workbench.specs.Answer.{IsAnswer, IsAnyMessage, IsMessage, IsPartWritten, IsReported, IsReportWritten, IsSaid}
 use Rattle.workbench.specs.Report.{IsReport, IsTaskReport, no_memory}
 use Rattle.workbench.specs.RunText.{outcome_status}
-use Rattle.workbench.specs.Streams.{AppendsFirst}
+use Rattle.wb_streams.specs.Streams.{AppendsFirst}
 use Rattle.workbench.specs.TwoNumbers.{IsCheckReport, IsSizeReport, IsSweepReport}
 
 -- ---- a report's status is at most 3

@@ -1,11 +1,11 @@
 -- What the program has done, by what its words came to.
 use Rattle.std.proofs.Common.{◌≡◌, ◌⊎◌, ℕ, List, Bool, true, false, Result, Ok, Err, MatchResult, inl, refl, sym, subst}
 use Rattle.clap.specs.Words.{Text, takes}
-use Rattle.workbench.specs.CommandLine.{command_line}
-use Rattle.workbench.specs.Fault.{IsAfterUsage, IsFaultOf}
+use Rattle.wb_command_line.specs.CommandLine.{command_line}
+use Rattle.wb_command_line.specs.Fault.{IsAfterUsage, IsFaultOf}
 use Rattle.workbench.specs.Program.{IsDone, IsReadAs, IsRefused}
-use Rattle.workbench.specs.declared.command.Command.{Command}
-use Rattle.workbench.specs.declared.command.CommandFault.{CommandFault}
+use Rattle.wb_command_line.specs.declared.command.Command.{Command}
+use Rattle.wb_command_line.specs.declared.command.CommandFault.{CommandFault}
 use Rattle.workbench.specs.declared.host.WordsFault.{WordsFault}
 use Rattle.workbench.specs.declared.host.WordsFault.TheVariants.{Refused}
 

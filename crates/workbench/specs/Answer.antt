@@ -4,11 +4,11 @@ use Rattle.std.specs.Io.KnownBytes.{Appends}
 use Rattle.workbench.specs.declared.answer.ReportFault.{ReportFault}
 use Rattle.workbench.specs.declared.answer.ReportFault.TheVariants.{Read}
 use Rattle.workbench.specs.declared.answer.TheConstants.{MOST_READ, READ_OR_WRITE_FAULT, WANT_OF_MEMORY}
-use Rattle.workbench.specs.declared.command.Command.{Command}
+use Rattle.wb_command_line.specs.declared.command.Command.{Command}
 use Rattle.workbench.specs.declared.figures.Figures.{Figures}
 use Rattle.workbench.specs.JsonReport.{laid_out}
 use Rattle.workbench.specs.Report.{IsReport, no_memory, read_fault}
-use Rattle.workbench.specs.Streams.{AppendsFirst, Tries}
+use Rattle.wb_streams.specs.Streams.{AppendsFirst, Tries}
 
 -- the bytes are the first of those that a reader tells, where it does, and never more than this
 pub record AreFirst (most : ℕ) (told : Option (List ℕ)) (bytes : List ℕ) : Type 0 where

@@ -1,15 +1,7 @@
 pub mod Answer
-pub mod Command
-pub mod CommandLine
-pub mod Fault
 pub mod Figures
 pub mod JsonReport
-pub mod Passed
 pub mod Program
 pub mod Report
 pub mod RunText
-pub mod Spelled
-pub mod Streams
-pub mod Subcommands
 pub mod TwoNumbers
-pub mod WordByWord

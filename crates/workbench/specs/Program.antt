@@ -5,12 +5,12 @@ use Rattle.std.specs.declared.io.Error.{Error}
 use Rattle.std.specs.declared.io.ErrorKind.{ErrorKind}
 use Rattle.std.specs.declared.io.ErrorKind.TheVariants.{OutOfMemory}
 use Rattle.clap.specs.Words.{Text, takes}
-use Rattle.workbench.specs.Command.{is_answerable}
-use Rattle.workbench.specs.CommandLine.{command_line}
-use Rattle.workbench.specs.Fault.{IsAfterUsage, IsFaultOf, refusal_status}
-use Rattle.workbench.specs.Spelled.{IsSpelledBy}
-use Rattle.workbench.specs.declared.command.Command.{Command}
-use Rattle.workbench.specs.declared.command.CommandFault.TheVariants.{NoMemory}
+use Rattle.wb_command_line.specs.Command.{is_answerable}
+use Rattle.wb_command_line.specs.CommandLine.{command_line}
+use Rattle.wb_command_line.specs.Fault.{IsAfterUsage, IsFaultOf, refusal_status}
+use Rattle.wb_command_line.specs.Spelled.{IsSpelledBy}
+use Rattle.wb_command_line.specs.declared.command.Command.{Command}
+use Rattle.wb_command_line.specs.declared.command.CommandFault.TheVariants.{NoMemory}
 use Rattle.workbench.specs.declared.host.WordsFault.{WordsFault}
 use Rattle.workbench.specs.declared.host.WordsFault.TheVariants.{NotUtf8, Refused}
 

@@ -9,9 +9,9 @@ use Rattle.wb_model.specs.declared.run.RunResult.{RunResult}
 use Rattle.wb_model.specs.declared.script.Script.{Script}
 use Rattle.wb_model.specs.Run.{run}
 use Rattle.wb_model.specs.Scripts.{IsScriptOf, IsFaultOf}
-use Rattle.workbench.specs.declared.command.Command.{Command}
-use Rattle.workbench.specs.declared.command.Task.{Task}
-use Rattle.workbench.specs.declared.command.Task.TheVariants as T
+use Rattle.wb_command_line.specs.declared.command.Command.{Command}
+use Rattle.wb_command_line.specs.declared.command.Task.{Task}
+use Rattle.wb_command_line.specs.declared.command.Task.TheVariants as T
 use Rattle.workbench.specs.declared.figures.Figures.{Figures}
 use Rattle.workbench.specs.Figures.{no_figures, run_figures}
 use Rattle.workbench.specs.RunText.{line, run_text, run_status}

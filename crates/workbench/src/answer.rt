@@ -6,17 +6,17 @@ ghost use Rattle.std.specs.Io.{ReadsAtMost};
 ghost use Rattle.std.specs.Io.KnownBytes.{Appends};
 ghost use Rattle.workbench.specs.declared.answer.ReportFault.TheVariants.{Read, NoMemory};
 ghost use Rattle.workbench.specs.Answer.{AreFirst, IsAnswer, IsPartWritten, IsReported, IsReportWritten, IsWritten, is_read_fault};
-ghost use Rattle.workbench.specs.Command.{is_answerable};
+ghost use Rattle.wb_command_line.specs.Command.{is_answerable};
 ghost use Rattle.workbench.specs.JsonReport.{laid_out};
 ghost use Rattle.workbench.specs.Report.{no_memory, read_fault};
-ghost use Rattle.workbench.specs.Streams.{AppendsFirst, TakesAtMost, Tries};
+ghost use Rattle.wb_streams.specs.Streams.{AppendsFirst, TakesAtMost, Tries};
 
-use crate::command::Command;
 use crate::json_report::json_text;
 use crate::report::{Report, report_on};
-use crate::streams::{Sink, Source, StreamFault, read_some, write_some};
 use std::alloc::{AllocError, Global};
+use wb_command_line::command::Command;
 use wb_model::memory::NoMemory;
+use wb_streams::streams::{Sink, Source, StreamFault, read_some, write_some};
 
 /// The most that is read of a script, in bytes: one more than a script may have, so that a longer one shows.
 pub const MOST_READ: usize = 65_537;

@@ -8,12 +8,12 @@ ghost use Rattle.workbench.specs.Program.{fault_of_words};
 ghost use Rattle.workbench.specs.declared.host.WordsFault.{WordsFault as Fault};
 ghost use Rattle.workbench.specs.declared.host.WordsFault.TheVariants.{Refused};
 
-use crate::command::CommandFault;
-use crate::streams::Source;
 use std::fs::File;
 use std::io;
 use std::io::{ErrorKind, StdinLock, Write};
 use thiserror::Error;
+use wb_command_line::command::CommandFault;
+use wb_streams::streams::Source;
 
 /// Why the program's words are no command.
 #[derive(Debug, Drop, Error)]

@@ -5,15 +5,14 @@
 
 pub mod answer;
 mod appended;
-pub mod command;
-pub mod command_line;
 mod figures;
-pub mod file_name;
 pub mod host;
 mod json_report;
 mod numbers_text;
 pub mod program;
 mod report;
 pub mod run_text;
-pub mod streams;
 mod tasks;
+
+pub use wb_command_line::{command, command_line, file_name};
+pub use wb_streams::streams;

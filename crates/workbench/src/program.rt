@@ -4,18 +4,18 @@
 ghost use Rattle.std.specs.Prelude.{◌≡◌, ◌≤◌, IfErr, IfOk, IsTrue, MatchResult, map, true};
 ghost use Rattle.clap.specs.Words.{takes};
 ghost use Rattle.workbench.specs.Answer.{IsAnswer, IsWritten};
-ghost use Rattle.workbench.specs.Command.{is_answerable};
+ghost use Rattle.wb_command_line.specs.Command.{is_answerable};
 ghost use Rattle.workbench.specs.Program.{IsCarriedOut, IsDone, IsReadAs, IsRefused, fault_of_words, words_status};
 ghost use Rattle.workbench.specs.Report.{read_fault};
 
 use crate::answer::{READ_OR_WRITE_FAULT, WANT_OF_MEMORY, answer, say_read_fault};
-use crate::command::{Command, CommandFault};
-use crate::command_line::command;
 use crate::host::{Host, Messages, WordsFault};
-use crate::streams::Sink;
 use std::alloc::Global;
 use std::convert::AsStr;
 use std::io;
+use wb_command_line::command::{Command, CommandFault};
+use wb_command_line::command_line::command;
+use wb_streams::streams::Sink;
 
 /// The exit status of a fault in the command line.
 pub const COMMAND_LINE_FAULT: u8 = 6;

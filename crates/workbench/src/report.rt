@@ -2,16 +2,16 @@
 //! is read or written here. What its task comes to on a script stands in `tasks`.
 
 ghost use Rattle.std.specs.Prelude.{◌≡◌, ◌≢◌, ◌++◌, OnOk, IfOk, IsTrue};
-ghost use Rattle.workbench.specs.Command.{is_answerable};
+ghost use Rattle.wb_command_line.specs.Command.{is_answerable};
 ghost use Rattle.workbench.specs.Figures.{no_figures};
 ghost use Rattle.workbench.specs.Report.{IsReport, fault_line, refused, refused_at};
 
 use crate::appended::appended;
-use crate::command::Command;
 use crate::figures::Figures;
 use crate::tasks::carried_out;
 use std::alloc::Global;
 use std::io::Write;
+use wb_command_line::command::Command;
 use wb_model::fault::ScriptFault;
 use wb_model::memory::NoMemory;
 

@@ -2,7 +2,7 @@
 //! two numbers stand in `numbers`, and JSON in `json`.
 
 ghost use Rattle.std.specs.Prelude.{◌≤◌, IsTrue};
-ghost use Rattle.workbench.specs.Command.{is_answerable, is_in_range};
+ghost use Rattle.wb_command_line.specs.Command.{is_answerable, is_in_range};
 
 mod json;
 mod numbers;

@@ -1,8 +1,8 @@
 -- Proof: filled. Each read puts its bytes behind those that came before.
 use Rattle.std.proofs.Common.{rules}
 use Rattle.workbench.proofs.KnownBytesLemmas.{Consumes-more, Consumes-nothing, taken_before_end, taken_before_fault, taken_front}
-use Rattle.workbench.specs.Streams.{more, none}
-use Rattle.workbench.proofs.TriesLemmas.{more_failed}
+use Rattle.wb_streams.specs.Streams.{more, none}
+use Rattle.wb_streams.proofs.TriesLemmas.{more_failed}
 use Rattle.workbench.proofs.answer.filled.Goals as goal
 
 pub loop-filled-init : goal.loop-filled-init

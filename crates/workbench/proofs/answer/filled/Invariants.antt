@@ -1,7 +1,7 @@
 -- Proof: filled. What stands at the front of the buffer is what the reader gave.
 use Rattle.std.proofs.Common.{false, length, ◌-◌, ◌≡◌, ◌≤◌, take}
 use Rattle.std.specs.Io.KnownBytes.{Consumes}
-use Rattle.workbench.specs.Streams.{Tries}
+use Rattle.wb_streams.specs.Streams.{Tries}
 use Rattle.workbench.proofs.answer.filled.Given as goal
 
 abbrev pub invariant-loop-filled : goal.invariant-loop-filled

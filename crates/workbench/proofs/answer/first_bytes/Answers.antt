@@ -1,7 +1,7 @@
 -- Proof: first_bytes. Without a buffer nothing is read.
 use Rattle.std.proofs.Common.{rules}
 use Rattle.workbench.proofs.KnownBytesLemmas.{taken_none}
-use Rattle.workbench.specs.Streams.{none}
+use Rattle.wb_streams.specs.Streams.{none}
 use Rattle.workbench.proofs.answer.first_bytes.Goals as goal
 
 pub returns-in_err-bytes-clause-taken : goal.returns-in_err-bytes-clause-taken

@@ -1,8 +1,8 @@
 -- Proof: write_whole. Each write goes on where the one before it stopped.
 use Rattle.std.proofs.Common.{rules}
 use Rattle.workbench.proofs.KnownBytesLemmas.{Appends-more, Appends-nothing}
-use Rattle.workbench.specs.Streams.{more, none}
-use Rattle.workbench.proofs.TriesLemmas.{more_failed}
+use Rattle.wb_streams.specs.Streams.{more, none}
+use Rattle.wb_streams.proofs.TriesLemmas.{more_failed}
 use Rattle.workbench.proofs.answer.write_whole.Goals as goal
 
 pub loop-written-init : goal.loop-written-init

@@ -1,7 +1,7 @@
 -- Proof: write_whole. The writer took what was written.
 use Rattle.std.proofs.Common.{false, length, ◌-◌, ◌≡◌, ◌≤◌, take}
 use Rattle.std.specs.Io.KnownBytes.{Appends}
-use Rattle.workbench.specs.Streams.{Tries}
+use Rattle.wb_streams.specs.Streams.{Tries}
 use Rattle.workbench.proofs.answer.write_whole.Given as goal
 
 abbrev pub invariant-loop-written : goal.invariant-loop-written

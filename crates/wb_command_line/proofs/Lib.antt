@@ -1,0 +1,11 @@
+pub mod CommandLineLemmas
+pub mod FaultLemmas
+pub mod Folds
+pub mod LevelLemmas
+pub mod MatchesLemmas
+pub mod PassedRows
+pub mod PassedValues
+pub mod PassedWords
+pub mod RefusalLemmas
+pub mod WordLemmas
+pub mod WorkedWords

@@ -1,0 +1,217 @@
+-- What words with options spell, computed on worked command lines.
+use Rattle.std.proofs.Common.{◌≡◌, ℕ, true, false, List, [], ◌∷◌, Option, Some, None, codes, refl}
+use Rattle.std.specs.Str.{chars}
+use Rattle.clap.specs.Faults.{defaults_fault, fault_of, flags_fault, walk_fault}
+use Rattle.clap.specs.Kinds.{Kinds}
+use Rattle.clap.specs.Takes.{flags_pass, takes, walk_passes}
+use Rattle.clap.specs.Walk.{Text, bundle_met, walked}
+use Rattle.clap.specs.declared.error.kind.ErrorKind.TheVariants.{ArgumentConflict, InvalidValue, TooManyValues, UnknownArgument, ValueValidation}
+use Rattle.wb_model.specs.declared.heap.Rule.{Rule}
+use Rattle.wb_model.specs.declared.heap.Rule.TheVariants.{Limit, Number, Unlimited}
+use Rattle.wb_command_line.specs.CommandLine.{command_line}
+use Rattle.wb_command_line.specs.Spelled.{spell_both, spelled}
+use Rattle.wb_command_line.specs.declared.command.Command.{Command}
+use Rattle.wb_command_line.specs.declared.command.Task.{Task}
+use Rattle.wb_command_line.specs.declared.command.Task.TheVariants.{Run, Size, Sweep, Check}
+
+-- the words after the program's name
+abbrev pub all_words : List Text → List Text
+all_words words = codes "workbench" ∷ words
+
+abbrev command_with : Task → ℕ → ℕ → ℕ → Option Text → Command
+command_with task budget min step file = record { task = task; file = file; budget = budget; shape = record { min = min; step = step }; json = false }
+
+abbrev run_with : Rule → ℕ → ℕ → Option Text → Command
+run_with rule = command_with (Run rule) 10000
+
+-- clap takes the words, and they spell the command
+record Spell (words : List Text) (command : Command) : Type 0 where
+  taken : takes command_line (all_words words) ≡ true
+  faultless : fault_of command_line (all_words words) ≡ []
+  one_rule : spell_both (all_words words) ≡ false
+  meaning : spelled (all_words words) ≡ Some command
+
+-- clap takes them, but they give both a limit and a number
+record Double (words : List Text) : Type 0 where
+  taken : takes command_line (all_words words) ≡ true
+  faultless : fault_of command_line (all_words words) ≡ []
+  doubled : spell_both (all_words words) ≡ true
+
+-- clap refuses them, by an error of this kind
+record Fail (words : List Text) (kinds : Kinds) : Type 0 where
+  refused : takes command_line (all_words words) ≡ false
+  fault : fault_of command_line (all_words words) ≡ kinds
+
+-- ---- words that spell a command
+
+limit-apart : Spell (codes "run" ∷ codes "--limit" ∷ codes "303" ∷ []) (run_with (Limit 303) 4096 4096 None)
+unfolding walked walk_passes walk_fault defaults_fault
+limit-apart = record { taken = refl; faultless = refl; one_rule = refl; meaning = refl }
+
+limit-attached : Spell (codes "run" ∷ codes "--limit=0" ∷ []) (run_with (Limit 0) 4096 4096 None)
+unfolding walked walk_passes walk_fault defaults_fault
+limit-attached = record { taken = refl; faultless = refl; one_rule = refl; meaning = refl }
+
+greatest-limit : Spell (codes "run" ∷ codes "--limit" ∷ codes "16777216" ∷ []) (run_with (Limit 16777216) 4096 4096 None)
+unfolding walked walk_passes walk_fault defaults_fault
+greatest-limit = record { taken = refl; faultless = refl; one_rule = refl; meaning = refl }
+
+shape : Spell (codes "run" ∷ codes "--min" ∷ codes "256" ∷ codes "--step" ∷ codes "64" ∷ []) (run_with Unlimited 256 64 None)
+unfolding walked walk_passes walk_fault defaults_fault
+shape = record { taken = refl; faultless = refl; one_rule = refl; meaning = refl }
+
+shape-backwards : Spell (codes "run" ∷ codes "--step=16" ∷ codes "--min=0" ∷ []) (run_with Unlimited 0 16 None)
+unfolding walked walk_passes walk_fault defaults_fault
+shape-backwards = record { taken = refl; faultless = refl; one_rule = refl; meaning = refl }
+
+around-a-file : Spell (codes "run" ∷ codes "--min" ∷ codes "32" ∷ codes "a.oom" ∷ codes "--limit=190" ∷ codes "--step" ∷ codes "16" ∷ []) (run_with (Limit 190) 32 16 (Some (codes "a.oom")))
+unfolding walked walk_passes walk_fault defaults_fault
+around-a-file = record { taken = refl; faultless = refl; one_rule = refl; meaning = refl }
+
+before-dashes : Spell (codes "run" ∷ codes "--step" ∷ codes "1048576" ∷ codes "--" ∷ codes "--limit" ∷ []) (run_with Unlimited 4096 1048576 (Some (codes "--limit")))
+unfolding walked walk_passes walk_fault defaults_fault
+before-dashes = record { taken = refl; faultless = refl; one_rule = refl; meaning = refl }
+
+plus-and-zeros : Spell (codes "run" ∷ codes "--limit" ∷ codes "+5" ∷ codes "--min" ∷ codes "0032" ∷ []) (run_with (Limit 5) 32 4096 None)
+unfolding walked walk_passes walk_fault defaults_fault
+plus-and-zeros = record { taken = refl; faultless = refl; one_rule = refl; meaning = refl }
+
+no-multiple-of-16 : Spell (codes "run" ∷ codes "--min" ∷ codes "8" ∷ []) (run_with Unlimited 8 4096 None)
+unfolding walked walk_passes walk_fault defaults_fault
+no-multiple-of-16 = record { taken = refl; faultless = refl; one_rule = refl; meaning = refl }
+
+number-apart : Spell (codes "run" ∷ codes "--fail" ∷ codes "5" ∷ []) (run_with (Number 5) 4096 4096 None)
+unfolding walked walk_passes walk_fault defaults_fault
+number-apart = record { taken = refl; faultless = refl; one_rule = refl; meaning = refl }
+
+number-zero : Spell (codes "run" ∷ codes "--fail" ∷ codes "0" ∷ []) (run_with (Number 0) 4096 4096 None)
+unfolding walked walk_passes walk_fault defaults_fault
+number-zero = record { taken = refl; faultless = refl; one_rule = refl; meaning = refl }
+
+greatest-number : Spell (codes "run" ∷ codes "--fail=16777216" ∷ []) (run_with (Number 16777216) 4096 4096 None)
+unfolding walked walk_passes walk_fault defaults_fault
+greatest-number = record { taken = refl; faultless = refl; one_rule = refl; meaning = refl }
+
+number-around-a-file : Spell (codes "run" ∷ codes "--step=32" ∷ codes "a.oom" ∷ codes "--fail" ∷ codes "2" ∷ codes "--min" ∷ codes "0" ∷ []) (run_with (Number 2) 0 32 (Some (codes "a.oom")))
+unfolding walked walk_passes walk_fault defaults_fault
+number-around-a-file = record { taken = refl; faultless = refl; one_rule = refl; meaning = refl }
+
+least-budget : Spell (codes "run" ∷ codes "--budget" ∷ codes "1" ∷ codes "--fail=2" ∷ []) (command_with (Run (Number 2)) 1 4096 4096 None)
+unfolding walked walk_passes walk_fault defaults_fault
+least-budget = record { taken = refl; faultless = refl; one_rule = refl; meaning = refl }
+
+size-with-all : Spell (codes "size" ∷ codes "--step=32" ∷ codes "a.oom" ∷ codes "--budget=1000000" ∷ codes "--min" ∷ codes "0" ∷ []) (command_with Size 1000000 0 32 (Some (codes "a.oom")))
+unfolding walked walk_passes walk_fault defaults_fault
+size-with-all = record { taken = refl; faultless = refl; one_rule = refl; meaning = refl }
+
+sweep-with-a-budget : Spell (codes "sweep" ∷ codes "--budget" ∷ codes "+0500" ∷ []) (command_with Sweep 500 4096 4096 None)
+unfolding walked walk_passes walk_fault defaults_fault
+sweep-with-a-budget = record { taken = refl; faultless = refl; one_rule = refl; meaning = refl }
+
+check-with-a-shape : Spell (codes "check" ∷ codes "--min=256" ∷ codes "--step" ∷ codes "64" ∷ codes "--" ∷ codes "check" ∷ []) (command_with Check 10000 256 64 (Some (codes "check")))
+unfolding walked walk_passes walk_fault defaults_fault
+check-with-a-shape = record { taken = refl; faultless = refl; one_rule = refl; meaning = refl }
+
+json-alone : Spell (codes "check" ∷ codes "--json" ∷ []) (record (command_with Check 10000 4096 4096 None) { json = true })
+unfolding walked walk_passes walk_fault defaults_fault
+json-alone = record { taken = refl; faultless = refl; one_rule = refl; meaning = refl }
+
+json-behind-a-file : Spell (codes "run" ∷ codes "--limit=5" ∷ codes "a.oom" ∷ codes "--json" ∷ []) (record (run_with (Limit 5) 4096 4096 (Some (codes "a.oom"))) { json = true })
+unfolding walked walk_passes walk_fault defaults_fault
+json-behind-a-file = record { taken = refl; faultless = refl; one_rule = refl; meaning = refl }
+
+json-as-a-file : Spell (codes "size" ∷ codes "--" ∷ codes "--json" ∷ []) (command_with Size 10000 4096 4096 (Some (codes "--json")))
+unfolding walked walk_passes walk_fault defaults_fault
+json-as-a-file = record { taken = refl; faultless = refl; one_rule = refl; meaning = refl }
+
+-- ---- words that give both a limit and a number
+
+limit-and-number : Double (codes "run" ∷ codes "--limit" ∷ codes "5" ∷ codes "--fail" ∷ codes "5" ∷ [])
+unfolding walked walk_passes walk_fault defaults_fault
+limit-and-number = record { taken = refl; faultless = refl; doubled = refl }
+
+number-and-limit : Double (codes "run" ∷ codes "--fail=0" ∷ codes "a.oom" ∷ codes "--limit=0" ∷ [])
+unfolding walked walk_passes walk_fault defaults_fault
+number-and-limit = record { taken = refl; faultless = refl; doubled = refl }
+
+both-and-a-bad-shape : Double (codes "run" ∷ codes "--min" ∷ codes "8" ∷ codes "--fail" ∷ codes "1" ∷ codes "--step=17" ∷ codes "--limit" ∷ codes "303" ∷ [])
+unfolding walked walk_passes walk_fault defaults_fault
+both-and-a-bad-shape = record { taken = refl; faultless = refl; doubled = refl }
+
+-- ---- words that are refused
+
+past-the-greatest-limit : Fail (codes "run" ∷ codes "--limit" ∷ codes "16777217" ∷ []) (ValueValidation ∷ [])
+unfolding walked walk_passes walk_fault defaults_fault flags_fault flags_pass bundle_met chars
+past-the-greatest-limit = record { refused = refl; fault = refl }
+
+past-the-greatest-number : Fail (codes "run" ∷ codes "--fail" ∷ codes "16777217" ∷ []) (ValueValidation ∷ [])
+unfolding walked walk_passes walk_fault defaults_fault flags_fault flags_pass bundle_met chars
+past-the-greatest-number = record { refused = refl; fault = refl }
+
+both-and-one-out-of-range : Fail (codes "run" ∷ codes "--limit" ∷ codes "5" ∷ codes "--fail" ∷ codes "16777217" ∷ []) (ValueValidation ∷ [])
+unfolding walked walk_passes walk_fault defaults_fault flags_fault flags_pass bundle_met chars
+both-and-one-out-of-range = record { refused = refl; fault = refl }
+
+number-twice : Fail (codes "run" ∷ codes "--fail" ∷ codes "1" ∷ codes "--fail" ∷ codes "2" ∷ []) (ArgumentConflict ∷ [])
+unfolding walked walk_passes walk_fault defaults_fault flags_fault flags_pass bundle_met chars
+number-twice = record { refused = refl; fault = refl }
+
+below-the-least-step : Fail (codes "run" ∷ codes "--step=15" ∷ []) (ValueValidation ∷ [])
+unfolding walked walk_passes walk_fault defaults_fault flags_fault flags_pass bundle_met chars
+below-the-least-step = record { refused = refl; fault = refl }
+
+no-number : Fail (codes "run" ∷ codes "--min" ∷ codes "many" ∷ []) (ValueValidation ∷ [])
+unfolding walked walk_passes walk_fault defaults_fault flags_fault flags_pass bundle_met chars
+no-number = record { refused = refl; fault = refl }
+
+twice : Fail (codes "run" ∷ codes "--limit" ∷ codes "5" ∷ codes "a.oom" ∷ codes "--limit" ∷ codes "5" ∷ []) (ArgumentConflict ∷ [])
+unfolding walked walk_passes walk_fault defaults_fault flags_fault flags_pass bundle_met chars
+twice = record { refused = refl; fault = refl }
+
+without-a-number : Fail (codes "run" ∷ codes "--min" ∷ codes "--step" ∷ codes "16" ∷ []) (InvalidValue ∷ [])
+unfolding walked walk_passes walk_fault defaults_fault flags_fault flags_pass bundle_met chars
+without-a-number = record { refused = refl; fault = refl }
+
+at-the-end : Fail (codes "run" ∷ codes "a.oom" ∷ codes "--limit" ∷ []) (InvalidValue ∷ [])
+unfolding walked walk_passes walk_fault defaults_fault flags_fault flags_pass bundle_met chars
+at-the-end = record { refused = refl; fault = refl }
+
+without-its-number : Fail (codes "run" ∷ codes "--fail" ∷ []) (InvalidValue ∷ [])
+unfolding walked walk_passes walk_fault defaults_fault flags_fault flags_pass bundle_met chars
+without-its-number = record { refused = refl; fault = refl }
+
+below-zero : Fail (codes "run" ∷ codes "--limit" ∷ codes "-1" ∷ []) (UnknownArgument ∷ [])
+unfolding walked walk_passes walk_fault defaults_fault flags_fault flags_pass bundle_met chars
+below-zero = record { refused = refl; fault = refl }
+
+before-another-option : Fail (codes "run" ∷ codes "--limit=5" ∷ codes "--every=1" ∷ []) (UnknownArgument ∷ [])
+unfolding walked walk_passes walk_fault defaults_fault flags_fault flags_pass bundle_met chars
+before-another-option = record { refused = refl; fault = refl }
+
+no-budget : Fail (codes "run" ∷ codes "--budget=0" ∷ []) (ValueValidation ∷ [])
+unfolding walked walk_passes walk_fault defaults_fault flags_fault flags_pass bundle_met chars
+no-budget = record { refused = refl; fault = refl }
+
+past-the-largest-budget : Fail (codes "check" ∷ codes "--budget" ∷ codes "1000001" ∷ []) (ValueValidation ∷ [])
+unfolding walked walk_passes walk_fault defaults_fault flags_fault flags_pass bundle_met chars
+past-the-largest-budget = record { refused = refl; fault = refl }
+
+json-twice : Fail (codes "sweep" ∷ codes "--json" ∷ codes "--json" ∷ []) (ArgumentConflict ∷ [])
+unfolding walked walk_passes walk_fault defaults_fault flags_fault flags_pass bundle_met chars
+json-twice = record { refused = refl; fault = refl }
+
+json-with-a-value : Fail (codes "run" ∷ codes "--json=yes" ∷ []) (TooManyValues ∷ [])
+unfolding walked walk_passes walk_fault defaults_fault flags_fault flags_pass bundle_met chars
+json-with-a-value = record { refused = refl; fault = refl }
+
+limit-of-a-size : Fail (codes "size" ∷ codes "--limit" ∷ codes "5" ∷ []) (UnknownArgument ∷ [])
+unfolding walked walk_passes walk_fault defaults_fault flags_fault flags_pass bundle_met chars
+limit-of-a-size = record { refused = refl; fault = refl }
+
+number-of-a-sweep : Fail (codes "sweep" ∷ codes "--fail=5" ∷ []) (UnknownArgument ∷ [])
+unfolding walked walk_passes walk_fault defaults_fault flags_fault flags_pass bundle_met chars
+number-of-a-sweep = record { refused = refl; fault = refl }
+
+limit-and-number-of-a-check : Fail (codes "check" ∷ codes "--fail=5" ∷ codes "--limit=5" ∷ []) (UnknownArgument ∷ [])
+unfolding walked walk_passes walk_fault defaults_fault flags_fault flags_pass bundle_met chars
+limit-and-number-of-a-check = record { refused = refl; fault = refl }

@@ -1,0 +1,26 @@
+-- What every command that words spell keeps.
+use Rattle.std.specs.Prelude.{Bool, true, ◌&&◌, ◌%◌, nat_eq, nat_le}
+use Rattle.wb_model.specs.Space.{is_shape}
+use Rattle.wb_model.specs.declared.limits.TheConstants.{CEILING, LARGEST_BUDGET}
+use Rattle.wb_model.specs.declared.heap.Rule.TheVariants.{Limit, Number, Unlimited}
+use Rattle.wb_model.specs.declared.heap.Shape.{Shape}
+use Rattle.wb_command_line.specs.declared.command.Command.{Command}
+use Rattle.wb_command_line.specs.declared.command.Task.{Task}
+use Rattle.wb_command_line.specs.declared.command.Task.TheVariants.{Run, Size, Sweep, Check}
+
+-- a limit, or the number of an attempt, is no greater than the greatest length of a heap
+abbrev pub is_in_range : Task → Bool
+is_in_range (Run Unlimited) = true
+is_in_range (Run (Limit l)) = nat_le l CEILING
+is_in_range (Run (Number n)) = nat_le n CEILING
+is_in_range Size = true
+is_in_range Sweep = true
+is_in_range Check = true
+
+-- the minimum length and the step are multiples of 16
+abbrev pub is_sixteenfold : Shape → Bool
+is_sixteenfold shape = nat_eq (shape.min % 16) 0 && nat_eq (shape.step % 16) 0
+
+-- the numbers of a command are in their ranges
+abbrev pub is_answerable : Command → Bool
+is_answerable c = nat_le 1 c.budget && nat_le c.budget LARGEST_BUDGET && is_shape c.shape && is_in_range c.task

@@ -1,0 +1,63 @@
+-- What becomes of an error of clap, and of a fault of the command line.
+use Rattle.std.specs.Prelude.{◌≡◌, ◌≢◌, ◌⊎◌, ⊤, ℕ, List, [], Bool, true, false, if◌then◌else◌}
+use Rattle.clap.specs.Words.{IsAmong, Row, Text, fault_of, kind_of}
+use Rattle.clap.specs.declared.error.Error.{Error}
+use Rattle.clap.specs.declared.error.kind.ErrorKind.{ErrorKind}
+use Rattle.clap.specs.declared.error.kind.ErrorKind.TheVariants.{OutOfMemory}
+use Rattle.wb_command_line.specs.CommandLine.{command_line}
+use Rattle.wb_command_line.specs.Command.{is_sixteenfold}
+use Rattle.wb_command_line.specs.Spelled.{IsMeantBy, IsSpelledBy, doubles, spell_both}
+use Rattle.wb_command_line.specs.declared.command.Command.{Command}
+use Rattle.wb_command_line.specs.declared.command.CommandFault.{CommandFault}
+use Rattle.wb_command_line.specs.declared.command.CommandFault.TheVariants.{Usage, Both, Shape, NoMemory}
+
+abbrev pub is_want_of_memory : ErrorKind → Bool
+is_want_of_memory OutOfMemory = true
+is_want_of_memory _ = false
+
+-- where clap's own memory ran out, so did the workbench's; every other error is a fault of the words
+abbrev pub fault_of_error : Error → CommandFault
+fault_of_error e = if is_want_of_memory (kind_of e) then NoMemory else Usage e
+
+-- clap takes the words, but they give both a limit and the number of an attempt
+pub record IsDoubled (words : List Text) : Type 0 where
+  pub faultless : fault_of command_line words ≡ []
+  pub doubled : spell_both words ≡ true
+
+-- clap takes the words, and they don't do that, but the heap's minimum length or step that they spell is no multiple of 16
+pub record IsMisshapen (words : List Text) : Type 0 where
+  pub command : Command
+  pub spelled : IsSpelledBy words command
+  pub misshapen : is_sixteenfold command.shape ≡ false
+
+-- the fault is one that clap's meaning finds in the words; where it finds none, of the rules that they spell, and then of
+-- the shape; memory that ran out says nothing of them
+abbrev pub IsFaultOf : List Text → CommandFault → Type 0
+IsFaultOf words (Usage e) = (kind_of e ≢ OutOfMemory) × IsAmong (kind_of e) (fault_of command_line words)
+IsFaultOf words Both = IsDoubled words
+IsFaultOf words Shape = IsMisshapen words
+IsFaultOf words NoMemory = ⊤
+
+-- not both a limit and a number are given, but the heap's minimum length or step is no multiple of 16
+pub record AreMisshapen (name : Text) (rows : List Row) : Type 0 where
+  pub command : Command
+  pub meant : IsMeantBy name rows command
+  pub misshapen : is_sixteenfold command.shape ≡ false
+
+-- the fault is one of a subcommand's options, which clap has taken, or memory ran out
+abbrev pub IsFaultOfOptions : Text → List Row → CommandFault → Type 0
+IsFaultOfOptions name rows (Usage e) = ⊥
+IsFaultOfOptions name rows Both = doubles name rows ≡ true
+IsFaultOfOptions name rows Shape = AreMisshapen name rows
+IsFaultOfOptions name rows NoMemory = ⊤
+
+-- no fault of usage
+abbrev pub IsAfterUsage : CommandFault → Type 0
+IsAfterUsage fault = (fault ≡ Both) ⊎ ((fault ≡ Shape) ⊎ (fault ≡ NoMemory))
+
+-- the exit status of a program that got no command
+abbrev pub refusal_status : CommandFault → ℕ
+refusal_status (Usage e) = 6
+refusal_status Both = 6
+refusal_status Shape = 6
+refusal_status NoMemory = 4

@@ -1,0 +1,7 @@
+pub mod Command
+pub mod CommandLine
+pub mod Fault
+pub mod Passed
+pub mod Spelled
+pub mod Subcommands
+pub mod WordByWord

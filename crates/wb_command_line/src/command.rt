@@ -1,0 +1,75 @@
+//! What the words of a command line ask for, and why they may ask for nothing. How they are read stands in
+//! `command_line`.
+ghost use Rattle.std.specs.Prelude.{◌≡◌};
+ghost use Rattle.wb_command_line.specs.declared.command.CommandFault.TheVariants.{NoMemory};
+ghost use Rattle.wb_command_line.specs.Fault.{fault_of_error};
+
+use crate::file_name::FileName;
+use clap::error::ErrorKind;
+use std::alloc::AllocError;
+use thiserror::Error;
+use wb_model::heap::{Rule, Shape};
+
+/// What is to be done with the script.
+#[derive(Clone, Copy, Debug, PartialEq, Eq)]
+pub enum Task {
+    /// One run under this rule.
+    Run(Rule),
+    /// The length of heap that the script needs, and what each shorter one refuses first.
+    Size,
+    /// The least number of an attempt whose simulated failure leaks or panics, and the run in which it does.
+    Sweep,
+    /// `Size`, and then `Sweep`.
+    Check,
+}
+
+/// A command: what is to be done, and with what.
+#[derive(Debug, Drop)]
+pub struct Command {
+    pub task: Task,
+    /// The script's file; without one the script is standard input.
+    pub file: Option<FileName>,
+    /// The greatest number of steps of a run, from 1 to 1,000,000.
+    pub budget: u32,
+    /// The heap's minimum length and step, in bytes, in the ranges that `Shape` states.
+    pub shape: Shape,
+    /// The report is written as one JSON object, and not as lines.
+    pub json: bool,
+}
+
+/// Why words are no command.
+#[derive(Debug, Drop, Error)]
+pub enum CommandFault {
+    /// `clap` refuses the words, or they call for help; its text is for the user.
+    #[error("{0}")]
+    Usage(clap::Error),
+    /// `clap` takes the words, but they give both a limit and the number of an attempt. It comes before `Shape`.
+    #[error("error: give '--limit' or '--fail', not both\n")]
+    Both,
+    /// `clap` takes the words, but the heap's minimum length or step is no multiple of 16 bytes.
+    #[error("error: the values of '--min' and '--step' are multiples of 16\n")]
+    Shape,
+    /// The workbench's own memory ran out, or `clap` found none; it says nothing of the words.
+    #[error("error: no memory\n")]
+    NoMemory,
+}
+
+impl From<AllocError> for CommandFault {
+    ghost from_gives = { λ _ fault. fault ≡ NoMemory };
+
+    fn from(_error: AllocError) -> CommandFault {
+        CommandFault::NoMemory
+    }
+}
+
+impl From<clap::Error> for CommandFault {
+    ghost from_gives = { λ error fault. fault ≡ fault_of_error error };
+
+    fn from(error: clap::Error) -> CommandFault {
+        if error.kind() == ErrorKind::OutOfMemory {
+            CommandFault::NoMemory
+        } else {
+            CommandFault::Usage(error)
+        }
+    }
+}

@@ -1,0 +1,6 @@
+//! The command line: which command words spell, or why they spell none. Nothing is opened or run here.
+#![tactic(auto)]
+
+pub mod command;
+pub mod command_line;
+pub mod file_name;

@@ -1,6 +1,0 @@
-use Rattle.clap.specs.Words.{found_of}
-use Rattle.workbench.proofs.MatchesLemmas.{json_is}
-use Rattle.workbench.proofs.command_line.json_in.Goals as goal
-
-pub returns : goal.returns
-returns c = json_is (found_of c.args.options.now) c.get_flag.result c.requires c.get_flag.ensures.none c.get_flag.ensures.value c.get_flag.ensures.other
