@@ -1,6 +1,7 @@
 pub mod Asked
 pub mod AskedPieces
 pub mod Begins
+pub mod Buffers
 pub mod Counted
 pub mod Destructions
 pub mod Ends

@@ -1,5 +1,5 @@
 -- Locals as values.
-use Rattle.std.specs.Prelude.{ℕ, ℤ, Bool, true, nat_le, ◌≤◌, ◌++◌, ◌∷◌, [], List, map, take, drop, vec_len}
+use Rattle.std.specs.Prelude.{◌≡◌, ℕ, ℤ, pos, suc, Bool, true, nat_le, ◌≤◌, ◌++◌, ◌∷◌, [], List, map, take, drop, vec_len, slice_index_or}
 use Rattle.wb_model.specs.declared.heap.Ptr.{Ptr}
 use Rattle.wb_model.specs.declared.script.Argument.{Argument}
 use Rattle.wb_model.specs.declared.script.Argument.TheVariants.{Passed, Given}
@@ -19,6 +19,8 @@ use Rattle.wb_machine.specs.declared.arguments.Handed.{Handed}
 use Rattle.wb_machine.specs.declared.arguments.Handed.TheVariants.{Arguments, Item}
 use Rattle.wb_machine.specs.declared.locals.Slot.{Slot}
 use Rattle.wb_machine.specs.declared.locals.Slot.TheVariants as S
+use Rattle.wb_machine.specs.declared.locals.Stored.{Stored}
+use Rattle.wb_machine.specs.declared.locals.Stored.TheVariants as T
 use Rattle.wb_machine.specs.declared.locals.Locals.TheInside.{Inside}
 use Rattle.wb_model.specs.Debug.{Debug}
 use Rattle.wb_machine.specs.RunState.{Values, RunState, value_in}
@@ -27,8 +29,38 @@ use Rattle.wb_machine.specs.PointerOperands.{pointer_over}
 abbrev pub value_of : Slot → Value
 value_of (S.Pointer p) = pointer p
 value_of (S.Number z) = number z
-value_of (S.Buffer b) = buffer b.max b.units
 value_of (S.View v) = view v
+value_of S.NoBuffer = buffer 0 []
+
+abbrev pub no_buffer : Buffer
+no_buffer = record { max = 0; units = [] }
+
+abbrev pub value_of_buffer : Buffer → Value
+value_of_buffer b = buffer b.max b.units
+
+-- what is stored, over all buffers
+abbrev pub value_stored : List Buffer → Stored → Value
+value_stored buffers (T.Small slot) = value_of slot
+value_stored buffers (T.Buffer b) = value_of_buffer (slice_index_or buffers b.at no_buffer)
+
+abbrev pub values_stored : List Buffer → List Stored → Values
+values_stored buffers stored = map (value_stored buffers) stored
+
+-- what is stored at a place; out of range it reads as the number 0
+abbrev pub stored_at : List Stored → ℕ → Stored
+stored_at stored i = slice_index_or stored i (T.Small (S.Number (pos 0)))
+
+-- the indexes of buffers ascend with the slots, from the lowest that may be on, and are below an end: no two slots share one
+abbrev pub AreAscending : ℕ → ℕ → List Stored → Type 0
+AreAscending lowest end [] = lowest ≤ end
+AreAscending lowest end (T.Small slot ∷ more) = AreAscending lowest end more
+AreAscending lowest end (T.Buffer b ∷ more) = (lowest ≤ b.at) × AreAscending (suc b.at) end more
+
+-- the index of the first buffer, or the end of all where there is none
+abbrev pub first_buffer : ℕ → List Stored → ℕ
+first_buffer end [] = end
+first_buffer end (T.Small slot ∷ more) = first_buffer end more
+first_buffer end (T.Buffer b ∷ more) = b.at
 
 -- the locals of the innermost frame, and those of the frames below it, from the outermost on
 pub record Frames : Type 0 where
@@ -36,11 +68,13 @@ pub record Frames : Type 0 where
   pub locals : Values
 
 abbrev pub frames_in : Inside → Frames
-frames_in l = record { callers = take l.base (map value_of l.slots.items); locals = drop l.base (map value_of l.slots.items) }
+frames_in l = record { callers = take l.base (values_stored l.buffers.items l.slots.items); locals = drop l.base (values_stored l.buffers.items l.slots.items) }
 
--- a frame begins no later than the locals end
-abbrev pub IsWithin : Inside → Type 0
-IsWithin l = l.base ≤ vec_len l.slots
+-- a frame begins no later than the locals end; each buffer is there, and of one local
+pub record IsWithin (l : Inside) : Type 0 where
+  pub frame : l.base ≤ vec_len l.slots
+  pub buffers : AreAscending 0 (vec_len l.buffers) l.slots.items
+  pub none : l.none ≡ no_buffer
 
 -- the number of an operand
 abbrev pub number_over : Values → Number → ℤ

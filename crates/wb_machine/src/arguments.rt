@@ -1,9 +1,10 @@
 //! What a body is handed by whoever calls it.
 
-ghost use Rattle.std.specs.Prelude.{◌≡◌, ◌≤◌, ◌++◌, map, drop, vec_len, OnOk};
-ghost use Rattle.wb_machine.specs.LocalValues.{value_of, number_over, passed_over, values_over};
+ghost use Rattle.std.specs.Prelude.{◌≡◌, ℕ, ◌≤◌, List, ◌++◌, map, drop, vec_len, OnOk};
+ghost use Rattle.wb_model.specs.Texts.{Buffer};
+ghost use Rattle.wb_machine.specs.LocalValues.{value_of, values_stored, AreAscending, number_over, passed_over, values_over};
 
-use crate::locals::Slot;
+use crate::locals::{Slot, Stored, push_slot};
 use crate::pointers::{Sight, pointer_over};
 use std::alloc::AllocError;
 use wb_model::heap::Ptr;
@@ -19,21 +20,21 @@ pub enum Handed<'b> {
 }
 
 /// The number of an operand, over the locals of a frame.
-pub fn number_over(frame: &[Slot], operand: Number) -> i32
-    ensures { result ≡ number_over (map value_of frame.now) operand }
+pub fn number_over(frame: &[Stored], operand: Number) -> i32
+    ensures { (buffers : List Buffer) → result ≡ number_over (values_stored buffers frame.now) operand }
 {
     match operand {
         Number::Constant(number) => number,
         Number::Variable(index) => match frame.get(index as usize) {
-            Some(Slot::Number(number)) => *number,
+            Some(Stored::Small(Slot::Number(number))) => *number,
             _ => 0,
         },
     }
 }
 
 /// What a parameter gets, over the caller's locals.
-fn passed(sight: Sight, frame: &[Slot], argument: Argument) -> Slot
-    ensures { value_of result ≡ passed_over sight.entry.script.now sight.entry.heap.now sight.entry.this (map value_of frame.now) argument }
+fn passed(sight: Sight, frame: &[Stored], argument: Argument) -> Slot
+    ensures { (buffers : List Buffer) → value_of result ≡ passed_over sight.entry.script.now sight.entry.heap.now sight.entry.this (values_stored buffers frame.now) argument }
 {
     match argument {
         Argument::Passed(pointer) => Slot::Pointer(pointer_over(sight, frame, pointer)),
@@ -43,39 +44,38 @@ fn passed(sight: Sight, frame: &[Slot], argument: Argument) -> Slot
 
 /// Puts what the arguments give, from left to right, behind the caller's locals, which begin at `base`.
 fn pass(
-    slots: &mut Vec<Slot>,
+    slots: &mut Vec<Stored>,
     base: usize,
     sight: Sight,
     arguments: &[Argument],
 ) -> Result<(), AllocError>
     requires { base ≤ vec_len slots.old }
-    ensures passed { OnOk result (map value_of slots.new.items ≡ map value_of slots.old.items ++ map (passed_over sight.entry.script.now sight.entry.heap.now sight.entry.this (drop base (map value_of slots.old.items))) arguments.now) }
-    ensures within { base ≤ vec_len slots.new }
+    ensures passed { (buffers : List Buffer) → OnOk result (values_stored buffers slots.new.items ≡ values_stored buffers slots.old.items ++ map (passed_over sight.entry.script.now sight.entry.heap.now sight.entry.this (drop base (values_stored buffers slots.old.items))) arguments.now) }
+    ensures ascending { (end : ℕ) → AreAscending 0 end slots.old.items → AreAscending 0 end slots.new.items }
+    ensures more { vec_len slots.old ≤ vec_len slots.new }
 {
     let end = slots.len();
     for argument in arguments {
         let slot = passed(sight, &slots[base..end], *argument);
-        slots.push(slot)?;
+        push_slot(slots, slot)?;
     }
     Ok(())
 }
 
 /// Puts what a body is handed behind the caller's locals, which begin at `base`.
 pub fn hand(
-    slots: &mut Vec<Slot>,
+    slots: &mut Vec<Stored>,
     base: usize,
     sight: Sight,
     handed: Handed,
 ) -> Result<(), AllocError>
     requires { base ≤ vec_len slots.old }
-    ensures handed { OnOk result (map value_of slots.new.items ≡ map value_of slots.old.items ++ values_over sight.entry.script.now sight.entry.heap.now sight.entry.this (drop base (map value_of slots.old.items)) handed.entry) }
-    ensures within { base ≤ vec_len slots.new }
+    ensures handed { (buffers : List Buffer) → OnOk result (values_stored buffers slots.new.items ≡ values_stored buffers slots.old.items ++ values_over sight.entry.script.now sight.entry.heap.now sight.entry.this (drop base (values_stored buffers slots.old.items)) handed.entry) }
+    ensures ascending { (end : ℕ) → AreAscending 0 end slots.old.items → AreAscending 0 end slots.new.items }
+    ensures more { vec_len slots.old ≤ vec_len slots.new }
 {
     match handed {
         Handed::Arguments(arguments) => pass(slots, base, sight, arguments),
-        Handed::Item(ptr) => {
-            slots.push(Slot::Pointer(ptr))?;
-            Ok(())
-        }
+        Handed::Item(ptr) => push_slot(slots, Slot::Pointer(ptr)),
     }
 }

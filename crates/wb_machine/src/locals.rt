@@ -1,10 +1,12 @@
 //! The locals of all frames, and what a local holds.
 
-ghost use Rattle.std.specs.Prelude.{◌≡◌, ◌++◌, [], map, length, slice_set, vec_len, ◌≤◌, IsTrue, IfOk, OnOk};
+ghost use Rattle.std.specs.Prelude.{◌≡◌, ℕ, List, ◌∷◌, ◌++◌, [], map, length, slice_set, vec_len, ◌≤◌, IsTrue, IfOk, OnOk};
 ghost use Rattle.std.specs.List.{list_all};
+ghost use Rattle.wb_model.specs.Texts.{Buffer};
+ghost use Rattle.wb_model.specs.Reading.{max_in};
 ghost use Rattle.wb_model.specs.State.{initial};
 ghost use Rattle.wb_machine.specs.RunState.{value_in};
-ghost use Rattle.wb_machine.specs.LocalValues.{is_small, value_of, number_over, values_over, framed, unframed, buffer_in, window_in};
+ghost use Rattle.wb_machine.specs.LocalValues.{is_small, value_of, value_of_buffer, values_stored, no_buffer, stored_at, AreAscending, first_buffer, number_over, values_over, framed, unframed, buffer_in, window_in};
 ghost use Rattle.wb_machine.specs.PointerOperands.{held_over, pointer_over};
 
 use crate::arguments::{Handed, hand, number_over};
@@ -22,19 +24,37 @@ pub const NULL: Ptr = Ptr {
     number: 0,
 };
 
-/// What a local holds.
-#[derive(Drop)]
+/// What a local holds that isn't a buffer of its own.
+#[derive(Clone, Copy)]
 pub enum Slot {
     Pointer(Ptr),
     Number(i32),
-    Buffer(Buf),
     View(Window),
+    /// A buffer of maximum 0, which takes no room.
+    NoBuffer,
+}
+
+/// Where a buffer stands among those of all frames.
+#[derive(Clone, Copy)]
+pub struct BufferIndex {
+    at: usize,
+}
+
+/// A local as it is stored.
+#[derive(Clone, Copy)]
+pub enum Stored {
+    Small(Slot),
+    Buffer(BufferIndex),
 }
 
 /// The locals of all frames, those of the innermost last. Each is named by its index in its frame.
 #[derive(Drop)]
 pub struct Locals {
-    slots: Vec<Slot>,
+    slots: Vec<Stored>,
+    /// The buffers of all frames, in the order of their locals.
+    buffers: Vec<Buf>,
+    /// What a local reads as that holds no buffer: an empty one of maximum 0.
+    none: Buf,
     /// Where the innermost frame begins.
     base: usize,
 }
@@ -51,21 +71,8 @@ impl Model for Locals {
     ghost invariant = { IsWithin };
 }
 
-/// What a local holds at first.
-fn first_slot(local: Local) -> Slot
-    requires { IsTrue (is_small local) }
-    ensures { value_of result ≡ initial local }
-{
-    match local {
-        Local::OfPointer(_) => Slot::Pointer(NULL),
-        Local::OfNumber => Slot::Number(0),
-        Local::OfBuffer(max) => Slot::Buffer(Buf::new(u32::from(max))),
-        Local::OfView => Slot::View(Window::nothing()),
-    }
-}
-
 /// Another buffer of the same maximum, with the same text.
-fn copy_of(buf: &Buf) -> Buf
+pub fn copy_of(buf: &Buf) -> Buf
     ensures { result ≡ buf.now }
 {
     let mut copy = Buf::new(buf.max());
@@ -75,16 +82,79 @@ fn copy_of(buf: &Buf) -> Buf
     }
 }
 
+/// Puts a value that isn't a buffer of its own behind the locals.
+pub fn push_slot(slots: &mut Vec<Stored>, slot: Slot) -> Result<(), AllocError>
+    ensures pushed { (buffers : List Buffer) → OnOk result (values_stored buffers slots.new.items ≡ values_stored buffers slots.old.items ++ value_of slot ∷ []) }
+    ensures ascending { (end : ℕ) → AreAscending 0 end slots.old.items → AreAscending 0 end slots.new.items }
+    ensures more { vec_len slots.old ≤ vec_len slots.new }
+{
+    slots.push(Stored::Small(slot))?;
+    Ok(())
+}
+
+/// Puts a local behind others, with what it holds at first.
+fn declare_one(
+    slots: &mut Vec<Stored>,
+    buffers: &mut Vec<Buf>,
+    local: Local,
+) -> Result<(), AllocError>
+    requires small { IsTrue (is_small local) }
+    requires ascending { AreAscending 0 (vec_len buffers.old) slots.old.items }
+    ensures declared { OnOk result (values_stored buffers.new.items slots.new.items ≡ values_stored buffers.old.items slots.old.items ++ initial local ∷ []) }
+    ensures ascending { AreAscending 0 (vec_len buffers.new) slots.new.items }
+    ensures more { vec_len slots.old ≤ vec_len slots.new }
+{
+    match local {
+        Local::OfPointer(_) => push_slot(slots, Slot::Pointer(NULL)),
+        Local::OfNumber => push_slot(slots, Slot::Number(0)),
+        Local::OfBuffer(max) => {
+            let at = buffers.len();
+            buffers.push(Buf::new(u32::from(max)))?;
+            slots.push(Stored::Buffer(BufferIndex { at }))?;
+            Ok(())
+        }
+        Local::OfView => push_slot(slots, Slot::View(Window::nothing())),
+    }
+}
+
 /// Puts locals behind others, with what they hold at first.
-fn declare(slots: &mut Vec<Slot>, locals: &[Local]) -> Result<(), AllocError>
-    requires { IsTrue (list_all is_small locals.now) }
-    ensures declared { OnOk result (map value_of slots.new.items ≡ map value_of slots.old.items ++ map initial locals.now) }
+fn declare(
+    slots: &mut Vec<Stored>,
+    buffers: &mut Vec<Buf>,
+    locals: &[Local],
+) -> Result<(), AllocError>
+    requires small { IsTrue (list_all is_small locals.now) }
+    requires ascending { AreAscending 0 (vec_len buffers.old) slots.old.items }
+    ensures declared { OnOk result (values_stored buffers.new.items slots.new.items ≡ values_stored buffers.old.items slots.old.items ++ map initial locals.now) }
+    ensures ascending { AreAscending 0 (vec_len buffers.new) slots.new.items }
     ensures more { vec_len slots.old ≤ vec_len slots.new }
 {
     for local in locals {
-        slots.push(first_slot(*local))?;
+        declare_one(slots, buffers, *local)?;
     }
     Ok(())
+}
+
+/// What is stored at a place; the number 0 where nothing is.
+fn stored_at(slots: &[Stored], at: usize) -> Stored
+    ensures { result ≡ stored_at slots.now at }
+{
+    match slots.get(at) {
+        Some(stored) => *stored,
+        None => Stored::Small(Slot::Number(0)),
+    }
+}
+
+/// Where the first buffer of a frame stands among all; their end where the frame has none.
+fn first_buffer(frame: &[Stored], end: usize) -> usize
+    ensures { result ≡ first_buffer end frame.now }
+{
+    for stored in frame {
+        if let Stored::Buffer(index) = stored {
+            return index.at;
+        }
+    }
+    end
 }
 
 impl Locals {
@@ -94,12 +164,14 @@ impl Locals {
     {
         Locals {
             slots: Vec::new(alloc),
+            buffers: Vec::new(alloc),
+            none: Buf::new(0),
             base: 0,
         }
     }
 
     /// A frame on top, for a body that is handed this and declares these locals. Answers where the caller's frame begins. No
-    /// memory is asked for where as many locals stood at once before.
+    /// memory is asked for where as many locals, and as many buffers, stood at once before.
     pub fn call(
         &mut self,
         sight: Sight,
@@ -113,7 +185,7 @@ impl Locals {
         let caller = self.base;
         let top = self.slots.len();
         hand(&mut self.slots, caller, sight, handed)?;
-        declare(&mut self.slots, locals)?;
+        declare(&mut self.slots, &mut self.buffers, locals)?;
         self.base = top;
         Ok(caller)
     }
@@ -122,55 +194,57 @@ impl Locals {
     pub fn end_call(&mut self, base: usize)
         ensures { self.new ≡ unframed self.old base }
     {
+        let end = first_buffer(&self.slots[self.base..], self.buffers.len());
+        self.buffers.truncate(end);
         self.slots.truncate(self.base);
         // a frame begins no later than the one above it
         self.base = base.min(self.base);
-    }
-
-    /// The locals of the innermost frame.
-    fn frame(&self) -> &[Slot]
-        ensures { map value_of result.now ≡ self.now.locals }
-    {
-        &self.slots[self.base..]
     }
 
     /// What a holder holds, in a body of this object; null where it holds no pointer.
     pub fn held(&self, this: Ptr, holder: Holder) -> Ptr
         ensures { result ≡ held_over this self.now.locals holder }
     {
-        held_over(this, self.frame(), holder)
+        held_over(this, &self.slots[self.base..], holder)
     }
 
     /// The pointer of an operand; null where it names no pointer.
     pub fn pointer(&self, sight: Sight, operand: Pointer) -> Ptr
         ensures { result ≡ pointer_over sight.entry.script.now sight.entry.heap.now sight.entry.this self.now.locals operand }
     {
-        pointer_over(sight, self.frame(), operand)
+        pointer_over(sight, &self.slots[self.base..], operand)
     }
 
     /// The number of an operand; 0 where it names none.
     pub fn number(&self, operand: Number) -> i32
         ensures { result ≡ number_over self.now.locals operand }
     {
-        number_over(self.frame(), operand)
+        number_over(&self.slots[self.base..], operand)
     }
 
-    /// A copy of the buffer in a local; an empty one of maximum 0 where it holds none.
-    pub fn buffer(&self, index: u8) -> Buf
-        ensures { result ≡ buffer_in (value_in self.now.locals index) }
+    /// The buffer in a local; an empty one of maximum 0 where it holds none.
+    pub fn buffer(&self, index: u8) -> &Buf
+        ensures { result.now ≡ buffer_in (value_in self.now.locals index) }
     {
-        match self.frame().get(index as usize) {
-            Some(Slot::Buffer(buf)) => copy_of(buf),
-            _ => Buf::new(0),
+        match stored_at(&self.slots, self.base + index as usize) {
+            Stored::Buffer(place) => &self.buffers[place.at],
+            Stored::Small(_) => &self.none,
         }
+    }
+
+    /// An empty buffer of maximum 0.
+    pub fn no_buffer(&self) -> &Buf
+        ensures { result.now ≡ no_buffer }
+    {
+        &self.none
     }
 
     /// The view in a local; an empty one of nothing where it holds none.
     pub fn view(&self, index: u8) -> Window
         ensures { result ≡ window_in (value_in self.now.locals index) }
     {
-        match self.frame().get(index as usize) {
-            Some(Slot::View(window)) => window.copied(),
+        match self.slots[self.base..].get(index as usize) {
+            Some(Stored::Small(Slot::View(window))) => *window,
             _ => Window::nothing(),
         }
     }
@@ -181,7 +255,22 @@ impl Locals {
     {
         let at = self.base + index as usize;
         if at < self.slots.len() {
-            self.slots[at] = slot;
+            self.slots[at] = Stored::Small(slot);
+        }
+    }
+
+    /// A buffer takes the place of the one in a local, which has the same maximum; one that isn't there stays so.
+    pub fn set_buffer(&mut self, index: u8, buf: Buf)
+        requires { buf.max ≡ max_in (value_in self.old.locals index) }
+        ensures { self.new ≡ record self.old { locals = slice_set self.old.locals index (value_of_buffer buf) } }
+    {
+        match stored_at(&self.slots, self.base + index as usize) {
+            Stored::Buffer(place) => self.buffers[place.at] = buf,
+            Stored::Small(_) => {
+                // a buffer of maximum 0 has no unit
+                let _ = buf.max();
+                self.set(index, Slot::NoBuffer);
+            }
         }
     }
 }

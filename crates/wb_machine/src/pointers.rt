@@ -1,13 +1,14 @@
 //! Pointer operands over the locals of a frame: what a local holds, `self`, and fields of objects.
 
-ghost use Rattle.std.specs.Prelude.{◌≡◌, ◌+◌, ◌*◌, length, map, nat_le};
+ghost use Rattle.std.specs.Prelude.{◌≡◌, ◌+◌, ◌*◌, List, length, nat_le};
 ghost use Rattle.wb_model.specs.CellRow.{payload_of};
+ghost use Rattle.wb_model.specs.Texts.{Buffer};
 ghost use Rattle.wb_objects.specs.Objects.{words_found};
 ghost use Rattle.wb_machine.specs.RunState.{field_count};
-ghost use Rattle.wb_machine.specs.LocalValues.{value_of};
+ghost use Rattle.wb_machine.specs.LocalValues.{values_stored};
 ghost use Rattle.wb_machine.specs.PointerOperands.{held_over, field_among, pointer_over};
 
-use crate::locals::{NULL, Slot};
+use crate::locals::{NULL, Slot, Stored};
 use wb_debug::debug_heap::DebugHeap;
 use wb_model::heap::Ptr;
 use wb_model::script::{Holder, Pointer, Script};
@@ -22,14 +23,14 @@ pub struct Sight<'b> {
 }
 
 /// What a holder holds.
-pub fn held_over(this: Ptr, frame: &[Slot], holder: Holder) -> Ptr
-    ensures { result ≡ held_over this (map value_of frame.now) holder }
+pub fn held_over(this: Ptr, frame: &[Stored], holder: Holder) -> Ptr
+    ensures { (buffers : List Buffer) → result ≡ held_over this (values_stored buffers frame.now) holder }
 {
     let Holder::Local(index) = holder else {
         return this;
     };
     match frame.get(index as usize) {
-        Some(Slot::Pointer(ptr)) => *ptr,
+        Some(Stored::Small(Slot::Pointer(ptr))) => *ptr,
         _ => NULL,
     }
 }
@@ -73,8 +74,8 @@ fn field_over(sight: Sight, object: Ptr, class: u16, index: u8) -> Ptr
 }
 
 /// The pointer of an operand; null where it names none.
-pub fn pointer_over(sight: Sight, frame: &[Slot], operand: Pointer) -> Ptr
-    ensures { result ≡ pointer_over sight.entry.script.now sight.entry.heap.now sight.entry.this (map value_of frame.now) operand }
+pub fn pointer_over(sight: Sight, frame: &[Stored], operand: Pointer) -> Ptr
+    ensures { (buffers : List Buffer) → result ≡ pointer_over sight.entry.script.now sight.entry.heap.now sight.entry.this (values_stored buffers frame.now) operand }
 {
     match operand {
         Pointer::Held(holder) => held_over(sight.this, frame, holder),

@@ -74,13 +74,13 @@ impl State {
         }
     }
 
-    /// A copy of the buffer of a base, and an empty one where it is no buffer.
-    pub fn copied(&self, base: Base) -> Buf
-        ensures { result ≡ buffer_under self.now base }
+    /// The buffer of a base, and an empty one where it is no buffer.
+    pub fn buffer(&self, base: Base) -> &Buf
+        ensures { result.now ≡ buffer_under self.now base }
     {
         match base {
             Base::Local(index) => self.locals.buffer(index),
-            Base::Nothing | Base::Literal(_) | Base::Cell(_) => Buf::new(0),
+            Base::Nothing | Base::Literal(_) | Base::Cell(_) => self.locals.no_buffer(),
         }
     }
 
@@ -135,10 +135,10 @@ impl State {
         }
     }
 
-    /// What a view shows, to be read by itself; `copy` is its base's buffer.
-    pub fn source<'a>(&self, script: &'a Script, copy: &'a Buf, view: View) -> Source<'a>
+    /// What a view shows, to be read by itself; `buf` is its base's buffer, or a copy.
+    pub fn source<'a>(&self, script: &'a Script, buf: &'a Buf, view: View) -> Source<'a>
         requires base { base_refusal self.now view.base ≡ None }
-        requires copy { copy.now ≡ buffer_under self.now view.base }
+        requires buf { buf.now ≡ buffer_under self.now view.base }
         requires ends { view.position + view.length < 2 ^ 32 }
         ensures source { IsSource self.now.debug result }
         ensures foreign { IsForeign result }
@@ -149,10 +149,10 @@ impl State {
         match view.base {
             Base::Literal(index) => match script.literals.get(index as usize) {
                 Some(chars) => Source::Literal(chars, view.position, view.length),
-                None => Source::Buffer(copy, view.position, view.length),
+                None => Source::Buffer(buf, view.position, view.length),
             },
             Base::Cell(ptr) => Source::Cell(ptr, view.position, view.length),
-            Base::Nothing | Base::Local(_) => Source::Buffer(copy, view.position, view.length),
+            Base::Nothing | Base::Local(_) => Source::Buffer(buf, view.position, view.length),
         }
     }
 }

@@ -1,17 +1,19 @@
 //! Statements that change texts.
 
 ghost use Rattle.std.specs.Prelude.{◌≡◌, [], None, IsTrue};
+ghost use Rattle.wb_model.specs.Reading.{max_in};
 ghost use Rattle.wb_model.specs.Sound.{is_script};
 ghost use Rattle.wb_model.specs.Texts.{delete_text, set_length_text};
 ghost use Rattle.wb_model.specs.declared.text.Base.{Base};
 ghost use Rattle.wb_model.specs.declared.text.Base.TheVariants as B;
 ghost use Rattle.wb_hbuf.specs.Sources.{edit_text};
+ghost use Rattle.wb_machine.specs.RunState.{value_in};
 ghost use Rattle.wb_machine.specs.Carried.{number_read};
 ghost use Rattle.wb_machine.specs.TextOperands.{base_named, base_refusal, base_text, base_max, is_writable_base, window_read, window_units};
 ghost use Rattle.wb_machine.specs.CarriedTexts.{ending_by, put_back_by, IsWritten, IsEditedBy, IsInsertedBy, IsDeletedBy, IsLengthSet, SuitsBase};
 ghost use Rattle.wb_machine.specs.Owed.{KeepsCount};
 
-use crate::locals::Slot;
+use crate::locals::copy_of;
 use crate::operands::not_negative;
 use crate::pieces::Ending;
 use crate::state::State;
@@ -43,23 +45,24 @@ impl State {
         ensures keeps { KeepsCount self.old self.new }
     {
         let view = window.view();
-        let copy = self.copied(view.base);
         if is_same_base(Base::Cell(ptr), view.base) {
             let own = Source::Own(view.position, view.length);
             return ending_of(self.edit_cell(ptr, change, own));
         }
+        let copy = copy_of(self.buffer(view.base));
         let source = self.source(script, &copy, view);
         ending_of(self.edit_cell(ptr, change, source))
     }
 
     /// A buffer that was edited goes back to its local, unless the edit was refused.
     fn put_back(&mut self, index: u8, buf: Buf, answer: Result<(), Panic>) -> Ending
+        requires { buf.max ≡ max_in (value_in self.old.locals index) }
         ensures ending { result ≡ ending_by answer }
         ensures locals { self.new ≡ put_back_by self.old index buf answer }
         ensures keeps { KeepsCount self.old self.new }
     {
         if answer.is_ok() {
-            self.set(index, Slot::Buffer(buf));
+            self.locals.set_buffer(index, buf);
         }
         ending_of(answer)
     }
@@ -71,9 +74,8 @@ impl State {
         ensures keeps { KeepsCount self.old self.new }
     {
         let view = window.view();
-        let copy = self.copied(view.base);
-        let mut buf = self.locals.buffer(index);
-        let source = self.source(script, &copy, view);
+        let mut buf = copy_of(self.locals.buffer(index));
+        let source = self.source(script, self.buffer(view.base), view);
         let answer = wb_hbuf::edit_buf(&self.heap, &mut buf, change, source);
         self.put_back(index, buf, answer)
     }
@@ -158,7 +160,7 @@ impl State {
     {
         match to {
             Base::Local(index) => {
-                let mut buf = self.locals.buffer(index);
+                let mut buf = copy_of(self.locals.buffer(index));
                 let answer = buf.delete(position, count);
                 self.put_back(index, buf, answer)
             }
@@ -176,7 +178,7 @@ impl State {
     {
         match to {
             Base::Local(index) => {
-                let mut buf = self.locals.buffer(index);
+                let mut buf = copy_of(self.locals.buffer(index));
                 let answer = buf.set_length(length);
                 self.put_back(index, buf, answer)
             }

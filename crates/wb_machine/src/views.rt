@@ -167,8 +167,8 @@ impl State {
         match self.window(script, text) {
             Ok(window) => {
                 let view = window.view();
-                let copy = self.copied(view.base);
-                let line = wb_hbuf::print_units(&self.heap, self.source(script, &copy, view));
+                let source = self.source(script, self.buffer(view.base), view);
+                let line = wb_hbuf::print_units(&self.heap, source);
                 self.print(line)
             }
             Err(panic) => Ok(Ending::Panics(panic)),

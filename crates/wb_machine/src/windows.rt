@@ -9,7 +9,7 @@ use wb_model::heap::Panic;
 use wb_text::{Base, View};
 
 /// A view whose end an int holds.
-#[derive(Drop)]
+#[derive(Clone, Copy)]
 pub struct Window {
     view: View,
 }
@@ -23,6 +23,8 @@ impl Model for Window {
     ghost view = { λ w. w.view };
 
     ghost invariant = { λ w. w.view.position + w.view.length < 2 ^ 31 };
+
+    ghost inverse = { λ v. record { view = v } };
 }
 
 impl Window {
@@ -53,13 +55,6 @@ impl Window {
         ensures ends { self.now.position + self.now.length < 2 ^ 31 }
     {
         self.view
-    }
-
-    /// The same view once more.
-    pub fn copied(&self) -> Window
-        ensures { result ≡ self.now }
-    {
-        Window { view: self.view }
     }
 
     /// The first `count` units of it. `Panic::POSITION_OUT_OF_BOUNDS` where there are fewer.

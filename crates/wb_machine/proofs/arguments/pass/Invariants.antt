@@ -1,8 +1,13 @@
-use Rattle.std.proofs.Common.{◌≡◌, ◌≤◌, ◌++◌, map, take, drop, vec_len}
-use Rattle.wb_machine.specs.LocalValues.{value_of, passed_over}
+use Rattle.std.proofs.Common.{◌≡◌, ℕ, ◌≤◌, List, ◌++◌, map, take, drop, vec_len}
+use Rattle.wb_model.specs.Texts.{Buffer}
+use Rattle.wb_machine.specs.LocalValues.{values_stored, AreAscending, passed_over}
 use Rattle.wb_machine.proofs.arguments.pass.Given as goal
 
 abbrev pub invariant-loop-argument : goal.invariant-loop-argument
 invariant-loop-argument l =
-    (map value_of l.slots.items ≡ map value_of l.fn.slots.items ++ map (passed_over l.fn.sight.script.now l.fn.sight.heap.now l.fn.sight.this (drop l.base (map value_of l.fn.slots.items))) (take l.argument-index l.arguments))
+    ((buffers : List Buffer) →
+    values_stored buffers l.slots.items
+    ≡ values_stored buffers l.fn.slots.items
+    ++ map (passed_over l.fn.sight.script.now l.fn.sight.heap.now l.fn.sight.this (drop l.base (values_stored buffers l.fn.slots.items))) (take l.argument-index l.arguments))
+    × ((end : ℕ) → AreAscending 0 end l.fn.slots.items → AreAscending 0 end l.slots.items)
     × (vec_len l.fn.slots ≤ vec_len l.slots)
