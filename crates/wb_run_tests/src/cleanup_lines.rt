@@ -1,7 +1,6 @@
 //! Lines of the cleanup stack in a procedure with locals of every kind: which of them a script may have there, and which not.
 
 use crate::lines::first_other;
-use std::test::Fail;
 use wb_model::fault::ScriptFault::{Grammar, UnknownName, WrongKind};
 
 /// Lines that are read; the words that begin them are no reserved ones.
@@ -79,18 +78,16 @@ static UNKNOWN: [&[u8]; 8] = [
 ];
 
 #[test]
-fn cleanup_lines_are_read(rt: HostRuntime) -> Result<(), Fail> {
-    assert_eq!(rt; first_other(rt.alloc(), &READ, None)?, None);
-    Ok(())
+fn cleanup_lines_are_read(rt: HostRuntime) {
+    assert_eq!(rt; first_other(rt.alloc(), &READ, None), None);
 }
 
 #[test]
-fn cleanup_lines_are_refused(rt: HostRuntime) -> Result<(), Fail> {
+fn cleanup_lines_are_refused(rt: HostRuntime) {
     let misfit = Some(Grammar { line: 8 });
     let wrong = Some(WrongKind { line: 8 });
     let unknown = Some(UnknownName { line: 8 });
-    assert_eq!(rt; first_other(rt.alloc(), &NO_LINES, misfit)?, None);
-    assert_eq!(rt; first_other(rt.alloc(), &WRONG, wrong)?, None);
-    assert_eq!(rt; first_other(rt.alloc(), &UNKNOWN, unknown)?, None);
-    Ok(())
+    assert_eq!(rt; first_other(rt.alloc(), &NO_LINES, misfit), None);
+    assert_eq!(rt; first_other(rt.alloc(), &WRONG, wrong), None);
+    assert_eq!(rt; first_other(rt.alloc(), &UNKNOWN, unknown), None);
 }

@@ -3,7 +3,7 @@
 
 use crate::control_runs::{Failing, Unlimited, fail_so, first_other};
 use crate::runs::End;
-use crate::turns::{Setting, tells_attempts};
+use crate::turns::{Setting, tells};
 use std::test::Fail;
 use wb_model::heap::{Panic, Rule};
 use wb_model::run::Why;
@@ -122,7 +122,7 @@ static PUSHES: [Setting; 6] = [
 #[test]
 fn a_machine_tells_of_growths(rt: HostRuntime) -> Result<(), Fail> {
     for (index, setting) in PUSHES.iter().enumerate() {
-        assert!(rt; tells_attempts(rt.alloc(), setting)?, "run {index}");
+        assert!(rt; tells(rt.alloc(), setting, &[])?, "run {index}");
     }
     Ok(())
 }

@@ -2,7 +2,6 @@
 //! not.
 
 use crate::lines::first_other;
-use std::test::Fail;
 use wb_model::fault::ScriptFault::{Grammar, UnknownName, WrongKind};
 
 /// Lines on leaves and calls that are read.
@@ -206,16 +205,15 @@ static UNKNOWN: [&[u8]; 16] = [
 ];
 
 #[test]
-fn control_is_read_or_refused(rt: HostRuntime) -> Result<(), Fail> {
+fn control_is_read_or_refused(rt: HostRuntime) {
     let misfit = Some(Grammar { line: 8 });
     let wrong = Some(WrongKind { line: 8 });
     let unknown = Some(UnknownName { line: 8 });
-    assert_eq!(rt; first_other(rt.alloc(), &READ_CALLS, None)?, None);
-    assert_eq!(rt; first_other(rt.alloc(), &READ_BLOCKS, None)?, None);
-    assert_eq!(rt; first_other(rt.alloc(), &NO_CALLS, misfit)?, None);
-    assert_eq!(rt; first_other(rt.alloc(), &NO_BLOCKS, misfit)?, None);
-    assert_eq!(rt; first_other(rt.alloc(), &WRONG_CALLS, wrong)?, None);
-    assert_eq!(rt; first_other(rt.alloc(), &WRONG_BLOCKS, wrong)?, None);
-    assert_eq!(rt; first_other(rt.alloc(), &UNKNOWN, unknown)?, None);
-    Ok(())
+    assert_eq!(rt; first_other(rt.alloc(), &READ_CALLS, None), None);
+    assert_eq!(rt; first_other(rt.alloc(), &READ_BLOCKS, None), None);
+    assert_eq!(rt; first_other(rt.alloc(), &NO_CALLS, misfit), None);
+    assert_eq!(rt; first_other(rt.alloc(), &NO_BLOCKS, misfit), None);
+    assert_eq!(rt; first_other(rt.alloc(), &WRONG_CALLS, wrong), None);
+    assert_eq!(rt; first_other(rt.alloc(), &WRONG_BLOCKS, wrong), None);
+    assert_eq!(rt; first_other(rt.alloc(), &UNKNOWN, unknown), None);
 }

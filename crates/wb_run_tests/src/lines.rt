@@ -2,7 +2,6 @@
 
 use crate::refused::fault_of;
 use std::alloc::{AllocError, Global};
-use std::test::Fail;
 use wb_model::fault::ScriptFault;
 use wb_model::fault::ScriptFault::{Grammar, WrongKind};
 
@@ -12,21 +11,26 @@ const BEFORE: &[u8] = b"proc main\nptr p\nint x\nptr q\nint y\nbuf b 256\nview v
 /// What stands behind it: the end of its body, and procedures to call.
 const BEHIND: &[u8] = b"\nend\nproc none\nend\nproc both a:ptr n:int\nend\n";
 
-/// The index of the first of these lines with another fault.
+/// The fault of a script with this line, where there is one.
+fn fault_with(alloc: Global, line: &[u8]) -> Result<Option<ScriptFault>, AllocError> {
+    let mut script = BEFORE.to_vec(alloc)?;
+    script.extend_from_slice(line)?;
+    script.extend_from_slice(BEHIND)?;
+    Ok(fault_of(alloc, &script))
+}
+
+/// The index of the first of these lines with another fault, or for which there is no memory.
 pub(crate) fn first_other(
     alloc: Global,
     lines: &[&[u8]],
     fault: Option<ScriptFault>,
-) -> Result<Option<usize>, AllocError> {
+) -> Option<usize> {
     for (index, line) in lines.iter().enumerate() {
-        let mut script = BEFORE.to_vec(alloc)?;
-        script.extend_from_slice(*line)?;
-        script.extend_from_slice(BEHIND)?;
-        if fault_of(alloc, &script) != fault {
-            return Ok(Some(index));
+        if fault_with(alloc, line) != Ok(fault) {
+            return Some(index);
         }
     }
-    Ok(None)
+    None
 }
 
 /// Lines that are read.
@@ -264,14 +268,13 @@ static WRONG_TEXTS: [&[u8]; 29] = [
 ];
 
 #[test]
-fn lines_are_read_or_refused(rt: HostRuntime) -> Result<(), Fail> {
+fn lines_are_read_or_refused(rt: HostRuntime) {
     let misfit = Some(Grammar { line: 8 });
     let wrong = Some(WrongKind { line: 8 });
-    assert_eq!(rt; first_other(rt.alloc(), &READ, None)?, None);
-    assert_eq!(rt; first_other(rt.alloc(), &WORDS, None)?, None);
-    assert_eq!(rt; first_other(rt.alloc(), &NO_LINES, misfit)?, None);
-    assert_eq!(rt; first_other(rt.alloc(), &NO_TEXTS, misfit)?, None);
-    assert_eq!(rt; first_other(rt.alloc(), &WRONG, wrong)?, None);
-    assert_eq!(rt; first_other(rt.alloc(), &WRONG_TEXTS, wrong)?, None);
-    Ok(())
+    assert_eq!(rt; first_other(rt.alloc(), &READ, None), None);
+    assert_eq!(rt; first_other(rt.alloc(), &WORDS, None), None);
+    assert_eq!(rt; first_other(rt.alloc(), &NO_LINES, misfit), None);
+    assert_eq!(rt; first_other(rt.alloc(), &NO_TEXTS, misfit), None);
+    assert_eq!(rt; first_other(rt.alloc(), &WRONG, wrong), None);
+    assert_eq!(rt; first_other(rt.alloc(), &WRONG_TEXTS, wrong), None);
 }

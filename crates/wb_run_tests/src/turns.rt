@@ -10,47 +10,74 @@ use wb_script::read;
 /// Two cells, one in each turn.
 const TWO_CELLS: &[u8] = b"proc main\nptr a\nrepeat 2\nalloc a 1\nfree a\nend\nend\n";
 
-/// Its bytes, which no proof need look at.
-fn two_cells() -> &'static [u8] {
-    TWO_CELLS
-}
-
-/// Cells that come to the ceiling, in bytes that no proof need look at.
-fn sixteen_largest() -> &'static [u8] {
-    SIXTEEN_LARGEST
-}
-
-/// Whether the machine will make an attempt, what its turn answers, and how many attempts were made by then.
-fn turned(machine: &mut Machine) -> Result<(bool, Turn, u32), Fail> {
-    let will = machine.will_attempt();
-    let turn = machine.step()?;
-    Ok((will, turn, machine.attempts()))
-}
-
-#[test]
-fn turns_of_a_machine(rt: HostRuntime) -> Result<(), Fail> {
-    let script = read(rt.alloc(), two_cells())?;
-    let mut machine = Machine::new(rt.alloc(), &script, Rule::Unlimited, 9, SHAPE)?;
-    let turns = [
-        (true, Turn::GoesOn, 1),
-        // The head of the `repeat`, and its first turn.
-        (false, Turn::GoesOn, 1),
-        (false, Turn::GoesOn, 1),
-        (true, Turn::GoesOn, 2),
-        (false, Turn::GoesOn, 2),
-        (false, Turn::GoesOn, 2),
-        (true, Turn::GoesOn, 3),
-        (false, Turn::Ended, 3),
-        (false, Turn::Ended, 3),
-    ];
-    for turn in turns {
-        assert!(rt; turned(&mut machine)? == turn);
-    }
-    Ok(())
-}
-
 /// A script, a rule and a budget.
 pub(crate) type Setting = (&'static [u8], Rule, u32);
+
+/// Whether the machine will make an attempt, what its turn answers, and how many attempts were made by then.
+type Told = (bool, Turn, u32);
+
+/// Runs, and what their turns tell, from the first of them past the last.
+static TURNS: [(Setting, &[Told]); 2] = [
+    (
+        (TWO_CELLS, Rule::Unlimited, 9),
+        &[
+            (true, Turn::GoesOn, 1),
+            // The head of the `repeat`, and its first turn.
+            (false, Turn::GoesOn, 1),
+            (false, Turn::GoesOn, 1),
+            (true, Turn::GoesOn, 2),
+            (false, Turn::GoesOn, 2),
+            (false, Turn::GoesOn, 2),
+            (true, Turn::GoesOn, 3),
+            (false, Turn::Ended, 3),
+            (false, Turn::Ended, 3),
+        ],
+    ),
+    // What the ceiling cuts is asked for, and not counted.
+    (
+        (SIXTEEN_LARGEST, Rule::Unlimited, 99),
+        &[
+            (true, Turn::GoesOn, 1),
+            // Fifteen cells.
+            (true, Turn::GoesOn, 2),
+            (true, Turn::GoesOn, 3),
+            (true, Turn::GoesOn, 4),
+            (true, Turn::GoesOn, 5),
+            (true, Turn::GoesOn, 6),
+            (true, Turn::GoesOn, 7),
+            (true, Turn::GoesOn, 8),
+            (true, Turn::GoesOn, 9),
+            (true, Turn::GoesOn, 10),
+            (true, Turn::GoesOn, 11),
+            (true, Turn::GoesOn, 12),
+            (true, Turn::GoesOn, 13),
+            (true, Turn::GoesOn, 14),
+            (true, Turn::GoesOn, 15),
+            (true, Turn::GoesOn, 16),
+            (true, Turn::Ended, 16),
+            (false, Turn::Ended, 16),
+        ],
+    ),
+];
+
+/// What a turn tells, where there is memory for it.
+fn turned(machine: &mut Machine) -> Option<Told> {
+    let will = machine.will_attempt();
+    match machine.step() {
+        Ok(turn) => Some((will, turn, machine.attempts())),
+        Err(_) => None,
+    }
+}
+
+/// Whether the next turns tell this.
+fn turns_tell(machine: &mut Machine, turns: &[Told]) -> bool {
+    for told in turns {
+        if turned(machine) != Some(*told) {
+            return false;
+        }
+    }
+    true
+}
 
 /// Runs whose attempts lie in calls, turns and TRAPs, or aren't made where a statement is refused before.
 static SETTINGS: [Setting; 12] = [
@@ -99,46 +126,49 @@ static SETTINGS: [Setting; 12] = [
     ),
 ];
 
-/// Whether a machine tells exactly before those turns that make an attempt that they do, and of none that follows the
-/// end of the run.
-pub(crate) fn tells_attempts(alloc: Global, setting: &Setting) -> Result<bool, Fail> {
+/// Whether a machine tells exactly before those turns that make an attempt that they do, up to the end of its run, and of
+/// none that follows the end.
+fn tells_attempts(machine: &mut Machine, budget: u32) -> bool {
+    // one turn begins the run, and one more may cut it
+    for _ in 0..budget.saturating_add(2) {
+        let before = machine.attempts();
+        let Some((will, turn, attempts)) = turned(machine) else {
+            return false;
+        };
+        if will != (attempts != before) {
+            return false;
+        }
+        if turn == Turn::Ended {
+            return !machine.will_attempt();
+        }
+    }
+    false
+}
+
+/// Whether the first turns of a run tell this, and those that follow tell their attempts.
+pub(crate) fn tells(alloc: Global, setting: &Setting, turns: &[Told]) -> Result<bool, Fail> {
     let (script, rule, budget) = *setting;
-    let script = read(alloc, script)?;
     if budget == 0 || budget > 1_000_000 {
         return Ok(false);
     }
+    let script = read(alloc, script)?;
     let mut machine = Machine::new(alloc, &script, rule, budget, SHAPE)?;
-    // one turn begins the run, and one more may cut it
-    for _ in 0..budget + 2 {
-        let before = machine.attempts();
-        let (will, turn, attempts) = turned(&mut machine)?;
-        if will != (attempts != before) {
-            return Ok(false);
-        }
-        if turn == Turn::Ended {
-            return Ok(!machine.will_attempt());
-        }
-    }
-    Ok(false)
+    let first = turns_tell(&mut machine, turns);
+    Ok(first && tells_attempts(&mut machine, budget))
 }
 
 #[test]
-fn a_machine_tells_its_attempts(rt: HostRuntime) -> Result<(), Fail> {
-    for (index, setting) in SETTINGS.iter().enumerate() {
-        assert!(rt; tells_attempts(rt.alloc(), setting)?, "run {index}");
+fn turns_of_machines(rt: HostRuntime) -> Result<(), Fail> {
+    for (row, (setting, turns)) in TURNS.iter().enumerate() {
+        assert!(rt; tells(rt.alloc(), setting, turns)?, "run {row}");
     }
     Ok(())
 }
 
 #[test]
-fn what_the_ceiling_cuts_is_asked_for(rt: HostRuntime) -> Result<(), Fail> {
-    let script = read(rt.alloc(), sixteen_largest())?;
-    let mut machine = Machine::new(rt.alloc(), &script, Rule::Unlimited, 99, SHAPE)?;
-    // the first turn, and fifteen cells
-    for _ in 0..16 {
-        let _ = turned(&mut machine)?;
+fn a_machine_tells_its_attempts(rt: HostRuntime) -> Result<(), Fail> {
+    for (row, setting) in SETTINGS.iter().enumerate() {
+        assert!(rt; tells(rt.alloc(), setting, &[])?, "run {row}");
     }
-    assert!(rt; turned(&mut machine)? == (true, Turn::Ended, 16));
-    assert!(rt; !machine.will_attempt());
     Ok(())
 }
