@@ -248,9 +248,9 @@ pub(crate) fn granted(heap: &mut DebugHeap, n: u32) -> Result<Ptr, NoMemory>
     if heap.attempts() == u32::MAX {
         return Err(NoMemory);
     }
-    match make(heap, n)? {
-        Gave::Granted(ptr) => Ok(ptr),
-        Gave::Denied | Gave::Ceiling => Err(NoMemory),
+    match make(heap, n) {
+        Ok(Gave::Granted(ptr)) => Ok(ptr),
+        _ => Err(NoMemory),
     }
 }
 
@@ -267,8 +267,8 @@ fn granted_beside(heap: &mut DebugHeap, other: Ptr, n: u32) -> Result<Ptr, NoMem
     if heap.attempts() == u32::MAX {
         return Err(NoMemory);
     }
-    match make(heap, n)? {
-        Gave::Granted(ptr) if ptr != other => Ok(ptr),
+    match make(heap, n) {
+        Ok(Gave::Granted(ptr)) if ptr != other => Ok(ptr),
         _ => Err(NoMemory),
     }
 }

@@ -1,4 +1,4 @@
-use Rattle.std.proofs.Common.{◌≡◌, ◌≢◌, ℕ, ◌+◌, ◌*◌, Option, Some, None, ap, ◌∙◌, arith}
+use Rattle.std.proofs.Common.{◌≡◌, ◌≢◌, ℕ, ◌+◌, ◌*◌, Option, Some, None, OnOk, ap, subst, ◌∙◌, arith}
 use Rattle.wb_model.specs.declared.heap.Ptr.{Ptr}
 use Rattle.wb_model.specs.declared.heap.Kind.TheVariants.{Text}
 use Rattle.wb_model.specs.declared.heap.Answer.{Answer}
@@ -35,6 +35,7 @@ stays q d new bytes sound is made = by (answer_in d (alloc_request d.heap bytes)
     by (Some Simulated) n = kept (ap (λ (x : Debug). x.heap.row) n)
     by (Some Refused) n = kept (ap (λ (x : Debug). x.heap.row) n)
 
-pub returns-in-Granted-clause-other : goal.returns-in-Granted-clause-other
-returns-in-Granted-clause-other c =
-    stays c.args.other c.args.heap.now c.make.new.heap (4 + 2 * c.args.n) c.requires.sound c.requires.other c.in_ok-ptr.ensures.made
+pub returns-in-Ok-Granted-clause-other : goal.returns-in-Ok-Granted-clause-other
+returns-in-Ok-Granted-clause-other c =
+    stays c.args.other c.args.heap.now c.make.new.heap (4 + 2 * c.args.n) c.requires.sound c.requires.other
+    (subst (λ r. OnOk r (c.make.new.heap ≡ (alloc_made c.args.heap.now (4 + 2 * c.args.n) Text).debug)) c.in-Ok-Granted.is c.make.ensures.made)
