@@ -24,7 +24,10 @@ PROGRAM = ROOT / "crates" / "wb_main"
 MEMORY = 2_000_000_000
 
 # The most crates that are built at once.
-AT_ONCE = 3
+AT_ONCE = 4
+
+# A crate of fewer lines gains nothing from further processes: most of its time is what it loads.
+LARGE = 1_000
 
 
 class Libraries:
@@ -33,6 +36,11 @@ class Libraries:
     def __init__(self, rtlib: ModuleType, processors: int) -> None:
         self.rtlib, self.processors = rtlib, processors
         self.crates = rtlib.Crate(str(PROGRAM), str(ROOT), {}).below()
+        # how many lines the longest way has from a crate up to the program: where that is long, the crate is built soon
+        self.way: dict[str, int] = {}
+        for crate in reversed(self.crates):
+            above = [self.way[it.name] for it in self.crates if crate in it.deps]
+            self.way[crate.name] = crate.count(rb"\n") + max(above, default=0)
 
     def jobs(self, processes: int, crates: int) -> int:
         """How many processes a crate gets, of these at most: as many as there is memory for, if each crate gets that many."""
@@ -49,15 +57,16 @@ class Libraries:
 
     def build_all(self) -> bool:
         """Builds each library once those are built that it uses. A crate beside others leaves them a processor."""
-        waiting, built = list(self.crates), []
+        waiting, built = sorted(self.crates, key=lambda it: -self.way[it.name]), []
         running: dict[Future[bool], Any] = {}
         lanes = min(AT_ONCE, self.processors)
         with ThreadPoolExecutor(lanes) as pool:
             while waiting or running:
                 ready = [it for it in waiting if all(below in built for below in it.deps)][: lanes - len(running)]
                 is_alone = len(ready) + len(running) == 1
-                jobs = self.jobs(self.processors, 1) if is_alone else self.jobs(self.processors - 1, lanes)
                 for crate in ready:
+                    is_large = is_alone or crate.count(rb"\n") >= LARGE
+                    jobs = self.jobs(self.processors if is_alone else self.processors - 1, 2) if is_large else 1
                     waiting.remove(crate)
                     running[pool.submit(self.build_one, crate, jobs)] = crate
                 for done in wait(running, return_when=FIRST_COMPLETED).done:
