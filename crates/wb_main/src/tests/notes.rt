@@ -46,58 +46,75 @@ fn run(alloc: Global, outcome: Outcome) -> Result<RunResult, AllocError> {
     })
 }
 
+/// How a run ends.
+#[derive(Clone, Copy)]
+enum End {
+    /// With the code of a leave, where there is one, and with these leaks.
+    Left(Option<i32>, &'static [Leak]),
+    Panicked(Panic),
+    NoCleanup,
+    Cut(Why),
+}
+
+fn outcome(alloc: Global, end: End) -> Result<Outcome, AllocError> {
+    Ok(match end {
+        End::Left(left, leaks) => Outcome::Ended {
+            left,
+            leaks: Items::from_vec(leaks.to_vec(alloc)?),
+        },
+        End::Panicked(panic) => Outcome::Panicked(panic),
+        End::NoCleanup => Outcome::NoCleanup,
+        End::Cut(why) => Outcome::Cut(why),
+    })
+}
+
+/// Ends, and the lines that tell of them.
+static ENDS: [(End, &[u8]); 10] = [
+    (
+        End::Left(
+            None,
+            &[
+                Leak {
+                    number: 1,
+                    length: 144,
+                    place: 0,
+                },
+                Leak {
+                    number: 12,
+                    length: 32,
+                    place: 16_777_184,
+                },
+            ],
+        ),
+        b"ended\nleaks 2\nleak 1 length 144 place 0\nleak 12 length 32 place 16777184\n",
+    ),
+    (End::Left(Some(-4), &[]), b"left -4\nleaks 0\n"),
+    (End::Panicked(Panic::User(42)), b"panic USER 42\n"),
+    (End::Panicked(Panic::Alloc(144)), b"panic ALLOC 00000090\n"),
+    (
+        End::Panicked(Panic::Alloc(0xfedcba0)),
+        b"panic ALLOC 0fedcba0\n",
+    ),
+    (End::Panicked(Panic::Alloc(0)), b"panic ALLOC 00000000\n"),
+    (End::Panicked(Panic::Workbench(7)), b"panic WORKBENCH 7\n"),
+    (End::NoCleanup, b"nocleanup\n"),
+    (End::Cut(Why::Budget), b"cut budget\n"),
+    (End::Cut(Why::Ceiling), b"cut ceiling\n"),
+];
+
+/// Whether the text of a run with this end has these lines between the others.
+fn is_told(alloc: Global, end: End, lines: &[u8]) -> Result<bool, Fail> {
+    let run = run(alloc, outcome(alloc, end)?)?;
+    let mut text = Vec::new(alloc);
+    put_run(&mut text, &run)?;
+    let rest = text.as_slice().strip_prefix(TEXT);
+    Ok(rest.and_then(|t| t.strip_suffix(b"steps 10\n")) == Some(lines))
+}
+
 #[test]
 fn tells_every_part(rt: HostRuntime) -> Result<(), Fail> {
-    let leaks = Items::from_vec(vec![in rt.alloc();
-        Leak {
-            number: 1,
-            length: 144,
-            place: 0
-        },
-        Leak {
-            number: 12,
-            length: 32,
-            place: 16_777_184
-        },
-    ]?);
-    let ends: [(Outcome, &[u8]); 10] = [
-        (
-            Outcome::Ended { left: None, leaks },
-            b"ended\nleaks 2\nleak 1 length 144 place 0\nleak 12 length 32 place 16777184\n",
-        ),
-        (
-            Outcome::Ended {
-                left: Some(-4),
-                leaks: Items::new(rt.alloc()),
-            },
-            b"left -4\nleaks 0\n",
-        ),
-        (Outcome::Panicked(Panic::User(42)), b"panic USER 42\n"),
-        (
-            Outcome::Panicked(Panic::Alloc(144)),
-            b"panic ALLOC 00000090\n",
-        ),
-        (
-            Outcome::Panicked(Panic::Alloc(0xfedcba0)),
-            b"panic ALLOC 0fedcba0\n",
-        ),
-        (
-            Outcome::Panicked(Panic::Alloc(0)),
-            b"panic ALLOC 00000000\n",
-        ),
-        (
-            Outcome::Panicked(Panic::Workbench(7)),
-            b"panic WORKBENCH 7\n",
-        ),
-        (Outcome::NoCleanup, b"nocleanup\n"),
-        (Outcome::Cut(Why::Budget), b"cut budget\n"),
-        (Outcome::Cut(Why::Ceiling), b"cut ceiling\n"),
-    ];
-    for (outcome, end) in ends {
-        let mut text = Vec::new(rt.alloc());
-        put_run(&mut text, &run(rt.alloc(), outcome)?)?;
-        let rest = text.as_slice().strip_prefix(TEXT);
-        assert_eq!(rt; rest.and_then(|t| t.strip_suffix(b"steps 10\n")), Some(end));
+    for (index, (end, lines)) in ENDS.iter().enumerate() {
+        assert!(rt; is_told(rt.alloc(), *end, lines)?, "row {index}");
     }
     Ok(())
 }
