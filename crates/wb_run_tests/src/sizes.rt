@@ -3,12 +3,13 @@
 use std::alloc::Global;
 use std::test::Fail;
 use wb_machine::run;
-use wb_model::heap::{Answer, Rule, Shape};
+use wb_model::heap::{Answer, Attempt, Rule, Shape};
 use wb_model::run::Why;
 use wb_model::size::Rise;
 use wb_script::read;
 use wb_size::fault::SizeFault;
 use wb_size::measure::size;
+use wb_size::sizing::Sizing;
 
 const SHAPE: Shape = Shape {
     min: 4096,
@@ -20,40 +21,58 @@ const SHAPE: Shape = Shape {
 const REUSES: &[u8] =
     b"proc main\nptr a\nptr b\nalloc a 10\nalloc b 100\nfree a\nfailnext 2\nalloc a 16\nalloc b 1000\nend\n";
 
-/// The number of the first attempt that a heap of this length refuses, by a run.
-fn first_refused(alloc: Global, length: u32) -> Result<Option<u32>, Fail> {
-    let script = read(alloc, REUSES)?;
-    let told = run(alloc, &script, Rule::Limit(length), 10_000, SHAPE)?;
-    for attempt in told.trace.as_slice() {
+/// Its bytes, which no proof need look at.
+fn reuses() -> &'static [u8] {
+    REUSES
+}
+
+/// The number of the first attempt of a trace that the heap refuses.
+fn refused_in(trace: &[Attempt]) -> Option<u32> {
+    for attempt in trace {
         if attempt.answer == Answer::Refused {
-            return Ok(Some(attempt.number));
+            return Some(attempt.number);
         }
     }
-    Ok(None)
+    None
+}
+
+/// The number of the first attempt that a heap of this length refuses, by a run.
+fn first_refused(alloc: Global, length: u32) -> Result<Option<u32>, Fail> {
+    let script = read(alloc, reuses())?;
+    let told = run(alloc, &script, Rule::Limit(length), 10_000, SHAPE)?;
+    Ok(refused_in(told.trace.as_slice()))
 }
 
 /// How the script isn't sized.
 fn fault_of(alloc: Global, budget: u32, shape: Shape) -> Result<Option<SizeFault>, Fail> {
-    let script = read(alloc, REUSES)?;
     if budget == 0 || budget > 10_000 {
         return Ok(None);
     }
+    let script = read(alloc, reuses())?;
     Ok(size(alloc, &script, budget, shape).err())
 }
 
 /// What a heap of this length refuses first, by the number of the attempt.
 type Shorter = (u32, Option<u32>);
 
-/// Whether this length is required, with these rises, and heaps refuse these numbers, as told and in a run.
-fn is_sized(alloc: Global, required: u32, rises: &[Rise], heaps: &[Shorter]) -> Result<bool, Fail> {
-    let script = read(alloc, REUSES)?;
-    let sizing = size(alloc, &script, 10_000, SHAPE)?;
+/// Whether heaps refuse these numbers, as told and in a run.
+fn refuse_so(alloc: Global, sizing: &Sizing, heaps: &[Shorter]) -> Result<bool, Fail> {
     for (length, number) in heaps {
-        if sizing.refused_at(*length) != *number || first_refused(alloc, *length)? != *number {
+        let met = first_refused(alloc, *length)?;
+        if sizing.refused_at(*length) != *number || met != *number {
             return Ok(false);
         }
     }
-    Ok(sizing.required == required && sizing.rises.as_slice() == rises)
+    Ok(true)
+}
+
+/// Whether this length is required, with these rises, and heaps refuse these numbers.
+fn is_sized(alloc: Global, required: u32, rises: &[Rise], heaps: &[Shorter]) -> Result<bool, Fail> {
+    let script = read(alloc, reuses())?;
+    let sizing = size(alloc, &script, 10_000, SHAPE)?;
+    let told = sizing.required == required && sizing.rises.as_slice() == rises;
+    let refused = refuse_so(alloc, &sizing, heaps)?;
+    Ok(told && refused)
 }
 
 #[test]

@@ -6,6 +6,7 @@ use wb_model::heap::{Panic, Shape};
 use wb_model::run::{Outcome, Why};
 use wb_script::read;
 use wb_sweep::fault::SweepFault;
+use wb_sweep::found::Sweep;
 use wb_sweep::sweeping::sweep;
 
 const SHAPE: Shape = Shape {
@@ -32,20 +33,24 @@ enum Told {
 
 /// Sweeps a script.
 fn swept(alloc: Global, script: &[u8], budget: u32, shape: Shape) -> Result<Told, Fail> {
-    let script = read(alloc, script)?;
     if budget == 0 || budget > 10_000 {
         return Ok(Told::Nothing(0));
     }
+    let script = read(alloc, script)?;
     Ok(match sweep(alloc, &script, budget, shape) {
-        Ok(sweep) => match &sweep.found {
-            Some(found) => {
-                let is_null = panics_for_null(&found.result.outcome);
-                Told::Found(sweep.attempts, found.number, is_null)
-            }
-            None => Told::Nothing(sweep.attempts),
-        },
+        Ok(sweep) => told_of(&sweep),
         Err(fault) => Told::Fault(fault),
     })
+}
+
+fn told_of(sweep: &Sweep) -> Told {
+    match &sweep.found {
+        Some(found) => {
+            let is_null = panics_for_null(&found.result.outcome);
+            Told::Found(sweep.attempts, found.number, is_null)
+        }
+        None => Told::Nothing(sweep.attempts),
+    }
 }
 
 fn panics_for_null(outcome: &Outcome) -> bool {
