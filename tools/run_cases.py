@@ -1,5 +1,6 @@
 #!/usr/bin/env python3
-"""Runs a program on worked cases and compares standard output and exit status with what they say.
+"""Runs a program on worked cases and compares standard output and exit status with what they say, and standard error
+where a case says that too.
 
 `cases/README.md` says what a case is. A folder called `later` is left out.
 """
@@ -47,8 +48,14 @@ def fault_of(program: Path, script: Path, folder: Path) -> str | None:
         return f"wanted status {status}, got {done.returncode}"
     contains = script.with_suffix(".contains")
     if contains.exists():
-        return first_missing(contains.read_text().splitlines(), done.stdout)
-    return first_difference(script.with_suffix(".stdout").read_bytes(), done.stdout)
+        fault = first_missing(contains.read_text().splitlines(), done.stdout)
+    else:
+        fault = first_difference(script.with_suffix(".stdout").read_bytes(), done.stdout)
+    messages = script.with_suffix(".stderr")
+    if fault is None and messages.exists():
+        fault = first_difference(messages.read_bytes(), done.stderr)
+        return fault and f"standard error, {fault}"
+    return fault
 
 
 def file_left_alone(cases: Path) -> Path | None:
