@@ -1,0 +1,66 @@
+//! Why a file could not be opened, read or written.
+
+use std::alloc::{AllocError, Global};
+use std::io::ErrorKind;
+
+/// What was done to a file when it failed.
+#[derive(Clone, Copy, Debug, PartialEq, Eq)]
+pub enum Deed {
+    Opening,
+    Reading,
+    Writing,
+}
+
+/// The line that says why a file, by its name, could not be opened, read or written.
+pub fn file_fault(
+    alloc: Global,
+    file: &str,
+    deed: Deed,
+    kind: ErrorKind,
+) -> Result<String, AllocError> {
+    let why = reason(kind);
+    if why.is_empty() {
+        let what = doing(deed);
+        return format!(in alloc; "workbench: {file}: {what} failed: {kind:?}\n");
+    }
+    let to = purpose(deed, kind);
+    format!(in alloc; "workbench: {file}: {why}{to}\n")
+}
+
+/// What is wrong, in words; empty where there are none for it.
+fn reason(kind: ErrorKind) -> &'static str {
+    match kind {
+        ErrorKind::NotFound => "no such file",
+        ErrorKind::PermissionDenied => "no permission",
+        ErrorKind::IsADirectory => "it is a directory, not a script",
+        ErrorKind::NotADirectory => "a part of its path is no directory",
+        ErrorKind::FilesystemLoop => "its links lead round in a circle",
+        ErrorKind::InvalidFilename => "its name is too long, or none that a file may have",
+        ErrorKind::InvalidInput => "its name is none that a file may have",
+        ErrorKind::BrokenPipe => "nobody reads it any more",
+        ErrorKind::StorageFull => "no room is left on the device",
+        ErrorKind::QuotaExceeded => "no more room is allowed",
+        ErrorKind::FileTooLarge => "it would be too large",
+        ErrorKind::WriteZero => "it takes no more bytes",
+        ErrorKind::Interrupted => "a signal came in between",
+        ErrorKind::WouldBlock => "it isn't ready, and the workbench doesn't wait",
+        _ => "",
+    }
+}
+
+/// What the permission would have been for.
+fn purpose(deed: Deed, kind: ErrorKind) -> &'static str {
+    match (kind, deed) {
+        (ErrorKind::PermissionDenied, Deed::Writing) => " to write it",
+        (ErrorKind::PermissionDenied, _) => " to read it",
+        _ => "",
+    }
+}
+
+fn doing(deed: Deed) -> &'static str {
+    match deed {
+        Deed::Opening => "opening it",
+        Deed::Reading => "reading it",
+        Deed::Writing => "writing to it",
+    }
+}

@@ -1,0 +1,77 @@
+//! What runs found: panics, leaks, what a failed attempt led to, which attempts a shorter heap refuses, and cuts.
+//!
+//! The script is run once more for this, and watched turn by turn, so that lines can be told.
+
+ghost use Rattle.std.specs.Prelude.{◌≤◌, IsTrue};
+ghost use Rattle.wb_model.specs.Sound.{is_script};
+
+mod attempts;
+mod bodies;
+mod cuts;
+mod ends;
+mod lengths;
+mod panics;
+mod script_file;
+mod watch;
+
+pub use script_file::ScriptFile;
+
+use crate::runs::ends::put_findings;
+use crate::runs::lengths::put_lengths;
+use crate::runs::watch::watched;
+use std::alloc::Global;
+use wb_model::heap::{Rule, Shape};
+use wb_model::limits::LARGEST_BUDGET;
+use wb_model::memory::NoMemory;
+use wb_model::script::Script;
+
+/// How a run is made: the attempts that are refused, the greatest number of steps, and the heap's shape.
+#[derive(Clone, Copy, Debug, PartialEq, Eq)]
+pub struct Setting {
+    pub rule: Rule,
+    pub budget: u32,
+    pub shape: Shape,
+}
+
+/// What a run found, by its lines; empty where there is nothing to say. The only error is that memory ran out.
+pub fn run_found(
+    alloc: Global,
+    file: ScriptFile<'_>,
+    script: &Script,
+    setting: Setting,
+) -> Result<String, NoMemory>
+    requires script { IsTrue (is_script script.now) }
+    requires least { 1 ≤ setting.budget }
+    requires greatest { setting.budget ≤ LARGEST_BUDGET }
+{
+    let mut text = String::new(alloc);
+    if let Some(seen) = watched(alloc, script, setting)? {
+        put_findings(&mut text, file, setting, &seen)?;
+    }
+    Ok(text)
+}
+
+/// Which line made each attempt that a shorter heap refuses first; empty where the run without a limit is cut. The only
+/// error is that memory ran out.
+pub fn lengths_found(
+    alloc: Global,
+    file: ScriptFile<'_>,
+    script: &Script,
+    budget: u32,
+    shape: Shape,
+) -> Result<String, NoMemory>
+    requires script { IsTrue (is_script script.now) }
+    requires least { 1 ≤ budget }
+    requires greatest { budget ≤ LARGEST_BUDGET }
+{
+    let mut text = String::new(alloc);
+    let setting = Setting {
+        rule: Rule::Unlimited,
+        budget,
+        shape,
+    };
+    if let Some(seen) = watched(alloc, script, setting)? {
+        put_lengths(&mut text, file, &seen)?;
+    }
+    Ok(text)
+}

@@ -1,0 +1,140 @@
+//! A run that is watched turn by turn: its result, and which line made which attempt.
+
+ghost use Rattle.std.specs.Prelude.{◌≤◌, IsTrue};
+ghost use Rattle.wb_model.specs.Sound.{is_script};
+
+use crate::runs::Setting;
+use crate::runs::bodies::{Bodies, BodyKind};
+use std::alloc::{AllocError, Global};
+use wb_machine::{Machine, RunFault, Turn};
+use wb_model::heap::Attempt;
+use wb_model::limits::LARGEST_BUDGET;
+use wb_model::memory::NoMemory;
+use wb_model::run::RunResult;
+use wb_model::script::Script;
+
+/// Which line made an attempt, and which was begun after it, outside of it and of all that undoes; 0 where there is none.
+#[derive(Clone, Copy, Debug, PartialEq, Eq)]
+pub struct Maker {
+    pub line: u32,
+    pub after: u32,
+}
+
+/// What was seen of a run while it was watched.
+#[derive(Drop)]
+pub struct Lines {
+    bodies: Bodies,
+    makers: Vec<Maker>,
+    /// The line that was begun last, and the last one of `main`.
+    last: u32,
+    last_of_main: u32,
+}
+
+/// A run that is over, and what was seen of it.
+#[derive(Drop)]
+pub struct Seen {
+    pub result: RunResult,
+    pub lines: Lines,
+}
+
+impl Seen {
+    /// The attempt with a number, and its line, where the run came to it.
+    pub fn attempt(&self, number: u32) -> Option<(Attempt, Maker)> {
+        let at = number.checked_sub(1)? as usize;
+        let attempt = self.result.trace.get(at)?;
+        let maker = self.lines.makers.get(at)?;
+        Some((*attempt, *maker))
+    }
+
+    /// The line that was begun last.
+    pub fn last(&self) -> u32 {
+        self.lines.last
+    }
+
+    /// The line of `main` that was begun last.
+    pub fn last_of_main(&self) -> u32 {
+        self.lines.last_of_main
+    }
+}
+
+impl Lines {
+    /// What is seen after a turn: the line that was begun last, and how many attempts were made.
+    fn see(&mut self, line: u32, attempts: u32) -> Result<(), AllocError> {
+        let kind = self.bodies.kind_at(line);
+        if kind == BodyKind::Main {
+            self.last_of_main = line;
+        }
+        if kind != BodyKind::Undoing {
+            self.see_after(line);
+        }
+        self.last = line;
+        if self.makers.len() < attempts as usize {
+            self.makers.push(Maker { line, after: 0 })?;
+        }
+        Ok(())
+    }
+
+    /// Notes the first other line that is begun after the newest attempt.
+    fn see_after(&mut self, line: u32) {
+        if let Some(maker) = self.makers.last_mut() {
+            if maker.after == 0 && maker.line != line {
+                maker.after = line;
+            }
+        }
+    }
+}
+
+/// Runs the script in this setting and watches it; `None` where the shape is none that a heap may have. The only error is
+/// that memory ran out.
+pub fn watched(alloc: Global, script: &Script, setting: Setting) -> Result<Option<Seen>, NoMemory>
+    requires script { IsTrue (is_script script.now) }
+    requires least { 1 ≤ setting.budget }
+    requires greatest { setting.budget ≤ LARGEST_BUDGET }
+{
+    let Setting {
+        rule,
+        budget,
+        shape,
+    } = setting;
+    let mut lines = Lines {
+        bodies: Bodies::of(alloc, script)?,
+        makers: Vec::new(alloc),
+        last: 0,
+        last_of_main: 0,
+    };
+    let mut machine = match Machine::new(alloc, script, rule, budget, shape) {
+        Ok(machine) => machine,
+        Err(RunFault::BadShape) => return Ok(None),
+        Err(RunFault::NoMemory) => return Err(NoMemory),
+    };
+    watch(&mut machine, &mut lines, budget)?;
+    finished(machine, lines)
+}
+
+/// Lets the machine take its turns, at most one for each step of the budget, the first, and the one that ends the run.
+fn watch(machine: &mut Machine<'_>, lines: &mut Lines, budget: u32) -> Result<(), NoMemory> {
+    for _ in 0..=budget {
+        if let Turn::Ended = take_turn(machine, lines)? {
+            return Ok(());
+        }
+    }
+    take_turn(machine, lines)?;
+    Ok(())
+}
+
+fn take_turn(machine: &mut Machine<'_>, lines: &mut Lines) -> Result<Turn, NoMemory> {
+    let turn = machine.step()?;
+    lines.see(machine.line(), machine.attempts())?;
+    Ok(turn)
+}
+
+/// What the run tells, where it is over; one turn more says so and changes nothing.
+fn finished(mut machine: Machine<'_>, lines: Lines) -> Result<Option<Seen>, NoMemory> {
+    match machine.step()? {
+        Turn::Ended => Ok(Some(Seen {
+            result: machine.result(),
+            lines,
+        })),
+        Turn::GoesOn => Ok(None),
+    }
+}
