@@ -14,11 +14,10 @@ mod panics;
 mod script_file;
 mod watch;
 
-pub use script_file::ScriptFile;
-
 use crate::runs::ends::put_findings;
 use crate::runs::lengths::put_lengths;
 use crate::runs::watch::watched;
+pub use script_file::ScriptFile;
 use std::alloc::Global;
 use wb_model::heap::{Rule, Shape};
 use wb_model::limits::LARGEST_BUDGET;

@@ -1,18 +1,49 @@
-//! The program: hands the process's own words, files and streams to the workbench.
+//! The program: hands the process's own words, files and streams to the workbench, and says on standard error what there is
+//! to say of the answer.
 #![tactic(auto)]
 
+mod explanation;
+mod recorded;
+mod told;
+
+use crate::explanation::explained;
+use crate::recorded::{Record, Recorded, RecordedHost};
+use std::cell::RefCell;
+use std::io::Write;
 use std::process::ExitCode;
 use std::{env, io};
 use workbench::program::program;
 
 fn main(rt: HostRuntime) -> ExitCode {
-    ExitCode::from(program(
+    let record = RefCell::new(Record::new(rt.alloc()));
+    let status = program(
         rt.alloc(),
         words(&rt),
-        &mut &rt,
-        &mut io::writer(&rt),
+        &mut RecordedHost {
+            rt: &rt,
+            record: &record,
+        },
+        &mut Recorded {
+            stream: io::writer(&rt),
+            record: &record,
+        },
         &mut rt.stderr(),
-    ))
+    );
+    explain(&rt, &record, status);
+    ExitCode::from(status)
+}
+
+/// Says what there is to say of the answer. Where memory runs out, or a write fails, it is left out.
+fn explain(rt: &HostRuntime, record: &RefCell<Record>, status: u8) {
+    let Ok(words) = words(rt) else {
+        return;
+    };
+    let Ok(record) = record.try_borrow() else {
+        return;
+    };
+    if let Ok(text) = explained(rt.alloc(), words.as_slice(), &record, status) {
+        let _ = rt.stderr().write_all(text.as_bytes());
+    }
 }
 
 /// All words of the command line, the program's name first.

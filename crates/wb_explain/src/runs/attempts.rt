@@ -58,7 +58,10 @@ fn put_limit(
         }
     }
     let name = file.name;
-    write!(text, "{name}: a heap of {limit} bytes refuses nothing of this run\n")
+    write!(
+        text,
+        "{name}: a heap of {limit} bytes refuses nothing of this run\n"
+    )
 }
 
 /// Says which line's attempt failed, and where the run went on.

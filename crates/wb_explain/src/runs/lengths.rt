@@ -67,8 +67,14 @@ fn put_maker(
         None => 0,
     };
     if line == 0 {
-        return write!(text, "    from {from}: attempt {number}, the cell of the cleanup stack\n");
+        return write!(
+            text,
+            "    from {from}: attempt {number}, the cell of the cleanup stack\n"
+        );
     }
     let shown = file.line(line);
-    write!(text, "    from {from}: attempt {number}, line {line}: {shown}\n")
+    write!(
+        text,
+        "    from {from}: attempt {number}, line {line}: {shown}\n"
+    )
 }

@@ -1,0 +1,134 @@
+//! What is said on standard error of an answer, beside the answer itself.
+
+ghost use Rattle.std.specs.Prelude.{◌≤◌, IsTrue};
+ghost use Rattle.wb_model.specs.Sound.{is_script};
+
+use crate::recorded::Record;
+use std::alloc::Global;
+use wb_explain::files::{Deed, file_fault};
+use wb_explain::refused::refused_script;
+use wb_explain::runs::{ScriptFile, Setting, lengths_found, run_found};
+use wb_model::heap::Rule;
+use wb_model::limits::LARGEST_BUDGET;
+use wb_model::memory::NoMemory;
+use wb_model::script::Script;
+use workbench::answer::READ_OR_WRITE_FAULT;
+use workbench::command::{Command, Task};
+use workbench::command_line::command;
+
+/// The greatest status of a report.
+const CUT: u8 = 3;
+
+/// The explanation of the answer to the command that the words spell, by its status and by what was read and written; empty
+/// where there is nothing to say. The only error is that memory ran out.
+pub fn explained(
+    alloc: Global,
+    words: &[String],
+    record: &Record,
+    status: u8,
+) -> Result<String, NoMemory> {
+    if status > CUT && status != READ_OR_WRITE_FAULT {
+        return Ok(String::new(alloc));
+    }
+    match command(alloc, words) {
+        Ok(command) => explained_command(alloc, &command, record, status),
+        Err(_) => Ok(String::new(alloc)),
+    }
+}
+
+fn explained_command(
+    alloc: Global,
+    command: &Command,
+    record: &Record,
+    status: u8,
+) -> Result<String, NoMemory> {
+    if status == READ_OR_WRITE_FAULT {
+        return explained_fault(alloc, command, record);
+    }
+    if record.is_short {
+        return Err(NoMemory);
+    }
+    explained_script(alloc, command, record)
+}
+
+/// Why the script's file could not be read, or the report not written.
+fn explained_fault(alloc: Global, command: &Command, record: &Record) -> Result<String, NoMemory> {
+    let Some((deed, kind)) = record.fault else {
+        return Ok(String::new(alloc));
+    };
+    let name = match deed {
+        Deed::Writing => "standard output",
+        Deed::Opening | Deed::Reading => name_of(command, "standard input"),
+    };
+    Ok(file_fault(alloc, name, deed, kind)?)
+}
+
+/// The name of the script's file, or how standard input is called.
+fn name_of<'a>(command: &'a Command, input: &'a str) -> &'a str {
+    match &command.file {
+        Some(name) => name.as_str(),
+        None => input,
+    }
+}
+
+/// Why the script is refused, or what its runs found.
+fn explained_script(alloc: Global, command: &Command, record: &Record) -> Result<String, NoMemory> {
+    let name = name_of(command, "<stdin>");
+    let bytes = record.bytes.as_slice();
+    match wb_script::read(alloc, bytes) {
+        Ok(script) => explained_runs(alloc, command, record, name, &script),
+        Err(fault) => Ok(refused_script(alloc, name, bytes, &fault)?),
+    }
+}
+
+/// What the runs found of which the report tells.
+fn explained_runs(
+    alloc: Global,
+    command: &Command,
+    record: &Record,
+    name: &str,
+    script: &Script,
+) -> Result<String, NoMemory>
+    requires { IsTrue (is_script script.now) }
+{
+    let Ok(text) = str::from_utf8(record.bytes.as_slice()) else {
+        return Ok(String::new(alloc));
+    };
+    let file = ScriptFile { name, text };
+    let mut found = String::new(alloc);
+    if let Task::Size | Task::Check = command.task {
+        found = lengths_found(alloc, file, script, budget_of(command), command.shape)?;
+    }
+    if let Some(rule) = rule_told(command.task, record.number) {
+        let run = run_found(alloc, file, script, setting_of(command, rule))?;
+        found.push_str(run.as_str())?;
+    }
+    Ok(found)
+}
+
+/// The rule of the run of which the report tells, where it tells of one.
+fn rule_told(task: Task, number: Option<u32>) -> Option<Rule> {
+    match task {
+        Task::Run(rule) => Some(rule),
+        Task::Size | Task::Sweep | Task::Check => number.map(|it| Rule::Number(it)),
+    }
+}
+
+fn setting_of(command: &Command, rule: Rule) -> Setting
+    ensures least { 1 ≤ result.budget }
+    ensures greatest { result.budget ≤ LARGEST_BUDGET }
+{
+    Setting {
+        rule,
+        budget: budget_of(command),
+        shape: command.shape,
+    }
+}
+
+/// The command's budget, which is in its range.
+fn budget_of(command: &Command) -> u32
+    ensures least { 1 ≤ result }
+    ensures greatest { result ≤ LARGEST_BUDGET }
+{
+    command.budget.max(1).min(LARGEST_BUDGET)
+}
