@@ -9,6 +9,7 @@ import argparse
 import subprocess
 import sys
 from pathlib import Path
+from typing import Any
 
 SECONDS = 120
 
@@ -38,24 +39,33 @@ def first_missing(wanted: list[str], given: bytes) -> str | None:
     return None
 
 
-def fault_of(program: Path, script: Path, folder: Path) -> str | None:
-    """What is wrong with the program's answer to a case, or None. File names in arguments start at the folder."""
+def run_case(program: Path, script: Path, folder: Path, **streams: Any) -> subprocess.CompletedProcess:
+    """Runs a program on a case, with these streams where they are not pipes. File names in arguments start at the folder."""
     words = script.with_suffix(".args").read_text().splitlines()
+    pipes = {"stdout": subprocess.PIPE, "stderr": subprocess.PIPE}
     with script.open("rb") as given:
-        done = subprocess.run([program, *words], stdin=given, capture_output=True, timeout=SECONDS, cwd=folder)
+        return subprocess.run([program, *words], stdin=given, timeout=SECONDS, cwd=folder, **(pipes | streams))
+
+
+def report_fault(script: Path, done: subprocess.CompletedProcess) -> str | None:
+    """What is wrong with the standard output and the status of a case that was run, or None."""
     status = int(script.with_suffix(".status").read_text())
     if done.returncode != status:
         return f"wanted status {status}, got {done.returncode}"
     contains = script.with_suffix(".contains")
     if contains.exists():
-        fault = first_missing(contains.read_text().splitlines(), done.stdout)
-    else:
-        fault = first_difference(script.with_suffix(".stdout").read_bytes(), done.stdout)
+        return first_missing(contains.read_text().splitlines(), done.stdout)
+    return first_difference(script.with_suffix(".stdout").read_bytes(), done.stdout)
+
+
+def fault_of(program: Path, script: Path, folder: Path) -> str | None:
+    """What is wrong with the program's answer to a case, or None."""
+    done = run_case(program, script, folder)
     messages = script.with_suffix(".stderr")
-    if fault is None and messages.exists():
-        fault = first_difference(messages.read_bytes(), done.stderr)
-        return fault and f"standard error, {fault}"
-    return fault
+    if (fault := report_fault(script, done)) is not None or not messages.exists():
+        return fault
+    fault = first_difference(messages.read_bytes(), done.stderr)
+    return fault and f"standard error, {fault}"
 
 
 def file_left_alone(cases: Path) -> Path | None:

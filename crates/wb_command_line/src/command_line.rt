@@ -1,6 +1,6 @@
 //! How the words of a command line are read: `workbench run [--limit L | --fail N] [--budget B] [--min M] [--step G] [--json]
 //! [FILE]`, and the same without a limit or a number after `size`, `sweep` and `check`. Nothing is opened or run here.
-ghost use Rattle.std.specs.Prelude.{◌≡◌, ◌≤◌, All, IfErr, IfOk, IsSome, IsTrue, List, Some, OnErr, OnOk, codes, false, fold, map, pos, true};
+ghost use Rattle.std.specs.Prelude.{◌≡◌, ◌≤◌, All, IfErr, IfOk, IsSome, IsTrue, List, Some, OnErr, OnOk, codes, false, fold, map, true};
 ghost use Rattle.std.specs.Str.{IsUtf8};
 ghost use Rattle.clap.specs.Words.{Text, app_of, first_of, found_of, new_app, rows_of, rule_of, takes, with_rule, with_subcommand};
 ghost use Rattle.clap.specs.declared.builder.command.Command.TheViews.{out-Command as fields_of};
@@ -13,13 +13,14 @@ ghost use Rattle.wb_command_line.specs.Spelled.{IsMeantBy, IsSpelledBy, budget_o
 ghost use Rattle.wb_command_line.specs.Subcommands.{subcommand_named};
 ghost use Rattle.wb_command_line.specs.WordByWord.{AreRead};
 
+mod long_help;
 mod number_help;
 
 use crate::command::{Command, CommandFault, Task};
-use crate::command_line::number_help::NumberHelp;
+use crate::command_line::long_help::{BEGIN, long_about};
+use crate::command_line::number_help::{NumberHelp, between};
 use crate::file_name::FileName;
-use clap::builder::ValueParser;
-use clap::{Arg, ArgAction, ArgMatches, value_parser};
+use clap::{Arg, ArgAction, ArgMatches};
 use std::alloc::{AllocError, Global};
 use std::convert::AsStr;
 use wb_model::heap::{Rule, Shape};
@@ -178,6 +179,7 @@ fn parser<'a>(alloc: Global, help: &'a NumberHelp) -> Result<clap::Command<'a>, 
 {
     let line = clap::Command::new(alloc, "workbench")
         .about("Runs scripts against a simulated heap that may refuse")
+        .long_about(BEGIN)
         .subcommand_required(true);
     with_levels(
         alloc,
@@ -233,7 +235,9 @@ fn subcommand<'a>(
     ensures words { IfOk result (λ line. app_of line ≡ line_of level.now) }
     ensures own { IfOk result (λ line. (fields_of line).has_globals ≡ false) }
 {
-    let line = clap::Command::new(alloc, level.name).about(level.about);
+    let line = clap::Command::new(alloc, level.name)
+        .about(level.about)
+        .long_about(long_about(level.name));
     let line = with_argument(line, file(alloc))?;
     let line = with_rule_options(alloc, line, level.takes_rule, help)?;
     with_shared_options(alloc, line, help)
@@ -383,13 +387,6 @@ fn number<'a>(alloc: Global, option: &NumberOption<'a>) -> Arg<'a>
         .value_name(option.value)
         .value_parser(between(option.least, option.most))
         .help(option.help)
-}
-
-/// What takes the decimal numbers of a range.
-fn between<'a>(least: u32, most: u32) -> ValueParser<'a>
-    ensures { result ≡ ValueParser.Signed (pos least) (pos most) }
-{
-    value_parser!(u32).range(i64::from(least)..=i64::from(most))
 }
 
 /// Law: which words the command line takes, and what they spell, word by word. After the program's name and that of a

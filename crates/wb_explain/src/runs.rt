@@ -11,8 +11,11 @@ mod cuts;
 mod ends;
 mod lengths;
 mod panics;
+mod questions;
 mod script_file;
+mod values;
 mod watch;
+mod words;
 
 use crate::runs::ends::put_findings;
 use crate::runs::lengths::put_lengths;

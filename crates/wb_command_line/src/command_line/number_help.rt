@@ -1,6 +1,10 @@
-//! What the help says of options that take a number. The options themselves stand in `command_line`.
+//! What options take that take a number, and what the help says of it. The options themselves stand in `command_line`.
+
+ghost use Rattle.std.specs.Prelude.{◌≡◌, pos};
 
 use super::GRANULE;
+use clap::builder::ValueParser;
+use clap::value_parser;
 use std::alloc::{AllocError, Global};
 use wb_model::limits::{
     CEILING, DEFAULT_BUDGET, DEFAULT_MINIMUM, DEFAULT_STEP, LARGEST_BUDGET, LARGEST_MINIMUM,
@@ -40,4 +44,11 @@ impl NumberHelp {
             )?,
         })
     }
+}
+
+/// What takes the decimal numbers of a range.
+pub(super) fn between<'a>(least: u32, most: u32) -> ValueParser<'a>
+    ensures { result ≡ ValueParser.Signed (pos least) (pos most) }
+{
+    value_parser!(u32).range(i64::from(least)..=i64::from(most))
 }

@@ -4,6 +4,7 @@ use crate::runs::script_file::ScriptFile;
 use crate::runs::watch::{Maker, Seen};
 use std::alloc::AllocError;
 use wb_model::heap::{Answer, Attempt, Rule};
+use wb_model::run::Outcome;
 
 /// Says where the attempt was made that the rule refused first, where it refuses any.
 pub fn put_refused(
@@ -101,9 +102,10 @@ fn put_came_out(
     maker: Maker,
     seen: &Seen,
 ) -> Result<(), AllocError> {
-    if maker.after == 0 {
+    // of a panic more is said than that
+    let panicked = matches!(seen.result.outcome, Outcome::Panicked(_));
+    if maker.after == 0 || (panicked && maker.after == seen.last()) {
         return Ok(());
     }
-    let _ = seen;
     file.put(text, maker.after, "the run went on here")
 }

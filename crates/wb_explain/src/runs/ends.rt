@@ -3,11 +3,14 @@
 use crate::runs::Setting;
 use crate::runs::attempts::{put_place, put_refused};
 use crate::runs::cuts::put_cut;
-use crate::runs::panics::meaning_of;
+use crate::runs::panics::{meaning_of, symbian_of};
+use crate::runs::questions::{put_sentence, question_of};
 use crate::runs::script_file::ScriptFile;
+use crate::runs::values::values_at;
 use crate::runs::watch::Seen;
 use std::alloc::AllocError;
-use wb_model::heap::Panic;
+use wb_model::heap::{Panic, Rule};
+use wb_model::memory::NoMemory;
 use wb_model::run::{Leak, Outcome};
 
 /// The most leaks that are told one by one.
@@ -19,30 +22,38 @@ pub fn put_findings(
     file: ScriptFile<'_>,
     setting: Setting,
     seen: &Seen,
-) -> Result<(), AllocError> {
+) -> Result<(), NoMemory> {
     put_refused(text, file, setting.rule, seen)?;
     match &seen.result.outcome {
         Outcome::Ended { left, leaks } => {
-            put_left(text, file, *left, setting, seen)?;
-            put_leaks(text, file, leaks.as_slice(), seen)
+            if let Some(code) = *left
+                && (leaks.len() > 0 || refuses(setting.rule))
+            {
+                put_left(text, file, code, seen)?;
+            }
+            Ok(put_leaks(text, file, leaks.as_slice(), seen)?)
         }
-        Outcome::Panicked(panic) => put_panic(text, file, *panic, seen),
+        Outcome::Panicked(panic) => put_panic(text, file, *panic, setting, seen),
         Outcome::NoCleanup => Ok(()),
-        Outcome::Cut(why) => put_cut(text, file, *why, setting.budget, seen),
+        Outcome::Cut(why) => Ok(put_cut(text, file, *why, setting.budget, seen)?),
     }
 }
 
-/// Says where a leave came out of `main`, where something was made to fail or leaked.
+/// Whether a rule may refuse anything. A leave of a run under another is what the script means to do.
+fn refuses(rule: Rule) -> bool {
+    match rule {
+        Rule::Unlimited | Rule::Number(0) => false,
+        Rule::Number(_) | Rule::Limit(_) => true,
+    }
+}
+
+/// Says where a leave came out of `main`.
 fn put_left(
     text: &mut String,
     file: ScriptFile<'_>,
-    left: Option<i32>,
-    _setting: Setting,
+    code: i32,
     seen: &Seen,
 ) -> Result<(), AllocError> {
-    let Some(code) = left else {
-        return Ok(());
-    };
     let line = seen.last_of_main();
     put_place(text, file, line)?;
     write!(
@@ -76,15 +87,68 @@ fn put_panic(
     text: &mut String,
     file: ScriptFile<'_>,
     panic: Panic,
+    setting: Setting,
     seen: &Seen,
-) -> Result<(), AllocError> {
+) -> Result<(), NoMemory> {
     let line = seen.last();
     let word = file.first_word(line);
-    let (says, help) = meaning_of(panic, word);
     put_place(text, file, line)?;
     put_name(text, panic)?;
-    let shown = file.line(line);
-    write!(text, "{word}: {says}\n    {shown}\nhelp: {help}\n")
+    write!(text, "{word}: ")?;
+    let (says, help) = meaning_of(panic, word);
+    if !put_values(text, file, panic, setting, line)? {
+        text.push_str(says)?;
+    }
+    write!(text, "\n    {}\n", file.line(line))?;
+    put_lowest(text, file, panic, seen)?;
+    put_if(text, "note", symbian_of(panic))?;
+    Ok(put_if(text, "help", help)?)
+}
+
+/// Says with which values the line panicked, and tells whether anything is said.
+fn put_values(
+    text: &mut String,
+    file: ScriptFile<'_>,
+    panic: Panic,
+    setting: Setting,
+    line: u32,
+) -> Result<bool, NoMemory> {
+    let alloc = *text.allocator();
+    let Some(question) = question_of(panic, file.first_word(line)) else {
+        return Ok(false);
+    };
+    match values_at(alloc, file, setting, line, panic, question.asks)? {
+        Some(values) => Ok(put_sentence(text, question.sentence, values.as_slice())?),
+        None => Ok(false),
+    }
+}
+
+/// Says which line made the lowest cell that a heap check counted.
+fn put_lowest(
+    text: &mut String,
+    file: ScriptFile<'_>,
+    panic: Panic,
+    seen: &Seen,
+) -> Result<(), AllocError> {
+    let Panic::Alloc(place) = panic else {
+        return Ok(());
+    };
+    match seen.maker_at(place) {
+        Some(maker) => file.put(
+            text,
+            maker.line,
+            "the lowest cell that was counted was made here",
+        ),
+        None => Ok(()),
+    }
+}
+
+/// Writes a line of its own, unless there is nothing to say.
+fn put_if(text: &mut String, kind: &str, said: &str) -> Result<(), AllocError> {
+    if said.is_empty() {
+        return Ok(());
+    }
+    write!(text, "{kind}: {said}\n")
 }
 
 /// The panic as the report names it.

@@ -26,13 +26,32 @@ pub fn meaning_of(panic: Panic, word: &str) -> (&'static str, &'static str) {
     ("", "")
 }
 
+/// Where Symbian raises a panic of this category and number; empty for this project's own.
+pub fn symbian_of(panic: Panic) -> &'static str {
+    match panic {
+        Panic::POSITION_OUT_OF_BOUNDS => {
+            "USER 10 in Symbian: a position handed to a 16-bit descriptor is out of its bounds"
+        }
+        Panic::TOO_LONG => {
+            "USER 11 in Symbian: a 16-bit descriptor would become longer than its maximum length"
+        }
+        Panic::BAD_CELL => {
+            "USER 42 in Symbian: a pointer handed to RHeap::Free, AllocLen or ReAlloc is that of no valid cell"
+        }
+        Panic::Alloc(_) => {
+            "ALLOC in Symbian: __UHEAP_MARKEND or a heap check found cells that it should not; the number is a cell's address"
+        }
+        _ => "",
+    }
+}
+
 fn fits(words: &[&str], word: &str) -> bool {
     words.is_empty() || words.iter().any(|it| *it == word)
 }
 
 /// What a check of the heap means that found another number of cells.
 const CELLS: (&str, &str) = (
-    "the heap check found more or fewer cells than the line says; the panic's place is the lowest cell counted",
+    "there are more or fewer cells than the line says",
     "each cell since the mark that isn't meant to stay is to be freed before the check",
 );
 
@@ -44,55 +63,55 @@ static MEANINGS: [Meaning; 26] = [
     Meaning {
         panic: Panic::POSITION_OUT_OF_BOUNDS,
         words: &["insert", "deltext"],
-        says: "the position is behind the end of the text (a descriptor's position out of bounds)",
+        says: "the position is behind the end of the text",
         help: "a position goes from 0 to the text's length, which `getlen` tells",
     },
     Meaning {
         panic: Panic::POSITION_OUT_OF_BOUNDS,
         words: &["left", "right"],
-        says: "the text is shorter than that (a descriptor's position out of bounds)",
+        says: "the text is shorter than that",
         help: "`getlen` tells how many units the text has",
     },
     Meaning {
         panic: Panic::POSITION_OUT_OF_BOUNDS,
         words: &[],
-        says: "the part would end behind the text (a descriptor's position out of bounds)",
+        says: "the part would end behind the text",
         help: "`getlen` tells how many units the text has",
     },
     Meaning {
         panic: Panic::TOO_LONG,
         words: &[],
-        says: "the text would be longer than its maximum (a descriptor's length would pass its maximum length)",
+        says: "the text would be longer than its maximum",
         help: "`getmax` tells the maximum; a buffer's stands where it is declared, and `hrealloc` makes a text in a cell roomier",
     },
     Meaning {
         panic: Panic::BAD_CELL,
         words: &["free"],
-        says: "the pointer names no live cell: it was freed before, or has moved (a bad cell address)",
+        says: "the pointer names no live cell: it was freed before, or has moved",
         help: "set the pointer to null, as by `null`, where its cell is freed: to free null does nothing",
     },
     Meaning {
         panic: Panic::BAD_CELL,
         words: &["realloc", "reallocl", "hrealloc"],
-        says: "the pointer names no live cell: it was freed before, or has moved (a bad cell address)",
+        says: "the pointer names no live cell: it was freed before, or has moved",
         help: "where a cell grew it may have moved, and only the answer of that line names it",
     },
     Meaning {
         panic: Panic::BAD_CELL,
         words: &["alloclen"],
-        says: "the pointer names no live cell: it is null, was freed before, or has moved (a bad cell address)",
+        says: "the pointer names no live cell: it is null, was freed before, or has moved",
         help: "ask `if some` before, and set the pointer to null where its cell is freed",
     },
     Meaning {
         panic: Panic::BAD_CELL,
         words: &["delete"],
-        says: "a destructor freed the cell of its own object (a bad cell address)",
+        says: "a destructor freed the cell of its own object",
         help: "`delete` frees the cell itself, when `destroy` is done",
     },
     Meaning {
         panic: Panic::BAD_CELL,
         words: &[],
-        says: "an item of the cleanup stack was destroyed whose cell was freed or has moved (a bad cell address)",
+        says: "an item of the cleanup stack was destroyed whose cell was freed or has moved",
         help: "pop an item before its cell is freed elsewhere",
     },
     Meaning {

@@ -7,7 +7,7 @@ use crate::runs::Setting;
 use crate::runs::bodies::{Bodies, BodyKind};
 use std::alloc::{AllocError, Global};
 use wb_machine::{Machine, RunFault, Turn};
-use wb_model::heap::Attempt;
+use wb_model::heap::{Answer, Attempt};
 use wb_model::limits::LARGEST_BUDGET;
 use wb_model::memory::NoMemory;
 use wb_model::run::RunResult;
@@ -44,6 +44,17 @@ impl Seen {
         let attempt = self.result.trace.get(at)?;
         let maker = self.lines.makers.get(at)?;
         Some((*attempt, *maker))
+    }
+
+    /// What made the newest cell that was granted at a place.
+    pub fn maker_at(&self, place: u32) -> Option<Maker> {
+        let mut number = 0;
+        for attempt in self.result.trace.as_slice() {
+            if attempt.place == place && attempt.answer == Answer::Granted {
+                number = attempt.number;
+            }
+        }
+        self.attempt(number).map(|(_, maker)| maker)
     }
 
     /// The line that was begun last.

@@ -2,6 +2,10 @@
 
 ghost use Rattle.std.specs.Prelude.{⊤};
 
+use crate::tests::help_texts::{
+    CHECK_HELP, HELP, LONG_CHECK_HELP, LONG_SIZE_HELP, LONG_SWEEP_HELP, RUN_HELP, SIZE_HELP,
+    SWEEP_HELP,
+};
 use std::alloc::Global;
 use std::io;
 use std::io::ErrorKind;
@@ -119,83 +123,6 @@ static COMMANDS: [(&[&str], Wanted); 4] = [
     ),
 ];
 
-const HELP: &str = "Runs scripts against a simulated heap that may refuse
-
-Usage: workbench <COMMAND>
-
-Commands:
-  run    Runs a script once and reports
-  size   Finds how long the heap must be, and what shorter heaps refuse
-  sweep  Finds the first attempt whose failure leaks or panics
-  check  Does what size does, and then what sweep does
-  help   Print this message or the help of the given subcommand(s)
-
-Options:
-  -h, --help  Print help
-";
-
-const RUN_HELP: &str = "Runs a script once and reports
-
-Usage: workbench run [OPTIONS] [FILE]
-
-Arguments:
-  [FILE]  The script's file; without it the script is standard input
-
-Options:
-      --limit <L>   Refuses what would make the heap longer than L bytes, from 0 to 16777216
-      --fail <N>    Refuses the attempt with number N, from 0 to 16777216; there is no attempt 0
-      --budget <B>  The greatest number of steps of a run, from 1 to 1000000 [default: 10000]
-      --min <M>     The heap's minimum length in bytes, a multiple of 16 from 0 to 1048576 [default: 4096]
-      --step <G>    The step by which the heap grows in bytes, a multiple of 16 from 16 to 1048576 [default: 4096]
-      --json        Writes the report as one JSON object
-  -h, --help        Print help
-";
-
-const SIZE_HELP: &str = "Finds how long the heap must be, and what shorter heaps refuse
-
-Usage: workbench size [OPTIONS] [FILE]
-
-Arguments:
-  [FILE]  The script's file; without it the script is standard input
-
-Options:
-      --budget <B>  The greatest number of steps of a run, from 1 to 1000000 [default: 10000]
-      --min <M>     The heap's minimum length in bytes, a multiple of 16 from 0 to 1048576 [default: 4096]
-      --step <G>    The step by which the heap grows in bytes, a multiple of 16 from 16 to 1048576 [default: 4096]
-      --json        Writes the report as one JSON object
-  -h, --help        Print help
-";
-
-const SWEEP_HELP: &str = "Finds the first attempt whose failure leaks or panics
-
-Usage: workbench sweep [OPTIONS] [FILE]
-
-Arguments:
-  [FILE]  The script's file; without it the script is standard input
-
-Options:
-      --budget <B>  The greatest number of steps of a run, from 1 to 1000000 [default: 10000]
-      --min <M>     The heap's minimum length in bytes, a multiple of 16 from 0 to 1048576 [default: 4096]
-      --step <G>    The step by which the heap grows in bytes, a multiple of 16 from 16 to 1048576 [default: 4096]
-      --json        Writes the report as one JSON object
-  -h, --help        Print help
-";
-
-const CHECK_HELP: &str = "Does what size does, and then what sweep does
-
-Usage: workbench check [OPTIONS] [FILE]
-
-Arguments:
-  [FILE]  The script's file; without it the script is standard input
-
-Options:
-      --budget <B>  The greatest number of steps of a run, from 1 to 1000000 [default: 10000]
-      --min <M>     The heap's minimum length in bytes, a multiple of 16 from 0 to 1048576 [default: 4096]
-      --step <G>    The step by which the heap grows in bytes, a multiple of 16 from 16 to 1048576 [default: 4096]
-      --json        Writes the report as one JSON object
-  -h, --help        Print help
-";
-
 /// Words behind the program's name that are no command, and the message of that.
 static REFUSED: [(&[&str], &str); 16] = [
     (
@@ -219,15 +146,15 @@ For more information, try '--help'.
     (&["help"], HELP),
     (&["run", "--help"], RUN_HELP),
     (&["help", "run"], RUN_HELP),
-    (&["size", "--help"], SIZE_HELP),
+    (&["size", "--help"], LONG_SIZE_HELP),
     (&["size", "a.oom", "-h"], SIZE_HELP),
-    (&["help", "size"], SIZE_HELP),
-    (&["sweep", "--help"], SWEEP_HELP),
+    (&["help", "size"], LONG_SIZE_HELP),
+    (&["sweep", "--help"], LONG_SWEEP_HELP),
     (&["sweep", "a.oom", "-h"], SWEEP_HELP),
-    (&["help", "sweep"], SWEEP_HELP),
-    (&["check", "--help"], CHECK_HELP),
+    (&["help", "sweep"], LONG_SWEEP_HELP),
+    (&["check", "--help"], LONG_CHECK_HELP),
     (&["check", "a.oom", "-h"], CHECK_HELP),
-    (&["help", "check"], CHECK_HELP),
+    (&["help", "check"], LONG_CHECK_HELP),
 ];
 
 /// Whether the words, or why there are none, come to this.
