@@ -21,7 +21,7 @@ pub fn file_fault(
     let why = reason(kind);
     if why.is_empty() {
         let what = doing(deed);
-        return format!(in alloc; "workbench: {file}: {what} failed: {kind:?}\n");
+        return format!(in alloc; "workbench: {file}: {what} failed\n");
     }
     let to = purpose(deed, kind);
     format!(in alloc; "workbench: {file}: {why}{to}\n")
