@@ -16,8 +16,14 @@ use workbench::answer::READ_OR_WRITE_FAULT;
 use workbench::command::{Command, Task};
 use workbench::command_line::command;
 
+/// The status of a report that found nothing.
+const NOTHING_FOUND: u8 = 0;
+
 /// The greatest status of a report.
 const CUT: u8 = 3;
+
+/// How standard input is called before the number of a line.
+const INPUT: &str = "<stdin>";
 
 /// The explanation of the answer to the command that the words spell, by its status and by what was read and written; empty
 /// where there is nothing to say. The only error is that memory ran out.
@@ -48,7 +54,7 @@ fn explained_command(
     if record.is_short {
         return Err(NoMemory);
     }
-    explained_script(alloc, command, record)
+    explained_script(alloc, command, record, status)
 }
 
 /// Why the script's file could not be read, or the report not written.
@@ -72,12 +78,19 @@ fn name_of<'a>(command: &'a Command, input: &'a str) -> &'a str {
 }
 
 /// Why the script is refused, or what its runs found.
-fn explained_script(alloc: Global, command: &Command, record: &Record) -> Result<String, NoMemory> {
-    let name = name_of(command, "<stdin>");
+fn explained_script(
+    alloc: Global,
+    command: &Command,
+    record: &Record,
+    status: u8,
+) -> Result<String, NoMemory> {
     let bytes = record.bytes.as_slice();
     match wb_script::read(alloc, bytes) {
-        Ok(script) => explained_runs(alloc, command, record, name, &script),
-        Err(fault) => Ok(refused_script(alloc, name, bytes, &fault)?),
+        Ok(script) => explained_runs(alloc, command, record, status, &script),
+        Err(fault) => {
+            let name = name_of(command, INPUT);
+            Ok(refused_script(alloc, name, bytes, &fault)?)
+        }
     }
 }
 
@@ -86,7 +99,7 @@ fn explained_runs(
     alloc: Global,
     command: &Command,
     record: &Record,
-    name: &str,
+    status: u8,
     script: &Script,
 ) -> Result<String, NoMemory>
     requires { IsTrue (is_script script.now) }
@@ -94,21 +107,23 @@ fn explained_runs(
     let Ok(text) = str::from_utf8(record.bytes.as_slice()) else {
         return Ok(String::new(alloc));
     };
+    let name = name_of(command, INPUT);
     let file = ScriptFile { name, text };
     let mut found = String::new(alloc);
     if let Task::Size | Task::Check = command.task {
         found = lengths_found(alloc, file, script, budget_of(command), command.shape)?;
     }
-    if let Some(rule) = rule_told(command.task, record.number) {
+    if let Some(rule) = rule_told(command.task, record.number, status) {
         let run = run_found(alloc, file, script, setting_of(command, rule))?;
         found.push_str(run.as_str())?;
     }
     Ok(found)
 }
 
-/// The rule of the run of which the report tells, where it tells of one.
-fn rule_told(task: Task, number: Option<u32>) -> Option<Rule> {
+/// The rule of the run of which there is something to say: none where it found nothing and nothing was to fail.
+fn rule_told(task: Task, number: Option<u32>, status: u8) -> Option<Rule> {
     match task {
+        Task::Run(Rule::Unlimited) if status == NOTHING_FOUND => None,
         Task::Run(rule) => Some(rule),
         Task::Size | Task::Sweep | Task::Check => number.map(|it| Rule::Number(it)),
     }
