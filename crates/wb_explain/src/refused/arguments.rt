@@ -1,0 +1,108 @@
+//! A call whose arguments aren't what the procedure takes.
+
+use crate::refused::lines::{Line, Word};
+use crate::refused::notes::{note, note_name};
+use crate::refused::page::{Page, Piece};
+use crate::refused::sorts::{described, is_number_sort, is_pointer, sort_in_body};
+use crate::refused::spaces::{item_named, key_of, local_named};
+use crate::refused::words::{before, behind};
+use wb_model::script_lines::Key;
+
+/// The place of the procedure in a call.
+fn callee(line: &Line) -> usize {
+    match key_of(line) {
+        Some(Key::CallTo) => 2,
+        _ => 1,
+    }
+}
+
+/// Whether a word is what a parameter takes.
+fn is_given(lines: &[Line], index: usize, parameter: Word, word: &[u8]) -> bool {
+    let sort = sort_in_body(lines, index, word);
+    if behind(b':', parameter.text) == b"int".as_slice() {
+        is_number_sort(sort)
+    } else {
+        is_pointer(sort)
+    }
+}
+
+/// The place in the procedure's line of the first parameter that is given something else, where that begins behind a place of the
+/// call.
+fn first_wrong(lines: &[Line], index: usize, line: &Line, procedure: &Line) -> Option<usize> {
+    let behind = callee(line).saturating_sub(1);
+    for (place, parameter) in procedure.words.iter().enumerate() {
+        let word = line.text_at(place.saturating_add(behind));
+        if place > 1 && !is_given(lines, index, *parameter, word) {
+            return Some(place);
+        }
+    }
+    None
+}
+
+fn wrong_number(page: &mut Page, number: usize, line: &Line, procedure: &Line) {
+    let place = callee(line);
+    page.at(
+        number,
+        &[
+            Piece::Text("wrong number of arguments: `"),
+            Piece::Word(line.text_at(place)),
+            Piece::Text("` takes "),
+            Piece::Number(procedure.words.len().saturating_sub(2)),
+            Piece::Text(", and is given "),
+            Piece::Number(line.words.len().saturating_sub(place).saturating_sub(1)),
+        ],
+    );
+    page.show(line.text, line.span_at(place));
+}
+
+fn wrong_argument<'x>(
+    page: &mut Page,
+    lines: &[Line],
+    index: usize,
+    line: &Line<'x>,
+    parameter: &'x [u8],
+    place: usize,
+) {
+    let word = line.text_at(place);
+    page.at(
+        index.saturating_add(1),
+        &[
+            Piece::Text("wrong kind: `"),
+            Piece::Word(word),
+            Piece::Text("` is "),
+            Piece::Text(described(sort_in_body(lines, index, word))),
+            Piece::Text(", and the parameter is `"),
+            Piece::Word(parameter),
+            Piece::Text("`"),
+        ],
+    );
+    page.show(line.text, line.span_at(place));
+    if let Some(local) = local_named(lines, index, before(b'.', word)) {
+        note_name(page, lines, local.line, before(b'.', word), "declared here");
+    }
+}
+
+/// Says how the arguments of a call differ from what the procedure takes.
+pub(crate) fn wrong_arguments<'x>(
+    page: &mut Page,
+    lines: &[Line<'x>],
+    index: usize,
+    line: &Line<'x>,
+) {
+    let Some(item) = item_named(lines, line.text_at(callee(line))) else {
+        return;
+    };
+    let Some(procedure) = lines.get(item.line) else {
+        return;
+    };
+    let more = callee(line).saturating_sub(1);
+    let is_other_count = line.words.len() != procedure.words.len().saturating_add(more);
+    match first_wrong(lines, index, line, procedure) {
+        Some(place) if !is_other_count => {
+            let at = place.saturating_add(more);
+            wrong_argument(page, lines, index, line, procedure.text_at(place), at);
+        }
+        _ => wrong_number(page, index.saturating_add(1), line, procedure),
+    }
+    note(page, lines, item.line, "the procedure begins here");
+}

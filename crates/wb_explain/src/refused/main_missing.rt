@@ -1,0 +1,29 @@
+//! A script without the procedure that its run begins with.
+
+use crate::refused::lines::Line;
+use crate::refused::near_names::near_item;
+use crate::refused::notes::note;
+use crate::refused::page::{Page, Piece};
+use crate::refused::spaces::item_named;
+use std::alloc::{AllocError, Global};
+use wb_model::script_lines::ItemKind;
+
+/// Says that there is no `main`, and which procedure may have been meant.
+pub(crate) fn no_main(alloc: Global, page: &mut Page, lines: &[Line]) -> Result<(), AllocError> {
+    page.whole(&[Piece::Text("the script has no procedure `main`")]);
+    let near = near_item(alloc, lines, ItemKind::Procedure, b"main")?;
+    match (item_named(lines, b"main"), near) {
+        (Some(item), _) => note(page, lines, item.line, "`main` is no procedure"),
+        (None, Some(near)) => {
+            note(
+                page,
+                lines,
+                near.line.saturating_sub(1),
+                "did you mean `main`?",
+            );
+        }
+        (None, None) => {}
+    }
+    page.help_text("the run begins with `proc main`");
+    Ok(())
+}

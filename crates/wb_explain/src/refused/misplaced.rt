@@ -1,0 +1,234 @@
+//! A line that can't stand where it does, and a file that ends too early.
+
+use crate::refused::blocks::{Block, Blocks, Closed, Place, role};
+use crate::refused::lines::Line;
+use crate::refused::notes::note;
+use crate::refused::page::{Page, Piece};
+use wb_model::script_lines::Role;
+
+fn indent(lines: &[Line], index: usize) -> usize {
+    match lines.get(index) {
+        Some(line) => line.indent,
+        None => 0,
+    }
+}
+
+fn is_further_left(lines: &[Line], closed: Closed) -> bool {
+    indent(lines, closed.end) < indent(lines, closed.first)
+}
+
+/// Says which block lacks its `end`: the one whose `end` stands further left than it does, or else the innermost.
+fn note_unclosed(page: &mut Page, lines: &[Line], blocks: &Blocks) {
+    match blocks.slanted {
+        Some(closed) if is_further_left(lines, closed) => {
+            note(
+                page,
+                lines,
+                closed.first,
+                "this block seems to lack its `end`",
+            );
+            note(
+                page,
+                lines,
+                closed.end,
+                "since the next `end` stands further left",
+            );
+        }
+        _ => {
+            if let Some(block) = blocks.open.last() {
+                note(page, lines, block.line, "this block is open");
+            }
+        }
+    }
+}
+
+/// Says which `end` closed the last block, or one too early.
+fn note_closed(page: &mut Page, lines: &[Line], blocks: &Blocks) {
+    match blocks.slanted.or(blocks.closed) {
+        Some(closed) => {
+            note(page, lines, closed.end, "this `end` closes");
+            note(page, lines, closed.first, "what begins here");
+        }
+        None => {}
+    }
+}
+
+/// Writes what can't stand where, and shows the line.
+fn refuse<'x>(page: &mut Page, number: usize, line: &Line<'x>, where_not: &'x str) {
+    page.at(
+        number,
+        &[
+            Piece::Text("`"),
+            Piece::Word(line.text_at(0)),
+            Piece::Text("` "),
+            Piece::Text(where_not),
+        ],
+    );
+    page.show(line.text, line.span_at(0));
+}
+
+/// Of a line outside of any class, procedure or operation.
+fn outside(page: &mut Page, lines: &[Line], blocks: &Blocks, number: usize, line: &Line) {
+    let (where_not, help) = match role(line) {
+        Role::End => (
+            "closes nothing: no block is open",
+            "take it out, or look for an `end` too many above",
+        ),
+        Role::Else => (
+            "stands in no `if`",
+            "an `else` stands between an `if` and its `end`",
+        ),
+        Role::Field | Role::Construct | Role::Destroy => {
+            (
+                "stands outside of any class",
+                "it stands between `class NAME NUMBER` and its `end`",
+            )
+        }
+        _ => (
+            "stands outside of any procedure",
+            "it stands in a body: between `proc main`, say, and its `end`",
+        ),
+    };
+    refuse(page, number, line, where_not);
+    note_closed(page, lines, blocks);
+    page.help_text(help);
+}
+
+/// Of a line right in a class.
+fn in_class(
+    page: &mut Page,
+    lines: &[Line],
+    blocks: &Blocks,
+    block: Block,
+    number: usize,
+    line: &Line,
+) {
+    let where_not = match role(line) {
+        Role::Field => "stands behind a body of its class",
+        Role::Construct => "comes too late: a class has one, before `destroy`",
+        Role::Destroy => "comes too late: a class has one",
+        _ => "can't stand in a class, outside of its bodies",
+    };
+    refuse(page, number, line, where_not);
+    note(page, lines, block.line, "this class is open");
+    if !matches!(block.place, Place::Fields) {
+        note_closed(page, lines, blocks);
+    }
+    page.help_text("in a class stand its fields, then `construct`, then `destroy`, then `end`");
+}
+
+fn is_statement(line: &Line) -> bool {
+    line.row.is_some() && matches!(role(line), Role::Plain | Role::Loop | Role::If)
+}
+
+/// The first statement behind the line that begins a body.
+fn first_statement(lines: &[Line], body: usize) -> Option<usize> {
+    for (index, line) in lines.iter().enumerate() {
+        if index > body && is_statement(line) {
+            return Some(index);
+        }
+    }
+    None
+}
+
+/// The line that begins the innermost body.
+fn open_body(blocks: &Blocks) -> Option<usize> {
+    for block in blocks.open.iter().rev() {
+        if matches!(block.place, Place::Declarations | Place::Statements) {
+            return Some(block.line);
+        }
+    }
+    None
+}
+
+fn late_declaration(page: &mut Page, lines: &[Line], blocks: &Blocks, number: usize, line: &Line) {
+    refuse(
+        page,
+        number,
+        line,
+        "is a declaration, and stands behind a statement",
+    );
+    if let Some(statement) = open_body(blocks).and_then(|body| first_statement(lines, body)) {
+        note(page, lines, statement, "the first statement of the body");
+    }
+    page.help_text("all declarations of a body come before its first statement");
+}
+
+fn late_else(page: &mut Page, lines: &[Line], block: Block, number: usize, line: &Line) {
+    let where_not = match block.place {
+        Place::Otherwise => "is the second one of its `if`",
+        _ => "stands in no `if`",
+    };
+    refuse(page, number, line, where_not);
+    note(page, lines, block.line, "this block is open");
+    page.help_text("an `if` has one `else`, and each block inside of it ends before that");
+}
+
+/// Of a line that can't stand in a body.
+fn in_body(page: &mut Page, lines: &[Line], blocks: &Blocks, number: usize, line: &Line) {
+    refuse(page, number, line, "can't stand in a body");
+    note_unclosed(page, lines, blocks);
+    page.help_text("an `end` seems to be missing above");
+}
+
+fn is_class_place(place: Place) -> bool {
+    matches!(place, Place::Fields | Place::Made | Place::Destroyed)
+}
+
+/// Of a line that begins something of the script's own inside of something else.
+fn inside(page: &mut Page, lines: &[Line], blocks: &Blocks, number: usize, line: &Line) {
+    refuse(
+        page,
+        number,
+        line,
+        "can't stand inside of a block: an `end` is missing above",
+    );
+    note_unclosed(page, lines, blocks);
+    page.help_text(
+        "each `class`, `proc`, `op`, `construct`, `destroy`, `if`, `repeat` and `trap` has an `end`",
+    );
+}
+
+/// Of a line in a block, the innermost one that is open.
+fn within(
+    page: &mut Page,
+    lines: &[Line],
+    blocks: &Blocks,
+    block: Block,
+    number: usize,
+    line: &Line,
+) {
+    match role(line) {
+        Role::Class | Role::Procedure => inside(page, lines, blocks, number, line),
+        _ if is_class_place(block.place) => in_class(page, lines, blocks, block, number, line),
+        Role::Declaration => late_declaration(page, lines, blocks, number, line),
+        Role::Else => late_else(page, lines, block, number, line),
+        _ => in_body(page, lines, blocks, number, line),
+    }
+}
+
+/// Says why a line can't stand where it does.
+pub(crate) fn misplaced(
+    page: &mut Page,
+    lines: &[Line],
+    blocks: &Blocks,
+    number: usize,
+    line: &Line,
+) {
+    match blocks.open.last() {
+        None => outside(page, lines, blocks, number, line),
+        Some(block) => within(page, lines, blocks, *block, number, line),
+    }
+}
+
+/// Says that the file ends before its blocks do.
+pub(crate) fn ends_early(page: &mut Page, lines: &[Line], blocks: &Blocks, number: usize) {
+    page.at(
+        number,
+        &[Piece::Text("the file ends, and an `end` is missing")],
+    );
+    note_unclosed(page, lines, blocks);
+    page.help_text(
+        "each `class`, `proc`, `op`, `construct`, `destroy`, `if`, `repeat` and `trap` has an `end`",
+    );
+}

@@ -1,0 +1,140 @@
+//! What a word of a line stands for, as far as its place asks: a pointer, an int, a class and so on.
+
+use crate::refused::lines::Line;
+use crate::refused::spaces::{Local, class_of, field_named, has_self, item_named, local_named};
+use crate::refused::words::{before, behind, is_field, is_literal, is_number};
+use wb_model::script_lines::{ItemKind, Kind, Letter, Sort};
+
+fn sort_of_item(kind: ItemKind) -> Sort {
+    match kind {
+        ItemKind::Class => Sort::Class,
+        ItemKind::Procedure => Sort::Procedure,
+        ItemKind::Operation => Sort::Operation,
+    }
+}
+
+fn sort_of_local(local: Local) -> Sort {
+    match local.kind {
+        Kind::Pointer(_) => Sort::Pointer,
+        Kind::Number => Sort::Variable,
+        Kind::Buffer => Sort::Buffer,
+        Kind::View => Sort::View,
+    }
+}
+
+fn sort_in_items(lines: &[Line], name: &[u8]) -> Sort {
+    match item_named(lines, name) {
+        Some(item) => sort_of_item(item.kind),
+        None => Sort::Nothing,
+    }
+}
+
+fn sort_of_name(lines: &[Line], index: usize, name: &[u8]) -> Sort {
+    if name == b"self".as_slice() {
+        return if has_self(lines, index) {
+            Sort::This
+        } else {
+            Sort::Nothing
+        };
+    }
+    match local_named(lines, index, name) {
+        Some(local) => sort_of_local(local),
+        None => Sort::Nothing,
+    }
+}
+
+/// A field whose holder has no class is nothing.
+fn sort_of_field(lines: &[Line], index: usize, word: &[u8]) -> Sort {
+    match class_of(lines, index, before(b'.', word)) {
+        Some(class) if field_named(lines, class, behind(b'.', word)).is_some() => Sort::Field,
+        _ => Sort::Nothing,
+    }
+}
+
+/// What a word of a body stands for.
+pub(crate) fn sort_in_body(lines: &[Line], index: usize, word: &[u8]) -> Sort {
+    if is_literal(word) {
+        Sort::Literal
+    } else if is_number(word) {
+        Sort::Number
+    } else if is_field(word) {
+        sort_of_field(lines, index, word)
+    } else {
+        sort_of_name(lines, index, word)
+    }
+}
+
+/// What a word stands for where a letter does.
+pub(crate) fn sort_of(lines: &[Line], index: usize, letter: Letter, word: &[u8]) -> Sort {
+    match letter {
+        Letter::Class | Letter::Procedure | Letter::Operation => sort_in_items(lines, word),
+        _ => sort_in_body(lines, index, word),
+    }
+}
+
+pub(crate) fn is_pointer(sort: Sort) -> bool {
+    matches!(sort, Sort::Pointer | Sort::This | Sort::Field)
+}
+
+pub(crate) fn is_number_sort(sort: Sort) -> bool {
+    matches!(sort, Sort::Number | Sort::Variable)
+}
+
+fn is_text(sort: Sort) -> bool {
+    matches!(sort, Sort::Buffer | Sort::View | Sort::Literal) || is_pointer(sort)
+}
+
+/// Whether a place takes what stands for this. What a line declares is right by its form.
+pub(crate) fn takes(letter: Letter, sort: Sort) -> bool {
+    match letter {
+        Letter::Pointer => is_pointer(sort),
+        Letter::Written => matches!(sort, Sort::Pointer | Sort::Field),
+        Letter::Receiver => matches!(sort, Sort::Pointer),
+        Letter::FieldTarget => matches!(sort, Sort::Field),
+        Letter::Value => is_number_sort(sort),
+        Letter::Variable => matches!(sort, Sort::Variable),
+        Letter::Target => matches!(sort, Sort::Pointer | Sort::Variable),
+        Letter::Source | Letter::Argument => is_number_sort(sort) || is_pointer(sort),
+        Letter::Writable => matches!(sort, Sort::Buffer) || is_pointer(sort),
+        Letter::Readable => is_text(sort),
+        Letter::ViewName => matches!(sort, Sort::View),
+        Letter::Printed => is_number_sort(sort) || is_text(sort),
+        Letter::Class => matches!(sort, Sort::Class),
+        Letter::Procedure => matches!(sort, Sort::Procedure),
+        Letter::Operation => matches!(sort, Sort::Operation),
+        _ => true,
+    }
+}
+
+/// What something is, in words.
+pub(crate) fn described(sort: Sort) -> &'static str {
+    match sort {
+        Sort::Pointer => "a pointer",
+        Sort::This => "the object that the body is of, which no line writes",
+        Sort::Field => "a field",
+        Sort::Variable => "an int",
+        Sort::Buffer => "a buffer",
+        Sort::View => "a view",
+        Sort::Number => "a number",
+        Sort::Literal => "a text",
+        Sort::Class => "a class",
+        Sort::Procedure => "a procedure",
+        Sort::Operation => "an operation",
+        _ => "nothing that can stand here",
+    }
+}
+
+/// The line that declares what a word stands for where a letter does.
+pub(crate) fn declared_at(
+    lines: &[Line],
+    index: usize,
+    letter: Letter,
+    word: &[u8],
+) -> Option<usize> {
+    match letter {
+        Letter::Class | Letter::Procedure | Letter::Operation => {
+            item_named(lines, word).map(|item| item.line)
+        }
+        _ => local_named(lines, index, before(b'.', word)).map(|local| local.line),
+    }
+}

@@ -1,0 +1,201 @@
+//! What the names of a script stand for, and in which line each is declared. Lines are told by their indexes.
+
+use crate::refused::blocks::role;
+use crate::refused::lines::{Line, Word};
+use crate::refused::words::{before, behind, is_parameter};
+use wb_model::script_lines::{ItemKind, Key, Kind, Role};
+
+/// A local: what it holds, and the line that declares it.
+#[derive(Clone, Copy)]
+pub(crate) struct Local<'a> {
+    pub kind: Kind<&'a [u8]>,
+    pub line: usize,
+}
+
+/// Something of the script's own space: what it is, and the line that begins it.
+#[derive(Clone, Copy)]
+pub(crate) struct Item {
+    pub kind: ItemKind,
+    pub line: usize,
+}
+
+/// What a line is by its form.
+pub(crate) fn key_of(line: &Line) -> Option<Key> {
+    match line.row {
+        Some(row) => Some(row.0),
+        None => None,
+    }
+}
+
+/// What a line begins in the script's own space.
+pub(crate) fn item_begun(line: &Line) -> Option<ItemKind> {
+    match key_of(line) {
+        Some(Key::Class) => Some(ItemKind::Class),
+        Some(Key::Proc) => Some(ItemKind::Procedure),
+        Some(Key::Op) => Some(ItemKind::Operation),
+        _ => None,
+    }
+}
+
+/// The first class, procedure or operation of a name.
+pub(crate) fn item_named(lines: &[Line], name: &[u8]) -> Option<Item> {
+    for (index, line) in lines.iter().enumerate() {
+        if let Some(kind) = item_begun(line).filter(|_| line.text_at(1) == name) {
+            return Some(Item { kind, line: index });
+        }
+    }
+    None
+}
+
+/// The line of the class with a name, where the name is one's.
+fn class_named(lines: &[Line], name: &[u8]) -> Option<usize> {
+    match item_named(lines, name) {
+        Some(
+            Item {
+                kind: ItemKind::Class,
+                line,
+            },
+        ) => Some(line),
+        _ => None,
+    }
+}
+
+fn begins_body(line: &Line) -> bool {
+    matches!(
+        role(line),
+        Role::Procedure | Role::Construct | Role::Destroy
+    )
+}
+
+/// The line that begins the body in which a line stands, which may be that line.
+pub(crate) fn body_of(lines: &[Line], index: usize) -> usize {
+    let mut body = 0;
+    for (at, line) in lines.iter().enumerate() {
+        if at <= index && begins_body(line) {
+            body = at;
+        }
+    }
+    body
+}
+
+/// The class that begins last, up to a line.
+pub(crate) fn class_before(lines: &[Line], index: usize) -> Option<usize> {
+    let mut class = None;
+    for (at, line) in lines.iter().enumerate() {
+        if at <= index && matches!(role(line), Role::Class) {
+            class = Some(at);
+        }
+    }
+    class
+}
+
+fn is_of_class(line: &Line) -> bool {
+    matches!(role(line), Role::Construct | Role::Destroy)
+}
+
+/// Whether `self` stands for an object in the body of a line.
+pub(crate) fn has_self(lines: &[Line], index: usize) -> bool {
+    lines
+        .get(body_of(lines, index))
+        .is_some_and(|line| is_of_class(line))
+}
+
+/// What a parameter holds.
+pub(crate) fn kind_of_parameter<'a>(word: &'a [u8]) -> Kind<&'a [u8]> {
+    let taken = behind(b':', word);
+    if taken == b"ptr".as_slice() {
+        Kind::Pointer(None)
+    } else if taken == b"int".as_slice() {
+        Kind::Number
+    } else {
+        Kind::Pointer(Some(taken))
+    }
+}
+
+/// What the parameter with a name holds, among words.
+fn parameter_among<'a>(words: &[Word<'a>], name: &[u8]) -> Option<Kind<&'a [u8]>> {
+    for word in words {
+        if is_parameter(word.text) && before(b':', word.text) == name {
+            return Some(kind_of_parameter(word.text));
+        }
+    }
+    None
+}
+
+/// What the local holds that a line declares.
+pub(crate) fn kind_declared<'a>(line: &Line<'a>) -> Option<Kind<&'a [u8]>> {
+    match key_of(line) {
+        Some(Key::Ptr) => Some(Kind::Pointer(None)),
+        Some(Key::ClassPtr) => Some(Kind::Pointer(Some(line.text_at(2)))),
+        Some(Key::Int) => Some(Kind::Number),
+        Some(Key::Buf) => Some(Kind::Buffer),
+        Some(Key::View) => Some(Kind::View),
+        _ => None,
+    }
+}
+
+/// What a name holds by one line: a declaration, or the first line of a body with its parameters.
+fn kind_in<'a>(line: &Line<'a>, name: &[u8]) -> Option<Kind<&'a [u8]>> {
+    match key_of(line) {
+        Some(Key::Proc) => parameter_among(&line.words, name),
+        Some(Key::Op) if line.text_at(2) == name => Some(Kind::Pointer(None)),
+        _ => kind_declared(line).filter(|_| line.text_at(1) == name),
+    }
+}
+
+/// The local with a name that the lines from one on declare, before another.
+fn local_between<'a>(lines: &[Line<'a>], from: usize, to: usize, name: &[u8]) -> Option<Local<'a>> {
+    for (index, line) in lines.iter().enumerate() {
+        if index >= from && index < to {
+            if let Some(kind) = kind_in(line, name) {
+                return Some(Local { kind, line: index });
+            }
+        }
+    }
+    None
+}
+
+/// The local with a name in the body of a line, declared before that line.
+pub(crate) fn local_named<'a>(lines: &[Line<'a>], index: usize, name: &[u8]) -> Option<Local<'a>> {
+    local_between(lines, body_of(lines, index), index, name)
+}
+
+/// The first local with a name in any body.
+pub(crate) fn local_anywhere<'a>(lines: &[Line<'a>], name: &[u8]) -> Option<Local<'a>> {
+    local_between(lines, 0, lines.len(), name)
+}
+
+/// The line of the class that what stands before a dot is declared with.
+pub(crate) fn class_of(lines: &[Line], index: usize, base: &[u8]) -> Option<usize> {
+    if base == b"self".as_slice() {
+        return if has_self(lines, index) {
+            class_before(lines, index)
+        } else {
+            None
+        };
+    }
+    match local_named(lines, index, base) {
+        Some(
+            Local {
+                kind: Kind::Pointer(Some(class)),
+                line: _,
+            },
+        ) => class_named(lines, class),
+        _ => None,
+    }
+}
+
+/// The line of a class that declares a field with a name.
+pub(crate) fn field_named(lines: &[Line], class: usize, name: &[u8]) -> Option<usize> {
+    for (index, line) in lines.iter().enumerate() {
+        if index > class {
+            match role(line) {
+                Role::Skip => {}
+                Role::Field if line.text_at(1) == name => return Some(index),
+                Role::Field => {}
+                _ => return None,
+            }
+        }
+    }
+    None
+}

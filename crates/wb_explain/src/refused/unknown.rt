@@ -1,0 +1,289 @@
+//! A name that is declared nowhere: in which space it was looked for, and what is nearest there.
+
+use crate::refused::forms::letter_at;
+use crate::refused::lines::Line;
+use crate::refused::near_names::{near_field, near_item, near_local};
+use crate::refused::nearest::Near;
+use crate::refused::notes::{note, note_name};
+use crate::refused::page::{Page, Piece, Span};
+use crate::refused::spaces::{
+    body_of, class_of, field_named, has_self, item_named, local_anywhere, local_named,
+};
+use crate::refused::words::{before, behind, is_field, is_name, is_parameter, is_plain_kind};
+use std::alloc::{AllocError, Global};
+use wb_model::script_lines::{ItemKind, Letter};
+
+/// Where a name was looked for.
+#[derive(Clone, Copy)]
+enum Space {
+    Items(ItemKind),
+    /// What a body declares.
+    Locals,
+    /// The fields of the class that a line begins.
+    Fields(usize),
+}
+
+/// An unknown name: its letters, where they stand, and where it was looked for.
+#[derive(Clone, Copy)]
+struct Unknown<'a> {
+    name: &'a [u8],
+    span: Span,
+    space: Space,
+}
+
+fn unknown_at<'a>(name: &'a [u8], column: usize, space: Space) -> Option<Unknown<'a>> {
+    Some(Unknown {
+        name,
+        span: Span {
+            column,
+            length: name.len(),
+        },
+        space,
+    })
+}
+
+fn is_local(lines: &[Line], index: usize, name: &[u8]) -> bool {
+    if name == b"self".as_slice() {
+        has_self(lines, index)
+    } else {
+        local_named(lines, index, name).is_some()
+    }
+}
+
+/// Of a name of the script's own space.
+fn in_items<'a>(
+    lines: &[Line],
+    name: &'a [u8],
+    column: usize,
+    kind: ItemKind,
+) -> Option<Unknown<'a>> {
+    match item_named(lines, name) {
+        Some(_) => None,
+        None => unknown_at(name, column, Space::Items(kind)),
+    }
+}
+
+/// Of a field, what holds it being known.
+fn in_fields<'a>(
+    lines: &[Line],
+    index: usize,
+    word: &'a [u8],
+    column: usize,
+) -> Option<Unknown<'a>> {
+    let base = before(b'.', word);
+    let class = class_of(lines, index, base)?;
+    let name = behind(b'.', word);
+    match field_named(lines, class, name) {
+        Some(_) => None,
+        None => unknown_at(
+            name,
+            column.saturating_add(base.len()).saturating_add(1),
+            Space::Fields(class),
+        ),
+    }
+}
+
+/// Of a name or a field that a body uses.
+fn in_body<'a>(lines: &[Line], index: usize, word: &'a [u8], column: usize) -> Option<Unknown<'a>> {
+    let base = if is_field(word) {
+        before(b'.', word)
+    } else {
+        word
+    };
+    if !is_name(base) {
+        None
+    } else if !is_local(lines, index, base) {
+        unknown_at(base, column, Space::Locals)
+    } else if is_field(word) {
+        in_fields(lines, index, word, column)
+    } else {
+        None
+    }
+}
+
+/// Of the class of a parameter.
+fn in_parameter<'a>(lines: &[Line], word: &'a [u8], column: usize) -> Option<Unknown<'a>> {
+    let class = behind(b':', word);
+    if !is_parameter(word) || is_plain_kind(class) {
+        return None;
+    }
+    let column = column
+        .saturating_add(before(b':', word).len())
+        .saturating_add(1);
+    in_items(lines, class, column, ItemKind::Class)
+}
+
+/// Of a word where a letter stands.
+fn of_word<'a>(
+    lines: &[Line],
+    index: usize,
+    letter: Letter,
+    word: &'a [u8],
+    column: usize,
+) -> Option<Unknown<'a>> {
+    match letter {
+        Letter::Declared | Letter::ItsPointer | Letter::Size | Letter::Keyword(_) => None,
+        Letter::Parameter => in_parameter(lines, word, column),
+        Letter::Class => in_items(lines, word, column, ItemKind::Class),
+        Letter::Procedure => in_items(lines, word, column, ItemKind::Procedure),
+        Letter::Operation => in_items(lines, word, column, ItemKind::Operation),
+        _ => in_body(lines, index, word, column),
+    }
+}
+
+/// The first unknown name of a line.
+fn first_unknown<'a>(lines: &[Line<'a>], index: usize) -> Option<Unknown<'a>> {
+    let line = lines.get(index)?;
+    let row = line.row?;
+    for (place, word) in line.words.iter().enumerate() {
+        let letter = letter_at(row, place).filter(|_| place > 0);
+        if let Some(letter) = letter {
+            let found = of_word(lines, index, letter, word.text, word.column);
+            if found.is_some() {
+                return found;
+            }
+        }
+    }
+    None
+}
+
+fn item_word(kind: ItemKind) -> &'static str {
+    match kind {
+        ItemKind::Class => "class",
+        ItemKind::Procedure => "procedure",
+        ItemKind::Operation => "operation",
+    }
+}
+
+/// Says what is unknown, and where it was looked for.
+fn say_problem<'x>(page: &mut Page, lines: &[Line<'x>], index: usize, found: Unknown<'x>) {
+    let number = index.saturating_add(1);
+    let name = Piece::Word(found.name);
+    match found.space {
+        Space::Items(kind) => page.at(
+            number,
+            &[
+                Piece::Text("unknown name: the script has no "),
+                Piece::Text(item_word(kind)),
+                Piece::Text(" `"),
+                name,
+                Piece::Text("`"),
+            ],
+        ),
+        Space::Locals => page.at(
+            number,
+            &[
+                Piece::Text("unknown name: this body declares no `"),
+                name,
+                Piece::Text("`"),
+            ],
+        ),
+        Space::Fields(class) => page.at(
+            number,
+            &[
+                Piece::Text("unknown name: class `"),
+                Piece::Word(class_name(lines, class)),
+                Piece::Text("` has no field `"),
+                name,
+                Piece::Text("`"),
+            ],
+        ),
+    }
+}
+
+/// The name of the class that a line begins.
+pub(crate) fn class_name<'a>(lines: &[Line<'a>], class: usize) -> &'a [u8] {
+    match lines.get(class) {
+        Some(line) => line.text_at(1),
+        None => &[],
+    }
+}
+
+fn nearest<'a>(
+    alloc: Global,
+    lines: &[Line<'a>],
+    index: usize,
+    found: Unknown,
+) -> Result<Option<Near<'a>>, AllocError> {
+    match found.space {
+        Space::Items(kind) => near_item(alloc, lines, kind, found.name),
+        Space::Locals => near_local(alloc, lines, index, found.name),
+        Space::Fields(class) => near_field(alloc, lines, class, found.name),
+    }
+}
+
+/// Says what space was searched.
+fn say_space(page: &mut Page, lines: &[Line], index: usize, space: Space) {
+    match space {
+        Space::Items(_) => {}
+        Space::Locals => note(page, lines, body_of(lines, index), "the body begins here"),
+        Space::Fields(class) => note(page, lines, class, "the class begins here"),
+    }
+}
+
+/// Says where another body declares the name of a local.
+fn note_elsewhere(page: &mut Page, lines: &[Line], found: Unknown) {
+    let elsewhere = match found.space {
+        Space::Locals => local_anywhere(lines, found.name),
+        _ => None,
+    };
+    if let Some(local) = elsewhere {
+        note_name(
+            page,
+            lines,
+            local.line,
+            found.name,
+            "another body declares it here, and names belong to one body",
+        );
+    }
+}
+
+/// Says what to do where nothing is near.
+fn say_help(page: &mut Page, found: Unknown) {
+    match found.space {
+        Space::Locals if found.name == b"self".as_slice() => {
+            page.help_text("`self` is known in `construct` and `destroy` alone");
+        }
+        Space::Locals if found.name == b"null".as_slice() => {
+            page.help_text("`null POINTER` makes a pointer null; nothing else names it");
+        }
+        Space::Locals => page.help_text(
+            "declare it above the first statement, with `ptr`, `int`, `buf` or `view`",
+        ),
+        Space::Items(kind) => page.help(&[
+            Piece::Text("the script may have its "),
+            Piece::Text(item_word(kind)),
+            Piece::Text(" above or below"),
+        ]),
+        Space::Fields(_) => page.help_text("declare it in the class, with `field NAME`"),
+    }
+}
+
+/// Says which name of a line is declared nowhere.
+pub(crate) fn unknown_name(
+    alloc: Global,
+    page: &mut Page,
+    lines: &[Line],
+    index: usize,
+) -> Result<(), AllocError> {
+    let (Some(found), Some(line)) = (first_unknown(lines, index), lines.get(index)) else {
+        return Ok(());
+    };
+    say_problem(page, lines, index, found);
+    page.show(line.text, found.span);
+    say_space(page, lines, index, found.space);
+    match nearest(alloc, lines, index, found)? {
+        Some(near) => page.help(&[
+            Piece::Text("did you mean `"),
+            Piece::Word(near.word),
+            Piece::Text("`, declared in line "),
+            Piece::Number(near.line),
+            Piece::Text("?"),
+        ]),
+        None => {
+            note_elsewhere(page, lines, found);
+            say_help(page, found);
+        }
+    }
+    Ok(())
+}

@@ -1,0 +1,193 @@
+#!/usr/bin/env python3
+"""Makes 200 scripts with one mistake each, and counts of how many the program's explanation names the mistaken word or line.
+
+The scripts come of the examples and the guide's cases, always the same ones: a letter is dropped or doubled or two are
+swapped, a word is gone or one too many, an `end` is gone or too many, a declaration is gone. A mistake that leaves a script
+that the workbench accepts, as one in a text that is printed, is passed over.
+
+The mistake is named where standard error has a line `FILE:N:` with its number, or the word between backquotes. Of an `end` that
+is gone the line of its block will do, and of a declaration the name.
+"""
+
+import argparse
+import subprocess
+import sys
+import tempfile
+from collections.abc import Callable, Iterator
+from pathlib import Path
+from typing import NamedTuple
+
+ROOT = Path(__file__).resolve().parent.parent
+WANTED = 200
+LEAST = 180
+REFUSED = 2
+SECONDS = 60
+OPENERS = {"class", "proc", "op", "if", "repeat", "trap", "destroy"}
+DECLARATIONS = {"ptr", "int", "buf", "view", "field"}
+
+
+class Mistake(NamedTuple):
+    """A script with a mistake: its lines, and which line numbers and words name the mistake."""
+
+    lines: list[str]
+    numbers: set[int]
+    words: set[str]
+
+
+Maker = Callable[[list[str], int, int], Mistake | None]
+
+
+def words_of(line: str) -> list[str]:
+    """The words of a line that is no comment and holds no text; none of any other line."""
+    return [] if line.lstrip().startswith("#") or '"' in line else line.split()
+
+
+def changed(lines: list[str], at: int, line: str, words: set[str]) -> Mistake:
+    """The script with another line in the place of one."""
+    return Mistake([*lines[:at], line, *lines[at + 1 :]], {at + 1}, words)
+
+
+def with_word(lines: list[str], at: int, place: int, word: str) -> Mistake | None:
+    """The script with another word in the place of one."""
+    words = words_of(lines[at])
+    if not word or word == words[place]:
+        return None
+    indent = lines[at][: len(lines[at]) - len(lines[at].lstrip())]
+    return changed(lines, at, indent + " ".join([*words[:place], word, *words[place + 1 :]]), {word})
+
+
+def letter(edit: Callable[[str, int], str]) -> Maker:
+    """Edits one letter of one word, which has at least three."""
+
+    def make(lines: list[str], at: int, turn: int) -> Mistake | None:
+        words = words_of(lines[at])
+        if not words or len(words[turn % len(words)]) < 3:
+            return None
+        place = turn % len(words)
+        return with_word(lines, at, place, edit(words[place], turn // 3 % (len(words[place]) - 1)))
+
+    return make
+
+
+def word_gone(lines: list[str], at: int, turn: int) -> Mistake | None:
+    """Leaves out the last word of a line that has more than one."""
+    words = words_of(lines[at])
+    return changed(lines, at, "    " + " ".join(words[:-1]), set()) if len(words) > 1 else None
+
+
+def word_too_many(lines: list[str], at: int, turn: int) -> Mistake | None:
+    """Writes one of a line's words twice."""
+    words = words_of(lines[at])
+    if not words:
+        return None
+    place = turn % len(words)
+    return changed(lines, at, "    " + " ".join([*words[:place], words[place], *words[place:]]), set())
+
+
+def opens(words: list[str]) -> bool:
+    """Whether a line begins what an `end` ends."""
+    return bool(words) and (words[0] in OPENERS or words == ["construct"])
+
+
+def opener_of(lines: list[str], end: int) -> int | None:
+    """The index of the line whose block an `end` closes."""
+    open_lines = []
+    for at, line in enumerate(lines[: end + 1]):
+        words = words_of(line)
+        if opens(words):
+            open_lines.append(at)
+        elif words == ["end"]:
+            closed = open_lines.pop()
+            if at == end:
+                return closed
+    return None
+
+
+def end_gone(lines: list[str], at: int, turn: int) -> Mistake | None:
+    """Leaves out an `end`."""
+    if words_of(lines[at]) != ["end"]:
+        return None
+    return Mistake(lines[:at] + lines[at + 1 :], {at + 1, opener_of(lines, at) + 1}, set())
+
+
+def end_too_many(lines: list[str], at: int, turn: int) -> Mistake | None:
+    """Writes an `end` behind a statement."""
+    words = words_of(lines[at])
+    if not words or opens(words) or words[0] in {"else", "field"}:
+        return None
+    indent = lines[at][: len(lines[at]) - len(lines[at].lstrip())]
+    return Mistake([*lines[: at + 1], indent + "end", *lines[at + 1 :]], {at + 2}, set())
+
+
+def declaration_gone(lines: list[str], at: int, turn: int) -> Mistake | None:
+    """Leaves out a declaration."""
+    words = words_of(lines[at])
+    if len(words) < 2 or words[0] not in DECLARATIONS:
+        return None
+    return Mistake(lines[:at] + lines[at + 1 :], {at + 1}, {words[1]})
+
+
+MAKERS: list[Maker] = [
+    letter(lambda word, at: word[:at] + word[at + 1 :]),
+    word_too_many,
+    end_gone,
+    letter(lambda word, at: word[:at] + word[at + 1] + word[at] + word[at + 2 :]),
+    word_gone,
+    end_too_many,
+    letter(lambda word, at: word[:at] + word[at] + word[at:]),
+    declaration_gone,
+    letter(lambda word, at: word[:at] + ("x" if word[at] != "x" else "y") + word[at + 1 :]),
+]
+
+
+def mistakes(sources: list[Path]) -> Iterator[Mistake]:
+    """Mistakes without end, each in another script than the one before, of another sort, and further on."""
+    turn = 0
+    while True:
+        lines = sources[turn % len(sources)].read_text().splitlines()
+        made = MAKERS[turn // len(sources) % len(MAKERS)](lines, turn * 7 % len(lines), turn)
+        turn += 1
+        if made is not None:
+            yield made
+
+
+def told(program: Path, folder: str, made: Mistake) -> tuple[int, str]:
+    """The program's exit status and standard error for a script, whose file is `script.oom`."""
+    Path(folder, "script.oom").write_text("\n".join(made.lines) + "\n")
+    done = subprocess.run([program, "run", "script.oom"], cwd=folder, capture_output=True, text=True, timeout=SECONDS)
+    return done.returncode, done.stderr
+
+
+def is_named(made: Mistake, explanation: str) -> bool:
+    """Whether an explanation names the mistaken word or line."""
+    of_line = any(f"script.oom:{number}: " in explanation for number in made.numbers)
+    return of_line or any(f"`{word}`" in explanation for word in made.words)
+
+
+def main() -> int:
+    """Makes the scripts, shows each whose mistake isn't named, and prints the count."""
+    parser = argparse.ArgumentParser(description=__doc__.splitlines()[0])
+    parser.add_argument("program", type=Path)
+    program = parser.parse_args().program.resolve()
+    sources = sorted((ROOT / "examples").glob("*.oom")) + sorted(
+        file for file in (ROOT / "cases/guide").glob("*.oom") if file.read_text().strip()
+    )
+    refused = named = 0
+    with tempfile.TemporaryDirectory() as folder:
+        for made in mistakes(sources):
+            status, explanation = told(program, folder, made)
+            if status != REFUSED:
+                continue
+            refused += 1
+            if is_named(made, explanation):
+                named += 1
+            else:
+                print(f"not named: lines {sorted(made.numbers)}, words {sorted(made.words)}\n{explanation}")
+            if refused == WANTED:
+                break
+    print(f"{named} of {refused} mistakes named")
+    return 0 if named >= LEAST else 1
+
+
+if __name__ == "__main__":
+    sys.exit(main())
