@@ -42,6 +42,11 @@ def words_of(line: str) -> list[str]:
     return [] if line.lstrip().startswith("#") or '"' in line else line.split()
 
 
+def indented(line: str, words: list[str]) -> str:
+    """A line of these words that stands as far to the right as another."""
+    return line[: len(line) - len(line.lstrip())] + " ".join(words)
+
+
 def changed(lines: list[str], at: int, line: str, words: set[str]) -> Mistake:
     """The script with another line in the place of one."""
     return Mistake([*lines[:at], line, *lines[at + 1 :]], {at + 1}, words)
@@ -52,8 +57,7 @@ def with_word(lines: list[str], at: int, place: int, word: str) -> Mistake | Non
     words = words_of(lines[at])
     if not word or word == words[place]:
         return None
-    indent = lines[at][: len(lines[at]) - len(lines[at].lstrip())]
-    return changed(lines, at, indent + " ".join([*words[:place], word, *words[place + 1 :]]), {word})
+    return changed(lines, at, indented(lines[at], [*words[:place], word, *words[place + 1 :]]), {word})
 
 
 def letter(edit: Callable[[str, int], str]) -> Maker:
@@ -72,7 +76,7 @@ def letter(edit: Callable[[str, int], str]) -> Maker:
 def word_gone(lines: list[str], at: int, turn: int) -> Mistake | None:
     """Leaves out the last word of a line that has more than one."""
     words = words_of(lines[at])
-    return changed(lines, at, "    " + " ".join(words[:-1]), set()) if len(words) > 1 else None
+    return changed(lines, at, indented(lines[at], words[:-1]), set()) if len(words) > 1 else None
 
 
 def word_too_many(lines: list[str], at: int, turn: int) -> Mistake | None:
@@ -81,7 +85,7 @@ def word_too_many(lines: list[str], at: int, turn: int) -> Mistake | None:
     if not words:
         return None
     place = turn % len(words)
-    return changed(lines, at, "    " + " ".join([*words[:place], words[place], *words[place:]]), set())
+    return changed(lines, at, indented(lines[at], [*words[: place + 1], *words[place:]]), set())
 
 
 def opens(words: list[str]) -> bool:
@@ -104,10 +108,10 @@ def opener_of(lines: list[str], end: int) -> int | None:
 
 
 def end_gone(lines: list[str], at: int, turn: int) -> Mistake | None:
-    """Leaves out an `end`."""
-    if words_of(lines[at]) != ["end"]:
-        return None
-    return Mistake(lines[:at] + lines[at + 1 :], {at + 1, opener_of(lines, at) + 1}, set())
+    """Leaves out one `end` of the script, whatever the line that was chosen."""
+    ends = [place for place, line in enumerate(lines) if words_of(line) == ["end"]]
+    end = ends[turn % len(ends)]
+    return Mistake(lines[:end] + lines[end + 1 :], {end + 1, opener_of(lines, end) + 1}, set())
 
 
 def end_too_many(lines: list[str], at: int, turn: int) -> Mistake | None:
@@ -115,16 +119,16 @@ def end_too_many(lines: list[str], at: int, turn: int) -> Mistake | None:
     words = words_of(lines[at])
     if not words or opens(words) or words[0] in {"else", "field"}:
         return None
-    indent = lines[at][: len(lines[at]) - len(lines[at].lstrip())]
-    return Mistake([*lines[: at + 1], indent + "end", *lines[at + 1 :]], {at + 2}, set())
+    return Mistake([*lines[: at + 1], indented(lines[at], ["end"]), *lines[at + 1 :]], {at + 2}, set())
 
 
 def declaration_gone(lines: list[str], at: int, turn: int) -> Mistake | None:
-    """Leaves out a declaration."""
-    words = words_of(lines[at])
-    if len(words) < 2 or words[0] not in DECLARATIONS:
+    """Leaves out one declaration of the script, whatever the line that was chosen."""
+    declarations = [place for place, line in enumerate(lines) if words_of(line)[:1] and words_of(line)[0] in DECLARATIONS]
+    if not declarations:
         return None
-    return Mistake(lines[:at] + lines[at + 1 :], {at + 1}, {words[1]})
+    gone = declarations[turn % len(declarations)]
+    return Mistake(lines[:gone] + lines[gone + 1 :], {gone + 1}, {words_of(lines[gone])[1]})
 
 
 MAKERS: list[Maker] = [
@@ -145,7 +149,7 @@ def mistakes(sources: list[Path]) -> Iterator[Mistake]:
     turn = 0
     while True:
         lines = sources[turn % len(sources)].read_text().splitlines()
-        made = MAKERS[turn // len(sources) % len(MAKERS)](lines, turn * 7 % len(lines), turn)
+        made = MAKERS[turn % len(MAKERS)](lines, turn * 7 % len(lines), turn // len(MAKERS))
         turn += 1
         if made is not None:
             yield made

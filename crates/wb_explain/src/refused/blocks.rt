@@ -72,6 +72,14 @@ pub(crate) fn role(line: &Line) -> Role {
     }
 }
 
+/// The same of the line with an index.
+pub(crate) fn role_at(lines: &[Line], index: usize) -> Role {
+    match lines.get(index) {
+        Some(line) => role(line),
+        None => Role::Skip,
+    }
+}
+
 /// What stands open in a block after a statement in it.
 fn after_statement(place: Place) -> Place {
     match place {

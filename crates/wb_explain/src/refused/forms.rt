@@ -2,9 +2,7 @@
 
 use crate::refused::lines::{Word, is_comment};
 use crate::refused::page::{Page, Piece};
-use crate::refused::words::{
-    Admitted, is_keyword, is_new_name, is_new_size, is_parameter, text_of,
-};
+use crate::refused::words::{Admitted, is_keyword, is_new_name, is_parameter, is_size, text_of};
 use wb_model::script_lines::Letter::{
     Class, Declared, FieldTarget, ItsPointer, Keyword, Operation, Pointer, Printed, Procedure,
     Readable, Receiver, Size, Source, Target, Value, Variable, ViewName, Writable, Written,
@@ -100,9 +98,10 @@ fn rest_of(key: Key) -> Option<Letter> {
     }
 }
 
-/// What stands at a place behind the first word, counted from 1.
+/// What stands at a place behind the first word, counted from 1; nothing at place 0.
 pub(crate) fn letter_at(row: &Row, place: usize) -> Option<Letter> {
-    match row.2.get(place.saturating_sub(1)) {
+    let behind = place.checked_sub(1)?;
+    match row.2.get(behind) {
         Some(letter) => Some(*letter),
         None => rest_of(row.0),
     }
@@ -144,7 +143,7 @@ fn admitted(letter: Letter) -> Admitted {
 pub(crate) fn fits(letter: Letter, word: &[u8]) -> bool {
     match letter {
         Letter::Declared | Letter::ItsPointer => is_new_name(word),
-        Letter::Size => is_new_size(word),
+        Letter::Size => is_size(word),
         Letter::Parameter => is_parameter(word),
         Letter::Keyword(keyword) => is_keyword(keyword, word),
         _ => admitted(letter).admits(word),
@@ -152,7 +151,10 @@ pub(crate) fn fits(letter: Letter, word: &[u8]) -> bool {
 }
 
 fn fits_at(row: &Row, place: usize, word: &[u8]) -> bool {
-    place == 0 || letter_at(row, place).is_some_and(|letter| fits(letter, word))
+    match letter_at(row, place) {
+        Some(letter) => fits(letter, word),
+        None => place == 0,
+    }
 }
 
 /// The place of the first word that the form doesn't take; there is none where all fit.

@@ -8,9 +8,11 @@ use crate::refused::misspelled::help_place;
 use crate::refused::notes::{note, note_name};
 use crate::refused::page::{Page, Piece, Span};
 use crate::refused::sorts::{declared_at, described, is_pointer, sort_in_body, sort_of, takes};
-use crate::refused::spaces::{body_of, class_of, item_named, key_of, local_named};
+use crate::refused::spaces::{
+    body_of, class_named, class_of, item_named, key_at, key_of, local_named,
+};
 use crate::refused::words::{before, behind, is_field, is_parameter, is_plain_kind};
-use wb_model::script_lines::{ItemKind, Key, Letter, Role, Sort};
+use wb_model::script_lines::{Key, Letter, Role, Sort};
 
 /// Whether a word may be what it is where a letter stands.
 fn is_right(lines: &[Line], index: usize, letter: Letter, word: &[u8]) -> bool {
@@ -21,10 +23,16 @@ fn is_right(lines: &[Line], index: usize, letter: Letter, word: &[u8]) -> bool {
 fn is_right_parameter(lines: &[Line], letter: Letter, word: &[u8]) -> bool {
     let class = behind(b':', word);
     match letter {
-        Letter::Parameter if !is_plain_kind(class) => {
-            item_named(lines, class).is_some_and(|item| matches!(item.kind, ItemKind::Class))
-        }
+        Letter::Parameter if !is_plain_kind(class) => { class_named(lines, class).is_some() }
         _ => true,
+    }
+}
+
+/// The same where a letter may stand; a word where none does is right.
+fn is_right_at(lines: &[Line], index: usize, letter: Option<Letter>, word: &[u8]) -> bool {
+    match letter {
+        Some(letter) => is_right(lines, index, letter, word),
+        None => true,
     }
 }
 
@@ -32,8 +40,7 @@ fn is_right_parameter(lines: &[Line], letter: Letter, word: &[u8]) -> bool {
 fn first_wrong(lines: &[Line], index: usize, line: &Line) -> Option<usize> {
     let row = line.row?;
     for (place, word) in line.words.iter().enumerate() {
-        let letter = letter_at(row, place).filter(|_| place > 0);
-        if letter.is_some_and(|letter| !is_right(lines, index, letter, word.text)) {
+        if !is_right_at(lines, index, letter_at(row, place), word.text) {
             return Some(place);
         }
     }
@@ -184,10 +191,7 @@ fn wrong_main(page: &mut Page, number: usize, line: &Line) {
 /// The innermost `trap` that is open.
 fn open_trap(lines: &[Line], blocks: &Blocks) -> Option<usize> {
     for block in blocks.open.iter().rev() {
-        let is_trap = lines
-            .get(block.line)
-            .is_some_and(|line| matches!(key_of(line), Some(Key::Trap)));
-        if is_trap {
+        if matches!(key_at(lines, block.line), Some(Key::Trap)) {
             return Some(block.line);
         }
     }

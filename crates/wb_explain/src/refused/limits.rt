@@ -1,6 +1,6 @@
 //! A limit that a line passes: which one, and what was counted.
 
-use crate::refused::blocks::{Blocks, role};
+use crate::refused::blocks::{Blocks, role, role_at};
 use crate::refused::lines::{Line, Word};
 use crate::refused::page::{Page, Piece, Span};
 use crate::refused::spaces::{body_of, class_before, key_of};
@@ -147,10 +147,7 @@ fn one_more(lines: &[Line], index: usize, line: &Line, blocks: &Blocks) -> Optio
 fn block_count(lines: &[Line], blocks: &Blocks) -> usize {
     let mut count: usize = 1;
     for block in &blocks.open {
-        let is_block = lines
-            .get(block.line)
-            .is_some_and(|line| matches!(role(line), Role::Loop | Role::If));
-        if is_block {
+        if matches!(role_at(lines, block.line), Role::Loop | Role::If) {
             count = count.saturating_add(1);
         }
     }

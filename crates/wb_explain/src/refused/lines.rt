@@ -146,7 +146,10 @@ impl<'a> Line<'a> {
 
     /// The first word, where the line has any and is no comment.
     pub(crate) fn first(&self) -> Option<Word<'a>> {
-        self.word(0).filter(|word| !is_comment(word.text))
+        match self.word(0) {
+            Some(word) if !is_comment(word.text) => Some(word),
+            _ => None,
+        }
     }
 
     /// Where a word stands; the whole line where there is none.

@@ -6,6 +6,7 @@ use crate::refused::forms::{
 use crate::refused::lines::{Line, Word, is_comment};
 use crate::refused::nearest::{Near, nearer};
 use crate::refused::page::{Page, Piece, Span};
+use crate::refused::words::is_field;
 use crate::refused::wrong_words::{complaint_of, wanted};
 use std::alloc::{AllocError, Global};
 use wb_model::script_lines::Letter;
@@ -135,7 +136,7 @@ fn asks_nothing(line: &Line) -> bool {
 fn is_meant(row: &Row, line: &Line) -> bool {
     let is_asked = match row.2.first() {
         Some(Letter::Keyword(_) | Letter::FieldTarget) => first_wrong(row, &line.words) != Some(1),
-        Some(Letter::Target) => !line.text_at(1).contains(&b'.'),
+        Some(Letter::Target) => !is_field(line.text_at(1)),
         _ => true,
     };
     begins(row, line.text_at(0)) && is_asked

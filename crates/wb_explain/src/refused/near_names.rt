@@ -13,7 +13,10 @@ fn is_same_kind(one: ItemKind, other: ItemKind) -> bool {
 }
 
 fn is_item(line: &Line, kind: ItemKind) -> bool {
-    item_begun(line).is_some_and(|begun| is_same_kind(begun, kind))
+    match item_begun(line) {
+        Some(begun) => is_same_kind(begun, kind),
+        None => false,
+    }
 }
 
 /// The item of a kind with the nearest name.

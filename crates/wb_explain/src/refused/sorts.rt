@@ -133,8 +133,8 @@ pub(crate) fn declared_at(
 ) -> Option<usize> {
     match letter {
         Letter::Class | Letter::Procedure | Letter::Operation => {
-            item_named(lines, word).map(|item| item.line)
+            Some(item_named(lines, word)?.line)
         }
-        _ => local_named(lines, index, before(b'.', word)).map(|local| local.line),
+        _ => Some(local_named(lines, index, before(b'.', word))?.line),
     }
 }

@@ -1,6 +1,6 @@
 //! What the names of a script stand for, and in which line each is declared. Lines are told by their indexes.
 
-use crate::refused::blocks::role;
+use crate::refused::blocks::{role, role_at};
 use crate::refused::lines::{Line, Word};
 use crate::refused::words::{before, behind, is_parameter};
 use wb_model::script_lines::{ItemKind, Key, Kind, Role};
@@ -27,6 +27,14 @@ pub(crate) fn key_of(line: &Line) -> Option<Key> {
     }
 }
 
+/// The same of the line with an index.
+pub(crate) fn key_at(lines: &[Line], index: usize) -> Option<Key> {
+    match lines.get(index) {
+        Some(line) => key_of(line),
+        None => None,
+    }
+}
+
 /// What a line begins in the script's own space.
 pub(crate) fn item_begun(line: &Line) -> Option<ItemKind> {
     match key_of(line) {
@@ -40,15 +48,17 @@ pub(crate) fn item_begun(line: &Line) -> Option<ItemKind> {
 /// The first class, procedure or operation of a name.
 pub(crate) fn item_named(lines: &[Line], name: &[u8]) -> Option<Item> {
     for (index, line) in lines.iter().enumerate() {
-        if let Some(kind) = item_begun(line).filter(|_| line.text_at(1) == name) {
-            return Some(Item { kind, line: index });
+        if let Some(kind) = item_begun(line) {
+            if line.text_at(1) == name {
+                return Some(Item { kind, line: index });
+            }
         }
     }
     None
 }
 
 /// The line of the class with a name, where the name is one's.
-fn class_named(lines: &[Line], name: &[u8]) -> Option<usize> {
+pub(crate) fn class_named(lines: &[Line], name: &[u8]) -> Option<usize> {
     match item_named(lines, name) {
         Some(
             Item {
@@ -89,15 +99,12 @@ pub(crate) fn class_before(lines: &[Line], index: usize) -> Option<usize> {
     class
 }
 
-fn is_of_class(line: &Line) -> bool {
-    matches!(role(line), Role::Construct | Role::Destroy)
-}
-
 /// Whether `self` stands for an object in the body of a line.
 pub(crate) fn has_self(lines: &[Line], index: usize) -> bool {
-    lines
-        .get(body_of(lines, index))
-        .is_some_and(|line| is_of_class(line))
+    matches!(
+        role_at(lines, body_of(lines, index)),
+        Role::Construct | Role::Destroy
+    )
 }
 
 /// What a parameter holds.
@@ -139,7 +146,8 @@ fn kind_in<'a>(line: &Line<'a>, name: &[u8]) -> Option<Kind<&'a [u8]>> {
     match key_of(line) {
         Some(Key::Proc) => parameter_among(&line.words, name),
         Some(Key::Op) if line.text_at(2) == name => Some(Kind::Pointer(None)),
-        _ => kind_declared(line).filter(|_| line.text_at(1) == name),
+        _ if line.text_at(1) == name => kind_declared(line),
+        _ => None,
     }
 }
 

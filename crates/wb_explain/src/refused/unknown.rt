@@ -136,8 +136,7 @@ fn first_unknown<'a>(lines: &[Line<'a>], index: usize) -> Option<Unknown<'a>> {
     let line = lines.get(index)?;
     let row = line.row?;
     for (place, word) in line.words.iter().enumerate() {
-        let letter = letter_at(row, place).filter(|_| place > 0);
-        if let Some(letter) = letter {
+        if let Some(letter) = letter_at(row, place) {
             let found = of_word(lines, index, letter, word.text, word.column);
             if found.is_some() {
                 return found;

@@ -102,7 +102,8 @@ pub(crate) fn value(word: &[u8]) -> u32 {
     value
 }
 
-fn is_size(word: &[u8]) -> bool {
+/// Whether a word is a number from 0 on.
+pub(crate) fn is_size(word: &[u8]) -> bool {
     is_number(word) && (!matches!(word, [b'-', ..]) || value(word) == 0)
 }
 
@@ -135,7 +136,7 @@ pub(crate) fn is_keyword(keyword: Keyword, word: &[u8]) -> bool {
     text_of(keyword).as_bytes() == word
 }
 
-/// What kind of word it must be.
+/// Which kinds of words may stand at a place.
 #[derive(Clone, Copy)]
 pub(crate) struct Admitted {
     pub name: bool,
@@ -151,8 +152,4 @@ impl Admitted {
             || (self.number && is_number(word))
             || (self.literal && is_literal(word))
     }
-}
-
-pub(crate) fn is_new_size(word: &[u8]) -> bool {
-    is_size(word)
 }
