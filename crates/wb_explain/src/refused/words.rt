@@ -111,11 +111,13 @@ fn is_quotable(byte: u8) -> bool {
     matches!(byte, b' '..=b'~') && byte != b'"'
 }
 
+fn are_quotable(text: &[u8]) -> bool {
+    text.iter().all(|byte| is_quotable(*byte))
+}
+
 pub(crate) fn is_literal(word: &[u8]) -> bool {
-    match word {
-        [b'"', text @ .., b'"'] => text.iter().all(|byte| is_quotable(*byte)),
-        _ => false,
-    }
+    let text = part(word, 1, word.len().saturating_sub(1));
+    matches!(word, [b'"', _, ..]) && word.last() == Some(&b'"') && are_quotable(text)
 }
 
 pub(crate) fn is_parameter(word: &[u8]) -> bool {
