@@ -102,7 +102,8 @@ def main() -> int:
     # Python ignores these, and the program would too
     for ignored in (signal.SIGPIPE, signal.SIGXFSZ):
         signal.signal(ignored, signal.SIG_DFL)
-    os.execv(PROGRAM, [str(PROGRAM), *sys.argv[1:]])
+    # the name by which it calls itself in its help
+    os.execv(PROGRAM, ["workbench", *sys.argv[1:]])
 
 
 if __name__ == "__main__":
