@@ -2,6 +2,7 @@
 //! contract says, since any growth may be refused.
 
 mod answers;
+mod explained;
 mod help_texts;
 mod notes;
 mod programs;

@@ -14,8 +14,6 @@ mod control_lines;
 #[cfg(test)]
 mod control_runs;
 #[cfg(test)]
-mod explained;
-#[cfg(test)]
 mod faults;
 #[cfg(test)]
 mod limits;
