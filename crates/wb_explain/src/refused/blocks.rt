@@ -64,6 +64,11 @@ pub(crate) fn role_of(key: Key) -> Role {
     }
 }
 
+/// Whether a line begins a body, by what it is.
+pub(crate) fn begins_body(role: Role) -> bool {
+    matches!(role, Role::Procedure | Role::Construct | Role::Destroy)
+}
+
 /// What a line is to the nesting of blocks, by its form.
 pub(crate) fn role(line: &Line) -> Role {
     match line.row {
@@ -141,6 +146,10 @@ impl Blocks {
 
     fn enter(&mut self, index: usize, role: Role) -> Result<(), AllocError> {
         self.pass(role);
+        if self.open.is_empty() {
+            // All that stands above is finished, so none of it lacks an `end`.
+            self.slanted = None;
+        }
         if let Some(place) = opened(role) {
             self.open.push(Block { place, line: index })?;
         }

@@ -5,7 +5,7 @@ use crate::refused::lines::{Line, Word};
 use crate::refused::notes::note_name;
 use crate::refused::page::{Page, Piece, Span};
 use crate::refused::spaces::{class_before, field_named, item_named, local_named};
-use crate::refused::words::{before, is_parameter};
+use crate::refused::words::{before, is_parameter, is_parameter_named};
 use wb_model::script_lines::Role;
 
 /// The line of the first declaration of what a line declares, in its space.
@@ -20,14 +20,10 @@ fn first_line(lines: &[Line], index: usize, line: &Line) -> Option<usize> {
     first.filter(|first| *first < index)
 }
 
-fn is_parameter_named(word: Word, name: &[u8]) -> bool {
-    is_parameter(word.text) && before(b':', word.text) == name
-}
-
 /// Whether one of the words before a place declares a parameter with this name.
 fn is_before(words: &[Word], place: usize, name: &[u8]) -> bool {
     for (at, word) in words.iter().enumerate() {
-        if at < place && is_parameter_named(*word, name) {
+        if at < place && is_parameter_named(word.text, name) {
             return true;
         }
     }

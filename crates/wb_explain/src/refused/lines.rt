@@ -1,5 +1,6 @@
 //! The lines of a script and their words, with the columns in which the words begin.
 
+use crate::refused::blocks::{begins_body, role_of};
 use crate::refused::forms::{Row, row_of};
 use crate::refused::page::Span;
 use std::alloc::{AllocError, Global};
@@ -20,13 +21,15 @@ impl<'a> Word<'a> {
     }
 }
 
-/// A line: its text without the blanks around it, how many stand before it, its words, and what it says where it is of some form.
+/// A line: its text without the blanks around it, how many stand before it, its words, what it says where it is of some form, and
+/// the index of the line that begins the body in which it stands, which may be itself.
 #[derive(Drop)]
 pub(crate) struct Line<'a> {
     pub text: &'a [u8],
     pub indent: usize,
     pub words: Vec<Word<'a>>,
     pub row: Option<&'static Row>,
+    pub body: usize,
 }
 
 /// Bytes from one place to another; none where there is no such part.
@@ -54,13 +57,12 @@ fn blanks_before(line: &[u8]) -> usize {
 
 /// A line without the blanks at its end.
 fn trimmed<'a>(line: &'a [u8]) -> &'a [u8] {
-    let mut end = 0;
-    for (index, byte) in line.iter().enumerate() {
-        if !is_blank(*byte) {
-            end = index + 1;
-        }
-    }
-    part(line, 0, end)
+    let blanks = line
+        .iter()
+        .rev()
+        .take_while(|byte| is_blank(**byte))
+        .count();
+    part(line, 0, line.len().saturating_sub(blanks))
 }
 
 fn add_word<'a>(
@@ -92,7 +94,20 @@ fn words_of<'a>(alloc: Global, line: &'a [u8]) -> Result<Vec<Word<'a>>, AllocErr
     Ok(words)
 }
 
-fn line_of<'a>(alloc: Global, bytes: &'a [u8]) -> Result<Line<'a>, AllocError> {
+/// The body in which a line of a form stands, behind these lines.
+fn body_behind(lines: &[Line], row: Option<&'static Row>) -> usize {
+    match (row, lines.last()) {
+        (Some(row), _) if begins_body(role_of(row.0)) => lines.len(),
+        (_, Some(line)) => line.body,
+        (_, None) => 0,
+    }
+}
+
+fn line_behind<'a>(
+    alloc: Global,
+    lines: &[Line<'a>],
+    bytes: &'a [u8],
+) -> Result<Line<'a>, AllocError> {
     let indent = blanks_before(bytes);
     let text = trimmed(part(bytes, indent, bytes.len()));
     let words = words_of(alloc, text)?;
@@ -102,6 +117,7 @@ fn line_of<'a>(alloc: Global, bytes: &'a [u8]) -> Result<Line<'a>, AllocError> {
         indent,
         words,
         row,
+        body: body_behind(lines, row),
     })
 }
 
@@ -110,7 +126,8 @@ fn add_line<'a>(
     lines: &mut Vec<Line<'a>>,
     bytes: &'a [u8],
 ) -> Result<(), AllocError> {
-    lines.push(line_of(alloc, bytes)?)?;
+    let line = line_behind(alloc, lines, bytes)?;
+    lines.push(line)?;
     Ok(())
 }
 

@@ -2,7 +2,7 @@
 
 use crate::refused::blocks::{role, role_at};
 use crate::refused::lines::{Line, Word};
-use crate::refused::words::{before, behind, is_parameter};
+use crate::refused::words::{behind, is_parameter_named};
 use wb_model::script_lines::{ItemKind, Key, Kind, Role};
 
 /// A local: what it holds, and the line that declares it.
@@ -70,22 +70,12 @@ pub(crate) fn class_named(lines: &[Line], name: &[u8]) -> Option<usize> {
     }
 }
 
-fn begins_body(line: &Line) -> bool {
-    matches!(
-        role(line),
-        Role::Procedure | Role::Construct | Role::Destroy
-    )
-}
-
 /// The line that begins the body in which a line stands, which may be that line.
 pub(crate) fn body_of(lines: &[Line], index: usize) -> usize {
-    let mut body = 0;
-    for (at, line) in lines.iter().enumerate() {
-        if at <= index && begins_body(line) {
-            body = at;
-        }
+    match lines.get(index) {
+        Some(line) => line.body,
+        None => 0,
     }
-    body
 }
 
 /// The class that begins last, up to a line.
@@ -122,7 +112,7 @@ pub(crate) fn kind_of_parameter<'a>(word: &'a [u8]) -> Kind<&'a [u8]> {
 /// What the parameter with a name holds, among words.
 fn parameter_among<'a>(words: &[Word<'a>], name: &[u8]) -> Option<Kind<&'a [u8]>> {
     for word in words {
-        if is_parameter(word.text) && before(b':', word.text) == name {
+        if is_parameter_named(word.text, name) {
             return Some(kind_of_parameter(word.text));
         }
     }
@@ -151,26 +141,33 @@ fn kind_in<'a>(line: &Line<'a>, name: &[u8]) -> Option<Kind<&'a [u8]>> {
     }
 }
 
-/// The local with a name that the lines from one on declare, before another.
-fn local_between<'a>(lines: &[Line<'a>], from: usize, to: usize, name: &[u8]) -> Option<Local<'a>> {
-    for (index, line) in lines.iter().enumerate() {
-        if index >= from && index < to {
-            if let Some(kind) = kind_in(line, name) {
-                return Some(Local { kind, line: index });
-            }
+/// Whether a line is a statement, behind which its body declares nothing.
+pub(crate) fn is_statement(line: &Line) -> bool {
+    matches!(role(line), Role::Plain | Role::Loop | Role::If)
+}
+
+/// The local with a name in the body of a line, declared before that line.
+pub(crate) fn local_named<'a>(lines: &[Line<'a>], index: usize, name: &[u8]) -> Option<Local<'a>> {
+    for at in body_of(lines, index)..index {
+        let line = lines.get(at)?;
+        if let Some(kind) = kind_in(line, name) {
+            return Some(Local { kind, line: at });
+        }
+        if is_statement(line) {
+            return None;
         }
     }
     None
 }
 
-/// The local with a name in the body of a line, declared before that line.
-pub(crate) fn local_named<'a>(lines: &[Line<'a>], index: usize, name: &[u8]) -> Option<Local<'a>> {
-    local_between(lines, body_of(lines, index), index, name)
-}
-
 /// The first local with a name in any body.
 pub(crate) fn local_anywhere<'a>(lines: &[Line<'a>], name: &[u8]) -> Option<Local<'a>> {
-    local_between(lines, 0, lines.len(), name)
+    for (index, line) in lines.iter().enumerate() {
+        if let Some(kind) = kind_in(line, name) {
+            return Some(Local { kind, line: index });
+        }
+    }
+    None
 }
 
 /// The line of the class that what stands before a dot is declared with.

@@ -29,11 +29,11 @@ pub(crate) fn is_name(word: &[u8]) -> bool {
 }
 
 pub(crate) fn is_reserved(word: &[u8]) -> bool {
-    RESERVED.iter().any(|reserved| word == *reserved)
+    RESERVED.contains(&word)
 }
 
 pub(crate) fn is_plain_kind(word: &[u8]) -> bool {
-    PLAIN_KINDS.iter().any(|kind| word == *kind)
+    PLAIN_KINDS.contains(&word)
 }
 
 pub(crate) fn is_new_name(word: &[u8]) -> bool {
@@ -122,6 +122,11 @@ pub(crate) fn is_literal(word: &[u8]) -> bool {
 
 pub(crate) fn is_parameter(word: &[u8]) -> bool {
     is_new_name(before(b':', word)) && is_name(behind(b':', word))
+}
+
+/// Whether a word is a parameter with a name.
+pub(crate) fn is_parameter_named(word: &[u8], name: &[u8]) -> bool {
+    matches!(word.strip_prefix(name), Some([b':', ..])) && is_parameter(word)
 }
 
 /// The word that asks a condition.
