@@ -1,9 +1,10 @@
 //! A line that can't stand where it does, and a file that ends too early.
 
-use crate::refused::blocks::{Block, Blocks, Closed, Place, role};
+use crate::refused::blocks::{Block, Blocks, Closed, Place, role, role_at};
 use crate::refused::lines::Line;
 use crate::refused::notes::note;
 use crate::refused::page::{Page, Piece};
+use crate::refused::spaces::is_statement;
 use wb_model::script_lines::Role;
 
 fn indent(lines: &[Line], index: usize) -> usize {
@@ -34,11 +35,13 @@ fn note_unclosed(page: &mut Page, lines: &[Line], blocks: &Blocks) {
                 "since the next `end` stands further left",
             );
         }
-        _ => {
-            if let Some(block) = blocks.open.last() {
-                note(page, lines, block.line, "this block is open");
-            }
-        }
+        _ => note_open(page, lines, blocks.open.last()),
+    }
+}
+
+fn note_open(page: &mut Page, lines: &[Line], block: Option<&Block>) {
+    if let Some(block) = block {
+        note(page, lines, block.line, "this block is open");
     }
 }
 
@@ -117,10 +120,6 @@ fn in_class(
     page.help_text("in a class stand its fields, then `construct`, then `destroy`, then `end`");
 }
 
-fn is_statement(line: &Line) -> bool {
-    line.row.is_some() && matches!(role(line), Role::Plain | Role::Loop | Role::If)
-}
-
 /// The first statement behind the line that begins a body.
 fn first_statement(lines: &[Line], body: usize) -> Option<usize> {
     for (index, line) in lines.iter().enumerate() {
@@ -154,7 +153,28 @@ fn late_declaration(page: &mut Page, lines: &[Line], blocks: &Blocks, number: us
     page.help_text("all declarations of a body come before its first statement");
 }
 
-fn late_else(page: &mut Page, lines: &[Line], block: Block, number: usize, line: &Line) {
+/// The `if` in an open block that ended last, where an `else` seems to be meant for it: it may be the second one of the open block.
+fn ended_if(lines: &[Line], blocks: &Blocks, block: Block, line: &Line) -> Option<Closed> {
+    let closed = blocks.closed?;
+    let is_inside = closed.first > block.line;
+    let is_below = line.indent == indent(lines, closed.first);
+    match (role_at(lines, closed.first), block.place) {
+        (Role::If, Place::Otherwise) if !is_below => None,
+        (Role::If, _) if is_inside => Some(closed),
+        _ => None,
+    }
+}
+
+/// Of an `else` whose `if` has ended.
+fn ended_else(page: &mut Page, lines: &[Line], closed: Closed, number: usize, line: &Line) {
+    refuse(page, number, line, "comes too late: its `if` has ended");
+    note(page, lines, closed.first, "the `if` begins here");
+    note(page, lines, closed.end, "and ends here");
+    page.help_text("an `if` with an `else` has one `end`, behind both parts");
+}
+
+/// Of an `else` that stands in no `if`, or in one that has an `else`.
+fn loose_else(page: &mut Page, lines: &[Line], block: Block, number: usize, line: &Line) {
     let where_not = match block.place {
         Place::Otherwise => "is the second one of its `if`",
         _ => "stands in no `if`",
@@ -164,15 +184,71 @@ fn late_else(page: &mut Page, lines: &[Line], block: Block, number: usize, line:
     page.help_text("an `if` has one `else`, and each block inside of it ends before that");
 }
 
-/// Of a line that can't stand in a body.
-fn in_body(page: &mut Page, lines: &[Line], blocks: &Blocks, number: usize, line: &Line) {
+fn late_else(
+    page: &mut Page,
+    lines: &[Line],
+    blocks: &Blocks,
+    block: Block,
+    number: usize,
+    line: &Line,
+) {
+    match ended_if(lines, blocks, block, line) {
+        Some(closed) => ended_else(page, lines, closed, number, line),
+        None => loose_else(page, lines, block, number, line),
+    }
+}
+
+/// What may have been meant by a line of a class that stands in a body.
+fn meant_in_body(line: &Line) -> &'static str {
+    match role(line) {
+        Role::Construct => "`construct POINTER` completes an object",
+        Role::Destroy => "`delete POINTER` destroys an object",
+        _ => "`ptr NAME` declares a pointer of a body",
+    }
+}
+
+/// Whether what is open is a class with its bodies.
+fn is_in_class(lines: &[Line], blocks: &Blocks) -> bool {
+    match blocks.open.first() {
+        Some(block) => matches!(role_at(lines, block.line), Role::Class),
+        None => false,
+    }
+}
+
+/// Of a line of a class that stands in a body of one.
+fn in_class_body(page: &mut Page, lines: &[Line], blocks: &Blocks, number: usize, line: &Line) {
     refuse(page, number, line, "can't stand in a body");
     note_unclosed(page, lines, blocks);
     page.help_text("an `end` seems to be missing above");
+    if let Role::Construct = role(line) {
+        page.help_text(meant_in_body(line));
+    }
+}
+
+/// Of a line of a class that stands in a procedure or an operation.
+fn in_procedure(page: &mut Page, lines: &[Line], blocks: &Blocks, number: usize, line: &Line) {
+    let where_not = match role(line) {
+        Role::Construct => "alone begins a body of a class, and no class is open",
+        Role::Destroy => "begins a body of a class, and no class is open",
+        _ => "declares a field of a class, and no class is open",
+    };
+    refuse(page, number, line, where_not);
+    note_open(page, lines, blocks.open.first());
+    page.help_text(meant_in_body(line));
 }
 
 fn is_class_place(place: Place) -> bool {
     matches!(place, Place::Fields | Place::Made | Place::Destroyed)
+}
+
+/// Of a line that begins something of the script's own right in a class, where no `end` of a body seems to be missing.
+fn item_in_class(page: &mut Page, lines: &[Line], block: Block, number: usize, line: &Line) {
+    refuse(page, number, line, "can't stand in a class");
+    note(page, lines, block.line, "this class is open");
+    page.help_text(match role(line) {
+        Role::Class => "end this class first",
+        _ => "end the class first; a procedure takes an object as a parameter, `NAME:CLASS`",
+    });
 }
 
 /// Of a line that begins something of the script's own inside of something else.
@@ -198,12 +274,17 @@ fn within(
     number: usize,
     line: &Line,
 ) {
+    let is_complete = is_class_place(block.place) && blocks.slanted.is_none();
     match role(line) {
+        Role::Class | Role::Procedure if is_complete => {
+            item_in_class(page, lines, block, number, line);
+        }
         Role::Class | Role::Procedure => inside(page, lines, blocks, number, line),
         _ if is_class_place(block.place) => in_class(page, lines, blocks, block, number, line),
         Role::Declaration => late_declaration(page, lines, blocks, number, line),
-        Role::Else => late_else(page, lines, block, number, line),
-        _ => in_body(page, lines, blocks, number, line),
+        Role::Else => late_else(page, lines, blocks, block, number, line),
+        _ if is_in_class(lines, blocks) => in_class_body(page, lines, blocks, number, line),
+        _ => in_procedure(page, lines, blocks, number, line),
     }
 }
 
