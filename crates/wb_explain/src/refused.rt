@@ -3,6 +3,7 @@
 mod arguments;
 mod blocks;
 mod double;
+mod elsewhere;
 mod foreign;
 mod forms;
 mod kinds;

@@ -1,15 +1,17 @@
 //! A name that is declared nowhere: in which space it was looked for, and what is nearest there.
 
+use crate::refused::elsewhere::{Elsewhere, instead_of_item, instead_of_local, note_elsewhere};
 use crate::refused::forms::letter_at;
 use crate::refused::lines::Line;
+use crate::refused::misspelled::help_place;
 use crate::refused::near_names::{near_field, near_item, near_local};
 use crate::refused::nearest::Near;
-use crate::refused::notes::{note, note_name};
+use crate::refused::notes::note;
 use crate::refused::page::{Page, Piece, Span};
-use crate::refused::spaces::{
-    body_of, class_of, field_named, has_self, item_named, local_anywhere, local_named,
+use crate::refused::spaces::{body_of, class_of, field_named, has_self, item_named, local_named};
+use crate::refused::words::{
+    before, behind, is_field, is_name, is_parameter, is_plain_kind, is_reserved,
 };
-use crate::refused::words::{before, behind, is_field, is_name, is_parameter, is_plain_kind};
 use std::alloc::{AllocError, Global};
 use wb_model::script_lines::{ItemKind, Letter};
 
@@ -131,15 +133,14 @@ fn of_word<'a>(
     }
 }
 
-/// The first unknown name of a line.
-fn first_unknown<'a>(lines: &[Line<'a>], index: usize) -> Option<Unknown<'a>> {
+/// The first unknown name of a line, and what it stands for.
+fn first_unknown<'a>(lines: &[Line<'a>], index: usize) -> Option<(Unknown<'a>, Letter)> {
     let line = lines.get(index)?;
     let row = line.row?;
     for (place, word) in line.words.iter().enumerate() {
         if let Some(letter) = letter_at(row, place) {
-            let found = of_word(lines, index, letter, word.text, word.column);
-            if found.is_some() {
-                return found;
+            if let Some(found) = of_word(lines, index, letter, word.text, word.column) {
+                return Some((found, letter));
             }
         }
     }
@@ -220,34 +221,34 @@ fn say_space(page: &mut Page, lines: &[Line], index: usize, space: Space) {
     }
 }
 
-/// Says where another body declares the name of a local.
-fn note_elsewhere(page: &mut Page, lines: &[Line], found: Unknown) {
-    let elsewhere = match found.space {
-        Space::Locals => local_anywhere(lines, found.name),
-        _ => None,
-    };
-    if let Some(local) = elsewhere {
-        note_name(
-            page,
-            lines,
-            local.line,
-            found.name,
-            "another body declares it here, and names belong to one body",
-        );
+/// What an unknown name is elsewhere in the script.
+fn elsewhere(lines: &[Line], index: usize, found: Unknown) -> Option<Elsewhere> {
+    match found.space {
+        Space::Items(_) => instead_of_item(lines, index, found.name),
+        Space::Locals => instead_of_local(lines, index, found.name),
+        Space::Fields(_) => None,
+    }
+}
+
+/// What to do about a local that isn't declared.
+fn help_of_local(name: &[u8]) -> &'static str {
+    if name == b"self".as_slice() {
+        "`self` is known in `construct` and `destroy` alone"
+    } else if name == b"null".as_slice() {
+        "`null POINTER` makes a pointer null; nothing else names it"
+    } else if name.starts_with(b"KErr") {
+        "a code is written as its number: `KErrNoMemory` is -4"
+    } else {
+        "declare it above the first statement, with `ptr`, `int`, `buf` or `view`"
     }
 }
 
 /// Says what to do where nothing is near.
 fn say_help(page: &mut Page, found: Unknown) {
     match found.space {
-        Space::Locals if found.name == b"self".as_slice() => {
-            page.help_text("`self` is known in `construct` and `destroy` alone");
-        }
-        Space::Locals if found.name == b"null".as_slice() => {
-            page.help_text("`null POINTER` makes a pointer null; nothing else names it");
-        }
-        Space::Locals => page.help_text(
-            "declare it above the first statement, with `ptr`, `int`, `buf` or `view`",
+        Space::Locals => page.help_text(help_of_local(found.name)),
+        Space::Items(ItemKind::Class) if is_reserved(found.name) => page.help_text(
+            "no class has this name; without a class behind its name a pointer or a field may name anything",
         ),
         Space::Items(kind) => page.help(&[
             Piece::Text("the script may have its "),
@@ -258,6 +259,24 @@ fn say_help(page: &mut Page, found: Unknown) {
     }
 }
 
+/// Says which declared name may have been meant.
+fn say_near(page: &mut Page, near: Near) {
+    page.help(&[
+        Piece::Text("did you mean `"),
+        Piece::Word(near.word),
+        Piece::Text("`, declared in line "),
+        Piece::Number(near.line),
+        Piece::Text("?"),
+    ]);
+}
+
+/// Says what the name may be that is wanted in its place.
+fn help_wanted(page: &mut Page, line: &Line, letter: Letter) {
+    if let Some(row) = line.row {
+        help_place(page, row, letter);
+    }
+}
+
 /// Says which name of a line is declared nowhere.
 pub(crate) fn unknown_name(
     alloc: Global,
@@ -265,24 +284,21 @@ pub(crate) fn unknown_name(
     lines: &[Line],
     index: usize,
 ) -> Result<(), AllocError> {
-    let (Some(found), Some(line)) = (first_unknown(lines, index), lines.get(index)) else {
+    let (Some((found, letter)), Some(line)) = (first_unknown(lines, index), lines.get(index)) else {
         return Ok(());
     };
     say_problem(page, lines, index, found);
     page.show(line.text, found.span);
     say_space(page, lines, index, found.space);
-    match nearest(alloc, lines, index, found)? {
-        Some(near) => page.help(&[
-            Piece::Text("did you mean `"),
-            Piece::Word(near.word),
-            Piece::Text("`, declared in line "),
-            Piece::Number(near.line),
-            Piece::Text("?"),
-        ]),
-        None => {
-            note_elsewhere(page, lines, found);
-            say_help(page, found);
-        }
+    let elsewhere = elsewhere(lines, index, found);
+    if let Some(elsewhere) = elsewhere {
+        note_elsewhere(page, lines, found.name, elsewhere);
+    }
+    match (nearest(alloc, lines, index, found)?, elsewhere) {
+        (_, Some(Elsewhere::Member(_))) => {}
+        (Some(near), _) => say_near(page, near),
+        (None, Some(Elsewhere::Other(..))) => help_wanted(page, line, letter),
+        (None, _) => say_help(page, found),
     }
     Ok(())
 }
