@@ -9,6 +9,12 @@ const SHOWN: usize = 100;
 /// How many columns are shown before the word at fault, where the line is longer than what is shown.
 const BEFORE: usize = 40;
 
+/// How many bytes of a word are written where it isn't shown in its line.
+const LONGEST_WORD: usize = 70;
+
+/// What stands for a part that is left out.
+const LEFT_OUT: &str = "...";
+
 /// A piece of a line of an explanation.
 #[derive(Clone, Copy)]
 pub(crate) enum Piece<'a> {
@@ -75,6 +81,17 @@ impl<'f> Page<'f> {
         }
     }
 
+    /// Writes the beginning of a word, and that there is more of it where there is.
+    fn add_word(&mut self, word: &[u8]) {
+        match word.split_at_checked(LONGEST_WORD) {
+            Some((begin, [_, ..])) => {
+                self.add_bytes(begin);
+                self.add_text(LEFT_OUT);
+            }
+            _ => self.add_bytes(word),
+        }
+    }
+
     fn add_number(&mut self, number: usize) {
         if !self.is_cut {
             self.is_cut = write!(self.text, "{number}").is_err();
@@ -84,7 +101,7 @@ impl<'f> Page<'f> {
     fn add(&mut self, piece: Piece) {
         match piece {
             Piece::Text(text) => self.add_text(text),
-            Piece::Word(word) => self.add_bytes(word),
+            Piece::Word(word) => self.add_word(word),
             Piece::Number(number) => self.add_number(number),
         }
     }
@@ -130,6 +147,23 @@ impl<'f> Page<'f> {
         self.end();
     }
 
+    /// Writes a line of the script from a column on, as much as is shown of it. What is left out before is marked in the place of
+    /// as many columns, so that all others stand where they did.
+    fn add_line(&mut self, line: &[u8], from: usize) {
+        let (_, rest) = line.split_at_checked(from).unwrap_or((line, line));
+        let (part, behind) = rest.split_at_checked(SHOWN).unwrap_or((rest, &[]));
+        match part.split_at_checked(LEFT_OUT.len()) {
+            Some((_, part)) if from > 0 => {
+                self.add_text(LEFT_OUT);
+                self.add_bytes(part);
+            }
+            _ => self.add_bytes(part),
+        }
+        if !behind.is_empty() {
+            self.add_text(LEFT_OUT);
+        }
+    }
+
     /// Shows a line of the script, with carets under a part of it.
     pub(crate) fn show(&mut self, line: &[u8], span: Span) {
         let from = if line.len() <= SHOWN {
@@ -137,10 +171,9 @@ impl<'f> Page<'f> {
         } else {
             span.column.saturating_sub(BEFORE)
         };
-        let (_, rest) = line.split_at_checked(from).unwrap_or((line, line));
-        let (part, _) = rest.split_at_checked(SHOWN).unwrap_or((rest, rest));
         let column = span.column.saturating_sub(from);
-        self.say(&[Piece::Text("    "), Piece::Word(part)]);
+        self.add_text("    ");
+        self.add_line(line, from);
         self.end();
         self.add_text("    ");
         self.add_repeated(' ', column.min(SHOWN));
