@@ -1,7 +1,7 @@
 //! An operand of a wrong kind: what its place takes, what it is, and where it is declared.
 
 use crate::refused::arguments::wrong_arguments;
-use crate::refused::blocks::{Blocks, role};
+use crate::refused::blocks::{Blocks, role, role_at};
 use crate::refused::forms::letter_at;
 use crate::refused::lines::{Line, Word};
 use crate::refused::misspelled::help_place;
@@ -86,7 +86,16 @@ fn wrong_holder(page: &mut Page, lines: &[Line], index: usize, line: &Line, word
 fn wrong_parameter(page: &mut Page, lines: &[Line], index: usize, line: &Line, word: Word) {
     let class = behind(b':', word.text);
     say_kind(page, index.saturating_add(1), class, "no class");
-    page.show(line.text, word.span());
+    page.show(
+        line.text,
+        Span {
+            column: word
+                .column
+                .saturating_add(word.text.len())
+                .saturating_sub(class.len()),
+            length: class.len(),
+        },
+    );
     if let Some(item) = item_named(lines, class) {
         note_name(page, lines, item.line, class, "declared here");
     }
@@ -185,7 +194,11 @@ fn wrong_main(page: &mut Page, number: usize, line: &Line) {
         &[Piece::Text("`main` is a procedure without parameters")],
     );
     page.show(line.text, line.span());
-    page.help_text("the run begins with `proc main`; give this another name");
+    page.help_text(match key_of(line) {
+        Some(Key::Proc) =>
+            "write `proc main` alone: nothing gives it arguments where the run begins",
+        _ => "the run begins with `proc main`; give this another name",
+    });
 }
 
 /// The innermost `trap` that is open.
@@ -212,10 +225,21 @@ fn wrong_return(page: &mut Page, lines: &[Line], index: usize, line: &Line, bloc
             page.help_text("end the `trap` first, and return behind it");
         }
         None => {
+            let body = body_of(lines, index);
             page.at(number, &[Piece::Text("only a procedure returns a pointer")]);
             page.show(line.text, line.span());
-            note(page, lines, body_of(lines, index), "the body begins here");
-            page.help_text("`return` alone ends the body");
+            note(page, lines, body, "the body begins here");
+            page.help_text(help_of_return(role_at(lines, body)));
+        }
+    }
+}
+
+/// How a body ends that is no procedure's. In a body that must not leave, `return` can't stand either.
+fn help_of_return(body: Role) -> &'static str {
+    match body {
+        Role::Construct => "`return` alone ends the body",
+        _ => {
+            "an operation and a `destroy` body have no `return` and run to their `end`; `if` can pass over lines"
         }
     }
 }

@@ -156,6 +156,10 @@ fn meant(line: &Line) -> Option<&'static Row> {
     found
 }
 
+fn is_else_if(line: &Line) -> bool {
+    line.text_at(0) == b"else".as_slice() && line.text_at(1) == b"if".as_slice()
+}
+
 /// Says that a line has too few words, or too many.
 fn wrong_count(page: &mut Page, number: usize, line: &Line, row: &Row) {
     let is_more = line.words.len() > row.2.len();
@@ -171,6 +175,9 @@ fn wrong_count(page: &mut Page, number: usize, line: &Line, row: &Row) {
     match first_wrong(row, &line.words) {
         Some(place) if is_more => page.show(line.text, line.span_at(place)),
         _ => page.show(line.text, line.span()),
+    }
+    if is_else_if(line) {
+        page.help_text("the `if` stands in the next line, and has an `end` of its own");
     }
     help_forms(page, line.text_at(0));
 }
@@ -257,12 +264,12 @@ pub(crate) fn misspelled(
     if !is_statement(first.text) {
         return no_such_statement(alloc, page, number, line, first);
     }
-    if let Some(word) = open_quote(line) {
-        quote_not_closed(page, number, line, word);
-        return Ok(());
-    }
     if let Some(word) = first_comment(line) {
         behind_statement(page, number, line, word);
+        return Ok(());
+    }
+    if let Some(word) = open_quote(line) {
+        quote_not_closed(page, number, line, word);
         return Ok(());
     }
     if asks_nothing(line) {

@@ -1,7 +1,7 @@
 //! What is wrong with a word that can't stand where it does, by its bytes alone, and what is wanted there.
 
 use crate::refused::words::{
-    before, digits, has, is_digit, is_field, is_literal, is_name, is_numeral, is_reserved,
+    before, behind, digits, has, is_digit, is_field, is_literal, is_name, is_numeral, is_reserved,
 };
 use wb_model::script_lines::{Keyword, Letter};
 
@@ -38,7 +38,9 @@ pub(crate) fn wanted(letter: Letter) -> &'static str {
         Letter::Procedure => "the name of a procedure",
         Letter::Operation => "the name of an operation",
         Letter::Parameter => "a parameter: `NAME:ptr`, `NAME:int` or `NAME:CLASS`",
-        Letter::Argument => "an argument: a number, a name or a field",
+        Letter::Argument => {
+            "an argument: a number, or the name of an int or of a pointer, or a field"
+        }
         Letter::Keyword(Keyword::Null) => "`null`",
         Letter::Keyword(Keyword::Some) => "`some`",
         Letter::Keyword(Keyword::Equal) => "`eq`",
@@ -79,7 +81,12 @@ fn of_quoted(word: &[u8]) -> Complaint {
 
 /// Of a word with a colon, or one where a parameter is wanted.
 fn of_parameter(letter: Letter, word: &[u8]) -> Complaint {
-    if !matches!(letter, Letter::Parameter) {
+    if matches!(letter, Letter::ItsPointer) {
+        told(
+            "a word with a colon can't stand here",
+            "an operation takes one pointer, and no kind is written behind its name",
+        )
+    } else if !matches!(letter, Letter::Parameter) {
         told("a word with a colon can't stand here", "")
     } else if is_reserved(before(b':', word)) {
         of_reserved()
@@ -89,8 +96,27 @@ fn of_parameter(letter: Letter, word: &[u8]) -> Complaint {
             "write `:ptr`, `:int` or `:` and a class behind its name",
         )
     } else {
-        told("this is no parameter", "")
+        told("this is no parameter", hint_of_end(word, ""))
     }
+}
+
+/// Whether a word ends as a part of a line does in C++.
+fn ends_as_in_c(word: &[u8]) -> bool {
+    matches!(word.last(), Some(b';' | b','))
+}
+
+/// What to do about the end of a word, where that is what is wrong; else another hint.
+fn hint_of_end(word: &[u8], other: &'static str) -> &'static str {
+    if ends_as_in_c(word) {
+        "words stand apart by blanks alone, without `,` and `;`"
+    } else {
+        other
+    }
+}
+
+/// Whether a word names a field of a field.
+fn is_chain(word: &[u8]) -> bool {
+    is_name(before(b'.', word)) && is_field(behind(b'.', word))
 }
 
 fn of_reserved() -> Complaint {
@@ -112,10 +138,19 @@ fn of_name(letter: Letter, word: &[u8]) -> Complaint {
 /// Of a word that is nothing of the language.
 fn of_other(word: &[u8]) -> Complaint {
     match word {
+        _ if is_chain(word) => {
+            told(
+                "a word can't name a field of a field",
+                "`set` a pointer of its class to the first field, and name the second one through that",
+            )
+        }
         [first, ..] if is_digit(*first) => {
             told(
                 "this is neither a number nor a name",
-                "a name begins with a letter",
+                hint_of_end(
+                    word,
+                    "a number is decimal digits alone, and a name begins with a letter",
+                ),
             )
         }
         [b'+', ..] => told(
@@ -124,7 +159,7 @@ fn of_other(word: &[u8]) -> Complaint {
         ),
         _ => told(
             "this is no name",
-            "a name is a letter, then letters, digits and `_`",
+            hint_of_end(word, "a name is a letter, then letters, digits and `_`"),
         ),
     }
 }
