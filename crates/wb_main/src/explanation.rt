@@ -69,9 +69,10 @@ fn explained_fault(alloc: Global, command: &Command, record: &Record) -> Result<
     Ok(file_fault(alloc, name, deed, kind)?)
 }
 
-/// The name of the script's file, or how standard input is called.
+/// The name of the script's file, or how standard input is called. An empty name is shown as one.
 fn name_of<'a>(command: &'a Command, input: &'a str) -> &'a str {
     match &command.file {
+        Some(name) if name.as_str().is_empty() => "\"\"",
         Some(name) => name.as_str(),
         None => input,
     }
