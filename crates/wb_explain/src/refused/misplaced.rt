@@ -153,15 +153,15 @@ fn late_declaration(page: &mut Page, lines: &[Line], blocks: &Blocks, number: us
     page.help_text("all declarations of a body come before its first statement");
 }
 
-/// The `if` in an open block that ended last, where an `else` seems to be meant for it: it may be the second one of the open block.
+/// The `if` in an open block that ended last, where an `else` stands right below it and so seems to be meant for it.
 fn ended_if(lines: &[Line], blocks: &Blocks, block: Block, line: &Line) -> Option<Closed> {
     let closed = blocks.closed?;
-    let is_inside = closed.first > block.line;
+    let is_if = matches!(role_at(lines, closed.first), Role::If);
     let is_below = line.indent == indent(lines, closed.first);
-    match (role_at(lines, closed.first), block.place) {
-        (Role::If, Place::Otherwise) if !is_below => None,
-        (Role::If, _) if is_inside => Some(closed),
-        _ => None,
+    if is_if && is_below && closed.first > block.line {
+        Some(closed)
+    } else {
+        None
     }
 }
 
