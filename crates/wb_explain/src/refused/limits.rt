@@ -21,7 +21,7 @@ struct Passed {
 }
 
 fn is_long(name: &[u8]) -> bool {
-    is_name(name) && name.len() > LONGEST_NAME as usize
+    name.len() > LONGEST_NAME as usize && is_name(name)
 }
 
 /// The length of the part of a word that is a name longer than names may be; 0 where there is none.

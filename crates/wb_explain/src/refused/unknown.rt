@@ -238,6 +238,8 @@ fn help_of_local(name: &[u8]) -> &'static str {
         "`null POINTER` makes a pointer null; nothing else names it"
     } else if name.starts_with(b"KErr") {
         "a code is written as its number: `KErrNoMemory` is -4"
+    } else if is_reserved(name) {
+        "the name is reserved, and nothing can be declared with it"
     } else {
         "declare it above the first statement, with `ptr`, `int`, `buf` or `view`"
     }
@@ -248,8 +250,11 @@ fn say_help(page: &mut Page, found: Unknown) {
     match found.space {
         Space::Locals => page.help_text(help_of_local(found.name)),
         Space::Items(ItemKind::Class) if is_reserved(found.name) => page.help_text(
-            "no class has this name; without a class behind its name a pointer or a field may name anything",
+            "no class can have this name; `ptr NAME` and `field NAME` declare pointers without one",
         ),
+        Space::Items(_) | Space::Fields(_) if is_reserved(found.name) => {
+            page.help_text("the name is reserved, and nothing can be declared with it");
+        }
         Space::Items(kind) => page.help(&[
             Piece::Text("the script may have its "),
             Piece::Text(item_word(kind)),
