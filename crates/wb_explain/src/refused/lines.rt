@@ -57,12 +57,13 @@ fn blanks_before(line: &[u8]) -> usize {
 
 /// A line without the blanks at its end.
 fn trimmed<'a>(line: &'a [u8]) -> &'a [u8] {
-    let blanks = line
-        .iter()
-        .rev()
-        .take_while(|byte| is_blank(**byte))
-        .count();
-    part(line, 0, line.len().saturating_sub(blanks))
+    let mut end = 0;
+    for (index, byte) in line.iter().enumerate() {
+        if !is_blank(*byte) {
+            end = index + 1;
+        }
+    }
+    part(line, 0, end)
 }
 
 fn add_word<'a>(
