@@ -6,13 +6,18 @@ ghost use Rattle.std.specs.Prelude.{◌≤◌, IsTrue};
 ghost use Rattle.wb_model.specs.Sound.{is_script};
 
 mod attempts;
+mod blame;
 mod bodies;
+mod counts;
 mod cuts;
+mod destroyed;
 mod ends;
 mod lengths;
 mod panics;
+mod probe;
 mod questions;
 mod script_file;
+mod sentences;
 mod values;
 mod watch;
 mod words;

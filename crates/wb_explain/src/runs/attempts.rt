@@ -6,17 +6,19 @@ use std::alloc::AllocError;
 use wb_model::heap::{Answer, Attempt, Rule};
 use wb_model::run::Outcome;
 
-/// Says where the attempt was made that the rule refused first, where it refuses any.
+/// Says where the attempt was made that the rule refused first, where it refuses any, and where the run went on, unless
+/// that is the line of its panic.
 pub fn put_refused(
     text: &mut String,
     file: ScriptFile<'_>,
     rule: Rule,
+    panicked_at: Option<u32>,
     seen: &Seen,
 ) -> Result<(), AllocError> {
     match rule {
         Rule::Unlimited | Rule::Number(0) => Ok(()),
-        Rule::Number(number) => put_number(text, file, number, seen),
-        Rule::Limit(limit) => put_limit(text, file, limit, seen),
+        Rule::Number(number) => put_number(text, file, number, panicked_at, seen),
+        Rule::Limit(limit) => put_limit(text, file, limit, panicked_at, seen),
     }
 }
 
@@ -24,10 +26,11 @@ fn put_number(
     text: &mut String,
     file: ScriptFile<'_>,
     number: u32,
+    panicked_at: Option<u32>,
     seen: &Seen,
 ) -> Result<(), AllocError> {
     match seen.attempt(number) {
-        Some((attempt, maker)) => put_failed(text, file, attempt, maker, seen),
+        Some((attempt, maker)) => put_failed(text, file, attempt, maker, panicked_at, seen),
         None => put_never_made(text, file, number, seen),
     }
 }
@@ -51,11 +54,12 @@ fn put_limit(
     text: &mut String,
     file: ScriptFile<'_>,
     limit: u32,
+    panicked_at: Option<u32>,
     seen: &Seen,
 ) -> Result<(), AllocError> {
     for attempt in seen.result.trace.as_slice() {
         if attempt.answer == Answer::Refused {
-            return put_number(text, file, attempt.number, seen);
+            return put_number(text, file, attempt.number, panicked_at, seen);
         }
     }
     let name = file.name;
@@ -71,6 +75,7 @@ fn put_failed(
     file: ScriptFile<'_>,
     attempt: Attempt,
     maker: Maker,
+    panicked_at: Option<u32>,
     seen: &Seen,
 ) -> Result<(), AllocError> {
     let Attempt { number, length, .. } = attempt;
@@ -84,10 +89,10 @@ fn put_failed(
     put_place(text, file, maker.line)?;
     write!(
         text,
-        "attempt {number} failed here, of a cell of {length} bytes\n    {}\n",
-        file.line(maker.line)
+        "attempt {number} failed here, of a cell of {length} bytes"
     )?;
-    put_came_out(text, file, maker, seen)
+    file.put_below(text, maker.line)?;
+    put_came_out(text, file, maker, panicked_at, seen)
 }
 
 /// The place of a line, before what is said of it.
@@ -95,17 +100,40 @@ pub fn put_place(text: &mut String, file: ScriptFile<'_>, line: u32) -> Result<(
     write!(text, "{}:{line}: ", file.name)
 }
 
-/// Says where the run went on after an attempt that failed, where it did.
+/// Says where the run went on after an attempt that failed, where it did. Of the line of a panic more is said than that.
 fn put_came_out(
     text: &mut String,
     file: ScriptFile<'_>,
     maker: Maker,
+    panicked_at: Option<u32>,
     seen: &Seen,
 ) -> Result<(), AllocError> {
-    // of a panic more is said than that
-    let panicked = matches!(seen.result.outcome, Outcome::Panicked(_));
-    if maker.after == 0 || (panicked && maker.after == seen.last()) {
+    let again = maker.idle >= 2 && gives_null(file.first_word(maker.line));
+    let next = if again { maker.line } else { maker.after };
+    if panicked_at == Some(next) {
         return Ok(());
     }
-    file.put(text, maker.after, "the run went on here")
+    if again {
+        return put_again(text, file, next);
+    }
+    if next != 0 {
+        return file.put(text, next, "the run went on here");
+    }
+    match &seen.result.outcome {
+        Outcome::Ended { left: None, .. } => {
+            write!(text, "{}: after that `main` came to its end\n", file.name)
+        }
+        _ => Ok(()),
+    }
+}
+
+/// Whether lines with this first word give null where their attempt fails, and go on.
+fn gives_null(word: &str) -> bool {
+    matches!(word, "alloc" | "realloc" | "new" | "hnew" | "hrealloc")
+}
+
+/// The line alone is what a `repeat` does.
+fn put_again(text: &mut String, file: ScriptFile<'_>, line: u32) -> Result<(), AllocError> {
+    put_place(text, file, line)?;
+    text.push_str("the run went on with the same line, in the next turn of its `repeat`\n")
 }

@@ -1,4 +1,5 @@
-//! Which body a line stands in, as far as explanations ask: `main`, one that only undoes, or another.
+//! Which body a line stands in, as far as explanations ask: `main`, one that only undoes, or another; and which line of
+//! each body was begun last.
 
 use std::alloc::{AllocError, Global};
 use wb_model::script::{Class, Procedure, Script};
@@ -12,38 +13,83 @@ pub enum BodyKind {
     Other,
 }
 
-/// Where the bodies of a script begin.
+/// A body: the line with which it begins, what it is for, and which of its lines was begun last, 0 before the first.
+#[derive(Clone, Copy)]
+struct SeenBody {
+    begin: u32,
+    kind: BodyKind,
+    last: u32,
+}
+
+/// The bodies of a script.
 #[derive(Drop)]
 pub struct Bodies {
-    /// A line with which bodies of a kind begin, in no order.
-    begins: Vec<(u32, BodyKind)>,
+    /// In no order.
+    bodies: Vec<SeenBody>,
 }
 
 impl Bodies {
     pub fn of(alloc: Global, script: &Script) -> Result<Bodies, AllocError> {
-        let mut begins = Vec::new(alloc);
-        put_procedures(&mut begins, script.procedures.as_slice(), script.main)?;
-        put_classes(&mut begins, script.classes.as_slice())?;
+        let mut bodies = Vec::new(alloc);
+        put_procedures(&mut bodies, script.procedures.as_slice(), script.main)?;
+        put_classes(&mut bodies, script.classes.as_slice())?;
         for operation in script.operations.as_slice() {
-            begins.push((operation.line, BodyKind::Undoing))?;
+            put_body(&mut bodies, operation.line, BodyKind::Undoing)?;
         }
-        Ok(Bodies { begins })
+        Ok(Bodies { bodies })
     }
 
-    /// The kind of the body that a line stands in.
-    pub fn kind_at(&self, line: u32) -> BodyKind {
-        let mut nearest = (0, BodyKind::Other);
-        for begin in self.begins.as_slice() {
-            if nearest.0 <= begin.0 && begin.0 <= line {
-                nearest = *begin;
+    /// Notes that a line was begun, and tells the kind of the body that it stands in.
+    pub fn see(&mut self, line: u32) -> BodyKind {
+        let at = self.body_of(line);
+        match self.bodies.get_mut(at) {
+            Some(body) if body.begin <= line => {
+                body.last = line;
+                body.kind
+            }
+            _ => BodyKind::Other,
+        }
+    }
+
+    /// The line that was begun last in the same body as a line stands.
+    pub fn last_beside(&self, line: u32) -> u32 {
+        match self.bodies.get(self.body_of(line)) {
+            Some(body) => body.last,
+            None => 0,
+        }
+    }
+
+    /// The line of `main` that was begun last.
+    pub fn last_of_main(&self) -> u32 {
+        match self.bodies.iter().find(|body| body.kind == BodyKind::Main) {
+            Some(body) => body.last,
+            None => 0,
+        }
+    }
+
+    /// The index of the body that a line stands in: the last one that begins up to it.
+    fn body_of(&self, line: u32) -> usize {
+        let mut nearest = (0, 0);
+        for (index, body) in self.bodies.iter().enumerate() {
+            if nearest.1 <= body.begin && body.begin <= line {
+                nearest = (index, body.begin);
             }
         }
-        nearest.1
+        nearest.0
     }
 }
 
+fn put_body(bodies: &mut Vec<SeenBody>, begin: u32, kind: BodyKind) -> Result<(), AllocError> {
+    bodies.push(SeenBody {
+        begin,
+        kind,
+        last: 0,
+    })?;
+    Ok(())
+}
+
 fn put_procedures(
-    begins: &mut Vec<(u32, BodyKind)>,
+    bodies: &mut Vec<SeenBody>,
     procedures: &[Procedure],
     main: u16,
 ) -> Result<(), AllocError> {
@@ -53,17 +99,17 @@ fn put_procedures(
         } else {
             BodyKind::Other
         };
-        begins.push((procedure.line, kind))?;
+        put_body(bodies, procedure.line, kind)?;
     }
     Ok(())
 }
 
 /// A class's destructor is the last of it.
-fn put_classes(begins: &mut Vec<(u32, BodyKind)>, classes: &[Class]) -> Result<(), AllocError> {
+fn put_classes(bodies: &mut Vec<SeenBody>, classes: &[Class]) -> Result<(), AllocError> {
     for class in classes {
-        begins.push((class.line, BodyKind::Other))?;
+        put_body(bodies, class.line, BodyKind::Other)?;
         if let Some(first) = first_of_destructor(class) {
-            begins.push((first, BodyKind::Undoing))?;
+            put_body(bodies, first, BodyKind::Undoing)?;
         }
     }
     Ok(())

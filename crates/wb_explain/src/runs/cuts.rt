@@ -1,6 +1,7 @@
 //! What is said of a run that was cut: where, and what to raise.
 
 use crate::runs::attempts::put_place;
+use crate::runs::counts::plural;
 use crate::runs::script_file::ScriptFile;
 use crate::runs::watch::Seen;
 use std::alloc::AllocError;
@@ -29,11 +30,12 @@ fn put_budget(
     line: u32,
     budget: u32,
 ) -> Result<(), AllocError> {
-    let shown = file.line(line);
+    let s = plural(i64::from(budget));
     write!(
         text,
-        "the run was cut behind this line: it took {budget} steps, its whole budget\n    {shown}\n"
+        "the run was cut behind this line: it took {budget} step{s}, its whole budget"
     )?;
+    file.put_below(text, line)?;
     if budget >= LARGEST_BUDGET {
         return write!(
             text,
@@ -48,10 +50,10 @@ fn put_budget(
 }
 
 fn put_ceiling(text: &mut String, file: ScriptFile<'_>, line: u32) -> Result<(), AllocError> {
-    let shown = file.line(line);
     write!(
         text,
-        "the run was cut here: the cell would end past {CEILING} bytes, the most that a heap may have\n    {shown}\n\
-         help: nothing raises this; ask for less, or free cells earlier\n"
-    )
+        "the run was cut here: the cell would end past {CEILING} bytes, the most that a heap may have"
+    )?;
+    file.put_below(text, line)?;
+    text.push_str("help: nothing raises this; ask for less, or free cells earlier\n")
 }

@@ -2,10 +2,13 @@
 
 use crate::runs::Setting;
 use crate::runs::attempts::{put_place, put_refused};
+use crate::runs::blame::{Blame, Cause, blame_of};
 use crate::runs::cuts::put_cut;
+use crate::runs::destroyed::{OF_ANYTHING, OF_OBJECT, of_item};
 use crate::runs::panics::{meaning_of, symbian_of};
-use crate::runs::questions::{put_sentence, question_of};
+use crate::runs::questions::question_of;
 use crate::runs::script_file::ScriptFile;
+use crate::runs::sentences::put_sentence;
 use crate::runs::values::values_at;
 use crate::runs::watch::Seen;
 use std::alloc::AllocError;
@@ -23,7 +26,7 @@ pub fn put_findings(
     setting: Setting,
     seen: &Seen,
 ) -> Result<(), NoMemory> {
-    put_refused(text, file, setting.rule, seen)?;
+    let blame = put_failure(text, file, setting, seen)?;
     match &seen.result.outcome {
         Outcome::Ended { left, leaks } => {
             if let Some(code) = *left
@@ -33,10 +36,30 @@ pub fn put_findings(
             }
             Ok(put_leaks(text, file, leaks.as_slice(), seen)?)
         }
-        Outcome::Panicked(panic) => put_panic(text, file, *panic, setting, seen),
+        Outcome::Panicked(panic) => put_panic(text, file, *panic, blame, setting, seen),
         Outcome::NoCleanup => Ok(()),
         Outcome::Cut(why) => Ok(put_cut(text, file, *why, setting.budget, seen)?),
     }
+}
+
+/// Says which attempt failed, if one was to, and tells what raised the panic, if the run ended with one.
+fn put_failure(
+    text: &mut String,
+    file: ScriptFile<'_>,
+    setting: Setting,
+    seen: &Seen,
+) -> Result<Blame, NoMemory> {
+    let alloc = *text.allocator();
+    let Outcome::Panicked(panic) = &seen.result.outcome else {
+        put_refused(text, file, setting.rule, None, seen)?;
+        return Ok(Blame {
+            line: seen.last(),
+            cause: Cause::Line,
+        });
+    };
+    let blame = blame_of(alloc, file, setting, *panic, seen)?;
+    put_refused(text, file, setting.rule, Some(blame.line), seen)?;
+    Ok(blame)
 }
 
 /// Whether a rule may refuse anything. A leave of a run under another is what the script means to do.
@@ -58,10 +81,10 @@ fn put_left(
     put_place(text, file, line)?;
     write!(
         text,
-        "a leave came out of `main` here, with {code}{}\n    {}\n",
-        name_of(code),
-        file.line(line)
-    )
+        "a leave came out of `main` here, with {code}{}",
+        name_of(code)
+    )?;
+    file.put_below(text, line)
 }
 
 /// Symbian's name of a code that scripts often leave with, behind a comma; empty for others.
@@ -87,22 +110,49 @@ fn put_panic(
     text: &mut String,
     file: ScriptFile<'_>,
     panic: Panic,
+    blame: Blame,
     setting: Setting,
     seen: &Seen,
 ) -> Result<(), NoMemory> {
-    let line = seen.last();
-    let word = file.first_word(line);
+    let line = blame.line;
     put_place(text, file, line)?;
     put_name(text, panic)?;
-    write!(text, "{word}: ")?;
-    let (says, help) = meaning_of(panic, word);
+    write!(text, "{}: ", file.first_word(line))?;
+    let (says, help) = said_of(panic, blame, file);
     if !put_values(text, file, panic, setting, line)? {
         text.push_str(says)?;
     }
-    write!(text, "\n    {}\n", file.line(line))?;
+    file.put_below(text, line)?;
+    put_class(text, file, blame.cause)?;
     put_lowest(text, file, panic, seen)?;
     put_if(text, "note", symbian_of(panic))?;
     Ok(put_if(text, "help", help)?)
+}
+
+/// What a panic means and what to look for, by what raised it.
+fn said_of(panic: Panic, blame: Blame, file: ScriptFile<'_>) -> (&'static str, &'static str) {
+    match blame.cause {
+        // what holds a field may be what the line refuses
+        Cause::Line if panic == Panic::WRONG_KIND && file.line(blame.line).contains('.') => {
+            meaning_of(panic, "")
+        }
+        Cause::Line => meaning_of(panic, file.first_word(blame.line)),
+        Cause::Holder => meaning_of(panic, ""),
+        Cause::Item => of_item(panic),
+        Cause::Object(_) => OF_OBJECT,
+        Cause::Unknown => OF_ANYTHING,
+    }
+}
+
+/// Says of which class an object was that couldn't be released: the last that begins before its destructor's end.
+fn put_class(text: &mut String, file: ScriptFile<'_>, cause: Cause) -> Result<(), AllocError> {
+    let Cause::Object(end) = cause else {
+        return Ok(());
+    };
+    match file.class_before(end) {
+        Some(line) => file.put(text, line, "the object is of this class"),
+        None => Ok(()),
+    }
 }
 
 /// Says with which values the line panicked, and tells whether anything is said.
@@ -133,7 +183,16 @@ fn put_lowest(
     let Panic::Alloc(place) = panic else {
         return Ok(());
     };
+    // at place 0 is the cell of the cleanup stack, which is never counted: no cell was
+    if place == 0 {
+        return Ok(());
+    }
     match seen.maker_at(place) {
+        Some(maker) if reallocates(file, maker.line) => file.put(
+            text,
+            maker.line,
+            "the lowest cell that was counted was made, moved or grown here",
+        ),
         Some(maker) => file.put(
             text,
             maker.line,
@@ -141,6 +200,11 @@ fn put_lowest(
         ),
         None => Ok(()),
     }
+}
+
+/// Whether a line reallocates: then its attempt may have made a cell, moved it, or made it longer where it was.
+fn reallocates(file: ScriptFile<'_>, line: u32) -> bool {
+    matches!(file.first_word(line), "realloc" | "reallocl" | "hrealloc")
 }
 
 /// Writes a line of its own, unless there is nothing to say.
@@ -174,7 +238,12 @@ fn put_leaks(
     if more == 0 {
         return Ok(());
     }
-    write!(text, "{}: {more} more cells leak\n", file.name)
+    let leak = if more == 1 {
+        "cell leaks"
+    } else {
+        "cells leak"
+    };
+    write!(text, "{}: {more} more {leak}\n", file.name)
 }
 
 fn put_leak(
@@ -191,10 +260,15 @@ fn put_leak(
     let Some((_, maker)) = seen.attempt(number) else {
         return Ok(());
     };
+    let made = if reallocates(file, maker.line) {
+        "made or moved"
+    } else {
+        "made"
+    };
     put_place(text, file, maker.line)?;
     write!(
         text,
-        "leak: nothing freed the cell of attempt {number} that was made here, {length} bytes at place {place}\n    {}\n",
-        file.line(maker.line)
-    )
+        "leak: nothing freed the cell of attempt {number} that was {made} here, {length} bytes at place {place}"
+    )?;
+    file.put_below(text, maker.line)
 }

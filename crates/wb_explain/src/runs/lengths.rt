@@ -1,5 +1,6 @@
 //! What is said of the table of lengths: which line makes each attempt that a shorter heap refuses first.
 
+use crate::runs::counts::plural;
 use crate::runs::script_file::ScriptFile;
 use crate::runs::watch::Seen;
 use std::alloc::AllocError;
@@ -31,7 +32,8 @@ pub fn put_lengths(text: &mut String, file: ScriptFile<'_>, seen: &Seen) -> Resu
     if more == 0 {
         return Ok(());
     }
-    write!(text, "    and {more} rows more\n")
+    let s = plural(i64::from(more));
+    write!(text, "    and {more} row{s} more\n")
 }
 
 /// The row of an attempt, where its cell ended past all before it.
@@ -72,9 +74,7 @@ fn put_maker(
             "    from {from}: attempt {number}, the cell of the cleanup stack\n"
         );
     }
-    let shown = file.line(line);
-    write!(
-        text,
-        "    from {from}: attempt {number}, line {line}: {shown}\n"
-    )
+    write!(text, "    from {from}: attempt {number}, line {line}: ")?;
+    file.put_line(text, line)?;
+    text.push_str("\n")
 }

@@ -15,8 +15,10 @@ struct Meaning {
 
 /// What a panic means, and what to look for, by the first word of its line.
 pub fn meaning_of(panic: Panic, word: &str) -> (&'static str, &'static str) {
-    if let Panic::Alloc(_) = panic {
-        return CELLS;
+    match panic {
+        Panic::Alloc(0) => return NO_CELL,
+        Panic::Alloc(_) => return CELLS,
+        _ => {}
     }
     for meaning in &MEANINGS {
         if meaning.panic == panic && fits(meaning.words, word) {
@@ -39,7 +41,7 @@ pub fn symbian_of(panic: Panic) -> &'static str {
             "USER 42 in Symbian: a pointer handed to RHeap::Free, AllocLen or ReAlloc is that of no valid cell"
         }
         Panic::Alloc(_) => {
-            "ALLOC in Symbian: __UHEAP_MARKEND or a heap check found cells that it should not; the number is a cell's address"
+            "ALLOC in Symbian: __UHEAP_MARKEND or a heap check found another number of cells than it should; the number is a cell's address"
         }
         _ => "",
     }
@@ -52,11 +54,14 @@ fn fits(words: &[&str], word: &str) -> bool {
 /// What a check of the heap means that found another number of cells.
 const CELLS: (&str, &str) = (
     "there are more or fewer cells than the line says",
-    "each cell since the mark that isn't meant to stay is to be freed before the check",
+    "where there are more, free each cell that isn't meant to stay before the check; where there are fewer, look for one that was refused or freed too early",
 );
 
-/// Lines that edit a text.
-const EDITS: &[&str] = &["copy", "append", "insert", "deltext", "setlength"];
+/// What a check of the heap means that found no cell.
+const NO_CELL: (&str, &str) = (
+    "no cell was counted, and the line says that there are some",
+    "look for a cell that was refused, freed too early, or made before the mark",
+);
 
 /// The meanings, those of certain lines before those of all others.
 static MEANINGS: [Meaning; 26] = [
@@ -92,7 +97,7 @@ static MEANINGS: [Meaning; 26] = [
     },
     Meaning {
         panic: Panic::BAD_CELL,
-        words: &["realloc", "reallocl", "hrealloc"],
+        words: &["realloc", "reallocl"],
         says: "the pointer names no live cell: it was freed before, or has moved",
         help: "where a cell grew it may have moved, and only the answer of that line names it",
     },
@@ -101,18 +106,6 @@ static MEANINGS: [Meaning; 26] = [
         words: &["alloclen"],
         says: "the pointer names no live cell: it is null, was freed before, or has moved",
         help: "ask `if some` before, and set the pointer to null where its cell is freed",
-    },
-    Meaning {
-        panic: Panic::BAD_CELL,
-        words: &["delete"],
-        says: "a destructor freed the cell of its own object",
-        help: "`delete` frees the cell itself, when `destroy` is done",
-    },
-    Meaning {
-        panic: Panic::BAD_CELL,
-        words: &[],
-        says: "an item of the cleanup stack was destroyed whose cell was freed or has moved",
-        help: "pop an item before its cell is freed elsewhere",
     },
     Meaning {
         panic: Panic::NULL_OR_STALE,
@@ -206,9 +199,21 @@ static MEANINGS: [Meaning; 26] = [
     },
     Meaning {
         panic: Panic::NUMBER_OUT_OF_RANGE,
-        words: EDITS,
-        says: "a number is below 0, or a text was to be inserted into itself",
-        help: "copy the text elsewhere before it is inserted into itself",
+        words: &["insert"],
+        says: "the position is below 0, or a text was to be inserted into itself",
+        help: "a position goes from 0 to the text's length; a text is copied elsewhere before it is inserted into itself",
+    },
+    Meaning {
+        panic: Panic::NUMBER_OUT_OF_RANGE,
+        words: &["deltext", "setlength", "left", "right", "mid"],
+        says: "a number is below 0",
+        help: "positions, lengths and counts of units go from 0 on",
+    },
+    Meaning {
+        panic: Panic::NUMBER_OUT_OF_RANGE,
+        words: &["pop", "popdestroy", "check", "checkall", "markend"],
+        says: "the number is below 0",
+        help: "items and cells are counted from 0 on",
     },
     Meaning {
         panic: Panic::NUMBER_OUT_OF_RANGE,

@@ -1,7 +1,6 @@
 //! Which values are asked for where a line panics, and what is said of them.
 
 use crate::runs::values::Ask;
-use std::alloc::AllocError;
 use wb_model::heap::Panic;
 
 /// What is said of values.
@@ -15,7 +14,7 @@ pub enum Sentence {
     Fewer,
     /// A position, how many units are asked for, and a length.
     Part,
-    /// How many units there would be room for, and a length.
+    /// For how many units room is asked for, and a length.
     Room,
     /// An index, and a cell's bytes.
     Index,
@@ -23,6 +22,10 @@ pub enum Sentence {
     Sum,
     /// A number.
     Number,
+    /// Numbers of which one may be below 0.
+    Below,
+    /// A position in a text that may be inserted into itself.
+    Inserted,
 }
 
 /// What is asked for where lines with one of these words raise a panic.
@@ -38,7 +41,7 @@ pub fn question_of(panic: Panic, word: &str) -> Option<&'static Question> {
     QUESTIONS.iter().find(|it| it.panic == panic && it.words.iter().any(|first| *first == word))
 }
 
-static QUESTIONS: [Question; 15] = [
+static QUESTIONS: [Question; 20] = [
     Question {
         panic: Panic::TOO_LONG,
         words: &["append"],
@@ -119,73 +122,44 @@ static QUESTIONS: [Question; 15] = [
     },
     Question {
         panic: Panic::NUMBER_OUT_OF_RANGE,
-        words: &[
-            "repeat",
-            "pop",
-            "popdestroy",
-            "check",
-            "checkall",
-            "markend",
-        ],
-        asks: &[Ask::Number(1)],
-        sentence: Sentence::Number,
+        words: &["insert"],
+        asks: &[Ask::Number(2)],
+        sentence: Sentence::Inserted,
     },
     Question {
         panic: Panic::NUMBER_OUT_OF_RANGE,
-        words: &["failnext", "failevery"],
+        words: &["deltext"],
+        asks: &[Ask::Number(2), Ask::Number(3)],
+        sentence: Sentence::Below,
+    },
+    Question {
+        panic: Panic::NUMBER_OUT_OF_RANGE,
+        words: &["mid"],
+        asks: &[Ask::Number(3), Ask::Number(4)],
+        sentence: Sentence::Below,
+    },
+    Question {
+        panic: Panic::NUMBER_OUT_OF_RANGE,
+        words: &["setlength"],
+        asks: &[Ask::Number(2)],
+        sentence: Sentence::Below,
+    },
+    Question {
+        panic: Panic::NUMBER_OUT_OF_RANGE,
+        words: &["left", "right"],
+        asks: &[Ask::Number(3)],
+        sentence: Sentence::Below,
+    },
+    Question {
+        panic: Panic::NUMBER_OUT_OF_RANGE,
+        words: &["pop", "popdestroy", "check", "checkall", "markend"],
+        asks: &[Ask::Number(1)],
+        sentence: Sentence::Below,
+    },
+    Question {
+        panic: Panic::NUMBER_OUT_OF_RANGE,
+        words: &["repeat", "failnext", "failevery"],
         asks: &[Ask::Number(1)],
         sentence: Sentence::Number,
     },
 ];
-
-/// Writes what is said of values. Where there are more or fewer than it speaks of, nothing is written, and false is told.
-pub fn put_sentence(
-    text: &mut String,
-    sentence: Sentence,
-    values: &[i64],
-) -> Result<bool, AllocError> {
-    match (sentence, values) {
-        (Sentence::WouldHave, [.., maximum]) => put_total(text, values, *maximum)?,
-        (Sentence::Behind, [position, length]) => write!(
-            text,
-            "position {position} is behind the end of the text, which has {length} units"
-        )?,
-        (Sentence::Fewer, [wanted, length]) => {
-            write!(text, "{wanted} units are asked for, the text has {length}")?
-        }
-        (Sentence::Room, [room, length]) => write!(
-            text,
-            "there would be room for {room} units, and the text has {length}"
-        )?,
-        (Sentence::Index, [index, bytes]) => write!(
-            text,
-            "there is no word {index}: the cell has {bytes} bytes, its words are 4 each and count from 0"
-        )?,
-        (Sentence::Sum, [first, second]) => {
-            write!(
-                text,
-                "{first} and {second} make more or less than an int holds"
-            )?
-        }
-        (Sentence::Number, [number]) => write!(text, "{number} is out of the line's range")?,
-        (Sentence::Part, [position, wanted, length]) => write!(
-            text,
-            "{wanted} units from position {position} on are asked for, the text has {length}"
-        )?,
-        _ => return Ok(false),
-    }
-    Ok(true)
-}
-
-/// All values but the last are lengths.
-fn put_total(text: &mut String, values: &[i64], maximum: i64) -> Result<(), AllocError> {
-    let lengths = values.len().saturating_sub(1);
-    let mut total: i64 = 0;
-    for length in values.iter().take(lengths) {
-        total = total.wrapping_add(*length);
-    }
-    write!(
-        text,
-        "the text would have {total} units, its maximum is {maximum}"
-    )
-}

@@ -2,6 +2,9 @@
 
 use std::alloc::AllocError;
 
+/// The most characters of a line that are shown.
+const MOST_SHOWN: usize = 100;
+
 /// The name of a script's file, and the text that it holds.
 #[derive(Clone, Copy, Debug)]
 pub struct ScriptFile<'a> {
@@ -27,10 +30,40 @@ impl<'a> ScriptFile<'a> {
         }
     }
 
+    /// The number of the last line up to one that begins a class.
+    pub fn class_before(self, number: u32) -> Option<u32> {
+        let mut class = None;
+        for (at, line) in (1..=number).zip(self.text.lines()) {
+            if line.split_whitespace().next() == Some("class") {
+                class = Some(at);
+            }
+        }
+        class
+    }
+
     /// Writes the place of a line, what is to be said of it, and the line itself.
     pub fn put(self, text: &mut String, number: u32, said: &str) -> Result<(), AllocError> {
         let name = self.name;
+        write!(text, "{name}:{number}: {said}")?;
+        self.put_below(text, number)
+    }
+
+    /// Writes a line below what was said of it.
+    pub fn put_below(self, text: &mut String, number: u32) -> Result<(), AllocError> {
+        text.push_str("\n    ")?;
+        self.put_line(text, number)?;
+        text.push_str("\n")
+    }
+
+    /// Writes a line: its beginning where it is long, and a space for each tab and carriage return.
+    pub fn put_line(self, text: &mut String, number: u32) -> Result<(), AllocError> {
         let line = self.line(number);
-        write!(text, "{name}:{number}: {said}\n    {line}\n")
+        for letter in line.chars().take(MOST_SHOWN) {
+            text.push(if letter < ' ' { ' ' } else { letter })?;
+        }
+        if line.len() > MOST_SHOWN {
+            text.push_str("...")?;
+        }
+        Ok(())
     }
 }

@@ -13,11 +13,28 @@ use wb_model::memory::NoMemory;
 use wb_model::run::RunResult;
 use wb_model::script::Script;
 
-/// Which line made an attempt, and which was begun after it, outside of it and of all that undoes; 0 where there is none.
+/// Which line made an attempt, and what came after it.
 #[derive(Clone, Copy, Debug, PartialEq, Eq)]
 pub struct Maker {
     pub line: u32,
+    /// The first other line that was begun, outside of all that undoes; 0 where there is none.
     pub after: u32,
+    /// The turns before any other line was begun. A `repeat` of the line alone takes two for each time.
+    pub idle: u32,
+}
+
+impl Maker {
+    /// Sees a turn after the attempt, and the line that was begun last.
+    fn see(&mut self, line: u32, kind: BodyKind) {
+        if self.after != 0 {
+            return;
+        }
+        if line == self.line {
+            self.idle = self.idle.saturating_add(1);
+        } else if kind != BodyKind::Undoing {
+            self.after = line;
+        }
+    }
 }
 
 /// What was seen of a run while it was watched.
@@ -25,9 +42,11 @@ pub struct Maker {
 pub struct Lines {
     bodies: Bodies,
     makers: Vec<Maker>,
-    /// The line that was begun last, and the last one of `main`.
+    /// The line that was begun last, and the last one outside of all that undoes.
     last: u32,
-    last_of_main: u32,
+    last_outside: u32,
+    /// Whether another line was begun in the last turn than in those before.
+    is_new: bool,
 }
 
 /// A run that is over, and what was seen of it.
@@ -62,36 +81,47 @@ impl Seen {
         self.lines.last
     }
 
+    /// The line that was begun last outside of operations and destructors: the one that destroys, where these run.
+    pub fn last_outside(&self) -> u32 {
+        self.lines.last_outside
+    }
+
+    /// The line that was begun last in the same body as a line stands.
+    pub fn last_beside(&self, line: u32) -> u32 {
+        self.lines.bodies.last_beside(line)
+    }
+
     /// The line of `main` that was begun last.
     pub fn last_of_main(&self) -> u32 {
-        self.lines.last_of_main
+        self.lines.bodies.last_of_main()
+    }
+
+    /// Whether another line was begun in the last turn than in those before.
+    pub fn ended_with_new_line(&self) -> bool {
+        self.lines.is_new
     }
 }
 
 impl Lines {
     /// What is seen after a turn: the line that was begun last, and how many attempts were made.
     fn see(&mut self, line: u32, attempts: u32) -> Result<(), AllocError> {
-        let kind = self.bodies.kind_at(line);
-        if kind == BodyKind::Main {
-            self.last_of_main = line;
-        }
+        let kind = self.bodies.see(line);
         if kind != BodyKind::Undoing {
-            self.see_after(line);
+            self.last_outside = line;
         }
+        if let Some(maker) = self.makers.last_mut() {
+            maker.see(line, kind);
+        }
+        self.is_new = line != self.last;
         self.last = line;
         if self.makers.len() < attempts as usize {
-            self.makers.push(Maker { line, after: 0 })?;
+            self.makers.push(Maker {
+                line,
+                after: 0,
+                idle: 0,
+            })?;
         }
         Ok(())
-    }
-
-    /// Notes the first other line that is begun after the newest attempt.
-    fn see_after(&mut self, line: u32) {
-        if let Some(maker) = self.makers.last_mut() {
-            if maker.after == 0 && maker.line != line {
-                maker.after = line;
-            }
-        }
     }
 }
 
@@ -111,7 +141,8 @@ pub fn watched(alloc: Global, script: &Script, setting: Setting) -> Result<Optio
         bodies: Bodies::of(alloc, script)?,
         makers: Vec::new(alloc),
         last: 0,
-        last_of_main: 0,
+        last_outside: 0,
+        is_new: false,
     };
     let mut machine = match Machine::new(alloc, script, rule, budget, shape) {
         Ok(machine) => machine,
