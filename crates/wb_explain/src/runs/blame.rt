@@ -18,6 +18,8 @@ pub enum Cause {
     Line,
     /// The line itself, by what holds the field of an object that it deletes.
     Holder,
+    /// The end of `main`.
+    Main,
     /// The destruction of an item of the cleanup stack.
     Item,
     /// The release of an object whose destructor ends with this line.
@@ -101,7 +103,11 @@ fn judged(panic: Panic, word: &str, origin: Origin, is_new: bool, seen: &Seen) -
     if panic == Panic::ITEMS_LEFT {
         return Blame {
             line: seen.last_beside(origin.line),
-            cause: Cause::Line,
+            cause: if origin.reason == Reason::EndOfTrap {
+                Cause::Line
+            } else {
+                Cause::Main
+            },
         };
     }
     match origin.reason {

@@ -1,4 +1,4 @@
-//! What panics mean that come of the destruction of items and objects, and what to look for.
+//! What panics mean that come of the destruction of items and objects, or of the end of `main`, and what to look for.
 
 use wb_model::heap::Panic;
 
@@ -28,6 +28,12 @@ pub fn of_item(panic: Panic) -> (&'static str, &'static str) {
 pub const OF_OBJECT: (&str, &str) = (
     "the cell of an object was freed while its destructor ran",
     "`delete` frees the cell itself, when `destroy` is done",
+);
+
+/// What the panic means that the end of `main` raised, and what to look for.
+pub const OF_MAIN: (&str, &str) = (
+    "`main` came to its end behind this line, and items are left on the cleanup stack",
+    "pop what was pushed, by `pop` or `popdestroy`, before `main` ends",
 );
 
 /// What is said where nobody can tell what raised the panic.

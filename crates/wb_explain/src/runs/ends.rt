@@ -4,7 +4,7 @@ use crate::runs::Setting;
 use crate::runs::attempts::{put_place, put_refused};
 use crate::runs::blame::{Blame, Cause, blame_of};
 use crate::runs::cuts::put_cut;
-use crate::runs::destroyed::{OF_ANYTHING, OF_OBJECT, of_item};
+use crate::runs::destroyed::{OF_ANYTHING, OF_MAIN, OF_OBJECT, of_item};
 use crate::runs::panics::{meaning_of, symbian_of};
 use crate::runs::questions::question_of;
 use crate::runs::script_file::ScriptFile;
@@ -138,6 +138,7 @@ fn said_of(panic: Panic, blame: Blame, file: ScriptFile<'_>) -> (&'static str, &
         }
         Cause::Line => meaning_of(panic, file.first_word(blame.line)),
         Cause::Holder => meaning_of(panic, ""),
+        Cause::Main => OF_MAIN,
         Cause::Item => of_item(panic),
         Cause::Object(_) => OF_OBJECT,
         Cause::Unknown => OF_ANYTHING,

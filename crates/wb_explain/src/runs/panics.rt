@@ -40,6 +40,9 @@ pub fn symbian_of(panic: Panic) -> &'static str {
         Panic::BAD_CELL => {
             "USER 42 in Symbian: a pointer handed to RHeap::Free, AllocLen or ReAlloc is that of no valid cell"
         }
+        Panic::Alloc(0) => {
+            "ALLOC in Symbian: __UHEAP_MARKEND or a heap check found another number of cells than it should"
+        }
         Panic::Alloc(_) => {
             "ALLOC in Symbian: __UHEAP_MARKEND or a heap check found another number of cells than it should; the number is a cell's address"
         }
@@ -63,8 +66,13 @@ const NO_CELL: (&str, &str) = (
     "look for a cell that was refused, freed too early, or made before the mark",
 );
 
+/// Lines that read a text, which may be a view of a cell's.
+const VIEWERS: &[&str] = &[
+    "copy", "append", "insert", "left", "right", "mid", "getlen", "print",
+];
+
 /// The meanings, those of certain lines before those of all others.
-static MEANINGS: [Meaning; 26] = [
+static MEANINGS: [Meaning; 27] = [
     Meaning {
         panic: Panic::POSITION_OUT_OF_BOUNDS,
         words: &["insert", "deltext"],
@@ -127,6 +135,12 @@ static MEANINGS: [Meaning; 26] = [
     },
     Meaning {
         panic: Panic::NULL_OR_STALE,
+        words: VIEWERS,
+        says: "a pointer or a view that the line uses is null, or its cell was freed or has moved",
+        help: "ask `if some` before; lines that leave, as `allocl`, never give null",
+    },
+    Meaning {
+        panic: Panic::NULL_OR_STALE,
         words: &[],
         says: "a pointer that the line uses is null, or its cell was freed or has moved",
         help: "ask `if some` before; lines that leave, as `allocl`, never give null",
@@ -182,7 +196,7 @@ static MEANINGS: [Meaning; 26] = [
     Meaning {
         panic: Panic::SHORTER_THAN_TEXT,
         words: &[],
-        says: "the text is longer than the room that it would have",
+        says: "fewer units are asked for than the text has",
         help: "`getlen` tells how much room it needs; `setlength` shortens it first",
     },
     Meaning {

@@ -14,8 +14,10 @@ pub enum Reason {
     Before,
     /// So that the end of an operation or a destructor is seen.
     EndOfUndoing,
-    /// So that the end of a procedure or a TRAP is seen.
-    EndOfOther,
+    /// So that the end of a TRAP is seen.
+    EndOfTrap,
+    /// So that the end of a procedure is seen.
+    EndOfProcedure,
 }
 
 /// Why a line stands in a probe, and the line of the script that it is, or stands before.
@@ -29,7 +31,8 @@ pub struct Origin {
 #[derive(Clone, Copy)]
 enum Block {
     Undoing,
-    Ending,
+    Trap,
+    Procedure,
     Plain,
 }
 
@@ -90,7 +93,8 @@ impl Probe {
                 self.put(ADDED, number, Reason::EndOfUndoing)?;
                 self.put(ADDED, number, Reason::EndOfUndoing)
             }
-            Some(Block::Ending) => self.put(ADDED, number, Reason::EndOfOther),
+            Some(Block::Trap) => self.put(ADDED, number, Reason::EndOfTrap),
+            Some(Block::Procedure) => self.put(ADDED, number, Reason::EndOfProcedure),
             Some(Block::Plain) | None => Ok(()),
         }
     }
@@ -100,7 +104,8 @@ impl Probe {
 fn opened(line: &str) -> Option<Block> {
     match line.split_whitespace().next() {
         Some("op" | "destroy") => Some(Block::Undoing),
-        Some("proc" | "trap") => Some(Block::Ending),
+        Some("trap") => Some(Block::Trap),
+        Some("proc") => Some(Block::Procedure),
         Some("class" | "if" | "repeat") => Some(Block::Plain),
         Some("construct") if line == "construct" => Some(Block::Plain),
         _ => None,
