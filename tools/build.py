@@ -23,8 +23,8 @@ PROGRAM = ROOT / "crates" / "wb_main"
 # What a process of the prover takes, in bytes.
 MEMORY = 2_000_000_000
 
-# The most crates that are built at once.
-AT_ONCE = 4
+# The most processes at once: further ones would find nothing to do.
+AT_ONCE = 8
 
 # A crate of fewer lines gains nothing from further processes: most of its time is what it loads.
 LARGE = 1_000
@@ -34,7 +34,7 @@ class Libraries:
     """The libraries below the program, lowest first. What a crate can be asked is the kit's."""
 
     def __init__(self, rtlib: ModuleType, processors: int) -> None:
-        self.rtlib, self.processors = rtlib, processors
+        self.rtlib, self.processes = rtlib, min(processors, AT_ONCE)
         self.crates = rtlib.Crate(str(PROGRAM), str(ROOT), {}).below()
         # how many lines the longest way has from a crate up to the program: where that is long, the crate is built soon
         self.way: dict[str, int] = {}
@@ -56,21 +56,24 @@ class Libraries:
         return status == 0
 
     def build_all(self) -> bool:
-        """Builds each library once those are built that it uses. A crate beside others leaves them a processor."""
+        """Builds each library once those are built that it uses. Several processes for one crate cost more in all than one does,
+        since each loads what the others do: so a crate gets a further one only for a processor that no other crate could use."""
         waiting, built = sorted(self.crates, key=lambda it: -self.way[it.name]), []
-        running: dict[Future[bool], Any] = {}
-        lanes = min(AT_ONCE, self.processors)
-        with ThreadPoolExecutor(lanes) as pool:
+        running: dict[Future[bool], tuple[Any, int]] = {}
+        with ThreadPoolExecutor(self.processes) as pool:
             while waiting or running:
-                ready = [it for it in waiting if all(below in built for below in it.deps)][: lanes - len(running)]
+                ready = [it for it in waiting if all(below in built for below in it.deps)]
                 is_alone = len(ready) + len(running) == 1
-                for crate in ready:
+                idle = self.processes - sum(jobs for _, jobs in running.values())
+                for at, crate in enumerate(ready[:idle]):
+                    spare = max(1, idle - (len(ready) - at - 1))
                     is_large = is_alone or crate.count(rb"\n") >= LARGE
-                    jobs = self.jobs(self.processors if is_alone else self.processors - 1, 2) if is_large else 1
+                    jobs = self.jobs(spare, 1 + len(running)) if is_large else 1
                     waiting.remove(crate)
-                    running[pool.submit(self.build_one, crate, jobs)] = crate
+                    running[pool.submit(self.build_one, crate, jobs)] = crate, jobs
+                    idle -= jobs
                 for done in wait(running, return_when=FIRST_COMPLETED).done:
-                    built.append(running.pop(done))
+                    built.append(running.pop(done)[0])
                     if not done.result():
                         return False
         return True
