@@ -70,7 +70,7 @@ def make_sure() -> bool:
     """Builds the program where that is needed. Where it fails, the log goes to standard error."""
     if is_built():
         return True
-    say("building the program: about ten minutes on four processors the first time, and less after a change")
+    say("building the program: a quarter of an hour or more on four processors the first time, and less after a change")
     with tempfile.TemporaryFile() as log:
         if build(log):
             return True

@@ -1,8 +1,7 @@
-//! Explanations for people: what is wrong with a script, what a run found, and where, as text for standard error.
+//! Explanations for people: what a run found, and where, and what became of a file, as text for standard error.
 //!
-//! Plain functions from values to text. No report stands on them.
+//! Plain functions from values to text. No report stands on them. Why a script was refused is told by `wb_mistakes`.
 #![tactic(auto)]
 
 pub mod files;
-pub mod refused;
 pub mod runs;

@@ -1,7 +1,7 @@
 //! What a person is told of refused scripts: a few of each sort; the worked cases have the others.
 
 use std::alloc::Global;
-use wb_explain::refused::refused_script;
+use wb_mistakes::refused_script;
 use wb_script::read;
 
 /// A script, and what is told of it.

@@ -1,10 +1,10 @@
 //! A line that can't stand where it does, and a file that ends too early.
 
-use crate::refused::blocks::{Block, Blocks, Closed, Place, role, role_at};
-use crate::refused::lines::Line;
-use crate::refused::notes::note;
-use crate::refused::page::{Page, Piece};
-use crate::refused::spaces::is_statement;
+use crate::blocks::{Block, Blocks, Closed, Place, role, role_at};
+use crate::lines::Line;
+use crate::notes::note;
+use crate::page::{Page, Piece};
+use crate::spaces::is_statement;
 use wb_model::script_lines::Role;
 
 fn indent(lines: &[Line], index: usize) -> usize {

@@ -1,8 +1,8 @@
 //! What an explanation tells of further lines of the script.
 
-use crate::refused::lines::{Line, Word};
-use crate::refused::page::{Page, Piece, Span};
-use crate::refused::words::before;
+use crate::lines::{Line, Word};
+use crate::page::{Page, Piece, Span};
+use crate::words::before;
 
 /// Writes a line about another line of the script, and shows that with its first word marked.
 pub(crate) fn note(page: &mut Page, lines: &[Line], index: usize, text: &str) {

@@ -1,10 +1,10 @@
 //! A script without the procedure that its run begins with.
 
-use crate::refused::lines::Line;
-use crate::refused::near_names::near_item;
-use crate::refused::notes::note;
-use crate::refused::page::{Page, Piece};
-use crate::refused::spaces::item_named;
+use crate::lines::Line;
+use crate::near_names::near_item;
+use crate::notes::note;
+use crate::page::{Page, Piece};
+use crate::spaces::item_named;
 use std::alloc::{AllocError, Global};
 use wb_model::script_lines::ItemKind;
 

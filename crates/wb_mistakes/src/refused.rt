@@ -1,40 +1,17 @@
-//! Why a script was refused: which line and word, what is wrong with it, and what to write instead.
+//! Which explanation a refused script is given, by its first fault.
 
-mod arguments;
-mod blocks;
-mod double;
-mod elsewhere;
-mod foreign;
-mod forms;
-mod kinds;
-mod leaving;
-mod limits;
-mod lines;
-mod main_missing;
-mod misplaced;
-mod misspelled;
-mod near_names;
-mod nearest;
-mod notes;
-mod page;
-mod sorts;
-mod spaces;
-mod unknown;
-mod words;
-mod wrong_words;
-
-use crate::refused::blocks::blocks_before;
-use crate::refused::double::double_name;
-use crate::refused::foreign::not_ascii;
-use crate::refused::kinds::wrong_kind;
-use crate::refused::leaving::may_leave;
-use crate::refused::limits::too_many;
-use crate::refused::lines::{Line, lines_of};
-use crate::refused::main_missing::no_main;
-use crate::refused::misplaced::{ends_early, misplaced};
-use crate::refused::misspelled::misspelled;
-use crate::refused::page::{Page, Piece};
-use crate::refused::unknown::unknown_name;
+use crate::blocks::blocks_before;
+use crate::double::double_name;
+use crate::foreign::not_ascii;
+use crate::kinds::wrong_kind;
+use crate::leaving::may_leave;
+use crate::limits::too_many;
+use crate::lines::{Line, lines_of};
+use crate::main_missing::no_main;
+use crate::misplaced::{ends_early, misplaced};
+use crate::misspelled::misspelled;
+use crate::page::{Page, Piece};
+use crate::unknown::unknown_name;
 use std::alloc::{AllocError, Global};
 use wb_model::fault::ScriptFault;
 

@@ -1,11 +1,9 @@
 //! What a name that isn't known where it stands is elsewhere in the script.
 
-use crate::refused::lines::Line;
-use crate::refused::notes::note_name;
-use crate::refused::page::{Page, Piece};
-use crate::refused::spaces::{
-    class_before, field_named, has_self, item_named, local_anywhere, local_named,
-};
+use crate::lines::Line;
+use crate::notes::note_name;
+use crate::page::{Page, Piece};
+use crate::spaces::{class_before, field_named, has_self, item_named, local_anywhere, local_named};
 use wb_model::script_lines::{ItemKind, Kind};
 
 /// What a name is elsewhere, and the line that declares it.

@@ -1,17 +1,15 @@
 //! An operand of a wrong kind: what its place takes, what it is, and where it is declared.
 
-use crate::refused::arguments::wrong_arguments;
-use crate::refused::blocks::{Blocks, role, role_at};
-use crate::refused::forms::letter_at;
-use crate::refused::lines::{Line, Word};
-use crate::refused::misspelled::help_place;
-use crate::refused::notes::{note, note_name};
-use crate::refused::page::{Page, Piece, Span};
-use crate::refused::sorts::{declared_at, described, is_pointer, sort_in_body, sort_of, takes};
-use crate::refused::spaces::{
-    body_of, class_named, class_of, item_named, key_at, key_of, local_named,
-};
-use crate::refused::words::{before, behind, is_field, is_parameter, is_plain_kind};
+use crate::arguments::wrong_arguments;
+use crate::blocks::{Blocks, role, role_at};
+use crate::forms::letter_at;
+use crate::lines::{Line, Word};
+use crate::misspelled::help_place;
+use crate::notes::{note, note_name};
+use crate::page::{Page, Piece, Span};
+use crate::sorts::{declared_at, described, is_pointer, sort_in_body, sort_of, takes};
+use crate::spaces::{body_of, class_named, class_of, item_named, key_at, key_of, local_named};
+use crate::words::{before, behind, is_field, is_parameter, is_plain_kind};
 use wb_model::script_lines::{Key, Letter, Role, Sort};
 
 /// Whether a word may be what it is where a letter stands.

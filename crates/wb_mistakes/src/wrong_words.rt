@@ -1,6 +1,6 @@
 //! What is wrong with a word that can't stand where it does, by its bytes alone, and what is wanted there.
 
-use crate::refused::words::{
+use crate::words::{
     before, behind, digits, has, is_digit, is_field, is_literal, is_name, is_numeral, is_reserved,
 };
 use wb_model::script_lines::{Keyword, Letter};

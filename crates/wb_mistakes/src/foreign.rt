@@ -1,7 +1,7 @@
 //! A byte outside of ASCII.
 
-use crate::refused::lines::Line;
-use crate::refused::page::{Page, Piece, Span};
+use crate::lines::Line;
+use crate::page::{Page, Piece, Span};
 
 /// The hexadecimal digits.
 static DIGITS: [&str; 16] = [

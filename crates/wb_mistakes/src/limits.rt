@@ -1,10 +1,10 @@
 //! A limit that a line passes: which one, and what was counted.
 
-use crate::refused::blocks::{Blocks, role, role_at};
-use crate::refused::lines::{Line, Word};
-use crate::refused::page::{Page, Piece, Span};
-use crate::refused::spaces::{body_of, class_before, key_of};
-use crate::refused::words::{before, behind, is_name, is_parameter, value};
+use crate::blocks::{Blocks, role, role_at};
+use crate::lines::{Line, Word};
+use crate::page::{Page, Piece, Span};
+use crate::spaces::{body_of, class_before, key_of};
+use crate::words::{before, behind, is_name, is_parameter, value};
 use wb_model::limits::{
     DEEPEST_BLOCK, LARGEST_BUFFER, LONGEST_NAME, MOST_CLASSES, MOST_EXTRA, MOST_FIELDS,
     MOST_LOCALS, MOST_PARAMETERS, MOST_PROCEDURES,

@@ -1,6 +1,6 @@
 //! Which blocks are open before a line of a script.
 
-use crate::refused::lines::Line;
+use crate::lines::Line;
 use std::alloc::{AllocError, Global};
 use wb_model::script_lines::{Key, Role};
 

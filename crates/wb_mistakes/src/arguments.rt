@@ -1,11 +1,11 @@
 //! A call whose arguments aren't what the procedure takes.
 
-use crate::refused::lines::{Line, Word};
-use crate::refused::notes::{note, note_name};
-use crate::refused::page::{Page, Piece};
-use crate::refused::sorts::{described, is_number_sort, is_pointer, sort_in_body};
-use crate::refused::spaces::{item_named, key_of, local_named};
-use crate::refused::words::{before, behind};
+use crate::lines::{Line, Word};
+use crate::notes::{note, note_name};
+use crate::page::{Page, Piece};
+use crate::sorts::{described, is_number_sort, is_pointer, sort_in_body};
+use crate::spaces::{item_named, key_of, local_named};
+use crate::words::{before, behind};
 use wb_model::script_lines::Key;
 
 /// The place of the procedure in a call.

@@ -1,8 +1,8 @@
 //! The lines of a script and their words, with the columns in which the words begin.
 
-use crate::refused::blocks::{begins_body, role_of};
-use crate::refused::forms::{Row, row_of};
-use crate::refused::page::Span;
+use crate::blocks::{begins_body, role_of};
+use crate::forms::{Row, row_of};
+use crate::page::Span;
 use std::alloc::{AllocError, Global};
 
 /// A word of a line. Columns count from 0, in the line without the blanks before it.

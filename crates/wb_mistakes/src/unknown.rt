@@ -1,17 +1,15 @@
 //! A name that is declared nowhere: in which space it was looked for, and what is nearest there.
 
-use crate::refused::elsewhere::{Elsewhere, instead_of_item, instead_of_local, note_elsewhere};
-use crate::refused::forms::letter_at;
-use crate::refused::lines::Line;
-use crate::refused::misspelled::help_place;
-use crate::refused::near_names::{near_field, near_item, near_local};
-use crate::refused::nearest::Near;
-use crate::refused::notes::note;
-use crate::refused::page::{Page, Piece, Span};
-use crate::refused::spaces::{body_of, class_of, field_named, has_self, item_named, local_named};
-use crate::refused::words::{
-    before, behind, is_field, is_name, is_parameter, is_plain_kind, is_reserved,
-};
+use crate::elsewhere::{Elsewhere, instead_of_item, instead_of_local, note_elsewhere};
+use crate::forms::letter_at;
+use crate::lines::Line;
+use crate::misspelled::help_place;
+use crate::near_names::{near_field, near_item, near_local};
+use crate::nearest::Near;
+use crate::notes::note;
+use crate::page::{Page, Piece, Span};
+use crate::spaces::{body_of, class_of, field_named, has_self, item_named, local_named};
+use crate::words::{before, behind, is_field, is_name, is_parameter, is_plain_kind, is_reserved};
 use std::alloc::{AllocError, Global};
 use wb_model::script_lines::{ItemKind, Letter};
 

@@ -1,10 +1,10 @@
 //! The declared names that are nearest to an unknown one.
 
-use crate::refused::blocks::role;
-use crate::refused::lines::{Line, Word};
-use crate::refused::nearest::{Near, nearer};
-use crate::refused::spaces::{body_of, item_begun, key_of, kind_declared};
-use crate::refused::words::{before, is_parameter};
+use crate::blocks::role;
+use crate::lines::{Line, Word};
+use crate::nearest::{Near, nearer};
+use crate::spaces::{body_of, item_begun, key_of, kind_declared};
+use crate::words::{before, is_parameter};
 use std::alloc::{AllocError, Global};
 use wb_model::script_lines::{ItemKind, Key, Role};
 

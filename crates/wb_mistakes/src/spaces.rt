@@ -1,8 +1,8 @@
 //! What the names of a script stand for, and in which line each is declared. Lines are told by their indexes.
 
-use crate::refused::blocks::{role, role_at};
-use crate::refused::lines::{Line, Word};
-use crate::refused::words::{behind, is_parameter_named};
+use crate::blocks::{role, role_at};
+use crate::lines::{Line, Word};
+use crate::words::{behind, is_parameter_named};
 use wb_model::script_lines::{ItemKind, Key, Kind, Role};
 
 /// A local: what it holds, and the line that declares it.

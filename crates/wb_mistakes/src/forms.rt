@@ -1,8 +1,8 @@
 //! The forms of the language's lines: the word that begins each, and what stands behind it.
 
-use crate::refused::lines::{Word, is_comment};
-use crate::refused::page::{Page, Piece};
-use crate::refused::words::{Admitted, is_keyword, is_new_name, is_parameter, is_size, text_of};
+use crate::lines::{Word, is_comment};
+use crate::page::{Page, Piece};
+use crate::words::{Admitted, is_keyword, is_new_name, is_parameter, is_size, text_of};
 use wb_model::script_lines::Letter::{
     Class, Declared, FieldTarget, ItsPointer, Keyword, Operation, Pointer, Printed, Procedure,
     Readable, Receiver, Size, Source, Target, Value, Variable, ViewName, Writable, Written,

@@ -1,8 +1,8 @@
 //! What a word of a line stands for, as far as its place asks: a pointer, an int, a class and so on.
 
-use crate::refused::lines::Line;
-use crate::refused::spaces::{Local, class_of, field_named, has_self, item_named, local_named};
-use crate::refused::words::{before, behind, is_field, is_literal, is_number};
+use crate::lines::Line;
+use crate::spaces::{Local, class_of, field_named, has_self, item_named, local_named};
+use crate::words::{before, behind, is_field, is_literal, is_number};
 use wb_model::script_lines::{ItemKind, Kind, Letter, Sort};
 
 fn sort_of_item(kind: ItemKind) -> Sort {

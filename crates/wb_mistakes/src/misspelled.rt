@@ -1,13 +1,11 @@
 //! A line that is of no form: no such statement, too few or too many words, or a word of a wrong form.
 
-use crate::refused::forms::{
-    ROWS, Row, admits, begins, first_wrong, letter_at, say_form, say_forms,
-};
-use crate::refused::lines::{Line, Word, is_comment};
-use crate::refused::nearest::{Near, nearer};
-use crate::refused::page::{Page, Piece, Span};
-use crate::refused::words::is_field;
-use crate::refused::wrong_words::{complaint_of, wanted};
+use crate::forms::{ROWS, Row, admits, begins, first_wrong, letter_at, say_form, say_forms};
+use crate::lines::{Line, Word, is_comment};
+use crate::nearest::{Near, nearer};
+use crate::page::{Page, Piece, Span};
+use crate::words::is_field;
+use crate::wrong_words::{complaint_of, wanted};
 use std::alloc::{AllocError, Global};
 use wb_model::script_lines::Letter;
 

@@ -1,6 +1,6 @@
 //! What a word is by its bytes: a name, a field, a number, a text, a parameter.
 
-use crate::refused::lines::part;
+use crate::lines::part;
 use wb_model::script_lines::Keyword;
 
 /// Names that can't be declared.

@@ -1,11 +1,11 @@
 //! A name that is declared twice: where it was declared first.
 
-use crate::refused::blocks::role;
-use crate::refused::lines::{Line, Word};
-use crate::refused::notes::note_name;
-use crate::refused::page::{Page, Piece, Span};
-use crate::refused::spaces::{class_before, field_named, item_named, local_named};
-use crate::refused::words::{before, is_parameter, is_parameter_named};
+use crate::blocks::role;
+use crate::lines::{Line, Word};
+use crate::notes::note_name;
+use crate::page::{Page, Piece, Span};
+use crate::spaces::{class_before, field_named, item_named, local_named};
+use crate::words::{before, is_parameter, is_parameter_named};
 use wb_model::script_lines::Role;
 
 /// The line of the first declaration of what a line declares, in its space.

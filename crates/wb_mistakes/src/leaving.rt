@@ -1,9 +1,9 @@
 //! A line that may leave, in a body that must not.
 
-use crate::refused::lines::Line;
-use crate::refused::notes::note;
-use crate::refused::page::{Page, Piece};
-use crate::refused::spaces::body_of;
+use crate::lines::Line;
+use crate::notes::note;
+use crate::page::{Page, Piece};
+use crate::spaces::body_of;
 
 /// Says which line may leave, and in what body it stands.
 pub(crate) fn may_leave(page: &mut Page, lines: &[Line], index: usize) {

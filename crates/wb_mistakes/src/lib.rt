@@ -1,0 +1,30 @@
+//! Why a script was refused: which line and word, what is wrong with it, and what to write instead, as text for standard error.
+//!
+//! Plain functions from values to text. No report stands on them.
+#![tactic(auto)]
+
+mod arguments;
+mod blocks;
+mod double;
+mod elsewhere;
+mod foreign;
+mod forms;
+mod kinds;
+mod leaving;
+mod limits;
+mod lines;
+mod main_missing;
+mod misplaced;
+mod misspelled;
+mod near_names;
+mod nearest;
+mod notes;
+mod page;
+pub mod refused;
+mod sorts;
+mod spaces;
+mod unknown;
+mod words;
+mod wrong_words;
+
+pub use refused::refused_script;
