@@ -19,6 +19,7 @@ from kit import kit  # noqa: E402
 
 ROOT = Path(__file__).resolve().parent.parent
 PROGRAM = ROOT / "crates" / "wb_main"
+PARTS = ("src", "specs", "proofs")
 
 # What a process of the prover takes, in bytes.
 MEMORY = 2_000_000_000
@@ -26,8 +27,8 @@ MEMORY = 2_000_000_000
 # The most processes at once: further ones would find nothing to do.
 AT_ONCE = 8
 
-# A crate of fewer lines gains nothing from further processes: most of its time is what it loads.
-LARGE = 1_000
+# A crate of fewer lines, proofs included, gains nothing from further processes: most of its time is what it loads.
+LARGE = 2_000
 
 
 class Libraries:
@@ -36,11 +37,12 @@ class Libraries:
     def __init__(self, rtlib: ModuleType, processors: int) -> None:
         self.rtlib, self.processes = rtlib, min(processors, AT_ONCE)
         self.crates = rtlib.Crate(str(PROGRAM), str(ROOT), {}).below()
+        self.lines = {it.name: lines_of(Path(it.folder)) for it in self.crates}
         # how many lines the longest way has from a crate up to the program: where that is long, the crate is built soon
         self.way: dict[str, int] = {}
         for crate in reversed(self.crates):
             above = [self.way[it.name] for it in self.crates if crate in it.deps]
-            self.way[crate.name] = crate.count(rb"\n") + max(above, default=0)
+            self.way[crate.name] = self.lines[crate.name] + max(above, default=0)
 
     def jobs(self, processes: int, crates: int) -> int:
         """How many processes a crate gets, of these at most: as many as there is memory for, if each crate gets that many."""
@@ -67,7 +69,7 @@ class Libraries:
                 idle = self.processes - sum(jobs for _, jobs in running.values())
                 for at, crate in enumerate(ready[:idle]):
                     spare = max(1, idle - (len(ready) - at - 1))
-                    is_large = is_alone or crate.count(rb"\n") >= LARGE
+                    is_large = is_alone or self.lines[crate.name] >= LARGE
                     jobs = self.jobs(spare, 1 + len(running)) if is_large else 1
                     waiting.remove(crate)
                     running[pool.submit(self.build_one, crate, jobs)] = crate, jobs
@@ -88,6 +90,12 @@ class Libraries:
         finally:
             for it in held:
                 os.close(it)
+
+
+def lines_of(crate: Path) -> int:
+    """How many lines a crate's code, definitions and proofs have."""
+    files = (it for part in PARTS for it in (crate / part).rglob("*") if it.is_file())
+    return sum(it.read_bytes().count(b"\n") for it in files)
 
 
 def main() -> int:
