@@ -30,6 +30,10 @@ AT_ONCE = 8
 # A crate of fewer lines, proofs included, gains nothing from further processes: most of its time is what it loads.
 LARGE = 2_000
 
+# A crate of so many lines is what all that stands on it waits for longest: it gets half of the processors at once, even where
+# others are still at work on them.
+LARGEST = 10_000
+
 
 class Libraries:
     """The libraries below the program, lowest first. What a crate can be asked is the kit's."""
@@ -59,7 +63,8 @@ class Libraries:
 
     def build_all(self) -> bool:
         """Builds each library once those are built that it uses. Several processes for one crate cost more in all than one does,
-        since each loads what the others do: so a crate gets a further one only for a processor that no other crate could use."""
+        since each loads what the others do: so all but the largest get a further one only for a processor that no other crate
+        could use."""
         waiting, built = sorted(self.crates, key=lambda it: -self.way[it.name]), []
         running: dict[Future[bool], tuple[Any, int]] = {}
         with ThreadPoolExecutor(self.processes) as pool:
@@ -67,8 +72,12 @@ class Libraries:
                 ready = [it for it in waiting if all(below in built for below in it.deps)]
                 is_alone = len(ready) + len(running) == 1
                 idle = self.processes - sum(jobs for _, jobs in running.values())
-                for at, crate in enumerate(ready[:idle]):
+                for at, crate in enumerate(ready):
+                    if idle <= 0:
+                        break
                     spare = max(1, idle - (len(ready) - at - 1))
+                    if self.lines[crate.name] >= LARGEST:
+                        spare = max(spare, self.processes // 2)
                     is_large = is_alone or self.lines[crate.name] >= LARGE
                     jobs = self.jobs(spare, 1 + len(running)) if is_large else 1
                     waiting.remove(crate)
