@@ -71,6 +71,7 @@ def make_sure() -> bool:
     if is_built():
         return True
     say("building the program: a quarter of an hour or more on four processors the first time, and less after a change")
+    say("README.md says how to have an answer sooner, of the same sources without their proof")
     with tempfile.TemporaryFile() as log:
         if build(log):
             return True
