@@ -1,126 +1,192 @@
 #!/usr/bin/env python3
 """Proves and builds the program, those crates at the same time that don't stand on one another.
 
+    ./build
+
+says how far it is: on a terminal in one line, else in a line for each crate. Where a crate isn't proved, it shows what the
+prover says of it. The exit status is 0 where the program is built, and else 70. `RT_JOBS` says how many processors to use, in
+the place of all.
+
 `rt` builds the libraries of a program one after another. This takes the same steps by the module behind `rt`, and then
-calls `rt run`, which builds whatever is missing. `RT_JOBS` says how many processors to use, in the place of all."""
+calls `rt run`, which builds whatever is missing."""
 
 import os
 import subprocess
 import sys
 import tempfile
-from concurrent.futures import FIRST_COMPLETED, Future, ThreadPoolExecutor, wait
+import time
+from functools import partial
 from pathlib import Path
+from threading import Event, Lock, Thread
 from types import ModuleType
-from typing import Any
+from typing import Any, TextIO
 
 # what starts this leaves its folder out of Python's path
 sys.path.insert(0, str(Path(__file__).resolve().parent))
-from kit import kit  # noqa: E402
+from crates import NOT_BUILT, PROGRAM, PROGRAM_CRATE, ROOT, Crates, Step, building, kit, processors, run_steps  # noqa: E402
 
-ROOT = Path(__file__).resolve().parent.parent
-PROGRAM = ROOT / "crates" / "wb_main"
-PARTS = ("src", "specs", "proofs")
-
-# What a process of the prover takes, in bytes.
-MEMORY = 2_000_000_000
-
-# The most processes at once: further ones would find nothing to do.
+# the most processes for one crate: further ones would find nothing to do
 AT_ONCE = 8
 
-# A crate of fewer lines, proofs included, gains nothing from further processes: most of its time is what it loads.
+# a crate of fewer lines gains nothing from further processes: most of its time is what it loads
 LARGE = 2_000
 
-# A crate of so many lines is what all that stands on it waits for longest: it gets half of the processors at once, even where
-# others are still at work on them.
+# a crate of so many lines is what all that stands on it waits for longest: it gets half of the processors at once
 LARGEST = 10_000
 
 
-class Libraries:
-    """The libraries below the program, lowest first. What a crate can be asked is the kit's."""
+class Unproved(Exception):
+    """That a crate isn't proved."""
 
-    def __init__(self, rtlib: ModuleType, processors: int) -> None:
-        self.rtlib, self.processes = rtlib, min(processors, AT_ONCE)
-        self.crates = rtlib.Crate(str(PROGRAM), str(ROOT), {}).below()
-        self.lines = {it.name: lines_of(Path(it.folder)) for it in self.crates}
-        # how many lines the longest way has from a crate up to the program: where that is long, the crate is built soon
-        self.way: dict[str, int] = {}
-        for crate in reversed(self.crates):
-            above = [self.way[it.name] for it in self.crates if crate in it.deps]
-            self.way[crate.name] = self.lines[crate.name] + max(above, default=0)
 
-    def jobs(self, processes: int, crates: int) -> int:
-        """How many processes a crate gets, of these at most: as many as there is memory for, if each crate gets that many."""
-        return next((it for it in range(processes, 1, -1) if self.rtlib.fits(it * crates * MEMORY)), 1)
+class Progress:
+    """Says how far a build is, on standard error."""
 
-    def build_one(self, crate: Any, jobs: int) -> bool:
-        """Builds a library, prints what the prover says, and tells whether it is proved."""
+    def __init__(self, count: int) -> None:
+        self.count, self.begun, self.done = count, time.monotonic(), 0
+        self.running: list[str] = []
+        self.lock, self.ended = Lock(), Event()
+        self.is_terminal = sys.stderr.isatty()
+        if self.is_terminal:
+            Thread(target=self.keep_true, daemon=True).start()
+
+    def keep_true(self) -> None:
+        """Writes the line anew from time to time, until the build has ended."""
+        while not self.ended.wait(5):
+            with self.lock:
+                self.show()
+
+    def show(self) -> None:
+        """Writes the line in the place of the one before."""
+        now = f", now {', '.join(self.running)}" if self.running else ""
+        line = f"{self.done} of {self.count} crates proved{now}, {self.minutes()}"
+        print(f"\r\033[K{line[: os.get_terminal_size(2).columns - 1]}", end="", file=sys.stderr, flush=True)
+
+    def minutes(self) -> str:
+        """How long the build has taken so far."""
+        minutes, seconds = divmod(round(time.monotonic() - self.begun), 60)
+        return f"{minutes} min {seconds:02} s"
+
+    def begin(self, crate: str) -> None:
+        """Says that a crate is being proved."""
+        with self.lock:
+            self.running.append(crate)
+            if self.is_terminal:
+                self.show()
+
+    def end(self, crate: str, is_proved: bool, log: TextIO) -> None:
+        """Says that a crate is proved, or shows why it isn't."""
+        with self.lock:
+            self.running.remove(crate)
+            self.done += is_proved
+            if not is_proved:
+                log.seek(0)
+                print(f"{self.wiped()}{log.read()}{crate} is not proved", file=sys.stderr, flush=True)
+            elif self.is_terminal:
+                self.show()
+            else:
+                print(f"{crate} proved, {self.done} of {self.count}, {self.minutes()}", file=sys.stderr, flush=True)
+
+    def wiped(self) -> str:
+        """What removes the line from a terminal."""
+        return "\r\033[K" if self.is_terminal else ""
+
+    def close(self) -> None:
+        """Removes the line."""
+        self.ended.set()
+        with self.lock:
+            print(self.wiped(), end="", file=sys.stderr, flush=True)
+
+
+class Build:
+    """Builds the libraries below some crates, and says how far it is."""
+
+    def __init__(self, crates: Crates, names: list[str], rtlib: ModuleType) -> None:
+        self.crates, self.rtlib, self.names = crates, rtlib, names
+        self.libraries = list(dict.fromkeys(it for name in names for it in crates.below(name)))
+        known: dict[str, Any] = {}
+        self.asked = {it: rtlib.Crate(str(crates.folder(it)), str(crates.root), known) for it in self.libraries}
+        self.progress = Progress(len(self.libraries) + names.count(PROGRAM_CRATE))
+
+    def steps(self, lanes: int) -> list[Step]:
+        """The steps that build the libraries. Where the way from a crate up is long, by its lines, it is built soon."""
+        lines = {it: self.crates.lines_of(it) for it in self.libraries}
+        way: dict[str, int] = {}
+        for crate in reversed(self.libraries):
+            way[crate] = lines[crate] + max((way[it] for it in way if crate in self.crates.uses(it)), default=0)
+        return [
+            Step(
+                crate,
+                partial(self.build_library, crate),
+                way[crate],
+                self.crates.uses(crate),
+                most=AT_ONCE if lines[crate] >= LARGE else 1,
+                least=lanes // 2 if lines[crate] >= LARGEST else 1,
+            )
+            for crate in self.libraries
+        ]
+
+    def build_library(self, name: str, jobs: int) -> None:
+        """Builds a library."""
+        crate = self.asked[name]
         os.makedirs(f"{crate.folder}/out", exist_ok=True)
+        self.progress.begin(name)
         with tempfile.TemporaryFile("w+", errors="replace") as crate.out:
-            status = crate.build_rlib(["--jobs", str(jobs)], anew=False)
-            crate.out.seek(0)
-            print(f"== {crate.name}\n{crate.out.read()}", end="", flush=True)
-        return status == 0
+            is_proved = crate.build_rlib(["--jobs", str(jobs)], anew=False) == 0
+            self.progress.end(name, is_proved, crate.out)
+        if not is_proved:
+            raise Unproved(f"{name} is not proved")
 
-    def build_all(self) -> bool:
-        """Builds each library once those are built that it uses. Several processes for one crate cost more in all than one does,
-        since each loads what the others do: so all but the largest get a further one only for a processor that no other crate
-        could use."""
-        waiting, built = sorted(self.crates, key=lambda it: -self.way[it.name]), []
-        running: dict[Future[bool], tuple[Any, int]] = {}
-        with ThreadPoolExecutor(self.processes) as pool:
-            while waiting or running:
-                ready = [it for it in waiting if all(below in built for below in it.deps)]
-                is_alone = len(ready) + len(running) == 1
-                idle = self.processes - sum(jobs for _, jobs in running.values())
-                for at, crate in enumerate(ready):
-                    if idle <= 0:
-                        break
-                    spare = max(1, idle - (len(ready) - at - 1))
-                    if self.lines[crate.name] >= LARGEST:
-                        spare = max(spare, self.processes // 2)
-                    is_large = is_alone or self.lines[crate.name] >= LARGE
-                    jobs = self.jobs(spare, 1 + len(running)) if is_large else 1
-                    waiting.remove(crate)
-                    running[pool.submit(self.build_one, crate, jobs)] = crate, jobs
-                    idle -= jobs
-                for done in wait(running, return_when=FIRST_COMPLETED).done:
-                    built.append(running.pop(done)[0])
-                    if not done.result():
-                        return False
-        return True
+    def build_program(self, jobs: int) -> None:
+        """Builds the program once its libraries are built. `rt` does so as it runs it: an empty script is refused, so that the
+        status says nothing of the build."""
+        PROGRAM.unlink(missing_ok=True)
+        self.progress.begin(PROGRAM_CRATE)
+        with tempfile.TemporaryFile("w+", errors="replace") as log:
+            words = ["rt", "run", "--jobs", str(min(jobs, AT_ONCE)), "--", "run", os.devnull]
+            subprocess.run(words, cwd=self.crates.folder(PROGRAM_CRATE), stdin=subprocess.DEVNULL, stdout=log, stderr=log)
+            self.progress.end(PROGRAM_CRATE, PROGRAM.exists(), log)
+        if not PROGRAM.exists():
+            raise Unproved(f"{PROGRAM_CRATE} is not proved")
 
-    def build(self) -> bool:
-        """Builds the libraries while no other `rt` works on them, and tells whether all are proved."""
+    def run(self, lanes: int) -> None:
+        """Builds the libraries while no other `rt` works on them, and then the program if it is wanted."""
         # as rt does it, before any thread starts: what runs ends with this process
         self.rtlib.guarded()
-        held = self.rtlib.lock(self.crates)
+        held = self.rtlib.lock(self.asked.values())
         try:
-            return self.build_all()
+            run_steps(self.steps(lanes), lanes)
         finally:
             for it in held:
                 os.close(it)
+        if PROGRAM_CRATE in self.names:
+            self.build_program(lanes)
 
 
-def lines_of(crate: Path) -> int:
-    """How many lines a crate's code, definitions and proofs have."""
-    files = (it for part in PARTS for it in (crate / part).rglob("*") if it.is_file())
-    return sum(it.read_bytes().count(b"\n") for it in files)
+def build_below(crates: Crates, names: list[str], lanes: int) -> None:
+    """Builds the libraries that these crates stand on, and the program where its crate is among them; raises `Unproved`
+    where a crate isn't proved."""
+    build = Build(crates, names, kit())
+    try:
+        build.run(lanes)
+    finally:
+        build.progress.close()
 
 
 def main() -> int:
-    """Builds the libraries, and then the program."""
-    given = os.environ.get("RT_JOBS", "")
-    processors = max(1, int(given)) if given.isdigit() else len(os.sched_getaffinity(0))
-    flags = []
-    try:
-        libraries = Libraries(kit(), processors)
-        if not libraries.build():
-            return 1
-        flags = ["--jobs", str(libraries.jobs(processors, 1))]
-    except (AttributeError, TypeError) as error:
-        print(f"this kit's module behind rt is another, so that crates are built one after another: {error}", flush=True)
-    # rt builds a program as it runs it: an empty script is refused, so that the status says nothing of the build
-    subprocess.run(["rt", "run", *flags, "--", "run", os.devnull], cwd=PROGRAM)
+    """Builds the program, if it isn't built or is older than what it is made of."""
+    crates = Crates()
+    with building():
+        if PROGRAM.exists() and not next(crates.newer_than(PROGRAM.stat().st_mtime), None):
+            print(f"{PROGRAM.relative_to(ROOT)} is built, and newer than its sources")
+            return 0
+        try:
+            build_below(crates, [PROGRAM_CRATE], processors())
+        except Unproved as why:
+            print(f"the program was not built: {why}", file=sys.stderr, flush=True)
+            # what is still being proved ends with this process
+            os._exit(NOT_BUILT)
+    print(f"{PROGRAM.relative_to(ROOT)} is proved and built")
     return 0
 
 

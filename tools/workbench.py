@@ -1,29 +1,32 @@
 #!/usr/bin/env python3
-"""Turns into the workbench, on the same words and streams, and builds it first where it isn't built yet or is older
-than what it is made of. What there is to say of a build goes to standard error."""
+"""Turns into the workbench, on the same words and streams. Where the program isn't built, or is older than what it is made
+of, its sources are compiled without their proof for this one answer."""
 
-import fcntl
 import os
+import re
 import signal
 import subprocess
 import sys
 import tempfile
-import time
+from collections.abc import Iterator
 from pathlib import Path
-from typing import BinaryIO, Iterator
 
-ROOT = Path(__file__).resolve().parent.parent
-LIST = ROOT / "crates.txt"
+# what starts this leaves its folder out of Python's path
+sys.path.insert(0, str(Path(__file__).resolve().parent))
+from crates import NOT_BUILT, PROGRAM, PROGRAM_CRATE, ROOT, Crates, is_being_built  # noqa: E402
+
 NAME = "workbench"
-# the crate whose `main` it is
-CRATE = "wb_main"
-PROGRAM = ROOT / "crates" / CRATE / "out" / CRATE
 
-# The folders of a crate that the program is made of; its wrong bodies and what it is run on are no part of it.
-PARTS = ("src", "specs", "proofs")
+# the commands that read a script, and the options that take a further word
+COMMANDS = {"run", "size", "sweep", "check"}
+WITH_VALUE = {"--min", "--step", "--limit", "--fail"}
 
-# The exit status where the program could not be built.
-NOT_BUILT = 70
+# the program reads one byte more than the longest script has
+LONGEST_INPUT = 65_537
+
+# how the toolchain ends: how the run ended, and before that how each of its ways to run did
+ENDED = re.compile(rb"run=ended status=(\d+)\b.*proved=no\n?\Z")
+CLOSING = re.compile(rb"(?:checked|interpreter|races|run)\b[:=].*")
 
 
 def say(text: str) -> None:
@@ -31,80 +34,97 @@ def say(text: str) -> None:
     print(f"{NAME}: {text}", file=sys.stderr, flush=True)
 
 
-def crates_of(name: str) -> list[str]:
-    """The crate and those of this repository that it stands on, by the lines of `crates.txt`."""
-    rows = (line.partition("#")[0].partition(":") for line in LIST.read_text().splitlines())
-    uses = {crate.strip(): libraries.split() for crate, _, libraries in rows}
-    found = [name]
-    for crate in found:
-        found += [it for it in uses[crate] if it in uses and it not in found]
-    return found
+def why_not_built(crates: Crates) -> str:
+    """Why there is no program that answers; nothing if there is one."""
+    if is_being_built():
+        return "the program is being built by another call"
+    if not PROGRAM.exists():
+        return "not built yet"
+    newer = next(crates.newer_than(PROGRAM.stat().st_mtime), None)
+    return f"the program is older than its sources: {newer.relative_to(ROOT)} is newer" if newer else ""
 
 
-def changes() -> Iterator[float]:
-    """When each file and folder that the program is made of was last changed: a file that was removed shows by its folder."""
-    yield LIST.stat().st_mtime
-    for crate in crates_of(CRATE):
-        for part in PARTS:
-            for folder, _, files in os.walk(ROOT / "crates" / crate / part):
-                yield from (os.stat(os.path.join(folder, it)).st_mtime for it in [".", *files])
+def script_in(words: list[str]) -> str | None:
+    """The word that names the script, if one does."""
+    rest = iter(words[1:])
+    for word in rest:
+        if word in WITH_VALUE:
+            next(rest, None)
+        elif word == "--":
+            return next(rest, None)
+        elif not word.startswith("-"):
+            return word
+    return None
 
 
-def is_built() -> bool:
-    """Whether the program is there, and newer than all that it is made of."""
-    return PROGRAM.exists() and PROGRAM.stat().st_mtime > max(changes())
+def reads_standard_input(words: list[str]) -> bool:
+    """Whether the program reads its script from standard input."""
+    asks_for_help = not {"-h", "--help"}.isdisjoint(words)
+    return bool(words) and words[0] in COMMANDS and not asks_for_help and script_in(words) is None
 
 
-def build(log: BinaryIO) -> bool:
-    """Proves and builds the program, and says whether it is there."""
-    began = time.time()
-    PROGRAM.unlink(missing_ok=True)
-    subprocess.run([sys.executable, "-I", ROOT / "tools" / "build.py"], stdin=subprocess.DEVNULL, stdout=log, stderr=log)
-    if PROGRAM.exists():
-        # a file that was changed in the meantime is newer
-        os.utime(PROGRAM, (began, began))
-    return PROGRAM.exists()
+def handed_on(words: list[str]) -> tuple[list[str], list[str]]:
+    """The words for a run in a folder of its own, and those that hand the script on under its own name there. A name that
+    leads out of the folder is made a whole path."""
+    script = script_in(words)
+    if script is None or not Path(script).is_file():
+        return words, []
+    path = Path(script).resolve()
+    inside = os.path.normpath(script)
+    if os.path.isabs(script) or inside.startswith("..") or "=" in script:
+        return [str(path) if it == script else it for it in words], []
+    return words, ["--data", f"{inside}={path}"]
 
 
-def make_sure() -> bool:
-    """Builds the program where that is needed. Where it fails, the log goes to standard error."""
-    if is_built():
-        return True
-    say("building the program: a quarter of an hour or more on four processors the first time, and less after a change")
-    say("README.md says how to have an answer sooner, of the same sources without their proof")
-    with tempfile.TemporaryFile() as log:
-        if build(log):
-            return True
-        log.seek(0)
-        sys.stderr.buffer.write(log.read())
-        sys.stderr.flush()
-    say("the program could not be built")
-    return False
+def first_answer(crates: Crates, words: list[str]) -> int:
+    """Compiles the sources without their proof, runs them on these words, and gives the status that they end with."""
+    words, data = handed_on(words)
+    with tempfile.TemporaryDirectory(prefix="workbench-") as folder:
+        room = Path(folder)
+        # a copy, since `rt` works alone in a crate's folder
+        made_of = [*crates.below(PROGRAM_CRATE), PROGRAM_CRATE]
+        for crate in made_of:
+            crates.copy(crate, room / "crates" / crate)
+        (room / "crates.txt").write_text("".join(f"{crates.lines[it]}\n" for it in made_of), encoding="utf-8")
+        with (room / "input").open("wb") as given:
+            given.write(sys.stdin.buffer.read(LONGEST_INPUT) if reads_standard_input(words) else b"")
+        with (room / "input").open("rb") as given:
+            command = ["rt", "try", *data, "--", *words]
+            ran = subprocess.run(command, cwd=room / "crates" / PROGRAM_CRATE, stdin=given, capture_output=True)
+    ended = ENDED.search(ran.stderr)
+    if not ended:
+        said = ran.stderr.decode(errors="replace").strip().splitlines() or ["nothing was said"]
+        say(f"this way there is no answer: {'; '.join(said[-3:])}")
+        say("it has bounds that the program doesn't have: ./build proves and builds that")
+        return NOT_BUILT
+    sys.stdout.buffer.write(ran.stdout)
+    sys.stdout.flush()
+    sys.stderr.buffer.write(b"".join(without_closing(ran.stderr.splitlines(keepends=True))))
+    sys.stderr.flush()
+    return int(ended[1])
 
 
-def take(lock: int, kind: int) -> None:
-    """Takes the lock, and says so where it has to wait for a call that builds."""
-    try:
-        fcntl.flock(lock, kind | fcntl.LOCK_NB)
-    except BlockingIOError:
-        say("waiting for another call to build the program")
-        fcntl.flock(lock, kind)
+def without_closing(lines: list[bytes]) -> Iterator[bytes]:
+    """What the program wrote to standard error, without the toolchain's own lines at the end."""
+    last = len(lines)
+    while last and CLOSING.match(lines[last - 1]):
+        last -= 1
+    yield from lines[:last]
 
 
 def main() -> int:
-    """Turns into the program."""
-    # one call builds and the others wait; the lock falls as the program begins
-    lock = os.open(ROOT / "tools", os.O_RDONLY)
-    take(lock, fcntl.LOCK_SH)
-    if not is_built():
-        take(lock, fcntl.LOCK_EX)
-        if not make_sure():
-            return NOT_BUILT
+    """Turns into the program, or answers in its place."""
+    crates = Crates()
+    why = why_not_built(crates)
+    if why:
+        say(f"{why}, so these sources are compiled unproved for this one answer, in about two minutes;")
+        say("./build proves and builds the program, in about 20 to 40 minutes, and then an answer takes milliseconds")
+        return first_answer(crates, sys.argv[1:])
     # Python ignores these, and the program would too
     for ignored in (signal.SIGPIPE, signal.SIGXFSZ):
         signal.signal(ignored, signal.SIG_DFL)
     # the name by which it calls itself in its help
-    os.execv(PROGRAM, ["workbench", *sys.argv[1:]])
+    os.execv(PROGRAM, [NAME, *sys.argv[1:]])
 
 
 if __name__ == "__main__":

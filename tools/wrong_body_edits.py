@@ -1,15 +1,12 @@
-"""Reads the wrong bodies of a crate, `crates/NAME/wrong-bodies/*.edit`, and says which of them one check can judge.
-
-Those of `must-fail/`, which `rt ci` tries one by one, have the same form.
-"""
+"""Reads the wrong bodies of a crate, `crates/NAME/wrong-bodies/*.edit`; those of `must-fail/`, which `rt ci` tries one by
+one, have the same form. How they are judged stands elsewhere."""
 
 import re
 from collections.abc import Iterator
 from dataclasses import dataclass
-from difflib import SequenceMatcher
 from pathlib import Path
 
-WRONG_BODIES, MUST_FAIL = "wrong-bodies", "must-fail"
+MUST_FAIL = "must-fail"
 
 
 class BadEdit(Exception):
@@ -17,19 +14,21 @@ class BadEdit(Exception):
 
 
 @dataclass(frozen=True)
-class Hunk:
-    """Lines of a file, counted from 0, and what stands there after an edit."""
+class Function:
+    """A function with what stands right above it, by the layout that `rt fmt` gives: lines of its file, counted from 0, and
+    those of its body."""
+
+    whole: range
+    body: range
+
+
+@dataclass(frozen=True)
+class WrongBody:
+    """Where a function stands, and its text with the wrong body."""
 
     file: str
-    start: int
-    end: int
-    lines: tuple[str, ...]
-
-    def touches(self, other: "Hunk") -> bool:
-        # a twin is added behind a function, where no body reaches
-        if self.start == self.end or other.start == other.end:
-            return False
-        return self.file == other.file and self.start <= other.end and other.start <= self.end
+    place: range
+    text: str
 
 
 @dataclass(frozen=True)
@@ -38,27 +37,12 @@ class Edit:
 
     label: str
     function: str
-    hunks: tuple[Hunk, ...]
-    # whether it changes more than its function's body, so that it may also change what is said of other functions
-    is_wide: bool
+    # what it makes of each file that it changes
+    files: dict[str, str]
+    # where it changes no more than the function's body
+    body: WrongBody | None
     # the function that `function` is a twin of, if it is one
     twin_of: str = ""
-
-    def can_join(self, others: list["Edit"]) -> bool:
-        """Whether one check can judge the edit together with these."""
-        if not others:
-            return True
-        if self.is_wide or any(it.is_wide or it.function == self.function for it in others):
-            return False
-        return not self.touches(others)
-
-    def can_stay(self, others: list["Edit"]) -> bool:
-        """Whether the edit, which stands in a copy of the crate, can stay there beside these, which come to it."""
-        return not any(it.function == self.function for it in others) and not self.touches(others)
-
-    def touches(self, others: list["Edit"]) -> bool:
-        """Whether it changes lines that one of these changes, or lines next to them."""
-        return any(mine.touches(its) for mine in self.hunks for it in others for its in it.hunks)
 
 
 def read_edits(crate: Path, folders: list[str]) -> tuple[list[Edit], dict[str, str]]:
@@ -93,12 +77,12 @@ def read_edit(path: Path, label: str, crate: Path) -> Edit:
         if found != 1:
             raise BadEdit(f"an 'old:' text is in {file} {found} times, and not once")
         after[file] = after[file].replace(old, new)
-    hunks = tuple(hunk for file in before for hunk in hunks_of(file, before[file], after[file]))
-    if not hunks:
+    changed = [it for it in before if before[it] != after[it]]
+    if not changed:
         raise BadEdit("it changes nothing")
-    bodies = {file: bodies_of(function.rpartition("::")[2], before[file].splitlines()) for file in before}
-    inside = all(any(hunk.start in body and hunk.end <= body.stop for body in bodies[hunk.file]) for hunk in hunks)
-    return Edit(label, function, hunks, not inside)
+    name = function.rpartition("::")[2]
+    body = wrong_body(name, changed[0], before[changed[0]], after[changed[0]]) if len(changed) == 1 else None
+    return Edit(label, function, {it: after[it] for it in changed}, body)
 
 
 def pairs_of(lines: list[str]) -> Iterator[tuple[str, str, str]]:
@@ -120,55 +104,41 @@ def pairs_of(lines: list[str]) -> Iterator[tuple[str, str, str]]:
         raise BadEdit("an 'old:' text has no new one")
 
 
-def hunks_of(file: str, before: str, after: str) -> list[Hunk]:
-    """How one text becomes another, line by line."""
-    old, new = before.splitlines(keepends=True), after.splitlines(keepends=True)
-    steps = SequenceMatcher(None, old, new, autojunk=False).get_opcodes()
-    return [Hunk(file, start, end, tuple(new[at:to])) for word, start, end, at, to in steps if word != "equal"]
+def wrong_body(name: str, file: str, before: str, after: str) -> WrongBody | None:
+    """The function of that name with its wrong body, if nothing but that body was changed."""
+    lines = before.splitlines(keepends=True)
+    for it in functions_of(name, lines):
+        head, end = "".join(lines[: it.body.start]), "".join(lines[it.body.stop :])
+        if after.startswith(head) and after.endswith(end) and len(after) >= len(head) + len(end):
+            start = len("".join(lines[: it.whole.start]))
+            stop = len(after) - len("".join(lines[it.whole.stop :]))
+            return WrongBody(file, it.whole, after[start:stop])
+    return None
 
 
-def functions_of(name: str, lines: list[str]) -> list[range]:
-    """The lines of the functions of that name, with what stands right above them, by the layout that `rt fmt` gives."""
-    found = []
+def functions_of(name: str, lines: list[str]) -> Iterator[Function]:
+    """The functions of that name."""
     for at, line in enumerate(lines):
         head = re.match(rf"( *)(?:pub(?:\([^)]*\))? )?(?:const |unsafe )*fn {re.escape(name)}\b", line)
-        end = next((to for to in range(at, len(lines)) if lines[to].rstrip() == f"{head[1]}}}"), None) if head else None
-        if end is not None:
+        if not head:
+            continue
+        open_at = next((to for to in range(at, len(lines)) if re.match(rf"{head[1]}\S.*\{{$|{head[1]}\{{$", lines[to].rstrip())), None)
+        end = next((to for to in range(at, len(lines)) if lines[to].rstrip() == f"{head[1]}}}"), None)
+        if open_at is not None and end is not None and open_at < end:
             above = next((to for to in range(at, 0, -1) if not lines[to - 1].strip() or lines[to - 1].rstrip()[-1] in "{}"), 0)
-            found.append(range(above, end + 1))
-    return found
+            yield Function(range(above, end + 1), range(open_at + 1, end))
 
 
-def bodies_of(name: str, lines: list[str]) -> list[range]:
-    """The lines of the bodies of the functions of that name."""
-    found = []
-    for whole in functions_of(name, lines):
-        head = next(it for it in whole if re.search(rf"\bfn {re.escape(name)}\b", lines[it]) and not lines[it].lstrip().startswith("//"))
-        indent = lines[head][: len(lines[head]) - len(lines[head].lstrip())]
-        start = next((it for it in whole if it >= head and re.match(rf"{indent}\S", lines[it]) and lines[it].rstrip().endswith("{")), None)
-        if start is not None:
-            found.append(range(start + 1, whole.stop - 1))
-    return found
-
-
-def rounds_of(edits: list[Edit]) -> list[list[Edit]]:
-    """The edits in groups, each of edits that one check can judge together. The first edit of nearly every function is in the
-    first group, the second in the second."""
-    rounds: list[list[Edit]] = []
-    for edit in sorted(edits, key=lambda it: (it.is_wide, it.label)):
-        fitting = next((it for it in rounds if edit.can_join(it)), None)
-        if fitting is None:
-            rounds.append([edit])
-        else:
-            fitting.append(edit)
-    return rounds
-
-
-def apply(edits: list[Edit], crate: Path) -> None:
-    """Writes the edits into the files of a crate, which are as they were when the edits were read."""
-    hunks = [hunk for it in edits for hunk in it.hunks]
-    for file in {it.file for it in hunks}:
+def edited_files(edits: list[Edit], crate: Path) -> dict[str, str]:
+    """What edits of bodies make of the crate's files together: a twin is added below its function."""
+    bodies = [(it.body, bool(it.twin_of)) for it in edits]
+    texts = {}
+    for file in sorted({body.file for body, _ in bodies}):
         lines = (crate / file).read_text(encoding="utf-8").splitlines(keepends=True)
-        for hunk in sorted((it for it in hunks if it.file == file), key=lambda it: -it.start):
-            lines[hunk.start : hunk.end] = hunk.lines
-        (crate / file).write_text("".join(lines), encoding="utf-8")
+        # from the end of the file, and below a function first, so that what is still to be changed keeps its place
+        here = (it for it in bodies if it[0].file == file)
+        for body, is_twin in sorted(here, key=lambda it: (-it[0].place.start, not it[1])):
+            start = body.place.stop if is_twin else body.place.start
+            lines[start : body.place.stop] = ["\n" + body.text if is_twin else body.text]
+        texts[file] = "".join(lines)
+    return texts

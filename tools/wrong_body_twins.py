@@ -1,6 +1,6 @@
 """Gives a function that has several wrong bodies a twin for each but the first, so that one check judges them all.
 
-A twin is the whole function with a wrong body, under a name of its own, right behind the function. It keeps the contract, and
+A twin is the whole function with a wrong body, under a name of its own, right below the function. It keeps the contract, and
 nothing calls it. Where the function has proof files, the twin has the same under its name. That says as much of the wrong
 body as the function's own files do, since the name of the function stands in them only where they import what is generated for
 it, and in no file beside them: where that isn't so, there is no twin.
@@ -11,7 +11,7 @@ from collections import Counter
 from dataclasses import replace
 from pathlib import Path
 
-from wrong_body_edits import Edit, Hunk, functions_of
+from wrong_body_edits import Edit
 
 # what is generated for a function, in modules that its own proof files import
 GENERATED = r"\.(?:Goals|Given|Code|Statement)\b"
@@ -26,33 +26,31 @@ class Twins:
         self.crate = crate
         self.proofs = {file: file.read_text(encoding="utf-8") for file in (crate / "proofs").rglob("*.antt")}
 
-    def apart(self, edits: list[Edit]) -> list[Edit]:
-        """The edits, each of another function as far as twins can be had."""
+    def apart(self, edits: list[Edit]) -> tuple[list[Edit], list[Edit]]:
+        """The edits that one check can judge, each of a function of its own, and those that need a check each: an edit that
+        changes more than its function's body, or whose function can't have a twin."""
         seen: Counter[str] = Counter()
-        found = []
+        together, alone = [], []
         for edit in edits:
+            if edit.body is None:
+                alone.append(edit)
+                continue
             seen[edit.function] += 1
-            twin = self.twin(edit, seen[edit.function]) if seen[edit.function] > 1 else None
-            found.append(twin or edit)
-        return found
+            it = edit if seen[edit.function] == 1 else self.twin(edit, seen[edit.function])
+            (together if it else alone).append(it or edit)
+        return together, alone
 
     def twin(self, edit: Edit, number: int) -> Edit | None:
-        """The edit as one that adds a twin of its function, if it changes that function alone and a twin can be had."""
-        first = edit.hunks[0]
-        lines = (self.crate / first.file).read_text(encoding="utf-8").splitlines(keepends=True)
-        path, _, name = edit.function.rpartition("::")
-        whole = next((it for it in functions_of(name, lines) if first.start in it), None)
-        if edit.is_wide or whole is None or is_of_a_trait(lines, whole.start) or not self.can_be_renamed(edit.function):
+        """The edit as one that adds a twin of its function, if a twin can be had."""
+        lines = (self.crate / edit.body.file).read_text(encoding="utf-8").splitlines()
+        if is_of_a_trait(lines, edit.body.place.start) or not self.can_be_renamed(edit.function):
             return None
-        text = lines[whole.start : whole.stop]
-        for hunk in sorted(edit.hunks, key=lambda it: -it.start):
-            if hunk.file != first.file or not (hunk.start in whole and hunk.end <= whole.stop):
-                return None
-            text[hunk.start - whole.start : hunk.end - whole.start] = hunk.lines
+        path, _, name = edit.function.rpartition("::")
         own = f"{name}_wrong_{number}"
-        renamed, count = re.subn(rf"(?m)^( *(?:pub(?:\([^)]*\))? )?(?:const |unsafe )*fn ){name}\b", rf"\g<1>{own}", "".join(text))
-        behind = Hunk(first.file, whole.stop, whole.stop, ("\n", *renamed.splitlines(keepends=True)))
-        return replace(edit, function=f"{path}::{own}", hunks=(behind,), twin_of=edit.function) if count == 1 else None
+        head = rf"(?m)^( *(?:pub(?:\([^)]*\))? )?(?:const |unsafe )*fn ){name}\b"
+        renamed, count = re.subn(head, rf"\g<1>{own}", edit.body.text)
+        body = replace(edit.body, text=renamed)
+        return replace(edit, function=f"{path}::{own}", body=body, twin_of=edit.function) if count == 1 else None
 
     def can_be_renamed(self, function: str) -> bool:
         """Whether the function's proof files, if it has some, are those of another function by changing what they import."""

@@ -1,0 +1,183 @@
+"""The repository's crates: which stand on which, what each is made of, where the program is built, and how work on
+several crates is done side by side. What a tool does with a crate stands in that tool."""
+
+import fcntl
+import os
+import re
+import shutil
+import sys
+import time
+from collections.abc import Callable, Iterator
+from concurrent.futures import FIRST_COMPLETED, Future, ThreadPoolExecutor, wait
+from contextlib import contextmanager
+from dataclasses import dataclass, field
+from importlib.util import module_from_spec, spec_from_file_location
+from pathlib import Path
+from types import ModuleType
+
+ROOT = Path(__file__).resolve().parent.parent
+
+# the folders that a crate is made of: its wrong bodies, and what it is run on, are no part of it
+PARTS = ("src", "specs", "proofs")
+
+# the crate whose `main` the program is, and the program once it is built
+PROGRAM_CRATE = "wb_main"
+PROGRAM = ROOT / "crates" / PROGRAM_CRATE / "out" / PROGRAM_CRATE
+
+# the exit status of ./workbench and ./build where there is no program to answer
+NOT_BUILT = 70
+
+# what a process of the prover takes at most, in bytes
+MEMORY = 3 << 30
+
+
+class Crates:
+    """The crates that a `crates.txt` lists."""
+
+    def __init__(self, root: Path = ROOT) -> None:
+        self.root = root
+        rows = (it.partition("#")[0].strip() for it in (root / "crates.txt").read_text(encoding="utf-8").splitlines())
+        self.lines = {it.partition(":")[0].split()[0]: it for it in rows if it}
+
+    def folder(self, crate: str) -> Path:
+        """Where a crate stands."""
+        return self.root / "crates" / crate
+
+    def uses(self, crate: str) -> list[str]:
+        """The crates of the repository that its line names."""
+        return [it for it in self.lines[crate].partition(":")[2].split() if it in self.lines]
+
+    def below(self, crate: str) -> list[str]:
+        """The crates that this one stands on, each after those that it stands on itself."""
+        found: list[str] = []
+        for name in self.uses(crate):
+            found += [it for it in [*self.below(name), name] if it not in found]
+        return found
+
+    def files(self, crate: str) -> list[Path]:
+        """The files that a crate is made of, in the order of their names."""
+        walked = (it for part in PARTS for it in (self.folder(crate) / part).rglob("*"))
+        return sorted(it for it in walked if it.is_file())
+
+    def lines_of(self, crate: str) -> int:
+        """How many lines a crate's code, definitions and proofs have."""
+        return sum(it.read_bytes().count(b"\n") for it in self.files(crate))
+
+    def copy(self, crate: str, target: Path) -> None:
+        """Copies the files that a crate is made of into a folder."""
+        for part in PARTS:
+            if (source := self.folder(crate) / part).is_dir():
+                shutil.copytree(source, target / part, dirs_exist_ok=True)
+
+    def newer_than(self, time: float) -> Iterator[Path]:
+        """What the program is made of and was changed after that time: files, and folders, which show what was removed."""
+        yield from (it for it in [self.root / "crates.txt"] if it.stat().st_mtime > time)
+        for crate in [*self.below(PROGRAM_CRATE), PROGRAM_CRATE]:
+            for part in PARTS:
+                for folder, _, files in os.walk(self.folder(crate) / part):
+                    paths = (Path(folder, it) for it in [*sorted(files), "."])
+                    yield from (it for it in paths if it.stat().st_mtime > time)
+
+
+@contextmanager
+def building() -> Iterator[None]:
+    """Keeps other calls from building the program meanwhile. What is changed after it has begun counts as newer than the
+    program that is built."""
+    lock = os.open(ROOT / "tools", os.O_RDONLY)
+    try:
+        try:
+            fcntl.flock(lock, fcntl.LOCK_EX | fcntl.LOCK_NB)
+        except BlockingIOError:
+            print("waiting for another call to build the program", file=sys.stderr, flush=True)
+            fcntl.flock(lock, fcntl.LOCK_EX)
+        began = time.time()
+        before = PROGRAM.stat().st_ino if PROGRAM.exists() else None
+        yield
+        if PROGRAM.exists() and PROGRAM.stat().st_ino != before:
+            os.utime(PROGRAM, (began, began))
+    finally:
+        os.close(lock)
+
+
+def is_being_built() -> bool:
+    """Whether another call is building the program."""
+    lock = os.open(ROOT / "tools", os.O_RDONLY)
+    try:
+        fcntl.flock(lock, fcntl.LOCK_SH | fcntl.LOCK_NB)
+    except BlockingIOError:
+        return True
+    finally:
+        os.close(lock)
+    return False
+
+
+def processors() -> int:
+    """How many checks the processors and the free memory hold at once, or as many as the variable RT_JOBS says."""
+    given = os.environ.get("RT_JOBS", "")
+    if given.isdigit():
+        return max(1, int(given))
+    lines = Path("/proc/meminfo").read_text(encoding="utf-8").splitlines()
+    kibibytes = next(int(it.split()[1]) for it in lines if it.startswith("MemAvailable:"))
+    return max(1, min(len(os.sched_getaffinity(0)), kibibytes * 1024 // MEMORY))
+
+
+@dataclass
+class Step:
+    """A piece of work on a crate."""
+
+    crate: str
+    # does it, with so many processors
+    work: Callable[[int], None]
+    # those of the highest rank begin first
+    rank: int
+    # the crates whose steps must have ended
+    waits: list[str] = field(default_factory=list)
+    # how many processors it can use, and how many it is given at once, even where others are still at work on them
+    most: int = 4
+    least: int = 1
+
+
+def run_steps(steps: list[Step], lanes: int) -> None:
+    """Runs steps side by side, each once those that it waits for have ended. Several processes for one crate cost more in
+    all than one does, since each loads what the others do: so a step mostly gets a further processor only where no other
+    step could use it."""
+    waiting = sorted(steps, key=lambda it: -it.rank)
+    ended: set[str] = set()
+    running: dict[Future[None], tuple[Step, int]] = {}
+    pool = ThreadPoolExecutor(lanes)
+    try:
+        while waiting or running:
+            ready = [it for it in waiting if ended.issuperset(it.waits)]
+            idle = lanes - sum(jobs for _, jobs in running.values())
+            for at, step in enumerate(ready):
+                if idle <= 0:
+                    break
+                spare = idle - (len(ready) - at - 1)
+                jobs = min(step.most, max(1, spare, step.least))
+                running[pool.submit(step.work, jobs)] = step, jobs
+                waiting.remove(step)
+                idle -= jobs
+            for it in wait(running, return_when=FIRST_COMPLETED).done:
+                step, _ = running.pop(it)
+                it.result()
+                ended.add(step.crate)
+    finally:
+        # where a step has failed, those that are running end by themselves
+        pool.shutdown(wait=False, cancel_futures=True)
+
+
+def kit() -> ModuleType:
+    """The toolchain's own module behind `rt`, for the tools that take its steps one by one."""
+    command = shutil.which("rt")
+    if command is None:
+        sys.exit("the toolchain's command rt is not on the path")
+    sys.dont_write_bytecode = True
+    spec = spec_from_file_location("rtlib", Path(command).resolve().parent / "rtlib.py")
+    module = module_from_spec(spec)
+    spec.loader.exec_module(module)
+    return module
+
+
+def without_comments(text: str) -> str:
+    """The text without the lines that are comments as a whole."""
+    return re.sub(r"(?m)^[ \t]*//.*\n", "", text)

@@ -1,0 +1,172 @@
+"""When the wrong bodies of a crate are tried again: on a tiny repository in a temporary folder, with these tools in it."""
+
+import shutil
+import subprocess
+import sys
+import tempfile
+import unittest
+from pathlib import Path
+
+TOOLS = Path(__file__).resolve().parent.parent
+sys.path.insert(0, str(TOOLS))
+from verdicts import FILE, Verdicts, without_bodies  # noqa: E402
+
+LOW = """\
+//! A number and the next one.
+#![tactic(auto)]
+
+ghost use Rattle.std.specs.Prelude.{◌≡◌, ◌<◌, ◌+◌};
+
+/// The number after `n`.
+pub fn next(n: u32) -> u32
+    requires { n < 100 }
+    ensures { result ≡ n + 1 }
+{
+    n + 1
+}
+"""
+HIGH = """\
+//! The number after the next one.
+#![tactic(auto)]
+
+ghost use Rattle.std.specs.Prelude.{◌≡◌, ◌<◌, ◌+◌};
+
+use low::next;
+
+/// The number two after `n`.
+pub fn after_next(n: u32) -> u32
+    requires { n < 99 }
+    ensures { result ≡ n + 2 }
+{
+    next(next(n))
+}
+"""
+LOW_EDIT = "function: low::next\nfile: src/lib.rt\nold:     n + 1\nnew:     n\n"
+HIGH_EDIT = "function: high::after_next\nfile: src/lib.rt\nold: next(next(n))\nnew: next(n)\n"
+# means the same as the function, so that it is proved
+RIGHT_EDIT = "function: high::after_next\nfile: src/lib.rt\nold: next(next(n))\nnew: n + 2\n"
+
+
+class TinyRepository(unittest.TestCase):
+    """A repository of two crates, one below the other, with a wrong body each."""
+
+    def setUp(self) -> None:
+        self.folder = tempfile.TemporaryDirectory()
+        self.addCleanup(self.folder.cleanup)
+        self.root = Path(self.folder.name)
+        shutil.copytree(TOOLS, self.root / "tools", ignore=shutil.ignore_patterns("tests", "__pycache__"))
+        self.write("crates.txt", "low:\nhigh: low\n")
+        self.write("HANDLES", "Handles allowed: none.\n")
+        for crate, code, edit in (("low", LOW, LOW_EDIT), ("high", HIGH, HIGH_EDIT)):
+            self.write(f"crates/{crate}/src/lib.rt", code)
+            self.write(f"crates/{crate}/wrong-bodies/too-little.edit", edit)
+
+    def write(self, name: str, text: str) -> None:
+        """Writes a file of the repository."""
+        (self.root / name).parent.mkdir(parents=True, exist_ok=True)
+        (self.root / name).write_text(text, encoding="utf-8")
+
+    def replace(self, name: str, old: str, new: str) -> None:
+        """Changes a file of the repository."""
+        text = (self.root / name).read_text(encoding="utf-8")
+        self.assertIn(old, text)
+        self.write(name, text.replace(old, new))
+
+    def verdicts(self, version: str = "a kit") -> Verdicts:
+        """The verdicts of the repository, by a toolchain of that name."""
+        return Verdicts(self.root, version)
+
+    def standing(self, version: str = "a kit") -> list[str]:
+        """The crates whose line stands."""
+        verdicts = self.verdicts(version)
+        return [it for it in ("low", "high") if verdicts.stands(it)]
+
+
+class WhatLinesStand(TinyRepository):
+    """Which lines stand after a change, without a check of anything."""
+
+    def setUp(self) -> None:
+        super().setUp()
+        verdicts = self.verdicts()
+        for crate in ("low", "high"):
+            verdicts.write(crate, 1, verdicts.checksum(crate))
+
+    def test_nothing_changed(self) -> None:
+        self.assertEqual(self.standing(), ["low", "high"])
+
+    def test_another_kit(self) -> None:
+        self.assertEqual(self.standing("another kit"), [])
+
+    def test_a_changed_edit(self) -> None:
+        self.write("crates/high/wrong-bodies/too-little.edit", RIGHT_EDIT)
+        self.assertEqual(self.standing(), ["low"])
+
+    def test_a_further_edit(self) -> None:
+        self.write("crates/low/wrong-bodies/more.edit", LOW_EDIT)
+        self.assertEqual(self.standing(), ["high"])
+
+    def test_a_changed_contract_below(self) -> None:
+        self.replace("crates/low/src/lib.rt", "n < 100", "n < 200")
+        self.assertEqual(self.standing(), [])
+
+    def test_a_changed_body_below(self) -> None:
+        self.replace("crates/low/src/lib.rt", "    n + 1\n", "    1 + n\n")
+        self.assertEqual(self.standing(), ["high"])
+
+    def test_a_changed_definition_below(self) -> None:
+        self.write("crates/low/specs/Lib.antt", "pub mod Further\n")
+        self.assertEqual(self.standing(), [])
+
+    def test_a_proof_of_one_function_below(self) -> None:
+        self.write("crates/low/proofs/next/Answers.antt", "\n")
+        self.assertEqual(self.standing(), ["high"])
+
+    def test_a_lemma_below(self) -> None:
+        self.write("crates/low/proofs/Lemmas.antt", "\n")
+        self.assertEqual(self.standing(), [])
+
+    def test_a_changed_comment(self) -> None:
+        self.replace("crates/low/src/lib.rt", "/// The number after", "/// The number that follows")
+        self.assertEqual(self.standing(), ["low", "high"])
+
+    def test_another_library_below(self) -> None:
+        self.write("crates.txt", "low: arrayvec\nhigh: low\n")
+        self.assertEqual(self.standing(), ["high"])
+
+    def test_a_line_in_another_form(self) -> None:
+        self.replace(FILE, "high 1 ", "high one ")
+        self.assertEqual(self.standing(), ["low"])
+
+    def test_the_bodies_that_nobody_above_sees(self) -> None:
+        self.assertNotIn("n + 1\n}", without_bodies(LOW))
+        self.assertIn("result ≡ n + 1", without_bodies(LOW))
+
+
+@unittest.skipUnless(shutil.which("rt"), "the toolchain is not on the path")
+class WhatIsTried(TinyRepository):
+    """What the tool tries, by checks of the two crates."""
+
+    def try_bodies(self, *words: str) -> tuple[list[str], int]:
+        """What the tool prints, and its status."""
+        tool = self.root / "tools/wrong_bodies.py"
+        ran = subprocess.run([sys.executable, tool, "--jobs", "1", *words], stdout=subprocess.PIPE, text=True)
+        return ran.stdout.splitlines(), ran.returncode
+
+    def test_lines_are_written_and_tried(self) -> None:
+        lines, status = self.try_bodies()
+        self.assertEqual(sorted(lines), ["2 passed, 0 failed", "high/too-little: refused", "low/too-little: refused"])
+        self.assertEqual(status, 0)
+        # an edit that is proved, with a line that says it was refused
+        self.write("crates/high/wrong-bodies/right.edit", RIGHT_EDIT)
+        version = subprocess.run(["rt", "version"], stdout=subprocess.PIPE, text=True).stdout.strip()
+        self.assertEqual(self.standing(version), ["low"])
+        verdicts = self.verdicts(version)
+        verdicts.write("high", 2, verdicts.checksum("high"))
+        self.assertEqual(self.standing(version), ["low", "high"])
+        lines, status = self.try_bodies()
+        self.assertIn("high/right: PROVED", lines)
+        self.assertEqual((lines[-1], status), ("2 passed, 1 failed", 1))
+
+
+if __name__ == "__main__":
+    unittest.main()

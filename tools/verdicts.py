@@ -1,0 +1,118 @@
+"""Which crates' wrong bodies were all refused, by a committed file that has a line for each.
+
+What the prover says of a wrong body follows from what its check reads: the toolchain, the crate and its wrong bodies, and
+what is seen of the crates below it. A line holds the checksum of these, so it stands only while all of them are the same."""
+
+import hashlib
+import re
+from dataclasses import dataclass
+from datetime import date
+from functools import cache
+from pathlib import Path
+
+from crates import Crates, without_comments
+
+WRONG_BODIES = "wrong-bodies"
+FILE = "wrong-bodies.txt"
+HEAD = """\
+# Written by tools/wrong_bodies.py alone: the crates whose wrong bodies were all refused, how many there are, when that was,
+# and the checksum of what it followed from. A line whose checksum is another's is no verdict any more.
+"""
+LINE = re.compile(r"(\w+) (\d+) (\d{4}-\d\d-\d\d) ([0-9a-f]{64})")
+# where a function begins, by the layout that `rt fmt` gives
+FUNCTION = re.compile(r"( *)(?:pub(?:\([^)]*\))? )?(?:const |unsafe )*fn \w+")
+
+
+@dataclass(frozen=True)
+class Verdict:
+    """That so many wrong bodies were refused on a day, by what has this checksum."""
+
+    count: int
+    day: str
+    checksum: str
+
+
+class Verdicts:
+    """The file of verdicts of a repository."""
+
+    def __init__(self, root: Path, version: str) -> None:
+        self.crates = Crates(root)
+        self.version = version
+        self.file = root / FILE
+
+    def read(self) -> dict[str, Verdict]:
+        """The verdicts that the file holds, by crate; a line in another form counts for nothing."""
+        lines = self.file.read_text(encoding="utf-8").splitlines() if self.file.is_file() else []
+        found = (LINE.fullmatch(it) for it in lines)
+        return {it[1]: Verdict(int(it[2]), it[3], it[4]) for it in found if it}
+
+    def stands(self, crate: str) -> bool:
+        """Whether the file holds a verdict on the crate as it is now."""
+        verdict = self.read().get(crate)
+        return verdict is not None and verdict.checksum == self.checksum(crate)
+
+    def write(self, crate: str, count: int, checksum: str) -> None:
+        """Adds the verdict that all wrong bodies of the crate are refused, in the place of an older one."""
+        verdicts = {name: it for name, it in self.read().items() if name in self.crates.lines}
+        verdicts[crate] = Verdict(count, date.today().isoformat(), checksum)
+        lines = (f"{name} {it.count} {it.day} {it.checksum}\n" for name, it in sorted(verdicts.items()))
+        self.file.write_text(HEAD + "".join(lines), encoding="utf-8")
+
+    def checksum(self, crate: str) -> str:
+        """The checksum of all that a check of the crate's wrong bodies reads."""
+        folder = self.crates.folder(crate)
+        whole = hashlib.sha256(f"{self.version}\n{self.crates.lines[crate]}\n".encode())
+        for file in [*self.crates.files(crate), *sorted((folder / WRONG_BODIES).glob("*"))]:
+            add(whole, file.relative_to(self.crates.root), text_of(file))
+        for lower in self.crates.below(crate):
+            whole.update(self.seen(lower).encode())
+        return whole.hexdigest()
+
+    @cache
+    def seen(self, lower: str) -> str:
+        """The checksum of what a crate above sees of this one."""
+        whole = hashlib.sha256()
+        for file in self.crates.files(lower):
+            if (seen := seen_from_above(file, self.crates.folder(lower))) is not None:
+                add(whole, file.relative_to(self.crates.root), seen)
+        return whole.hexdigest()
+
+
+def add(whole: "hashlib._Hash", path: Path, text: str) -> None:
+    """Adds a file to a checksum."""
+    whole.update(repr((path.as_posix(), text)).encode())
+
+
+def text_of(file: Path) -> str:
+    """What a check reads of a file."""
+    text = file.read_text(encoding="utf-8")
+    return without_comments(text) if file.suffix == ".rt" else text
+
+
+def seen_from_above(file: Path, crate: Path) -> str | None:
+    """What a crate above sees of a file: of code all but the bodies of functions, each definition, and the lemmas right in
+    `proofs/`; None of a proof of one function."""
+    place = file.relative_to(crate).parts
+    if place[0] == "proofs" and len(place) > 2:
+        return None
+    return without_bodies(text_of(file)) if file.suffix == ".rt" else text_of(file)
+
+
+def without_bodies(code: str) -> str:
+    """Code without the bodies of its functions, by the layout that `rt fmt` gives: a body begins at the first line at or below
+    a function's head that ends in a brace and is indented as the head is, and ends at the brace below it."""
+    kept: list[str] = []
+    head = end = None
+    for line in code.splitlines():
+        if end is not None:
+            end = None if line == end else end
+            continue
+        if start := FUNCTION.match(line):
+            head = start[1]
+        kept.append(line)
+        if head is not None and re.match(rf"{head}\S", line):
+            if line.endswith("{"):
+                head, end = None, f"{head}}}"
+            elif line.endswith((";", "}")):
+                head = None
+    return "\n".join(kept)
