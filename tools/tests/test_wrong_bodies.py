@@ -149,7 +149,7 @@ class WhatIsTried(TinyRepository):
     def try_bodies(self, *words: str) -> tuple[list[str], int]:
         """What the tool prints, and its status."""
         tool = self.root / "tools/wrong_bodies.py"
-        ran = subprocess.run([sys.executable, tool, "--jobs", "1", *words], stdout=subprocess.PIPE, text=True)
+        ran = subprocess.run([sys.executable, tool, "--jobs", "1", *words], capture_output=True, text=True)
         return ran.stdout.splitlines(), ran.returncode
 
     def test_lines_are_written_and_tried(self) -> None:
