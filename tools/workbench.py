@@ -19,7 +19,7 @@ NAME = "workbench"
 
 # the commands that read a script, and the options that take a further word
 COMMANDS = {"run", "size", "sweep", "check"}
-WITH_VALUE = {"--min", "--step", "--limit", "--fail"}
+WITH_VALUE = {"--min", "--step", "--budget", "--limit", "--fail"}
 
 # the program reads one byte more than the longest script has
 LONGEST_INPUT = 65_537
