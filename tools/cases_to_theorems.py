@@ -13,7 +13,9 @@ by computing. The result is one antt file for the crate's folder `proofs/`; with
 
 The scripts are read by the small reader below, not by the workbench's own, so
 that the theorems speak of the definitions alone. A theorem that fails means
-that the case and the definitions differ.
+that the case and the definitions differ. A word that the reader does not know,
+of a script, of a report or of the arguments, ends it with that word and what to
+add.
 """
 
 import argparse
@@ -21,8 +23,37 @@ import json
 import re
 import sys
 from collections import Counter
+from collections.abc import Collection
 from dataclasses import dataclass, field
 from pathlib import Path
+from typing import TypeVar
+
+# --- words that are not known --------------------------------------------------
+
+
+class UnknownWord(Exception):
+    """A word that this tool does not know, what it was read as, and what to add to the tool."""
+
+    def __init__(self, word: str, read_as: str, add: str) -> None:
+        super().__init__(f"`{word}` is not known as {read_as}: {add}")
+
+
+Value = TypeVar("Value")
+
+
+def found(table: dict[str, Value], word: str, read_as: str, add: str) -> Value:
+    """What a table says of a word."""
+    if word not in table:
+        raise UnknownWord(word, read_as, add)
+    return table[word]
+
+
+def among(words: Collection[str], word: str, read_as: str, add: str) -> str:
+    """The word, which is one of these."""
+    if word not in words:
+        raise UnknownWord(word, read_as, add)
+    return word
+
 
 # --- antt terms, as text -----------------------------------------------------
 
@@ -89,6 +120,9 @@ CONDITIONS = {"null": ("IsNull", "P"), "some": ("NotNull", "P"), "eq": ("Equal",
 # Lines that mean one thing where the first operand is a number, and another where not.
 OVERLOADED = {"set": (("SetNumber", "XV"), ("Set", "PP")), "print": (("PrintNumber", "V"), ("PrintText", "T"))}
 
+# Lines with one operand that open a block.
+BLOCKS = {"repeat": ("Repeat", "V"), "trap": ("Trap", "X")}
+
 DECLARATIONS = ("ptr", "int", "buf", "view")
 
 NUMERAL = re.compile("-?[0-9]+")
@@ -111,7 +145,9 @@ class Local:
 
 def parameter(word: str, index: int) -> tuple[str, Local]:
     """The name and the local of a PARAM."""
-    name, of = word.split(":")
+    name, mark, of = word.partition(":")
+    if not mark:
+        raise UnknownWord(word, "a parameter", "read its form in `parameter`")
     return name, Local("int" if of == "int" else "ptr", index, None if of in ("int", "ptr") else of)
 
 
@@ -175,13 +211,14 @@ class Reader:
                 terms = listed(list(map(self.parameter_term, parameters.values())))
                 procedures.append(record(line=line, parameters=terms, body=self.body(parameters, None)))
             else:
+                among(("op",), words[0], "the first word of an item", "read it in `Reader.script`, and its name in `Reader.declare`")
                 operations.append(record(line=line, body=self.body({words[2]: Local("ptr", 0)}, None)))
         return record(
             classes=listed([self.class_term(c) for c in self.classes.values()]),
             procedures=listed(procedures),
             operations=listed(operations),
             literals=listed(list(map(text_term, self.literals))),
-            main=str(self.procedures["main"]),
+            main=self.procedure("main"),
         )
 
     def class_body(self, name: str) -> None:
@@ -189,16 +226,30 @@ class Reader:
         while (words := self.next_line())[0] != "end":
             if words[0] in ("construct", "destroy"):
                 self.classes[name].bodies[words[0]] = self.body({}, name)
+            else:
+                among(("field",), words[0], "a line of a class", "read it in `Reader.class_body`")
 
     def parameter_term(self, of: Local) -> str:
         """A parameter."""
         if of.sort == "int":
             return "Par.OfNumber"
-        return apply("Par.OfPointer", option(None if of.class_name is None else str(self.classes[of.class_name].index)))
+        return apply("Par.OfPointer", self.class_option(of.class_name))
+
+    def class_named(self, name: str) -> ClassLines:
+        """C."""
+        return found(self.classes, name, "the name of a class", "read its declaration in `Reader.declare`")
+
+    def class_option(self, name: str | None) -> str:
+        """The class of a pointer, a field or a parameter, where it has one."""
+        return option(None if name is None else str(self.class_named(name).index))
+
+    def procedure(self, name: str) -> str:
+        """A procedure by its name."""
+        return str(found(self.procedures, name, "the name of a procedure", "read its declaration in `Reader.declare`"))
 
     def class_term(self, c: ClassLines) -> str:
         """A class."""
-        fields = [option(None if of is None else str(self.classes[of].index)) for of in c.fields.values()]
+        fields = list(map(self.class_option, c.fields.values()))
         bodies = {name: option(c.bodies.get(name)) for name in ("construct", "destroy")}
         return record(line=str(c.line), extra=str(c.extra), fields=listed(fields), **bodies)
 
@@ -212,10 +263,13 @@ class Reader:
 
     def declaration(self, words: list[str]) -> str:
         """A local."""
+        most = {"ptr": 3, "buf": 3}.get(words[0], 2)
+        if len(words) > most:
+            raise UnknownWord(words[most], f"a word of `{words[0]}`", "read it in `Reader.declaration`")
         of = words[2] if words[0] == "ptr" and len(words) > 2 else None
         self.locals[words[1]] = Local(words[0], len(self.locals), of)
         if words[0] == "ptr":
-            return apply("OfPointer", option(None if of is None else str(self.classes[of].index)))
+            return apply("OfPointer", self.class_option(of))
         if words[0] == "buf":
             return apply("OfBuffer", str(int(words[2])))
         return "OfNumber" if words[0] == "int" else "OfView"
@@ -233,32 +287,40 @@ class Reader:
         key, operands = words[0], words[1:]
         if key in STATEMENTS:
             name, letters, rest = [*STATEMENTS[key], "", ""][:3]
-            return apply(name, *map(self.operand, letters, operands), *rest.split())
+            return apply(name, *self.operands(key, letters, operands, "STATEMENTS"), *rest.split())
         if key in OVERLOADED:
-            name, letters = OVERLOADED[key][self.sort_of(operands[0]) != "int"]
-            return apply(name, *map(self.operand, letters, operands))
+            name, letters = OVERLOADED[key][self.sort_of("".join(operands[:1])) != "int"]
+            return apply(name, *self.operands(key, letters, operands, "OVERLOADED"))
         if key == "call":
             return apply("Call", *self.call(operands))
         if key == "callto":
             return apply("CallTo", self.local(operands[0]), *self.call(operands[1:]))
         if key == "return":
-            return apply("ReturnPointer", self.pointer(operands[0])) if operands else "Return"
+            return apply("ReturnPointer", *self.operands(key, "P", operands, "`Reader.statement`")) if operands else "Return"
         if key == "if":
             return self.choice(operands)
-        name, letter = {"repeat": ("Repeat", "V"), "trap": ("Trap", "X")}[key]
-        return apply(name, self.operand(letter, operands[0]), listed(self.block()[0]))
+        name, letter = found(BLOCKS, key, "a statement", "add it to STATEMENTS, OVERLOADED or BLOCKS, or read it in `Reader.statement`")
+        return apply(name, *self.operands(key, letter, operands, "BLOCKS"), listed(self.block()[0]))
+
+    def operands(self, key: str, letters: str, words: list[str], table: str) -> list[str]:
+        """All operands of a line, by their letters."""
+        if len(words) > len(letters):
+            raise UnknownWord(words[len(letters)], f"an operand of `{key}`", f"its letters in {table} are too few")
+        if len(words) < len(letters):
+            raise UnknownWord(key, f"a line with {len(words)} operands", f"its letters in {table} are too many")
+        return list(map(self.operand, letters, words))
 
     def call(self, words: list[str]) -> tuple[str, str]:
         """A procedure and its arguments."""
         arguments = [
             apply("Given", self.number(w)) if self.sort_of(w) == "int" else apply("Passed", self.pointer(w)) for w in words[1:]
         ]
-        return str(self.procedures[words[0]]), listed(arguments)
+        return self.procedure(words[0]), listed(arguments)
 
     def choice(self, operands: list[str]) -> str:
         """`if` with its condition and both parts."""
-        name, letters = CONDITIONS[operands[0]]
-        condition = apply(name, *map(self.operand, letters, operands[1:]))
+        name, letters = found(CONDITIONS, operands[0], "a condition", "add it to CONDITIONS")
+        condition = apply(name, *self.operands(operands[0], letters, operands[1:], "CONDITIONS"))
         first, closed_by = self.block()
         if closed_by == "end":
             return apply("If", condition, listed(first))
@@ -269,11 +331,17 @@ class Reader:
         readers = {"P": self.pointer, "V": self.number, "X": self.local, "W": self.local, "D": self.writable, "T": self.readable}
         if letter in readers:
             return readers[letter](word)
-        return str(self.classes[word].index if letter == "C" else self.operations[word])
+        if letter == "C":
+            return str(self.class_named(word).index)
+        return str(found(self.operations, word, "the name of an operation", "read its declaration in `Reader.declare`"))
+
+    def local_named(self, word: str) -> Local:
+        """A local of the body."""
+        return found(self.locals, word, "a local or an operand", "read its form in `Reader.sort_of`, or its declaration in `Reader.declaration`")
 
     def local(self, word: str) -> str:
         """X and W, and other locals by their name."""
-        return str(self.locals[word].index)
+        return str(self.local_named(word).index)
 
     def sort_of(self, word: str) -> str:
         """What a word stands for: `ptr`, `int`, `buf`, `view` or `literal`."""
@@ -281,7 +349,7 @@ class Reader:
             return "literal"
         if NUMERAL.fullmatch(word):
             return "int"
-        return "ptr" if "." in word or word == "self" else self.locals[word].sort
+        return "ptr" if "." in word or word == "self" else self.local_named(word).sort
 
     def holder(self, name: str) -> str:
         """A variable that holds a pointer."""
@@ -291,8 +359,9 @@ class Reader:
         """P and Q."""
         if "." not in word:
             return apply("Held", self.holder(word))
-        base, name = word.split(".")
-        of = self.classes[(self.this if base == "self" else self.locals[base].class_name) or ""]
+        base, _, name = word.partition(".")
+        of = self.class_named((self.this if base == "self" else self.local_named(base).class_name) or "")
+        among(of.fields, name, "a field of its class", "read its form in `Reader.pointer`, or its declaration in `Reader.declare`")
         return apply("Field", self.holder(base), str(of.index), str(list(of.fields).index(name)))
 
     def number(self, word: str) -> str:
@@ -317,13 +386,37 @@ class Reader:
 # --- reports ------------------------------------------------------------------
 
 
+# The first words of a run's lines, and the words in them that name a value of the definitions.
+RUN_LINES = ("print", "note", "attempt", "ended", "left", "leaks", "leak", "panic", "nocleanup", "cut", "steps")
+PANICS = ("USER", "ALLOC", "WORKBENCH")
+NOTES = ("heap", "available", "compress")
+ANSWERS = ("granted", "simulated", "refused")
+CUTS = ("budget", "ceiling")
+
+
+def value_term(words: tuple[str, ...], word: str, read_as: str, table: str) -> str:
+    """The value of the definitions that a word of a report names."""
+    return among(words, word, read_as, f"add it to {table}, and its value to DECLARED").capitalize()
+
+
+def cut_term(word: str) -> str:
+    """Why a run was cut."""
+    return apply("Cut", value_term(CUTS, word, "why a run is cut", "CUTS"))
+
+
+def attempt_term(words: list[str]) -> str:
+    """A line of the trace."""
+    return apply("line", words[0], words[2], words[4], value_term(ANSWERS, words[5], "the answer of an attempt", "ANSWERS"))
+
+
 def outcome_term(told: dict[str, list[str]]) -> str:
     """The outcome, from the report's lines by their first words."""
     if "panic" in told:
         name, value = told["panic"][0].split(" ")
-        return apply("Panicked", apply("P." + name.capitalize(), str(int(value, 16 if name == "ALLOC" else 10))))
+        panic = value_term(PANICS, name, "a panic's category", "PANICS")
+        return apply("Panicked", apply("P." + panic, str(int(value, 16 if name == "ALLOC" else 10))))
     if "cut" in told:
-        return apply("Cut", told["cut"][0].capitalize())
+        return cut_term(told["cut"][0])
     if "nocleanup" in told:
         return "NoCleanup"
     leaks = [record(number=w[0], length=w[2], place=w[4]) for w in map(str.split, told.get("leak", []))]
@@ -334,12 +427,13 @@ def run_term(lines: list[str]) -> str:
     """The result that a run text tells."""
     told: dict[str, list[str]] = {}
     for key, _, rest in (line.partition(" ") for line in lines):
+        among(RUN_LINES, key, "the first word of a run's line", "read it in `run_term` or `outcome_term`, and add it to RUN_LINES")
         told.setdefault(key, []).append(rest)
     return record(
         outcome=outcome_term(told),
-        trace=listed([apply("line", w[0], w[2], w[4], w[5].capitalize()) for w in map(str.split, told.get("attempt", []))]),
+        trace=listed([attempt_term(w.split()) for w in told.get("attempt", [])]),
         lines=listed(list(map(text_term, told.get("print", [])))),
-        notes=listed([apply(w[0].capitalize(), *w[1:]) for w in map(str.split, told.get("note", []))]),
+        notes=listed([apply(value_term(NOTES, w[0], "a note", "NOTES"), *w[1:]) for w in map(str.split, told.get("note", []))]),
         steps=told["steps"][0],
     )
 
@@ -347,6 +441,8 @@ def run_term(lines: list[str]) -> str:
 def rises_term(lines: list[str]) -> str:
     """The rises that a size text tells: each with its number and its top, where the next line begins."""
     rows = [line.split(" ") for line in lines[1:]]
+    for row in rows:
+        among(("from", "enough"), row[0], "the first word of a row of lengths", "read it in `rises_term`")
     tops = [row[1] for row in rows[1:-1]] + [rows[-1][2]]
     return listed([apply("rise", row[3], top) for row, top in zip(rows, tops)])
 
@@ -364,7 +460,14 @@ def arguments_of(words: list[str]) -> tuple[argparse.Namespace, list[str]]:
     for name, default in defaults.items():
         parser.add_argument("--" + name, type=int, default=default)
     parser.add_argument("--json", action="store_true")
-    return parser.parse_known_args(words)
+    try:
+        known, files = parser.parse_known_args(words)
+    except argparse.ArgumentError as error:
+        raise UnknownWord(" ".join(words), "arguments", f"{error}; read them in `arguments_of`") from error
+    among(("run", *CLAIMS), known.task, "a task", "give it a function in CLAIMS")
+    for word in [*(it for it in files if it.startswith("-")), *files[1:]]:
+        raise UnknownWord(word, "an option", "add it to `arguments_of`, and what it changes to `theorem`")
+    return known, files
 
 
 def rule_of(a: argparse.Namespace) -> str:
@@ -402,22 +505,25 @@ def case_at(path: Path, most_steps: int) -> Case | str:
 def size_claims(script: str, given: str, report: list[str]) -> list[str]:
     """What a size text says of a script under a budget and a shape."""
     if report[0].startswith("cut "):
-        return [f"(run {script} R.Unlimited {given}).outcome ≡ {apply('Cut', report[0].split(' ')[2].capitalize())}"]
-    required = report[0].removeprefix("required ")
+        return [f"(run {script} R.Unlimited {given}).outcome ≡ {cut_term(report[0].split(' ')[2])}"]
+    first, _, required = report[0].partition(" ")
+    among(("required",), first, "the first word of a size text", "read it in `size_claims`")
     return [f"required {script} {given} ≡ {required}", f"rises {script} {given} ≡ {rises_term(report)}"]
 
 
 def sweep_claims(script: str, given: str, report: list[str]) -> list[str]:
     """What a sweep text says of a script under a budget and a shape."""
-    found = f"least_bad_or_cut {script} {given}"
+    least = f"least_bad_or_cut {script} {given}"
     if report[0].startswith("cut "):
         _, number, why = report[0].split(" ")
-        return [f"{found} ≡ Some {number}", f"(run_at {script} {given} {number}).outcome ≡ {apply('Cut', why.capitalize())}"]
-    attempts = [f"length (run_at {script} {given} 0).trace ≡ {report[0].removeprefix('attempts ')}"]
-    number = report[1].removeprefix("number ")
+        return [f"{least} ≡ Some {number}", f"(run_at {script} {given} {number}).outcome ≡ {cut_term(why)}"]
+    (first, made), (second, number) = report[0].split(" "), report[1].split(" ")
+    among(("attempts",), first, "the first word of a sweep text", "read it in `sweep_claims`")
+    among(("number",), second, "the second line of a sweep text", "read it in `sweep_claims`")
+    attempts = [f"length (run_at {script} {given} 0).trace ≡ {made}"]
     if number == "none":
-        return [*attempts, f"{found} ≡ None"]
-    return [*attempts, f"{found} ≡ Some {number}", f"run_at {script} {given} {number} ≡ {run_term(report[2:])}"]
+        return [*attempts, f"{least} ≡ None"]
+    return [*attempts, f"{least} ≡ Some {number}", f"run_at {script} {given} {number} ≡ {run_term(report[2:])}"]
 
 
 def check_claims(script: str, given: str, report: list[str]) -> list[str]:
@@ -431,6 +537,16 @@ def run_claims(script: str, rule: str, given: str, report: list[str]) -> list[st
     return [f"{apply('run', script, rule)} {given} ≡ {run_term(report)}"]
 
 
+# What the texts of the tasks without a rule say.
+CLAIMS = {"size": size_claims, "sweep": sweep_claims, "check": check_claims}
+
+# Folders of cases that are left out. Tables of small cases are no `.oom` files, and so are left out too.
+LEFT_OUT = {
+    "explained",  # what stands on standard error, of which no theorem speaks
+    "limits",  # scripts that are as long as they may be, each of them a long term
+}
+
+
 def theorem(name: str, case: Case) -> str:
     """A case as antt text: its script, its claims and their proof."""
     a, script = case.arguments, "script_" + name
@@ -438,7 +554,7 @@ def theorem(name: str, case: Case) -> str:
     if a.task == "run":
         claims = run_claims(script, rule_of(a), given, case.report)
     else:
-        claims = {"size": size_claims, "sweep": sweep_claims, "check": check_claims}[a.task](script, given, case.report)
+        claims = CLAIMS[a.task](script, given, case.report)
     claim, proof = claims[0], "refl"
     if len(claims) > 1:
         claim, proof = " × ".join(f"({claim})" for claim in claims), f"({', '.join(['refl'] * len(claims))})"
@@ -530,22 +646,24 @@ def main() -> int:
     parser.add_argument("--verbose", action="store_true", help="name each case that is left out")
     chosen = parser.parse_args()
     paths = [file for path in chosen.cases for file in ([path] if path.is_file() else sorted(path.rglob("*.oom")))]
-    # cases of explanations show what stands on standard error, of which no theorem speaks
-    paths = [path for path in paths if "explained" not in path.parts]
+    paths = [path for path in paths if not LEFT_OUT.intersection(path.parts)]
     theorems: dict[str, str] = {}
     left_out: Counter[str] = Counter()
     for path in paths:
         name = re.sub(r"[^A-Za-z0-9]", "_", path.stem)
         name = name if name[0].isalpha() else "case_" + name
-        case = case_at(path, chosen.most_steps)
-        if isinstance(case, str):
-            left_out[case] += 1
-            if chosen.verbose:
-                print(f"left out: {path.stem}: {case}", file=sys.stderr)
-        elif name in theorems:
-            sys.exit(f"two cases are called {name}")
-        else:
-            theorems[name] = theorem(name, case)
+        try:
+            case = case_at(path, chosen.most_steps)
+            if isinstance(case, str):
+                left_out[case] += 1
+                if chosen.verbose:
+                    print(f"left out: {path.stem}: {case}", file=sys.stderr)
+            elif name in theorems:
+                sys.exit(f"two cases are called {name}")
+            else:
+                theorems[name] = theorem(name, case)
+        except UnknownWord as unknown:
+            sys.exit(f"{path}: {unknown}")
     written = without_unused(head(chosen.crate.resolve()) + "\n" + "\n".join(theorems.values()))
     if not chosen.compare:
         chosen.out.write_text(written)

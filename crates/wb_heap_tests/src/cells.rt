@@ -4,12 +4,29 @@ use std::test::Fail;
 use wb_cells::Cells;
 use wb_model::heap::{Header, Kind, Ptr};
 
+/// Whether there is room for 256 bytes, and the first 32 of them are the first fit.
+fn has_room(cells: &Cells) -> bool {
+    cells.held() == 256 && cells.first_fit(32) == 0
+}
+
+/// Whether the cell at place 0 with this header is the only one.
+fn has_one(cells: &Cells, cell: Ptr, header: Header) -> bool {
+    cells.header(cell) == Some(header)
+        && cells.next_live(0) == Some(header)
+        && cells.next_live(1).is_none()
+        && cells.top() == 32
+}
+
+/// Whether there is no cell, and not this one.
+fn has_none(cells: &Cells, cell: Ptr) -> bool {
+    cells.header(cell).is_none() && cells.top() == 0
+}
+
 #[test]
 fn a_cell_is_taken_written_and_given(rt: HostRuntime) -> Result<(), Fail> {
     let mut cells = Cells::new(rt.alloc());
     cells.reserve(256)?;
-    assert_eq!(rt; cells.held(), 256);
-    assert_eq!(rt; cells.first_fit(32), 0);
+    assert!(rt; has_room(&cells));
     let header = Header {
         place: 0,
         length: 32,
@@ -22,17 +39,13 @@ fn a_cell_is_taken_written_and_given(rt: HostRuntime) -> Result<(), Fail> {
         place: 0,
         number: 1,
     };
-    assert_eq!(rt; cells.header(cell), Some(header));
-    assert_eq!(rt; cells.next_live(0), Some(header));
-    assert_eq!(rt; cells.next_live(1), None);
-    assert_eq!(rt; cells.top(), 32);
+    assert!(rt; has_one(&cells, cell, header));
     cells.set_payload(cell, 1, 0x0005_0004);
     assert_eq!(rt; cells.payload(cell, 1), 0x0005_0004);
     assert_eq!(rt; cells.payload_half(cell, 3), 5);
     cells.set_payload_half(cell, 2, 7);
     assert_eq!(rt; cells.payload(cell, 1), 0x0005_0007);
     cells.give(cell);
-    assert_eq!(rt; cells.header(cell), None);
-    assert_eq!(rt; cells.top(), 0);
+    assert!(rt; has_none(&cells, cell));
     Ok(())
 }

@@ -49,27 +49,62 @@ fn a_line_holds_its_bytes(rt: HostRuntime) -> Result<(), Fail> {
     Ok(())
 }
 
-#[test]
-fn parts_of_a_view(rt: HostRuntime) -> Result<(), Fail> {
+/// A part of a view.
+#[derive(Clone, Copy)]
+enum Part {
+    Left(u32),
+    Right(u32),
+    Mid(u32, u32),
+}
+
+/// Parts of a view of 6 units from position 10 on: the position and the length of each, or none where the view has no such part.
+static PARTS: [(Part, Option<(u32, u32)>); 8] = [
+    (Part::Left(2), Some((10, 2))),
+    (Part::Right(2), Some((14, 2))),
+    (Part::Mid(1, 5), Some((11, 5))),
+    (Part::Mid(6, 0), Some((16, 0))),
+    (Part::Left(7), None),
+    (Part::Right(7), None),
+    (Part::Mid(1, 6), None),
+    (Part::Mid(7, 0), None),
+];
+
+fn view_of(position: u32, length: u32) -> View {
+    View {
+        base: Base::Local(3),
+        position,
+        length,
+    }
+}
+
+fn part_of(part: Part) -> Result<View, Panic> {
     let view = View {
         base: Base::Local(3),
         position: 10,
         length: 6,
     };
-    let part = |position, length| {
-        Ok(View {
-            base: Base::Local(3),
-            position,
-            length,
-        })
-    };
-    assert_eq!(rt; view.left(2), part(10, 2));
-    assert_eq!(rt; view.right(2), part(14, 2));
-    assert_eq!(rt; view.mid(1, 5), part(11, 5));
-    assert_eq!(rt; view.mid(6, 0), part(16, 0));
-    assert_eq!(rt; view.left(7), Err(Panic::POSITION_OUT_OF_BOUNDS));
-    assert_eq!(rt; view.right(7), Err(Panic::POSITION_OUT_OF_BOUNDS));
-    assert_eq!(rt; view.mid(1, 6), Err(Panic::POSITION_OUT_OF_BOUNDS));
-    assert_eq!(rt; view.mid(7, 0), Err(Panic::POSITION_OUT_OF_BOUNDS));
-    Ok(())
+    match part {
+        Part::Left(count) => view.left(count),
+        Part::Right(count) => view.right(count),
+        Part::Mid(position, count) => view.mid(position, count),
+    }
+}
+
+/// The index of the first part that is another.
+fn first_other(parts: &[(Part, Option<(u32, u32)>)]) -> Option<usize> {
+    for (index, (part, wanted)) in parts.iter().enumerate() {
+        let wanted = match wanted {
+            Some((position, length)) => Ok(view_of(*position, *length)),
+            None => Err(Panic::POSITION_OUT_OF_BOUNDS),
+        };
+        if part_of(*part) != wanted {
+            return Some(index);
+        }
+    }
+    None
+}
+
+#[test]
+fn parts_of_a_view(rt: HostRuntime) {
+    assert_eq!(rt; first_other(&PARTS), None);
 }

@@ -50,6 +50,3 @@ fn explain(rt: &HostRuntime, record: &RefCell<Record>, status: u8) {
 fn words(rt: &HostRuntime) -> io::Result<Vec<String>> {
     Ok(env::args(rt)?.collect(rt.alloc())?)
 }
-
-#[cfg(test)]
-mod tests;

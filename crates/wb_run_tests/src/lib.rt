@@ -1,33 +1,19 @@
-//! Nothing but tests: of reading scripts, running them, and the two numbers, by the public calls of the crates that do so.
-//! They stand here so that those crates are proved once, and not again with their tests. What a report of a run must be
-//! stands in the worked cases.
+//! Nothing but tests: of turns of a machine, shapes that no heap has, lengths that a table tells, and of the program over words, hosts
+//! and streams in memory, by the public calls of the crates that have these. They stand here so that those crates are proved once, and
+//! not again with their tests. What a worked case can show stands in none of them.
 #![tactic(auto)]
 
 #[cfg(test)]
-mod cleanup_lines;
+mod answers;
 #[cfg(test)]
-mod cleanup_runs;
+mod lengths;
 #[cfg(test)]
-mod control_faults;
+mod notes;
 #[cfg(test)]
-mod control_lines;
+mod programs;
 #[cfg(test)]
-mod control_runs;
-#[cfg(test)]
-mod faults;
-#[cfg(test)]
-mod limits;
-#[cfg(test)]
-mod lines;
-#[cfg(test)]
-mod operation_faults;
-#[cfg(test)]
-mod refused;
-#[cfg(test)]
-mod runs;
-#[cfg(test)]
-mod sizes;
-#[cfg(test)]
-mod sweeps;
+mod shapes;
 #[cfg(test)]
 mod turns;
+#[cfg(test)]
+mod words;

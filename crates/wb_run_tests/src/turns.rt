@@ -1,17 +1,33 @@
 //! The turns of a machine: what each answers, and whether it makes an attempt.
 
-use crate::runs::{SHAPE, SIXTEEN_LARGEST};
 use std::alloc::Global;
 use std::test::Fail;
 use wb_machine::{Machine, Turn};
-use wb_model::heap::Rule;
+use wb_model::heap::{Rule, Shape};
 use wb_script::read;
+
+const SHAPE: Shape = Shape {
+    min: 4096,
+    step: 4096,
+};
+
+/// Sixteen of the largest cells, of which the last would pass the ceiling.
+const SIXTEEN_LARGEST: &[u8] =
+    b"proc main\nptr a\nalloc a 1048576\nalloc a 1048576\nalloc a 1048576\nalloc a 1048576\nalloc a 1048576\nalloc a 1048576\nalloc a 1048576\nalloc a 1048576\nalloc a 1048576\nalloc a 1048576\nalloc a 1048576\nalloc a 1048576\nalloc a 1048576\nalloc a 1048576\nalloc a 1048576\nalloc a 1048576\nend\n";
+
+/// A stack that moves for its 8th item, since a cell stands behind it, and grows at its place for the 12th and 16th.
+const GROWS_THREE_TIMES: &[u8] =
+    b"proc main\nptr a\nptr none\nint c\ntrap c\nallocl a 16\npush a\nrepeat 15\npush none\nend\npopdestroy 16\nend\nend\n";
+
+/// Two rounds of eight cells that are pushed. The stack grows in the first of them in which all pushes come about.
+const TWO_ROUNDS: &[u8] =
+    b"proc main\nptr a\nint c\nrepeat 2\ntrap c\nrepeat 8\nallocl a 16\npush a\nend\npopdestroy 8\nend\nend\nend\n";
 
 /// Two cells, one in each turn.
 const TWO_CELLS: &[u8] = b"proc main\nptr a\nrepeat 2\nalloc a 1\nfree a\nend\nend\n";
 
 /// A script, a rule and a budget.
-pub(crate) type Setting = (&'static [u8], Rule, u32);
+type Setting = (&'static [u8], Rule, u32);
 
 /// Whether the machine will make an attempt, what its turn answers, and how many attempts were made by then.
 type Told = (bool, Turn, u32);
@@ -80,7 +96,7 @@ fn turns_tell(machine: &mut Machine, turns: &[Told]) -> bool {
 }
 
 /// Runs whose attempts lie in calls, turns and TRAPs, or aren't made where a statement is refused before.
-static SETTINGS: [Setting; 12] = [
+static SETTINGS: [Setting; 18] = [
     (TWO_CELLS, Rule::Unlimited, 9),
     (TWO_CELLS, Rule::Number(1), 9),
     (TWO_CELLS, Rule::Number(2), 9),
@@ -124,6 +140,14 @@ static SETTINGS: [Setting; 12] = [
         Rule::Unlimited,
         9,
     ),
+    // Some pushes ask for an attempt, and others and the lines that take items off ask for none.
+    (GROWS_THREE_TIMES, Rule::Unlimited, 99),
+    (GROWS_THREE_TIMES, Rule::Number(4), 99),
+    (GROWS_THREE_TIMES, Rule::Limit(383), 99),
+    (TWO_ROUNDS, Rule::Number(10), 99),
+    // The budget cuts before the 8th push, and before an item is destroyed.
+    (GROWS_THREE_TIMES, Rule::Unlimited, 17),
+    (GROWS_THREE_TIMES, Rule::Unlimited, 40),
 ];
 
 /// Whether a machine tells exactly before those turns that make an attempt that they do, up to the end of its run, and of
@@ -146,7 +170,7 @@ fn tells_attempts(machine: &mut Machine, budget: u32) -> bool {
 }
 
 /// Whether the first turns of a run tell this, and those that follow tell their attempts.
-pub(crate) fn tells(alloc: Global, setting: &Setting, turns: &[Told]) -> Result<bool, Fail> {
+fn tells(alloc: Global, setting: &Setting, turns: &[Told]) -> Result<bool, Fail> {
     let (script, rule, budget) = *setting;
     if budget == 0 || budget > 1_000_000 {
         return Ok(false);

@@ -1,0 +1,260 @@
+//! Answers over readers and writers in memory, some of which fail.
+
+ghost use Rattle.std.specs.Prelude.{IsTrue};
+ghost use Rattle.wb_command_line.specs.Command.{is_answerable};
+
+use std::alloc::Global;
+use std::io;
+use std::io::{ErrorKind, Read, Write};
+use std::test::Fail;
+use wb_model::heap::{Rule, Shape};
+use workbench::answer::{READ_OR_WRITE_FAULT, answer};
+use workbench::command::{Command, Task};
+
+/// Gives its bytes, `at_once` at a time, and then fails or is at its end.
+#[derive(Drop)]
+struct Giver<'a> {
+    bytes: &'a [u8],
+    at_once: usize,
+    then: Option<ErrorKind>,
+    reads: usize,
+}
+
+impl Read for Giver<'_> {
+    fn read(&mut self, buffer: &mut [u8]) -> io::Result<usize> {
+        self.reads = self.reads.wrapping_add(1);
+        let count = self.bytes.len().min(buffer.len()).min(self.at_once);
+        if count == 0 {
+            return match self.then {
+                Some(kind) => Err(io::Error::from(kind)),
+                None => Ok(0),
+            };
+        }
+        let (given, rest) = self.bytes.split_at(count);
+        buffer[..count].copy_from_slice(given);
+        self.bytes = rest;
+        Ok(count)
+    }
+}
+
+/// Takes `room` bytes, `at_once` at a time, and then fails or takes none.
+#[derive(Drop)]
+struct Taker {
+    taken: Vec<u8>,
+    room: usize,
+    at_once: usize,
+    then: Option<ErrorKind>,
+    writes: usize,
+}
+
+impl Write for Taker {
+    fn write(&mut self, bytes: &[u8]) -> io::Result<usize> {
+        self.writes = self.writes.wrapping_add(1);
+        let count = bytes.len().min(self.room).min(self.at_once);
+        if count == 0 {
+            return match self.then {
+                Some(kind) => Err(io::Error::from(kind)),
+                None => Ok(0),
+            };
+        }
+        self.taken.extend_from_slice(&bytes[..count])?;
+        self.room -= count;
+        Ok(count)
+    }
+
+    fn flush(&mut self) -> io::Result<()> {
+        Ok(())
+    }
+}
+
+/// Fails at one of its calls, the first being 0, and works before and after it: with an error, or for want of a
+/// kind by taking no byte.
+#[derive(Drop)]
+struct FailingOnce<S> {
+    stream: S,
+    at: usize,
+    with: Option<ErrorKind>,
+    calls: usize,
+}
+
+impl<S> FailingOnce<S> {
+    fn new(stream: S, at: usize, with: Option<ErrorKind>) -> FailingOnce<S> {
+        FailingOnce {
+            stream,
+            at,
+            with,
+            calls: 0,
+        }
+    }
+
+    /// What the next call answers, where it is the one that fails.
+    fn failure(&mut self) -> Option<io::Result<usize>> {
+        let call = self.calls;
+        self.calls = call.wrapping_add(1);
+        if call != self.at {
+            return None;
+        }
+        Some(match self.with {
+            Some(kind) => Err(io::Error::from(kind)),
+            None => Ok(0),
+        })
+    }
+}
+
+impl Read for FailingOnce<Giver<'_>> {
+    fn read(&mut self, buffer: &mut [u8]) -> io::Result<usize> {
+        if let Some(Err(error)) = self.failure() {
+            return Err(error);
+        }
+        self.stream.read(buffer)
+    }
+}
+
+impl Write for FailingOnce<Taker> {
+    fn write(&mut self, bytes: &[u8]) -> io::Result<usize> {
+        match self.failure() {
+            Some(Err(error)) => Err(error),
+            Some(Ok(_)) => Ok(0),
+            None => self.stream.write(bytes),
+        }
+    }
+
+    fn flush(&mut self) -> io::Result<()> {
+        Ok(())
+    }
+}
+
+/// A plain run of the script.
+fn run_command() -> Command
+    ensures { IsTrue (is_answerable result) }
+{
+    Command {
+        task: Task::Run(Rule::Unlimited),
+        file: None,
+        budget: 10_000,
+        shape: Shape {
+            min: 4096,
+            step: 4096,
+        },
+        json: false,
+    }
+}
+
+fn giving(bytes: &[u8], then: Option<ErrorKind>) -> Giver<'_> {
+    Giver {
+        bytes,
+        at_once: 7,
+        then,
+        reads: 0,
+    }
+}
+
+fn taking(alloc: Global, room: usize, then: Option<ErrorKind>) -> Taker {
+    Taker {
+        taken: Vec::new(alloc),
+        room,
+        at_once: 5,
+        then,
+        writes: 0,
+    }
+}
+
+const LEAKING: &[u8] = b"proc main\nptr a\nalloc a 16\nend\n";
+
+const LEAKING_REPORT: &[u8] = b"attempt 1 length 144 place 0 granted
+attempt 2 length 32 place 144 granted
+ended
+leaks 1
+leak 2 length 32 place 144
+steps 1
+";
+
+const READ_FAULT: &[u8] = b"read fault\n";
+
+/// The two sorts of errors: an interrupted call is not tried again.
+const KINDS: [ErrorKind; 2] = [ErrorKind::Other, ErrorKind::Interrupted];
+
+/// Ways in which a write fails: with an error, or by taking no byte.
+const FAILURES: [Option<ErrorKind>; 3] = [
+    Some(ErrorKind::Other),
+    Some(ErrorKind::Interrupted),
+    None,
+];
+
+/// Whether the answer to what a reader gives is this line alone, that reading failed.
+fn is_read_fault(alloc: Global, reader: &mut impl Read) -> bool {
+    let mut writer = Vec::new(alloc);
+    let status = answer(alloc, &run_command(), reader, &mut writer);
+    writer.as_slice() == READ_FAULT && status == READ_OR_WRITE_FAULT
+}
+
+#[test]
+fn says_that_a_read_failed(rt: HostRuntime) {
+    for kind in KINDS {
+        assert!(rt; is_read_fault(rt.alloc(), &mut giving(LEAKING, Some(kind))));
+    }
+}
+
+/// The script comes in five reads, and a sixth finds its end.
+#[test]
+fn reads_no_more_where_a_read_failed(rt: HostRuntime) {
+    for kind in KINDS {
+        for at in 0..6 {
+            let mut reader = FailingOnce::new(giving(LEAKING, None), at, Some(kind));
+            assert!(rt; is_read_fault(rt.alloc(), &mut reader));
+            assert_eq!(rt; reader.calls, at + 1);
+        }
+    }
+}
+
+/// Whether writing fails, with this beginning of the text taken before.
+fn stops(alloc: Global, reader: &mut Giver<'_>, writer: &mut impl Write) -> bool {
+    answer(alloc, &run_command(), reader, writer) == READ_OR_WRITE_FAULT
+}
+
+#[test]
+fn writes_no_more_where_a_write_failed(rt: HostRuntime) {
+    for kind in FAILURES {
+        for at in 0..6 {
+            let mut writer = FailingOnce::new(taking(rt.alloc(), 1000, None), at, kind);
+            assert!(rt; stops(rt.alloc(), &mut giving(LEAKING, None), &mut writer));
+            assert!(rt; Some(writer.stream.taken.as_slice()) == LEAKING_REPORT.get(..5 * at));
+            assert_eq!(rt; writer.calls, at + 1);
+        }
+    }
+}
+
+/// Whether a writer with room for six bytes holds the first six of the text, and writing fails.
+fn stops_at_six(
+    alloc: Global,
+    reader: &mut Giver<'_>,
+    text: &[u8],
+    then: Option<ErrorKind>,
+) -> bool {
+    let mut writer = taking(alloc, 6, then);
+    stops(alloc, reader, &mut writer) && Some(writer.taken.as_slice()) == text.get(..6)
+}
+
+#[test]
+fn stops_at_a_write_that_fails(rt: HostRuntime) {
+    for kind in FAILURES {
+        let mut failing = giving(b"", Some(ErrorKind::Other));
+        assert!(rt; stops_at_six(rt.alloc(), &mut failing, READ_FAULT, kind));
+        assert!(rt; stops_at_six(rt.alloc(), &mut giving(LEAKING, None), LEAKING_REPORT, kind));
+    }
+}
+
+#[test]
+fn reads_and_writes_no_oftener_than_there_are_bytes(rt: HostRuntime) -> Result<(), Fail> {
+    let long = vec![in rt.alloc(); b' '; 70_000]?;
+    let mut reader = giving(long.as_slice(), None);
+    reader.at_once = 1;
+    let mut writer = taking(rt.alloc(), 100, None);
+    writer.at_once = 1;
+    let status = answer(rt.alloc(), &run_command(), &mut reader, &mut writer);
+    assert_eq!(rt; reader.reads, 65_537);
+    assert!(rt; writer.taken.as_slice() == b"refused 1\n".as_slice());
+    assert_eq!(rt; writer.writes, 10);
+    assert_eq!(rt; status, 2);
+    Ok(())
+}

@@ -1,0 +1,39 @@
+//! What heaps of each length refuse first, by a table of rises.
+
+use std::test::Fail;
+use wb_model::items::Items;
+use wb_model::size::Rise;
+use wb_size::sizing::Sizing;
+
+/// Lengths, and the attempt that a heap of such a length refuses first.
+static LENGTHS: [(u32, Option<u32>); 8] = [
+    (0, Some(1)),
+    (143, Some(1)),
+    (144, Some(2)),
+    (175, Some(2)),
+    (176, Some(3)),
+    (303, Some(3)),
+    (304, None),
+    (u32::MAX, None),
+];
+
+/// The index of the first length at which another attempt is refused.
+fn first_other(sizing: &Sizing, lengths: &[(u32, Option<u32>)]) -> Option<usize> {
+    for (index, (length, number)) in lengths.iter().enumerate() {
+        if sizing.refused_at(*length) != *number {
+            return Some(index);
+        }
+    }
+    None
+}
+
+#[test]
+fn a_table_tells_what_is_refused(rt: HostRuntime) -> Result<(), Fail> {
+    let rises = [(1, 144), (2, 176), (3, 304)].map(|(number, top)| Rise { number, top });
+    let sizing = Sizing {
+        required: 304,
+        rises: Items::from_vec(rises.to_vec(rt.alloc())?),
+    };
+    assert_eq!(rt; first_other(&sizing, &LENGTHS), None);
+    Ok(())
+}

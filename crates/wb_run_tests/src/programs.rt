@@ -1,0 +1,213 @@
+//! What goes where, over a host in memory: the answer, the messages, and what is opened.
+
+ghost use Rattle.std.specs.Prelude.{⊤};
+
+use std::alloc::Global;
+use std::io;
+use std::io::ErrorKind;
+use std::test::Fail;
+use workbench::host::Host;
+use workbench::program::program;
+
+/// One file and a standard input, and how often each was asked for.
+#[derive(Drop)]
+struct Desk<'a> {
+    name: &'a str,
+    file: &'a [u8],
+    input: &'a [u8],
+    opened: usize,
+    lent: usize,
+}
+
+impl<'a> Host for Desk<'a> {
+    type File = &'a [u8];
+
+    type Input = &'a [u8];
+
+    ghost opens = { λ _ _ _ _. ⊤ };
+
+    ghost lends = { λ _ _ _. ⊤ };
+
+    fn open(&mut self, name: &str) -> Option<&'a [u8]> {
+        self.opened = self.opened.wrapping_add(1);
+        if name == self.name {
+            Some(self.file)
+        } else {
+            None
+        }
+    }
+
+    fn standard_input(&mut self) -> &'a [u8] {
+        self.lent = self.lent.wrapping_add(1);
+        self.input
+    }
+}
+
+const FROM_FILE: &[u8] = b"proc main\nprint \"file\"\nend\n";
+
+const FROM_INPUT: &[u8] = b"proc main\nprint \"input\"\nend\n";
+
+const FILE_REPORT: &str =
+    "print file\nattempt 1 length 144 place 0 granted\nended\nleaks 0\nsteps 1\n";
+
+const INPUT_REPORT: &str =
+    "print input\nattempt 1 length 144 place 0 granted\nended\nleaks 0\nsteps 1\n";
+
+/// A desk with a file called `-`.
+fn full_desk() -> Desk<'static> {
+    Desk {
+        name: "-",
+        file: FROM_FILE,
+        input: FROM_INPUT,
+        opened: 0,
+        lent: 0,
+    }
+}
+
+/// What a run of the program should come to.
+#[derive(Clone, Copy)]
+struct Wanted {
+    output: &'static str,
+    messages: &'static str,
+    status: u8,
+    opened: usize,
+    lent: usize,
+}
+
+/// Words behind the program's name that are a command, and what it comes to.
+static COMMANDS: [(&[&str], Wanted); 4] = [
+    (
+        &["run"],
+        Wanted {
+            output: INPUT_REPORT,
+            messages: "",
+            status: 0,
+            opened: 0,
+            lent: 1,
+        },
+    ),
+    (
+        &["run", "-"],
+        Wanted {
+            output: FILE_REPORT,
+            messages: "",
+            status: 0,
+            opened: 1,
+            lent: 0,
+        },
+    ),
+    (
+        &["run", "--", "-"],
+        Wanted {
+            output: FILE_REPORT,
+            messages: "",
+            status: 0,
+            opened: 1,
+            lent: 0,
+        },
+    ),
+    // There is no such file.
+    (
+        &["run", "a.oom"],
+        Wanted {
+            output: "read fault\n",
+            messages: "",
+            status: 5,
+            opened: 1,
+            lent: 0,
+        },
+    ),
+];
+
+/// Words behind the program's name that are no command. What is said of them stands in worked cases.
+static REFUSED: [&[&str]; 16] = [
+    &["run", "-", "--limit", "176", "--fail", "2"],
+    &["run", "--min", "8"],
+    &["walk"],
+    &["--help"],
+    &["help"],
+    &["run", "--help"],
+    &["help", "run"],
+    &["size", "--help"],
+    &["size", "a.oom", "-h"],
+    &["help", "size"],
+    &["sweep", "--help"],
+    &["sweep", "a.oom", "-h"],
+    &["help", "sweep"],
+    &["check", "--help"],
+    &["check", "a.oom", "-h"],
+    &["help", "check"],
+];
+
+/// Whether the words, or why there are none, come to this.
+fn comes_to(alloc: Global, words: io::Result<Vec<&'static str>>, wanted: &Wanted) -> bool {
+    let mut desk = full_desk();
+    let mut output = Vec::new(alloc);
+    let mut messages = Vec::new(alloc);
+    let status = program(alloc, words, &mut desk, &mut output, &mut messages);
+    output.as_slice() == wanted.output.as_bytes()
+        && messages.as_slice() == wanted.messages.as_bytes()
+        && status == wanted.status
+        && desk.opened == wanted.opened
+        && desk.lent == wanted.lent
+}
+
+/// Whether nothing but this message and this status comes of them.
+fn is_refused(
+    alloc: Global,
+    words: io::Result<Vec<&'static str>>,
+    messages: &'static str,
+    status: u8,
+) -> bool {
+    let refused = Wanted {
+        output: "",
+        messages,
+        status,
+        opened: 0,
+        lent: 0,
+    };
+    comes_to(alloc, words, &refused)
+}
+
+/// The words, the program's name first.
+fn words(alloc: Global, rest: &[&'static str]) -> Result<Vec<&'static str>, Fail> {
+    let mut words = vec![in alloc; "workbench"]?;
+    words.extend_from_slice(rest)?;
+    Ok(words)
+}
+
+#[test]
+fn carries_out_what_the_words_say(rt: HostRuntime) -> Result<(), Fail> {
+    for (index, (rest, wanted)) in COMMANDS.iter().enumerate() {
+        let words = words(rt.alloc(), rest)?;
+        assert!(rt; comes_to(rt.alloc(), Ok(words), wanted), "row {index}");
+    }
+    Ok(())
+}
+
+/// Whether nothing is opened, lent or written for these words, and the status is that of a fault of the command line.
+fn is_left_alone(alloc: Global, words: Vec<&'static str>) -> bool {
+    let mut desk = full_desk();
+    let mut output = Vec::new(alloc);
+    let mut messages = Vec::new(alloc);
+    let status = program(alloc, Ok(words), &mut desk, &mut output, &mut messages);
+    output.is_empty() && status == 6 && desk.opened == 0 && desk.lent == 0
+}
+
+#[test]
+fn opens_nothing_where_words_are_no_command(rt: HostRuntime) -> Result<(), Fail> {
+    for (index, rest) in REFUSED.iter().enumerate() {
+        let words = words(rt.alloc(), rest)?;
+        assert!(rt; is_left_alone(rt.alloc(), words), "row {index}");
+    }
+    Ok(())
+}
+
+#[test]
+fn says_why_there_are_no_words(rt: HostRuntime) {
+    let no_memory = Err(io::Error::from(ErrorKind::OutOfMemory));
+    assert!(rt; is_refused(rt.alloc(), no_memory, "error: no memory\n", 4));
+    let not_text = Err(io::Error::from(ErrorKind::InvalidData));
+    let message = "error: a word of the command line is not UTF-8\n";
+    assert!(rt; is_refused(rt.alloc(), not_text, message, 6));
+}

@@ -1,0 +1,134 @@
+#!/usr/bin/env python3
+"""Checks the tools that read worked cases: what they must refuse, on cases in a folder that is made for it.
+
+    tools/case_checks.py
+
+`run_cases.py` must fail on a wrong answer and on a table that is malformed or empty, and `cases_to_theorems.py` on a word
+that it does not know, with that word and what to add. The last line is `N passed, M failed`.
+"""
+
+import subprocess
+import sys
+import tempfile
+from pathlib import Path
+
+TOOLS = Path(__file__).resolve().parent
+MODEL = TOOLS.parent / "crates/wb_model"
+
+# answers the script that it is given: the first byte is the status, and the rest goes to standard output
+PROGRAM = f"""#!{sys.executable}
+import sys
+given = sys.stdin.read()
+sys.stdout.write(given[1:])
+sys.stderr.write(" ".join(sys.argv[1:]))
+sys.exit(int(given[:1] or 6))
+"""
+
+# tables, and a part of what is said of them
+TABLES = {
+    "answer: 0 a | b\n    0a\\nb\\n\nanswer: accepted\n    3x\n": "2 passed, 0 failed",
+    "answer: refused 3 line 2\n    2refused 3 line 2\\n\n": "1 passed, 0 failed",
+    "answer: 1 .. | c.. | ..\n    1a\\nb\\ncd\\n\n    1c\\ne\\n\n": "2 passed, 0 failed",
+    "rows: words\nmessages: walk on\nanswer: 6\n    walk on\n": "1 passed, 0 failed",
+    "before: 0\nbehind: \\n\n# nothing between\nanswer: 0 \n    \\e\n": "neither a setting",
+    "before: 0a\nbehind: \\n\nanswer: 0 a\n    \\e\n": "1 passed, 0 failed",
+    "answer: 0 \\x\n    0\\x5cx\\n\n": "1 passed, 0 failed",
+    "answer: 0 a\n    0b\\n\n": "0 passed, 1 failed",
+    "answer: 0 a\n    1a\\n\n": "wanted status 0",
+    "answer: 0 a | ..\n    0b\\na\\n\n": "0 passed, 1 failed",
+    "answer: 0 .. | a\n    0a\\nb\\n\n": "0 passed, 1 failed",
+    "answer: accepted\n    2refused 8\\n\n": "wanted status 0 or 1 or 3",
+    "answer: accepted\n    0refused 8\\n\n": "0 passed, 1 failed",
+    "answer: refused 3\n    2refused 3 line 2\\n\n": "0 passed, 1 failed",
+    "rows: words\nmessages: walk\nanswer: 6\n    run\n": "wanted 'walk' on standard error",
+    "": "no row follows",
+    "# a comment\n": "no row follows",
+    "answer: 0\n": "no row follows",
+    "answer: 0\nanswer: 1\n    1\n": "no row follows",
+    "    0\n": "a row without an answer",
+    "answer: 0\n     \n": "a row of blanks",
+    "answer: 0\n    0\\q\n": "is no escape",
+    "answer: 0\n    0\\\n": "is no escape",
+    "answer: fine\n    0\n": "neither a setting nor a row",
+    "answer: 0\nstatus: 1\n    0\n": "neither a setting nor a row",
+    "answer: 0\n  0\n": "neither a setting nor a row",
+    "rows: lines\nanswer: 0\n    0\n": "neither a setting nor a row",
+}
+
+SCRIPT = "proc main\nptr p\nfree p\nend\n"
+REPORT = "attempt 1 length 144 place 0 granted\nended\nleaks 0\nsteps 1\n"
+
+# scripts and reports of an accepted run, its arguments, and a part of what is said of them
+CASES = [
+    (SCRIPT, REPORT, "run", "1 theorems"),
+    (SCRIPT.replace("free p", "wait p"), REPORT, "run", "`wait` is not known as a statement: add it to STATEMENTS"),
+    (SCRIPT.replace("free p", "free p q"), REPORT, "run", "`q` is not known as an operand of `free`"),
+    (SCRIPT.replace("free p", "free"), REPORT, "run", "`free` is not known as a line with 0 operands"),
+    (SCRIPT.replace("free p", "free 0x10"), REPORT, "run", "`0x10` is not known as a local or an operand"),
+    (SCRIPT.replace("free p", "if same p p\nend"), REPORT, "run", "`same` is not known as a condition: add it to CONDITIONS"),
+    (SCRIPT.replace("free p", "call other"), REPORT, "run", "`other` is not known as the name of a procedure"),
+    (SCRIPT.replace("free p", "new p Other"), REPORT, "run", "`Other` is not known as the name of a class"),
+    (SCRIPT.replace("ptr p", "ptr p C const"), REPORT, "run", "`const` is not known as a word of `ptr`"),
+    (SCRIPT.replace("proc main", "task main"), REPORT, "run", "`task` is not known as the first word of an item"),
+    ("class C 0\nbase B\nend\n" + SCRIPT, REPORT, "run", "`base` is not known as a line of a class"),
+    (SCRIPT + "proc f p\nend\n", REPORT, "run", "`p` is not known as a parameter"),
+    (SCRIPT, REPORT.replace("ended", "stopped"), "run", "`stopped` is not known as the first word of a run's line"),
+    (SCRIPT, REPORT.replace("granted", "delayed"), "run", "`delayed` is not known as the answer of an attempt"),
+    (SCRIPT, "note time 1\n" + REPORT, "run", "`time` is not known as a note: add it to NOTES"),
+    (SCRIPT, REPORT.replace("ended\nleaks 0", "panic OTHER 1"), "run", "`OTHER` is not known as a panic's category"),
+    (SCRIPT, REPORT.replace("ended\nleaks 0", "cut clock"), "run", "`clock` is not known as why a run is cut"),
+    (SCRIPT, "needed 144\n", "size", "`needed` is not known as the first word of a size text"),
+    (SCRIPT, "required 144\nup 0 refuses 1\nenough from 144\n", "size", "`up` is not known as the first word of a row of lengths"),
+    (SCRIPT, "tries 1\nnumber none\n", "sweep", "`tries` is not known as the first word of a sweep text"),
+    (SCRIPT, REPORT, "run --every 2", "`--every` is not known as an option"),
+    (SCRIPT, REPORT, "walk", "`walk` is not known as a task"),
+]
+
+
+def said(tool: str, *words: str | Path) -> tuple[int, str]:
+    """How a tool ends, and all that it says."""
+    done = subprocess.run([sys.executable, TOOLS / tool, *words], capture_output=True, text=True)
+    return done.returncode, done.stdout + done.stderr
+
+
+def is_told(told: tuple[int, str], part: str, is_fine: bool) -> bool:
+    """Whether a tool says this, without a traceback, and fails where it must."""
+    status, text = told
+    holds = part in text and "Traceback" not in text and (status == 0) == is_fine
+    if not holds:
+        print(f"wanted {part!r}, got status {status} and {text[-300:]!r}")
+    return holds
+
+
+def table_holds(room: Path, table: str, part: str) -> bool:
+    """Whether `run_cases.py` says this of a table."""
+    cases = room / "cases"
+    (cases / "one.table").write_text(table)
+    return is_told(said("run_cases.py", room / "program", cases), part, ", 0 failed" in part)
+
+
+def case_holds(room: Path, script: str, report: str, words: str, part: str) -> bool:
+    """Whether `cases_to_theorems.py` says this of a case."""
+    stem = room / "case"
+    files = {".oom": script, ".args": words.replace(" ", "\n") + "\n", ".stdout": report, ".status": "0\n"}
+    for ending, text in files.items():
+        stem.with_name("case.run" + ending).write_text(text)
+    told = said("cases_to_theorems.py", MODEL, room / "Cases.antt", stem.with_name("case.run.oom"))
+    return is_told(told, part, part.endswith("theorems"))
+
+
+def main() -> int:
+    """Makes each check, and prints the totals."""
+    with tempfile.TemporaryDirectory() as folder:
+        room = Path(folder)
+        (room / "cases").mkdir()
+        (room / "program").write_text(PROGRAM)
+        (room / "program").chmod(0o755)
+        held = [table_holds(room, table, part) for table, part in TABLES.items()]
+        held += [case_holds(room, *case) for case in CASES]
+    print(f"{held.count(True)} passed, {held.count(False)} failed")
+    return 0 if all(held) else 1
+
+
+if __name__ == "__main__":
+    sys.exit(main())
