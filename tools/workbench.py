@@ -27,6 +27,8 @@ LONGEST_INPUT = 65_537
 # how the toolchain ends: how the run ended, and before that how each of its ways to run did
 ENDED = re.compile(rb"run=ended status=(\d+)\b.*proved=no\n?\Z")
 CLOSING = re.compile(rb"(?:checked|interpreter|races|run)\b[:=].*")
+# the toolchain runs what it compiles under another name
+OTHER_NAME = re.compile(rb"^Usage: program\b")
 
 
 def say(text: str) -> None:
@@ -105,11 +107,11 @@ def first_answer(crates: Crates, words: list[str]) -> int:
 
 
 def without_closing(lines: list[bytes]) -> Iterator[bytes]:
-    """What the program wrote to standard error, without the toolchain's own lines at the end."""
+    """What the program wrote to standard error, without the toolchain's own lines at the end, and by its own name."""
     last = len(lines)
     while last and CLOSING.match(lines[last - 1]):
         last -= 1
-    yield from lines[:last]
+    yield from (OTHER_NAME.sub(b"Usage: " + NAME.encode(), it) for it in lines[:last])
 
 
 def main() -> int:
