@@ -93,17 +93,27 @@ fn the_named_words_become_zero(rt: HostRuntime) -> Result<(), Fail> {
     Ok(())
 }
 
+// Whether six words hold these once some of them are copied.
+fn copies_so(
+    alloc: Global,
+    from: u32,
+    to: u32,
+    count: u32,
+    words: &[u32],
+) -> Result<bool, AllocError>
+    requires from { from + count ≤ 6 }
+    requires to { to + count ≤ 6 }
+{
+    let mut chunk = six_words(alloc)?;
+    chunk.copy(from, to, count);
+    Ok(holds(&chunk, words))
+}
+
 #[test]
 fn a_copy_reads_its_source_first(rt: HostRuntime) -> Result<(), Fail> {
-    let mut up = six_words(rt.alloc())?;
-    up.copy(0, 1, 4);
-    assert!(rt; holds(&up, &[1, 1, 2, 3, 4, 6]));
-    let mut down = six_words(rt.alloc())?;
-    down.copy(2, 1, 4);
-    assert!(rt; holds(&down, &[1, 3, 4, 5, 6, 6]));
-    let mut apart = six_words(rt.alloc())?;
-    apart.copy(4, 0, 2);
-    assert!(rt; holds(&apart, &[5, 6, 3, 4, 5, 6]));
+    assert!(rt; copies_so(rt.alloc(), 0, 1, 4, &[1, 1, 2, 3, 4, 6])?);
+    assert!(rt; copies_so(rt.alloc(), 2, 1, 4, &[1, 3, 4, 5, 6, 6])?);
+    assert!(rt; copies_so(rt.alloc(), 4, 0, 2, &[5, 6, 3, 4, 5, 6])?);
     Ok(())
 }
 

@@ -1,10 +1,8 @@
 //! A shape that no heap has, as no words of a command line spell it.
 
-use std::alloc::Global;
 use std::test::Fail;
 use wb_machine::{RunFault, run};
 use wb_model::heap::{Rule, Shape};
-use wb_model::script::Script;
 use wb_script::read;
 use wb_size::fault::SizeFault;
 use wb_size::measure::size;
@@ -14,13 +12,11 @@ use wb_sweep::sweeping::sweep;
 const ODD: Shape = Shape { min: 8, step: 4096 };
 
 /// An empty script.
-fn empty(alloc: Global) -> Result<Script, Fail> {
-    Ok(read(alloc, b"proc main\nend")?)
-}
+const EMPTY: &[u8] = b"proc main\nend";
 
 #[test]
 fn no_run_has_it(rt: HostRuntime) -> Result<(), Fail> {
-    let script = empty(rt.alloc())?;
+    let script = read(rt.alloc(), EMPTY)?;
     let told = run(rt.alloc(), &script, Rule::Unlimited, 9, ODD);
     assert_eq!(rt; told.err(), Some(RunFault::BadShape));
     Ok(())
@@ -28,7 +24,7 @@ fn no_run_has_it(rt: HostRuntime) -> Result<(), Fail> {
 
 #[test]
 fn no_size_has_it(rt: HostRuntime) -> Result<(), Fail> {
-    let script = empty(rt.alloc())?;
+    let script = read(rt.alloc(), EMPTY)?;
     let told = size(rt.alloc(), &script, 5, ODD);
     assert_eq!(rt; told.err(), Some(SizeFault::BadShape));
     Ok(())
@@ -36,7 +32,7 @@ fn no_size_has_it(rt: HostRuntime) -> Result<(), Fail> {
 
 #[test]
 fn no_sweep_has_it(rt: HostRuntime) -> Result<(), Fail> {
-    let script = empty(rt.alloc())?;
+    let script = read(rt.alloc(), EMPTY)?;
     let told = sweep(rt.alloc(), &script, 3, ODD);
     assert_eq!(rt; told.err(), Some(SweepFault::BadShape));
     Ok(())

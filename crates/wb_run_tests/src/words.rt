@@ -1,5 +1,6 @@
 //! That words are taken at all, which no clause says, since any growth may be refused.
 
+use std::alloc::Global;
 use std::test::Fail;
 use wb_model::heap::{Rule, Shape};
 use workbench::command::{Command, CommandFault, Task};
@@ -271,19 +272,17 @@ fn takes_words_of_a_run(rt: HostRuntime) -> Result<(), Fail> {
     Ok(())
 }
 
+/// The words are refused, and clap's text on them holds `part`.
+fn is_refused(alloc: Global, words: &[&str], part: &str) -> Result<bool, Fail> {
+    match command(alloc, words) {
+        Err(CommandFault::Usage(error)) => Ok(error.to_string(alloc)?.as_str().contains(part)),
+        _ => Ok(false),
+    }
+}
+
 /// No words at all, not even the program's name.
 #[test]
 fn refuses_no_words(rt: HostRuntime) -> Result<(), Fail> {
-    let none: &[&str] = &[];
-    let is_refused = match command(rt.alloc(), none) {
-        Err(CommandFault::Usage(error)) => {
-            error
-                .to_string(rt.alloc())?
-                .as_str()
-                .contains("requires a subcommand")
-        }
-        _ => false,
-    };
-    assert!(rt; is_refused);
+    assert!(rt; is_refused(rt.alloc(), &[], "requires a subcommand")?);
     Ok(())
 }
