@@ -1,10 +1,10 @@
 //! A call whose arguments aren't what the procedure takes.
 
 use crate::lines::{Line, Word};
-use crate::notes::{note, note_name};
-use crate::page::{Page, Piece};
+use crate::notes::note_local;
+use crate::page::{Page, Piece, Spot};
 use crate::sorts::{described, is_number_sort, is_pointer, sort_in_body};
-use crate::spaces::{item_named, key_of, local_named};
+use crate::spaces::{item_named, key_of};
 use crate::words::{before, behind};
 use wb_model::script_lines::Key;
 
@@ -39,10 +39,10 @@ fn first_wrong(lines: &[Line], index: usize, line: &Line, procedure: &Line) -> O
     None
 }
 
-fn wrong_number(page: &mut Page, number: usize, line: &Line, procedure: &Line) {
+fn wrong_number(page: &mut Page, line: &Line, procedure: &Line) {
     let place = callee(line);
-    page.at(
-        number,
+    page.tell(
+        line.spot(place),
         &[
             Piece::Text("wrong number of arguments: `"),
             Piece::Word(line.text_at(place)),
@@ -52,33 +52,53 @@ fn wrong_number(page: &mut Page, number: usize, line: &Line, procedure: &Line) {
             Piece::Number(line.words.len().saturating_sub(place).saturating_sub(1)),
         ],
     );
-    page.show(line.text, line.span_at(place));
 }
 
 fn wrong_argument<'x>(
     page: &mut Page,
     lines: &[Line],
     index: usize,
-    line: &Line<'x>,
+    spot: Spot<'x>,
     parameter: &'x [u8],
-    place: usize,
 ) {
-    let word = line.text_at(place);
-    page.at(
-        index.saturating_add(1),
+    page.tell(
+        spot,
         &[
             Piece::Text("wrong kind: `"),
-            Piece::Word(word),
+            Piece::Word(spot.word),
             Piece::Text("` is "),
-            Piece::Text(described(sort_in_body(lines, index, word))),
+            Piece::Text(described(sort_in_body(lines, index, spot.word))),
             Piece::Text(", and the parameter is `"),
             Piece::Word(parameter),
             Piece::Text("`"),
         ],
     );
-    page.show(line.text, line.span_at(place));
-    if let Some(local) = local_named(lines, index, before(b'.', word)) {
-        note_name(page, lines, local.line, before(b'.', word), "declared here");
+    note_local(page, lines, index, before(b'.', spot.word));
+}
+
+/// The first line of the procedure that a line calls.
+fn procedure_of<'l, 'a>(lines: &'l [Line<'a>], line: &Line) -> Option<&'l Line<'a>> {
+    match item_named(lines, line.text_at(callee(line))) {
+        Some(item) => lines.get(item.line),
+        None => None,
+    }
+}
+
+fn wrong_call<'x>(
+    page: &mut Page,
+    lines: &[Line<'x>],
+    index: usize,
+    line: &Line<'x>,
+    procedure: &Line<'x>,
+) {
+    let more = callee(line).saturating_sub(1);
+    let is_other_count = line.words.len() != procedure.words.len().saturating_add(more);
+    match first_wrong(lines, index, line, procedure) {
+        Some(place) if !is_other_count => {
+            let spot = line.spot(place.saturating_add(more));
+            wrong_argument(page, lines, index, spot, procedure.text_at(place));
+        }
+        _ => wrong_number(page, line, procedure),
     }
 }
 
@@ -89,20 +109,8 @@ pub(crate) fn wrong_arguments<'x>(
     index: usize,
     line: &Line<'x>,
 ) {
-    let Some(item) = item_named(lines, line.text_at(callee(line))) else {
-        return;
-    };
-    let Some(procedure) = lines.get(item.line) else {
-        return;
-    };
-    let more = callee(line).saturating_sub(1);
-    let is_other_count = line.words.len() != procedure.words.len().saturating_add(more);
-    match first_wrong(lines, index, line, procedure) {
-        Some(place) if !is_other_count => {
-            let at = place.saturating_add(more);
-            wrong_argument(page, lines, index, line, procedure.text_at(place), at);
-        }
-        _ => wrong_number(page, index.saturating_add(1), line, procedure),
+    if let Some(procedure) = procedure_of(lines, line) {
+        wrong_call(page, lines, index, line, procedure);
+        page.tell_text(procedure.spot(0), "the procedure begins here");
     }
-    note(page, lines, item.line, "the procedure begins here");
 }

@@ -3,21 +3,27 @@
 use crate::blocks::role;
 use crate::lines::{Line, Word};
 use crate::notes::note_name;
-use crate::page::{Page, Piece, Span};
-use crate::spaces::{class_before, field_named, item_named, local_named};
+use crate::page::{Page, Span, Spot};
+use crate::spaces::{line_of_field, line_of_item, line_of_local};
 use crate::words::{before, is_parameter, is_parameter_named};
 use wb_model::script_lines::Role;
+
+/// What is said of a name, behind it.
+const SECOND: &str = "` is declared a second time";
 
 /// The line of the first declaration of what a line declares, in its space.
 fn first_line(lines: &[Line], index: usize, line: &Line) -> Option<usize> {
     let name = line.text_at(1);
     let first = match role(line) {
-        Role::Class | Role::Procedure => item_named(lines, name).map(|item| item.line),
-        Role::Field => class_before(lines, index).and_then(|class| field_named(lines, class, name)),
-        Role::Declaration => local_named(lines, index, name).map(|local| local.line),
+        Role::Class | Role::Procedure => line_of_item(lines, name),
+        Role::Field => line_of_field(lines, index, name),
+        Role::Declaration => line_of_local(lines, index, name),
         _ => None,
     };
-    first.filter(|first| *first < index)
+    match first {
+        Some(first) if first < index => Some(first),
+        _ => None,
+    }
 }
 
 /// Whether one of the words before a place declares a parameter with this name.
@@ -31,29 +37,18 @@ fn is_before(words: &[Word], place: usize, name: &[u8]) -> bool {
 }
 
 /// The first parameter of a line whose name an earlier one has.
-fn second_parameter<'a>(line: &Line<'a>) -> Option<Word<'a>> {
+fn second_parameter<'a>(line: &Line<'a>) -> Option<Spot<'a>> {
     for (place, word) in line.words.iter().enumerate() {
         let name = before(b':', word.text);
         if is_parameter(word.text) && is_before(&line.words, place, name) {
-            return Some(Word {
-                text: name,
+            let span = Span {
                 column: word.column,
-            });
+                length: name.len(),
+            };
+            return Some(line.spot_of(span, name));
         }
     }
     None
-}
-
-fn say_double(page: &mut Page, number: usize, line: &Line, name: &[u8], span: Span) {
-    page.at(
-        number,
-        &[
-            Piece::Text("`"),
-            Piece::Word(name),
-            Piece::Text("` is declared a second time"),
-        ],
-    );
-    page.show(line.text, span);
 }
 
 fn space_help(role: Role) -> &'static str {
@@ -71,16 +66,15 @@ pub(crate) fn double_name(page: &mut Page, lines: &[Line], index: usize) {
     let Some(line) = lines.get(index) else {
         return;
     };
-    let number = index.saturating_add(1);
     match first_line(lines, index, line) {
         Some(first) => {
-            say_double(page, number, line, line.text_at(1), line.span_at(1));
+            page.tell_word(line.spot(1), "`", SECOND);
             note_name(page, lines, first, line.text_at(1), "first declared here");
             page.help_text(space_help(role(line)));
         }
         None => {
-            if let Some(word) = second_parameter(line) {
-                say_double(page, number, line, word.text, word.span());
+            if let Some(spot) = second_parameter(line) {
+                page.tell_word(spot, "`", SECOND);
                 page.help_text(space_help(Role::Declaration));
             }
         }

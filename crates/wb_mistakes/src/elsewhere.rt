@@ -2,8 +2,8 @@
 
 use crate::lines::Line;
 use crate::notes::note_name;
-use crate::page::{Page, Piece};
-use crate::spaces::{class_before, field_named, has_self, item_named, local_anywhere, local_named};
+use crate::page::Page;
+use crate::spaces::{has_self, item_named, line_of_field, local_anywhere, local_named};
 use wb_model::script_lines::{ItemKind, Kind};
 
 /// What a name is elsewhere, and the line that declares it.
@@ -37,7 +37,7 @@ fn of_local(kind: Kind<&[u8]>) -> &'static str {
 /// The line of the field with a name, where the line stands in a body of a class.
 fn member(lines: &[Line], index: usize, name: &[u8]) -> Option<usize> {
     if has_self(lines, index) {
-        field_named(lines, class_before(lines, index)?, name)
+        line_of_field(lines, index, name)
     } else {
         None
     }
@@ -51,14 +51,18 @@ pub(crate) fn instead_of_local(lines: &[Line], index: usize, name: &[u8]) -> Opt
     if let Some(item) = item_named(lines, name) {
         return Some(Elsewhere::Other(of_item(item.kind), item.line));
     }
-    let local = local_anywhere(lines, name)?;
-    Some(Elsewhere::Foreign(local.line))
+    match local_anywhere(lines, name) {
+        Some(local) => Some(Elsewhere::Foreign(local.line)),
+        None => None,
+    }
 }
 
 /// What a name is that no class, procedure or operation has.
 pub(crate) fn instead_of_item(lines: &[Line], index: usize, name: &[u8]) -> Option<Elsewhere> {
-    let local = local_named(lines, index, name)?;
-    Some(Elsewhere::Other(of_local(local.kind), local.line))
+    match local_named(lines, index, name) {
+        Some(local) => Some(Elsewhere::Other(of_local(local.kind), local.line)),
+        None => None,
+    }
 }
 
 /// Says what a name is elsewhere.
@@ -72,11 +76,7 @@ pub(crate) fn note_elsewhere(page: &mut Page, lines: &[Line], name: &[u8], found
                 name,
                 "the class has a field of this name",
             );
-            page.help(&[
-                Piece::Text("a field is named through its object: `self."),
-                Piece::Word(name),
-                Piece::Text("`"),
-            ]);
+            page.help_word("a field is named through its object: `self.", name, "`");
         }
         Elsewhere::Other(what, line) => note_name(page, lines, line, name, what),
         Elsewhere::Foreign(line) => note_name(

@@ -34,8 +34,8 @@ pub(crate) fn not_ascii(page: &mut Page, lines: &[Line], index: usize) {
     let Some((column, byte)) = first_foreign(line.text) else {
         return;
     };
-    page.at(
-        index.saturating_add(1),
+    page.tell(
+        line.spot_of(Span { column, length: 1 }, &[]),
         &[
             Piece::Text("a byte outside of printable ASCII: 0x"),
             Piece::Text(digit(byte / 16)),
@@ -44,7 +44,6 @@ pub(crate) fn not_ascii(page: &mut Page, lines: &[Line], index: usize) {
             Piece::Number(line.indent.saturating_add(column).saturating_add(1)),
         ],
     );
-    page.show(line.text, Span { column, length: 1 });
     page.help_text(
         "a script is ASCII, in comments and texts too: letters without accents, and straight quotes",
     );

@@ -1,6 +1,6 @@
 //! The forms of the language's lines: the word that begins each, and what stands behind it.
 
-use crate::lines::{Word, is_comment};
+use crate::lines::{Line, Word};
 use crate::page::{Page, Piece};
 use crate::words::{Admitted, is_keyword, is_new_name, is_parameter, is_size, text_of};
 use wb_model::script_lines::Letter::{
@@ -13,7 +13,7 @@ use wb_model::script_lines::{Key, Keyword as Asked, Letter};
 pub(crate) type Row = (Key, &'static str, &'static [Letter]);
 
 /// Every form; a line is of the first that fits.
-pub(crate) static ROWS: [Row; 73] = [
+static ROWS: [Row; 73] = [
     (Key::Class, "class", &[Declared, Size]),
     (Key::Field, "field", &[Declared]),
     (Key::ClassField, "field", &[Declared, Class]),
@@ -89,6 +89,12 @@ pub(crate) static ROWS: [Row; 73] = [
     (Key::End, "end", &[]),
 ];
 
+/// Every form, in the order of the table, for the functions that look through them: only this one names the table, since its size
+/// weighs on the proof of each function that does.
+pub(crate) fn rows() -> &'static [Row] {
+    &ROWS
+}
+
 /// What any number of further words is.
 fn rest_of(key: Key) -> Option<Letter> {
     match key {
@@ -100,10 +106,20 @@ fn rest_of(key: Key) -> Option<Letter> {
 
 /// What stands at a place behind the first word, counted from 1; nothing at place 0.
 pub(crate) fn letter_at(row: &Row, place: usize) -> Option<Letter> {
-    let behind = place.checked_sub(1)?;
-    match row.2.get(behind) {
+    if place == 0 {
+        return None;
+    }
+    match row.2.get(place - 1) {
         Some(letter) => Some(*letter),
         None => rest_of(row.0),
+    }
+}
+
+/// What stands at a place of a line, by the line's form.
+pub(crate) fn letter_of(line: &Line, place: usize) -> Option<Letter> {
+    match line.row {
+        Some(row) => letter_at(row, place),
+        None => None,
     }
 }
 
@@ -167,18 +183,20 @@ pub(crate) fn first_wrong(row: &Row, words: &[Word]) -> Option<usize> {
     None
 }
 
-fn is_of(row: &Row, first: &[u8], words: &[Word]) -> bool {
-    begins(row, first) && admits(row, words.len()) && first_wrong(row, words).is_none()
+/// Whether a form is that of a line by its words. None begins as a comment does.
+fn is_of(row: &Row, words: &[Word]) -> bool {
+    match words.first() {
+        Some(first) if begins(row, first.text) && admits(row, words.len()) => {
+            first_wrong(row, words).is_none()
+        }
+        _ => false,
+    }
 }
 
 /// The form of a line by its words; none where they are of none, or begin a comment.
 pub(crate) fn row_of(words: &[Word]) -> Option<&'static Row> {
-    let first = words.first()?;
-    if is_comment(first.text) {
-        return None;
-    }
-    for row in &ROWS {
-        if is_of(row, first.text, words) {
+    for row in rows() {
+        if is_of(row, words) {
             return Some(row);
         }
     }
@@ -225,7 +243,7 @@ pub(crate) fn say_form(page: &mut Page, row: &Row) {
 /// Writes all forms that begin with a word, with `or` between them.
 pub(crate) fn say_forms(page: &mut Page, word: &[u8]) {
     let mut is_first = true;
-    for row in &ROWS {
+    for row in rows() {
         if begins(row, word) {
             if !is_first {
                 page.say(&[Piece::Text(" or ")]);

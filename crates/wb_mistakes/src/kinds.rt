@@ -2,13 +2,13 @@
 
 use crate::arguments::wrong_arguments;
 use crate::blocks::{Blocks, role, role_at};
-use crate::forms::letter_at;
+use crate::forms::letter_of;
 use crate::lines::{Line, Word};
-use crate::misspelled::help_place;
-use crate::notes::{note, note_name};
-use crate::page::{Page, Piece, Span};
+use crate::misspelled::help_wanted;
+use crate::notes::{note, note_local, note_name};
+use crate::page::{Page, Piece, Span, Spot};
 use crate::sorts::{declared_at, described, is_pointer, sort_in_body, sort_of, takes};
-use crate::spaces::{body_of, class_named, class_of, item_named, key_at, key_of, local_named};
+use crate::spaces::{body_of, class_named, class_of, key_at, key_of, line_of_item};
 use crate::words::{before, behind, is_field, is_parameter, is_plain_kind};
 use wb_model::script_lines::{Key, Letter, Role, Sort};
 
@@ -36,108 +36,100 @@ fn is_right_at(lines: &[Line], index: usize, letter: Option<Letter>, word: &[u8]
 
 /// The place of the first word of a wrong kind.
 fn first_wrong(lines: &[Line], index: usize, line: &Line) -> Option<usize> {
-    let row = line.row?;
     for (place, word) in line.words.iter().enumerate() {
-        if !is_right_at(lines, index, letter_at(row, place), word.text) {
+        if !is_right_at(lines, index, letter_of(line, place), word.text) {
             return Some(place);
         }
     }
     None
 }
 
-/// Says what a word is, at the line where it stands.
-pub(crate) fn say_kind<'x>(page: &mut Page, number: usize, word: &'x [u8], is: &'x str) {
-    page.at(
-        number,
+/// Says what a word is, where it stands.
+fn tell_kind<'x>(page: &mut Page, spot: Spot<'x>, is: &'x str) {
+    page.tell(
+        spot,
         &[
             Piece::Text("wrong kind: `"),
-            Piece::Word(word),
+            Piece::Word(spot.word),
             Piece::Text("` is "),
             Piece::Text(is),
         ],
     );
 }
 
-/// Says why what stands before a dot has no fields.
-fn wrong_holder(page: &mut Page, lines: &[Line], index: usize, line: &Line, word: Word) {
-    let base = before(b'.', word.text);
-    let sort = sort_in_body(lines, index, base);
-    let is = match sort {
-        Sort::Pointer => "a pointer without a class, so it has no fields",
-        _ => described(sort),
+/// What stands before the dot of a field.
+fn spot_of_holder<'a>(line: &Line<'a>, word: Word<'a>) -> Spot<'a> {
+    let holder = before(b'.', word.text);
+    let span = Span {
+        column: word.column,
+        length: holder.len(),
     };
-    say_kind(page, index.saturating_add(1), base, is);
-    page.show(
-        line.text,
-        Span {
-            column: word.column,
-            length: base.len(),
-        },
-    );
-    if let Some(local) = local_named(lines, index, base) {
-        note_name(page, lines, local.line, base, "declared here");
-    }
+    line.spot_of(span, holder)
+}
+
+/// The class of a parameter.
+fn spot_of_class<'a>(line: &Line<'a>, word: Word<'a>) -> Spot<'a> {
+    let class = behind(b':', word.text);
+    let end = word.column.saturating_add(word.text.len());
+    let span = Span {
+        column: end.saturating_sub(class.len()),
+        length: class.len(),
+    };
+    line.spot_of(span, class)
+}
+
+/// Says why what stands before a dot has no fields.
+fn wrong_holder(page: &mut Page, lines: &[Line], index: usize, spot: Spot) {
+    let is = match sort_in_body(lines, index, spot.word) {
+        Sort::Pointer => "a pointer without a class, so it has no fields",
+        sort => described(sort),
+    };
+    tell_kind(page, spot, is);
+    note_local(page, lines, index, spot.word);
     page.help_text("only a pointer that is declared with its class has fields: `ptr NAME CLASS`");
 }
 
 /// Says that the class of a parameter is none.
-fn wrong_parameter(page: &mut Page, lines: &[Line], index: usize, line: &Line, word: Word) {
-    let class = behind(b':', word.text);
-    say_kind(page, index.saturating_add(1), class, "no class");
-    page.show(
-        line.text,
-        Span {
-            column: word
-                .column
-                .saturating_add(word.text.len())
-                .saturating_sub(class.len()),
-            length: class.len(),
-        },
-    );
-    if let Some(item) = item_named(lines, class) {
-        note_name(page, lines, item.line, class, "declared here");
+fn wrong_parameter(page: &mut Page, lines: &[Line], spot: Spot) {
+    tell_kind(page, spot, "no class");
+    if let Some(item) = line_of_item(lines, spot.word) {
+        note_name(page, lines, item, spot.word, "declared here");
     }
     page.help_text("a parameter is `NAME:ptr`, `NAME:int` or `NAME:CLASS`");
 }
 
-fn wrong_name(
-    page: &mut Page,
-    lines: &[Line],
-    index: usize,
-    line: &Line,
-    letter: Letter,
-    word: Word,
-) {
-    let sort = sort_of(lines, index, letter, word.text);
-    say_kind(page, index.saturating_add(1), word.text, described(sort));
-    page.show(line.text, word.span());
-    if let Some(declared) = declared_at(lines, index, letter, word.text) {
+fn wrong_name(page: &mut Page, lines: &[Line], index: usize, letter: Letter, spot: Spot) {
+    let sort = sort_of(lines, index, letter, spot.word);
+    tell_kind(page, spot, described(sort));
+    if let Some(declared) = declared_at(lines, index, letter, spot.word) {
         note_name(
             page,
             lines,
             declared,
-            before(b'.', word.text),
+            before(b'.', spot.word),
             "declared here",
         );
     }
-    if let Some(row) = line.row {
-        help_place(page, row, letter);
-    }
+}
+
+/// Whether a word is a field whose holder has no class.
+fn is_loose(lines: &[Line], index: usize, word: &[u8]) -> bool {
+    is_field(word) && class_of(lines, index, before(b'.', word)).is_none()
 }
 
 /// Says what is wrong with the word at a place.
 fn wrong_operand(page: &mut Page, lines: &[Line], index: usize, line: &Line, place: usize) {
-    let (Some(word), Some(row)) = (line.word(place), line.row) else {
+    let Some(word) = line.word(place) else {
         return;
     };
-    let letter = letter_at(row, place).unwrap_or(Letter::Argument);
-    let is_loose = is_field(word.text) && class_of(lines, index, before(b'.', word.text)).is_none();
     if is_parameter(word.text) {
-        wrong_parameter(page, lines, index, line, word);
-    } else if is_loose {
-        wrong_holder(page, lines, index, line, word);
+        wrong_parameter(page, lines, spot_of_class(line, word));
+    } else if is_loose(lines, index, word.text) {
+        wrong_holder(page, lines, index, spot_of_holder(line, word));
     } else {
-        wrong_name(page, lines, index, line, letter, word);
+        let letter = letter_of(line, place).unwrap_or(Letter::Argument);
+        wrong_name(page, lines, index, letter, line.spot(place));
+        help_wanted(page, line, letter);
     }
 }
 
@@ -150,8 +142,8 @@ fn sides_differ(lines: &[Line], index: usize, line: &Line) -> bool {
 
 fn wrong_sides(page: &mut Page, lines: &[Line], index: usize, line: &Line) {
     let (target, source) = (line.text_at(1), line.text_at(2));
-    page.at(
-        index.saturating_add(1),
+    page.tell(
+        line.spot(2),
         &[
             Piece::Text("wrong kind: `"),
             Piece::Word(target),
@@ -163,19 +155,8 @@ fn wrong_sides(page: &mut Page, lines: &[Line], index: usize, line: &Line) {
             Piece::Text(described(sort_in_body(lines, index, source))),
         ],
     );
-    page.show(line.text, line.span_at(2));
-    if let Some(local) = local_named(lines, index, target) {
-        note_name(page, lines, local.line, target, "declared here");
-    }
-    if let Some(local) = local_named(lines, index, before(b'.', source)) {
-        note_name(
-            page,
-            lines,
-            local.line,
-            before(b'.', source),
-            "declared here",
-        );
-    }
+    note_local(page, lines, index, target);
+    note_local(page, lines, index, before(b'.', source));
     page.help_text("`set` takes two pointers, or an int and a number");
 }
 
@@ -186,12 +167,8 @@ fn misuses_main(line: &Line) -> bool {
     is_begun && line.text_at(1) == b"main".as_slice() && !is_plain
 }
 
-fn wrong_main(page: &mut Page, number: usize, line: &Line) {
-    page.at(
-        number,
-        &[Piece::Text("`main` is a procedure without parameters")],
-    );
-    page.show(line.text, line.span());
+fn wrong_main(page: &mut Page, line: &Line) {
+    page.tell_text(line.whole(), "`main` is a procedure without parameters");
     page.help_text(match key_of(line) {
         Some(Key::Proc) =>
             "write `proc main` alone: nothing gives it arguments where the run begins",
@@ -201,31 +178,26 @@ fn wrong_main(page: &mut Page, number: usize, line: &Line) {
 
 /// The innermost `trap` that is open.
 fn open_trap(lines: &[Line], blocks: &Blocks) -> Option<usize> {
-    for block in blocks.open.iter().rev() {
+    let mut trap = None;
+    for block in &blocks.open {
         if matches!(key_at(lines, block.line), Some(Key::Trap)) {
-            return Some(block.line);
+            trap = Some(block.line);
         }
     }
-    None
+    trap
 }
 
 /// Says why a `return` can't stand where it does.
 fn wrong_return(page: &mut Page, lines: &[Line], index: usize, line: &Line, blocks: &Blocks) {
-    let number = index.saturating_add(1);
     match open_trap(lines, blocks) {
         Some(trap) => {
-            page.at(
-                number,
-                &[Piece::Text("`return` can't stand inside of a `trap`")],
-            );
-            page.show(line.text, line.span());
+            page.tell_text(line.whole(), "`return` can't stand inside of a `trap`");
             note(page, lines, trap, "the block begins here");
             page.help_text("end the `trap` first, and return behind it");
         }
         None => {
             let body = body_of(lines, index);
-            page.at(number, &[Piece::Text("only a procedure returns a pointer")]);
-            page.show(line.text, line.span());
+            page.tell_text(line.whole(), "only a procedure returns a pointer");
             note(page, lines, body, "the body begins here");
             page.help_text(help_of_return(role_at(lines, body)));
         }
@@ -256,7 +228,7 @@ pub(crate) fn wrong_kind(page: &mut Page, lines: &[Line], index: usize, blocks: 
     } else if sides_differ(lines, index, line) {
         wrong_sides(page, lines, index, line);
     } else if misuses_main(line) {
-        wrong_main(page, index.saturating_add(1), line);
+        wrong_main(page, line);
     } else if ends_body(line) {
         wrong_return(page, lines, index, line, blocks);
     } else {

@@ -2,7 +2,7 @@
 
 use crate::lines::Line;
 use crate::notes::note;
-use crate::page::{Page, Piece};
+use crate::page::Page;
 use crate::spaces::body_of;
 
 /// Says which line may leave, and in what body it stands.
@@ -10,15 +10,11 @@ pub(crate) fn may_leave(page: &mut Page, lines: &[Line], index: usize) {
     let Some(line) = lines.get(index) else {
         return;
     };
-    page.at(
-        index.saturating_add(1),
-        &[
-            Piece::Text("`"),
-            Piece::Word(line.text_at(0)),
-            Piece::Text("` can't stand in a body that must not leave"),
-        ],
+    page.tell_word(
+        line.spot(0),
+        "`",
+        "` can't stand in a body that must not leave",
     );
-    page.show(line.text, line.span_at(0));
     note(
         page,
         lines,

@@ -52,7 +52,13 @@ fn long_name(line: &Line) -> Option<Passed> {
 }
 
 fn parameter_count(words: &[Word]) -> usize {
-    words.iter().filter(|word| is_parameter(word.text)).count()
+    let mut count: usize = 0;
+    for word in words {
+        if is_parameter(word.text) {
+            count = count.saturating_add(1);
+        }
+    }
+    count
 }
 
 /// How many lines of a role stand between two, both among them.
@@ -163,20 +169,29 @@ fn more_parameters(line: &Line) -> Option<Passed> {
     )
 }
 
+/// Which limit a line passes.
+fn limit_passed(lines: &[Line], index: usize, line: &Line, blocks: &Blocks) -> Option<Passed> {
+    if let Some(found) = long_name(line) {
+        Some(found)
+    } else if let Some(found) = more_parameters(line) {
+        Some(found)
+    } else if let Some(found) = one_more(lines, index, line, blocks) {
+        Some(found)
+    } else {
+        large_size(line)
+    }
+}
+
 /// Says which limit a line passes.
 pub(crate) fn too_many(page: &mut Page, lines: &[Line], index: usize, blocks: &Blocks) {
     let Some(line) = lines.get(index) else {
         return;
     };
-    let found = long_name(line)
-        .or(more_parameters(line))
-        .or(one_more(lines, index, line, blocks))
-        .or(large_size(line));
-    let Some(found) = found else {
+    let Some(found) = limit_passed(lines, index, line, blocks) else {
         return;
     };
-    page.at(
-        index.saturating_add(1),
+    page.tell(
+        line.spot_of(found.span, &[]),
         &[
             Piece::Text("too many "),
             Piece::Text(found.what),
@@ -186,5 +201,4 @@ pub(crate) fn too_many(page: &mut Page, lines: &[Line], index: usize, blocks: &B
             Piece::Number(found.most as usize),
         ],
     );
-    page.show(line.text, found.span);
 }

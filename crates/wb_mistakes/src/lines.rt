@@ -2,7 +2,7 @@
 
 use crate::blocks::{begins_body, role_of};
 use crate::forms::{Row, row_of};
-use crate::page::Span;
+use crate::page::{Span, Spot};
 use std::alloc::{AllocError, Global};
 
 /// A word of a line. Columns count from 0, in the line without the blanks before it.
@@ -21,10 +21,11 @@ impl<'a> Word<'a> {
     }
 }
 
-/// A line: its text without the blanks around it, how many stand before it, its words, what it says where it is of some form, and
+/// A line: its number, its text without the blanks around it, how many stand before it, its words, what it says where it is of some form, and
 /// the index of the line that begins the body in which it stands, which may be itself.
 #[derive(Drop)]
 pub(crate) struct Line<'a> {
+    pub number: usize,
     pub text: &'a [u8],
     pub indent: usize,
     pub words: Vec<Word<'a>>,
@@ -114,6 +115,7 @@ fn line_behind<'a>(
     let words = words_of(alloc, text)?;
     let row = row_of(&words);
     Ok(Line {
+        number: lines.len().saturating_add(1),
         text,
         indent,
         words,
@@ -176,6 +178,29 @@ impl<'a> Line<'a> {
             Some(word) => word.span(),
             None => self.span(),
         }
+    }
+
+    /// The word with an index, and where it stands; the whole line where there is none.
+    pub(crate) fn spot(&self, index: usize) -> Spot<'a> {
+        match self.word(index) {
+            Some(word) => self.spot_of(word.span(), word.text),
+            None => self.whole(),
+        }
+    }
+
+    /// A part of the line, and a word that stands there.
+    pub(crate) fn spot_of(&self, span: Span, word: &'a [u8]) -> Spot<'a> {
+        Spot {
+            number: self.number,
+            text: self.text,
+            span,
+            word,
+        }
+    }
+
+    /// The whole line, and no word of it.
+    pub(crate) fn whole(&self) -> Spot<'a> {
+        self.spot_of(self.span(), &[])
     }
 
     /// Where the whole line stands.

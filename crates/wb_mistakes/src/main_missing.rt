@@ -3,15 +3,14 @@
 use crate::lines::Line;
 use crate::near_names::near_item;
 use crate::notes::note;
-use crate::page::{Page, Piece};
+use crate::page::Page;
 use crate::spaces::item_named;
-use std::alloc::{AllocError, Global};
 use wb_model::script_lines::ItemKind;
 
 /// Says that there is no `main`, and which procedure may have been meant.
-pub(crate) fn no_main(alloc: Global, page: &mut Page, lines: &[Line]) -> Result<(), AllocError> {
-    page.whole(&[Piece::Text("the script has no procedure `main`")]);
-    let near = near_item(alloc, lines, ItemKind::Procedure, b"main")?;
+pub(crate) fn no_main(page: &mut Page, lines: &[Line]) {
+    page.whole("the script has no procedure `main`");
+    let near = near_item(lines, ItemKind::Procedure, b"main");
     match (item_named(lines, b"main"), near) {
         (Some(item), _) => note(page, lines, item.line, "`main` is no procedure"),
         (None, Some(near)) => {
@@ -25,5 +24,4 @@ pub(crate) fn no_main(alloc: Global, page: &mut Page, lines: &[Line]) -> Result<
         (None, None) => {}
     }
     page.help_text("the run begins with `proc main`");
-    Ok(())
 }

@@ -47,31 +47,28 @@ fn note_open(page: &mut Page, lines: &[Line], block: Option<&Block>) {
 
 /// Says which `end` closed the last block, or one too early.
 fn note_closed(page: &mut Page, lines: &[Line], blocks: &Blocks) {
-    match blocks.slanted.or(blocks.closed) {
-        Some(closed) => {
-            note(page, lines, closed.end, "this `end` closes");
-            note(page, lines, closed.first, "what begins here");
-        }
-        None => {}
+    if let Some(closed) = blocks.slanted.or(blocks.closed) {
+        note(page, lines, closed.end, "this `end` closes");
+        note(page, lines, closed.first, "what begins here");
     }
 }
 
 /// Writes what can't stand where, and shows the line.
-fn refuse<'x>(page: &mut Page, number: usize, line: &Line<'x>, where_not: &'x str) {
-    page.at(
-        number,
+fn refuse<'x>(page: &mut Page, line: &Line<'x>, where_not: &'x str) {
+    let spot = line.spot(0);
+    page.tell(
+        spot,
         &[
             Piece::Text("`"),
-            Piece::Word(line.text_at(0)),
+            Piece::Word(spot.word),
             Piece::Text("` "),
             Piece::Text(where_not),
         ],
     );
-    page.show(line.text, line.span_at(0));
 }
 
 /// Of a line outside of any class, procedure or operation.
-fn outside(page: &mut Page, lines: &[Line], blocks: &Blocks, number: usize, line: &Line) {
+fn outside(page: &mut Page, lines: &[Line], blocks: &Blocks, line: &Line) {
     let (where_not, help) = match role(line) {
         Role::End => (
             "closes nothing: no block is open",
@@ -92,27 +89,20 @@ fn outside(page: &mut Page, lines: &[Line], blocks: &Blocks, number: usize, line
             "it stands in a body: between `proc main`, say, and its `end`",
         ),
     };
-    refuse(page, number, line, where_not);
+    refuse(page, line, where_not);
     note_closed(page, lines, blocks);
     page.help_text(help);
 }
 
 /// Of a line right in a class.
-fn in_class(
-    page: &mut Page,
-    lines: &[Line],
-    blocks: &Blocks,
-    block: Block,
-    number: usize,
-    line: &Line,
-) {
+fn in_class(page: &mut Page, lines: &[Line], blocks: &Blocks, block: Block, line: &Line) {
     let where_not = match role(line) {
         Role::Field => "stands behind a body of its class",
         Role::Construct => "comes too late: a class has one, before `destroy`",
         Role::Destroy => "comes too late: a class has one",
         _ => "can't stand in a class, outside of its bodies",
     };
-    refuse(page, number, line, where_not);
+    refuse(page, line, where_not);
     note(page, lines, block.line, "this class is open");
     if !matches!(block.place, Place::Fields) {
         note_closed(page, lines, blocks);
@@ -120,8 +110,9 @@ fn in_class(
     page.help_text("in a class stand its fields, then `construct`, then `destroy`, then `end`");
 }
 
-/// The first statement behind the line that begins a body.
-fn first_statement(lines: &[Line], body: usize) -> Option<usize> {
+/// The first statement of the innermost body.
+fn first_statement(lines: &[Line], blocks: &Blocks) -> Option<usize> {
+    let body = open_body(blocks);
     for (index, line) in lines.iter().enumerate() {
         if index > body && is_statement(line) {
             return Some(index);
@@ -130,71 +121,67 @@ fn first_statement(lines: &[Line], body: usize) -> Option<usize> {
     None
 }
 
-/// The line that begins the innermost body.
-fn open_body(blocks: &Blocks) -> Option<usize> {
-    for block in blocks.open.iter().rev() {
+/// The line that begins the innermost body; 0 where none is open.
+fn open_body(blocks: &Blocks) -> usize {
+    let mut body = 0;
+    for block in &blocks.open {
         if matches!(block.place, Place::Declarations | Place::Statements) {
-            return Some(block.line);
+            body = block.line;
         }
     }
-    None
+    body
 }
 
-fn late_declaration(page: &mut Page, lines: &[Line], blocks: &Blocks, number: usize, line: &Line) {
+fn late_declaration(page: &mut Page, lines: &[Line], blocks: &Blocks, line: &Line) {
     refuse(
         page,
-        number,
         line,
         "is a declaration, and stands behind a statement",
     );
-    if let Some(statement) = open_body(blocks).and_then(|body| first_statement(lines, body)) {
+    if let Some(statement) = first_statement(lines, blocks) {
         note(page, lines, statement, "the first statement of the body");
     }
     page.help_text("all declarations of a body come before its first statement");
 }
 
+/// Whether what ended is an `if` that stands as far to the right as a line.
+fn is_if_above(lines: &[Line], closed: Closed, line: &Line) -> bool {
+    matches!(role_at(lines, closed.first), Role::If) && line.indent == indent(lines, closed.first)
+}
+
 /// The `if` in an open block that ended last, where an `else` stands right below it and so seems to be meant for it.
 fn ended_if(lines: &[Line], blocks: &Blocks, block: Block, line: &Line) -> Option<Closed> {
-    let closed = blocks.closed?;
-    let is_if = matches!(role_at(lines, closed.first), Role::If);
-    let is_below = line.indent == indent(lines, closed.first);
-    if is_if && is_below && closed.first > block.line {
-        Some(closed)
-    } else {
-        None
+    match blocks.closed {
+        Some(closed) if is_if_above(lines, closed, line) && closed.first > block.line => {
+            Some(closed)
+        }
+        _ => None,
     }
 }
 
 /// Of an `else` whose `if` has ended.
-fn ended_else(page: &mut Page, lines: &[Line], closed: Closed, number: usize, line: &Line) {
-    refuse(page, number, line, "comes too late: its `if` has ended");
+fn ended_else(page: &mut Page, lines: &[Line], closed: Closed, line: &Line) {
+    refuse(page, line, "comes too late: its `if` has ended");
     note(page, lines, closed.first, "the `if` begins here");
     note(page, lines, closed.end, "and ends here");
     page.help_text("an `if` with an `else` has one `end`, behind both parts");
 }
 
 /// Of an `else` that stands in no `if`, or in one that has an `else`.
-fn loose_else(page: &mut Page, lines: &[Line], block: Block, number: usize, line: &Line) {
+fn loose_else(page: &mut Page, lines: &[Line], block: Block, line: &Line) {
     let where_not = match block.place {
         Place::Otherwise => "is the second one of its `if`",
         _ => "stands in no `if`",
     };
-    refuse(page, number, line, where_not);
+    refuse(page, line, where_not);
     note(page, lines, block.line, "this block is open");
     page.help_text("an `if` has one `else`, and each block inside of it ends before that");
 }
 
-fn late_else(
-    page: &mut Page,
-    lines: &[Line],
-    blocks: &Blocks,
-    block: Block,
-    number: usize,
-    line: &Line,
-) {
+fn late_else(page: &mut Page, lines: &[Line], blocks: &Blocks, block: Block, line: &Line) {
     match ended_if(lines, blocks, block, line) {
-        Some(closed) => ended_else(page, lines, closed, number, line),
-        None => loose_else(page, lines, block, number, line),
+        Some(closed) => ended_else(page, lines, closed, line),
+        None => loose_else(page, lines, block, line),
     }
 }
 
@@ -216,8 +203,8 @@ fn is_in_class(lines: &[Line], blocks: &Blocks) -> bool {
 }
 
 /// Of a line of a class that stands in a body of one.
-fn in_class_body(page: &mut Page, lines: &[Line], blocks: &Blocks, number: usize, line: &Line) {
-    refuse(page, number, line, "can't stand in a body");
+fn in_class_body(page: &mut Page, lines: &[Line], blocks: &Blocks, line: &Line) {
+    refuse(page, line, "can't stand in a body");
     note_unclosed(page, lines, blocks);
     page.help_text("an `end` seems to be missing above");
     if let Role::Construct = role(line) {
@@ -226,13 +213,13 @@ fn in_class_body(page: &mut Page, lines: &[Line], blocks: &Blocks, number: usize
 }
 
 /// Of a line of a class that stands in a procedure or an operation.
-fn in_procedure(page: &mut Page, lines: &[Line], blocks: &Blocks, number: usize, line: &Line) {
+fn in_procedure(page: &mut Page, lines: &[Line], blocks: &Blocks, line: &Line) {
     let where_not = match role(line) {
         Role::Construct => "alone begins a body of a class, and no class is open",
         Role::Destroy => "begins a body of a class, and no class is open",
         _ => "declares a field of a class, and no class is open",
     };
-    refuse(page, number, line, where_not);
+    refuse(page, line, where_not);
     note_open(page, lines, blocks.open.first());
     page.help_text(meant_in_body(line));
 }
@@ -242,8 +229,8 @@ fn is_class_place(place: Place) -> bool {
 }
 
 /// Of a line that begins something of the script's own right in a class, where no `end` of a body seems to be missing.
-fn item_in_class(page: &mut Page, lines: &[Line], block: Block, number: usize, line: &Line) {
-    refuse(page, number, line, "can't stand in a class");
+fn item_in_class(page: &mut Page, lines: &[Line], block: Block, line: &Line) {
+    refuse(page, line, "can't stand in a class");
     note(page, lines, block.line, "this class is open");
     page.help_text(match role(line) {
         Role::Class => "end this class first",
@@ -252,10 +239,9 @@ fn item_in_class(page: &mut Page, lines: &[Line], block: Block, number: usize, l
 }
 
 /// Of a line that begins something of the script's own inside of something else.
-fn inside(page: &mut Page, lines: &[Line], blocks: &Blocks, number: usize, line: &Line) {
+fn inside(page: &mut Page, lines: &[Line], blocks: &Blocks, line: &Line) {
     refuse(
         page,
-        number,
         line,
         "can't stand inside of a block: an `end` is missing above",
     );
@@ -266,48 +252,32 @@ fn inside(page: &mut Page, lines: &[Line], blocks: &Blocks, number: usize, line:
 }
 
 /// Of a line in a block, the innermost one that is open.
-fn within(
-    page: &mut Page,
-    lines: &[Line],
-    blocks: &Blocks,
-    block: Block,
-    number: usize,
-    line: &Line,
-) {
+fn within(page: &mut Page, lines: &[Line], blocks: &Blocks, block: Block, line: &Line) {
     let is_complete = is_class_place(block.place) && blocks.slanted.is_none();
     match role(line) {
         Role::Class | Role::Procedure if is_complete => {
-            item_in_class(page, lines, block, number, line);
+            item_in_class(page, lines, block, line);
         }
-        Role::Class | Role::Procedure => inside(page, lines, blocks, number, line),
-        _ if is_class_place(block.place) => in_class(page, lines, blocks, block, number, line),
-        Role::Declaration => late_declaration(page, lines, blocks, number, line),
-        Role::Else => late_else(page, lines, blocks, block, number, line),
-        _ if is_in_class(lines, blocks) => in_class_body(page, lines, blocks, number, line),
-        _ => in_procedure(page, lines, blocks, number, line),
+        Role::Class | Role::Procedure => inside(page, lines, blocks, line),
+        _ if is_class_place(block.place) => in_class(page, lines, blocks, block, line),
+        Role::Declaration => late_declaration(page, lines, blocks, line),
+        Role::Else => late_else(page, lines, blocks, block, line),
+        _ if is_in_class(lines, blocks) => in_class_body(page, lines, blocks, line),
+        _ => in_procedure(page, lines, blocks, line),
     }
 }
 
 /// Says why a line can't stand where it does.
-pub(crate) fn misplaced(
-    page: &mut Page,
-    lines: &[Line],
-    blocks: &Blocks,
-    number: usize,
-    line: &Line,
-) {
+pub(crate) fn misplaced(page: &mut Page, lines: &[Line], blocks: &Blocks, line: &Line) {
     match blocks.open.last() {
-        None => outside(page, lines, blocks, number, line),
-        Some(block) => within(page, lines, blocks, *block, number, line),
+        None => outside(page, lines, blocks, line),
+        Some(block) => within(page, lines, blocks, *block, line),
     }
 }
 
 /// Says that the file ends before its blocks do.
 pub(crate) fn ends_early(page: &mut Page, lines: &[Line], blocks: &Blocks, number: usize) {
-    page.at(
-        number,
-        &[Piece::Text("the file ends, and an `end` is missing")],
-    );
+    page.at(number, "the file ends, and an `end` is missing");
     note_unclosed(page, lines, blocks);
     page.help_text(
         "each `class`, `proc`, `op`, `construct`, `destroy`, `if`, `repeat` and `trap` has an `end`",

@@ -31,6 +31,15 @@ pub(crate) struct Span {
     pub length: usize,
 }
 
+/// What is told of in a line of the script: the line's number and text, and a part of it with the word that stands there.
+#[derive(Clone, Copy)]
+pub(crate) struct Spot<'a> {
+    pub number: usize,
+    pub text: &'a [u8],
+    pub span: Span,
+    pub word: &'a [u8],
+}
+
 /// What is written so far of an explanation of a file. Where memory runs out the rest is left out, and `is_cut` tells so.
 #[derive(Drop)]
 pub(crate) struct Page<'f> {
@@ -113,6 +122,18 @@ impl<'f> Page<'f> {
         }
     }
 
+    /// Writes a text of a line that goes on.
+    pub(crate) fn say_text(&mut self, text: &str) {
+        self.add_text(text);
+    }
+
+    /// Writes a word of a line that goes on, between two texts.
+    pub(crate) fn say_word(&mut self, before: &str, word: &[u8], behind: &str) {
+        self.add_text(before);
+        self.add_word(word);
+        self.add_text(behind);
+    }
+
     /// Ends a line.
     pub(crate) fn end(&mut self) {
         self.add_char('\n');
@@ -128,23 +149,48 @@ impl<'f> Page<'f> {
     }
 
     /// Writes a line about the whole file.
-    pub(crate) fn whole(&mut self, pieces: &[Piece]) {
-        self.say(&[Piece::Text(self.file), Piece::Text(": ")]);
-        self.say(pieces);
+    pub(crate) fn whole(&mut self, text: &str) {
+        self.add_text(self.file);
+        self.add_text(": ");
+        self.add_text(text);
         self.end();
     }
 
+    /// Begins a line about a line of the file, by its number.
+    fn begin(&mut self, number: usize) {
+        self.add_text(self.file);
+        self.add_text(":");
+        self.add_number(number);
+        self.add_text(": ");
+    }
+
     /// Writes a line about a line of the file, by its number.
-    pub(crate) fn at(&mut self, number: usize, pieces: &[Piece]) {
-        let file = self.file;
-        self.say(&[
-            Piece::Text(file),
-            Piece::Text(":"),
-            Piece::Number(number),
-            Piece::Text(": "),
-        ]);
+    pub(crate) fn at(&mut self, number: usize, text: &str) {
+        self.begin(number);
+        self.add_text(text);
+        self.end();
+    }
+
+    /// Writes a line about a part of the script, and shows that.
+    pub(crate) fn tell(&mut self, spot: Spot, pieces: &[Piece]) {
+        self.begin(spot.number);
         self.say(pieces);
         self.end();
+        self.show(spot.text, spot.span);
+    }
+
+    /// Writes a line about a word of the script, between two texts, and shows where it stands.
+    pub(crate) fn tell_word(&mut self, spot: Spot, before: &str, behind: &str) {
+        self.begin(spot.number);
+        self.say_word(before, spot.word, behind);
+        self.end();
+        self.show(spot.text, spot.span);
+    }
+
+    /// Writes a text about a part of the script, and shows that.
+    pub(crate) fn tell_text(&mut self, spot: Spot, text: &str) {
+        self.at(spot.number, text);
+        self.show(spot.text, spot.span);
     }
 
     /// Writes a line of the script from a column on, as much as is shown of it. What is left out before is marked in the place of
@@ -165,7 +211,7 @@ impl<'f> Page<'f> {
     }
 
     /// Shows a line of the script, with carets under a part of it.
-    pub(crate) fn show(&mut self, line: &[u8], span: Span) {
+    fn show(&mut self, line: &[u8], span: Span) {
         let from = if line.len() <= SHOWN {
             0
         } else {
@@ -183,7 +229,16 @@ impl<'f> Page<'f> {
 
     /// Writes what to do, by one text.
     pub(crate) fn help_text(&mut self, text: &str) {
-        self.help(&[Piece::Text(text)]);
+        self.add_text("help: ");
+        self.add_text(text);
+        self.end();
+    }
+
+    /// Writes what to do, with a word between two texts.
+    pub(crate) fn help_word(&mut self, before: &str, word: &[u8], behind: &str) {
+        self.add_text("help: ");
+        self.say_word(before, word, behind);
+        self.end();
     }
 
     /// Writes what to do.

@@ -1,6 +1,6 @@
 //! Which explanation a refused script is given, by its first fault.
 
-use crate::blocks::blocks_before;
+use crate::blocks::{Blocks, blocks_before};
 use crate::double::double_name;
 use crate::foreign::not_ascii;
 use crate::kinds::wrong_kind;
@@ -10,53 +10,53 @@ use crate::lines::{Line, lines_of};
 use crate::main_missing::no_main;
 use crate::misplaced::{ends_early, misplaced};
 use crate::misspelled::misspelled;
-use crate::page::{Page, Piece};
+use crate::page::Page;
 use crate::unknown::unknown_name;
 use std::alloc::{AllocError, Global};
 use wb_model::fault::ScriptFault;
 
 /// Says why a line can't stand where it does, or is of no form; or that the file ends too early.
-fn ungrammatical(
-    alloc: Global,
-    page: &mut Page,
-    lines: &[Line],
-    index: usize,
-) -> Result<(), AllocError> {
+fn ungrammatical(page: &mut Page, lines: &[Line], index: usize, blocks: &Blocks) {
     let number = index.saturating_add(1);
-    let blocks = blocks_before(alloc, lines, index)?;
     match lines.get(index) {
-        None => ends_early(page, lines, &blocks, number),
-        Some(line) if line.row.is_some() => misplaced(page, lines, &blocks, number, line),
-        Some(line) => return misspelled(alloc, page, number, line),
+        None => ends_early(page, lines, blocks, number),
+        Some(line) if line.row.is_some() => misplaced(page, lines, blocks, line),
+        Some(line) => misspelled(page, line),
     }
-    Ok(())
-}
-
-fn wrongly_used(
-    alloc: Global,
-    page: &mut Page,
-    lines: &[Line],
-    index: usize,
-) -> Result<(), AllocError> {
-    let blocks = blocks_before(alloc, lines, index)?;
-    wrong_kind(page, lines, index, &blocks);
-    Ok(())
-}
-
-fn beyond_limits(
-    alloc: Global,
-    page: &mut Page,
-    lines: &[Line],
-    index: usize,
-) -> Result<(), AllocError> {
-    let blocks = blocks_before(alloc, lines, index)?;
-    too_many(page, lines, index, &blocks);
-    Ok(())
 }
 
 /// The index of a line by its number.
 fn index_of(line: u32) -> usize {
     (line as usize).saturating_sub(1)
+}
+
+/// The number of the line that a fault names; 1 where it names none.
+fn line_of(fault: ScriptFault) -> u32 {
+    match fault {
+        ScriptFault::Grammar { line }
+        | ScriptFault::UnknownName { line }
+        | ScriptFault::DoubleName { line }
+        | ScriptFault::WrongKind { line }
+        | ScriptFault::MayLeave { line }
+        | ScriptFault::TooMany { line }
+        | ScriptFault::NotAscii { line } => line,
+        ScriptFault::NoMain | ScriptFault::TooLong | ScriptFault::NoMemory => 1,
+    }
+}
+
+/// Says what is wrong with a line, the blocks before it being known.
+fn say(page: &mut Page, lines: &[Line], blocks: &Blocks, fault: ScriptFault, index: usize) {
+    match fault {
+        ScriptFault::Grammar { .. } => ungrammatical(page, lines, index, blocks),
+        ScriptFault::UnknownName { .. } => unknown_name(page, lines, index),
+        ScriptFault::DoubleName { .. } => double_name(page, lines, index),
+        ScriptFault::WrongKind { .. } => wrong_kind(page, lines, index, blocks),
+        ScriptFault::MayLeave { .. } => may_leave(page, lines, index),
+        ScriptFault::NoMain => no_main(page, lines),
+        ScriptFault::TooMany { .. } => too_many(page, lines, index, blocks),
+        ScriptFault::NotAscii { .. } => not_ascii(page, lines, index),
+        ScriptFault::TooLong | ScriptFault::NoMemory => {}
+    }
 }
 
 fn explain(
@@ -66,23 +66,15 @@ fn explain(
     fault: ScriptFault,
 ) -> Result<(), AllocError> {
     let lines = lines_of(alloc, bytes)?;
-    match fault {
-        ScriptFault::Grammar { line } => ungrammatical(alloc, page, &lines, index_of(line))?,
-        ScriptFault::UnknownName { line } => unknown_name(alloc, page, &lines, index_of(line))?,
-        ScriptFault::DoubleName { line } => double_name(page, &lines, index_of(line)),
-        ScriptFault::WrongKind { line } => wrongly_used(alloc, page, &lines, index_of(line))?,
-        ScriptFault::MayLeave { line } => may_leave(page, &lines, index_of(line)),
-        ScriptFault::NoMain => no_main(alloc, page, &lines)?,
-        ScriptFault::TooMany { line } => beyond_limits(alloc, page, &lines, index_of(line))?,
-        ScriptFault::NotAscii { line } => not_ascii(page, &lines, index_of(line)),
-        ScriptFault::TooLong | ScriptFault::NoMemory => {}
-    }
+    let index = index_of(line_of(fault));
+    let blocks = blocks_before(alloc, &lines, index)?;
+    say(page, &lines, &blocks, fault, index);
     Ok(())
 }
 
 fn too_long(page: &mut Page) {
-    page.whole(&[Piece::Text("the script is longer than 65,536 bytes")]);
-    page.help(&[Piece::Text("split it into scripts that are run by themselves")]);
+    page.whole("the script is longer than 65,536 bytes");
+    page.help_text("split it into scripts that are run by themselves");
 }
 
 /// Why a script was refused: the whole text for a person, lines that end with a line feed; empty where there is nothing to say.

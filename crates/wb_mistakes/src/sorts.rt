@@ -1,7 +1,9 @@
 //! What a word of a line stands for, as far as its place asks: a pointer, an int, a class and so on.
 
 use crate::lines::Line;
-use crate::spaces::{Local, class_of, field_named, has_self, item_named, local_named};
+use crate::spaces::{
+    Local, class_of, field_named, has_self, item_named, line_of_item, line_of_local, local_named,
+};
 use crate::words::{before, behind, is_field, is_literal, is_number};
 use wb_model::script_lines::{ItemKind, Kind, Letter, Sort};
 
@@ -132,9 +134,7 @@ pub(crate) fn declared_at(
     word: &[u8],
 ) -> Option<usize> {
     match letter {
-        Letter::Class | Letter::Procedure | Letter::Operation => {
-            Some(item_named(lines, word)?.line)
-        }
-        _ => Some(local_named(lines, index, before(b'.', word))?.line),
+        Letter::Class | Letter::Procedure | Letter::Operation => { line_of_item(lines, word) }
+        _ => line_of_local(lines, index, before(b'.', word)),
     }
 }

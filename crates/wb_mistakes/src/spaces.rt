@@ -204,3 +204,27 @@ pub(crate) fn field_named(lines: &[Line], class: usize, name: &[u8]) -> Option<u
     }
     None
 }
+
+/// The line that begins the first class, procedure or operation of a name.
+pub(crate) fn line_of_item(lines: &[Line], name: &[u8]) -> Option<usize> {
+    match item_named(lines, name) {
+        Some(item) => Some(item.line),
+        None => None,
+    }
+}
+
+/// The line that declares the local with a name, in the body of a line and before that.
+pub(crate) fn line_of_local(lines: &[Line], index: usize, name: &[u8]) -> Option<usize> {
+    match local_named(lines, index, name) {
+        Some(local) => Some(local.line),
+        None => None,
+    }
+}
+
+/// The line that declares the field with a name, of the class that begins last up to a line.
+pub(crate) fn line_of_field(lines: &[Line], index: usize, name: &[u8]) -> Option<usize> {
+    match class_before(lines, index) {
+        Some(class) => field_named(lines, class, name),
+        None => None,
+    }
+}

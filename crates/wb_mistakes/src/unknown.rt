@@ -1,16 +1,15 @@
 //! A name that is declared nowhere: in which space it was looked for, and what is nearest there.
 
 use crate::elsewhere::{Elsewhere, instead_of_item, instead_of_local, note_elsewhere};
-use crate::forms::letter_at;
+use crate::forms::letter_of;
 use crate::lines::Line;
-use crate::misspelled::help_place;
+use crate::misspelled::help_wanted;
 use crate::near_names::{near_field, near_item, near_local};
 use crate::nearest::Near;
 use crate::notes::note;
-use crate::page::{Page, Piece, Span};
+use crate::page::{Page, Piece, Span, Spot};
 use crate::spaces::{body_of, class_of, field_named, has_self, item_named, local_named};
 use crate::words::{before, behind, is_field, is_name, is_parameter, is_plain_kind, is_reserved};
-use std::alloc::{AllocError, Global};
 use wb_model::script_lines::{ItemKind, Letter};
 
 /// Where a name was looked for.
@@ -71,15 +70,14 @@ fn in_fields<'a>(
     column: usize,
 ) -> Option<Unknown<'a>> {
     let base = before(b'.', word);
-    let class = class_of(lines, index, base)?;
     let name = behind(b'.', word);
-    match field_named(lines, class, name) {
-        Some(_) => None,
-        None => unknown_at(
+    match class_of(lines, index, base) {
+        Some(class) if field_named(lines, class, name).is_none() => unknown_at(
             name,
             column.saturating_add(base.len()).saturating_add(1),
             Space::Fields(class),
         ),
+        _ => None,
     }
 }
 
@@ -132,11 +130,13 @@ fn of_word<'a>(
 }
 
 /// The first unknown name of a line, and what it stands for.
-fn first_unknown<'a>(lines: &[Line<'a>], index: usize) -> Option<(Unknown<'a>, Letter)> {
-    let line = lines.get(index)?;
-    let row = line.row?;
+fn first_unknown<'a>(
+    lines: &[Line<'a>],
+    index: usize,
+    line: &Line<'a>,
+) -> Option<(Unknown<'a>, Letter)> {
     for (place, word) in line.words.iter().enumerate() {
-        if let Some(letter) = letter_at(row, place) {
+        if let Some(letter) = letter_of(line, place) {
             if let Some(found) = of_word(lines, index, letter, word.text, word.column) {
                 return Some((found, letter));
             }
@@ -145,44 +145,34 @@ fn first_unknown<'a>(lines: &[Line<'a>], index: usize) -> Option<(Unknown<'a>, L
     None
 }
 
-fn item_word(kind: ItemKind) -> &'static str {
+fn no_item(kind: ItemKind) -> &'static str {
     match kind {
-        ItemKind::Class => "class",
-        ItemKind::Procedure => "procedure",
-        ItemKind::Operation => "operation",
+        ItemKind::Class => "unknown name: the script has no class `",
+        ItemKind::Procedure => "unknown name: the script has no procedure `",
+        ItemKind::Operation => "unknown name: the script has no operation `",
+    }
+}
+
+fn help_of_item(kind: ItemKind) -> &'static str {
+    match kind {
+        ItemKind::Class => "the script may have its class above or below",
+        ItemKind::Procedure => "the script may have its procedure above or below",
+        ItemKind::Operation => "the script may have its operation above or below",
     }
 }
 
 /// Says what is unknown, and where it was looked for.
-fn say_problem<'x>(page: &mut Page, lines: &[Line<'x>], index: usize, found: Unknown<'x>) {
-    let number = index.saturating_add(1);
-    let name = Piece::Word(found.name);
-    match found.space {
-        Space::Items(kind) => page.at(
-            number,
-            &[
-                Piece::Text("unknown name: the script has no "),
-                Piece::Text(item_word(kind)),
-                Piece::Text(" `"),
-                name,
-                Piece::Text("`"),
-            ],
-        ),
-        Space::Locals => page.at(
-            number,
-            &[
-                Piece::Text("unknown name: this body declares no `"),
-                name,
-                Piece::Text("`"),
-            ],
-        ),
-        Space::Fields(class) => page.at(
-            number,
+fn say_problem<'x>(page: &mut Page, lines: &[Line<'x>], spot: Spot<'x>, space: Space) {
+    match space {
+        Space::Items(kind) => page.tell_word(spot, no_item(kind), "`"),
+        Space::Locals => page.tell_word(spot, "unknown name: this body declares no `", "`"),
+        Space::Fields(class) => page.tell(
+            spot,
             &[
                 Piece::Text("unknown name: class `"),
                 Piece::Word(class_name(lines, class)),
                 Piece::Text("` has no field `"),
-                name,
+                Piece::Word(spot.word),
                 Piece::Text("`"),
             ],
         ),
@@ -197,16 +187,11 @@ pub(crate) fn class_name<'a>(lines: &[Line<'a>], class: usize) -> &'a [u8] {
     }
 }
 
-fn nearest<'a>(
-    alloc: Global,
-    lines: &[Line<'a>],
-    index: usize,
-    found: Unknown,
-) -> Result<Option<Near<'a>>, AllocError> {
+fn nearest<'a>(lines: &[Line<'a>], index: usize, found: Unknown) -> Option<Near<'a>> {
     match found.space {
-        Space::Items(kind) => near_item(alloc, lines, kind, found.name),
-        Space::Locals => near_local(alloc, lines, index, found.name),
-        Space::Fields(class) => near_field(alloc, lines, class, found.name),
+        Space::Items(kind) => near_item(lines, kind, found.name),
+        Space::Locals => near_local(lines, index, found.name),
+        Space::Fields(class) => near_field(lines, class, found.name),
     }
 }
 
@@ -243,22 +228,16 @@ fn help_of_local(name: &[u8]) -> &'static str {
     }
 }
 
-/// Says what to do where nothing is near.
-fn say_help(page: &mut Page, found: Unknown) {
+/// What to do where nothing is near.
+fn help_of(found: Unknown) -> &'static str {
     match found.space {
-        Space::Locals => page.help_text(help_of_local(found.name)),
-        Space::Items(ItemKind::Class) if is_reserved(found.name) => page.help_text(
-            "no class can have this name; `ptr NAME` and `field NAME` declare pointers without one",
-        ),
-        Space::Items(_) | Space::Fields(_) if is_reserved(found.name) => {
-            page.help_text("the name is reserved, and nothing can be declared with it");
+        Space::Locals => help_of_local(found.name),
+        Space::Items(ItemKind::Class) if is_reserved(found.name) => {
+            "no class can have this name; `ptr NAME` and `field NAME` declare pointers without one"
         }
-        Space::Items(kind) => page.help(&[
-            Piece::Text("the script may have its "),
-            Piece::Text(item_word(kind)),
-            Piece::Text(" above or below"),
-        ]),
-        Space::Fields(_) => page.help_text("declare it in the class, with `field NAME`"),
+        _ if is_reserved(found.name) => "the name is reserved, and nothing can be declared with it",
+        Space::Items(kind) => help_of_item(kind),
+        Space::Fields(_) => "declare it in the class, with `field NAME`",
     }
 }
 
@@ -273,35 +252,35 @@ fn say_near(page: &mut Page, near: Near) {
     ]);
 }
 
-/// Says what the name may be that is wanted in its place.
-fn help_wanted(page: &mut Page, line: &Line, letter: Letter) {
-    if let Some(row) = line.row {
-        help_place(page, row, letter);
+/// Says which name of a line is declared nowhere.
+pub(crate) fn unknown_name(page: &mut Page, lines: &[Line], index: usize) {
+    if let Some(line) = lines.get(index)
+        && let Some((found, letter)) = first_unknown(lines, index, line)
+    {
+        say_unknown(page, lines, index, line, found, letter);
     }
 }
 
-/// Says which name of a line is declared nowhere.
-pub(crate) fn unknown_name(
-    alloc: Global,
+/// Says what is known of an unknown name where a letter stands.
+fn say_unknown<'x>(
     page: &mut Page,
-    lines: &[Line],
+    lines: &[Line<'x>],
     index: usize,
-) -> Result<(), AllocError> {
-    let (Some((found, letter)), Some(line)) = (first_unknown(lines, index), lines.get(index)) else {
-        return Ok(());
-    };
-    say_problem(page, lines, index, found);
-    page.show(line.text, found.span);
+    line: &Line<'x>,
+    found: Unknown<'x>,
+    letter: Letter,
+) {
+    let spot = line.spot_of(found.span, found.name);
+    say_problem(page, lines, spot, found.space);
     say_space(page, lines, index, found.space);
     let elsewhere = elsewhere(lines, index, found);
     if let Some(elsewhere) = elsewhere {
         note_elsewhere(page, lines, found.name, elsewhere);
     }
-    match (nearest(alloc, lines, index, found)?, elsewhere) {
+    match (nearest(lines, index, found), elsewhere) {
         (_, Some(Elsewhere::Member(_))) => {}
         (Some(near), _) => say_near(page, near),
         (None, Some(Elsewhere::Other(..))) => help_wanted(page, line, letter),
-        (None, _) => say_help(page, found),
+        (None, _) => page.help_text(help_of(found)),
     }
-    Ok(())
 }

@@ -21,10 +21,19 @@ fn is_name_byte(byte: u8) -> bool {
     is_letter(byte) || is_digit(byte) || byte == b'_'
 }
 
+fn are_name_bytes(bytes: &[u8]) -> bool {
+    for byte in bytes {
+        if !is_name_byte(*byte) {
+            return false;
+        }
+    }
+    true
+}
+
 pub(crate) fn is_name(word: &[u8]) -> bool {
     match word {
         [] => false,
-        [first, rest @ ..] => is_letter(*first) && rest.iter().all(|byte| is_name_byte(*byte)),
+        [first, rest @ ..] => is_letter(*first) && are_name_bytes(rest),
     }
 }
 
@@ -66,7 +75,7 @@ pub(crate) fn behind<'a>(byte: u8, word: &'a [u8]) -> &'a [u8] {
 
 /// Whether a byte stands in a word.
 pub(crate) fn has(byte: u8, word: &[u8]) -> bool {
-    word.iter().any(|other| *other == byte)
+    length_before(byte, word) < word.len()
 }
 
 pub(crate) fn is_field(word: &[u8]) -> bool {
@@ -84,7 +93,12 @@ pub(crate) fn digits<'a>(word: &'a [u8]) -> &'a [u8] {
 /// Whether a word is some digits, with or without `-` before them.
 pub(crate) fn is_numeral(word: &[u8]) -> bool {
     let digits = digits(word);
-    !digits.is_empty() && digits.iter().all(|byte| is_digit(*byte))
+    for byte in digits {
+        if !is_digit(*byte) {
+            return false;
+        }
+    }
+    !digits.is_empty()
 }
 
 pub(crate) fn is_number(word: &[u8]) -> bool {
@@ -112,7 +126,12 @@ fn is_quotable(byte: u8) -> bool {
 }
 
 fn are_quotable(text: &[u8]) -> bool {
-    text.iter().all(|byte| is_quotable(*byte))
+    for byte in text {
+        if !is_quotable(*byte) {
+            return false;
+        }
+    }
+    true
 }
 
 pub(crate) fn is_literal(word: &[u8]) -> bool {
