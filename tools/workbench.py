@@ -27,6 +27,7 @@ LONGEST_INPUT = 65_537
 # how the toolchain ends: how the run ended, and before that how each of its ways to run did
 ENDED = re.compile(rb"run=ended status=(\d+)\b.*proved=no\n?\Z")
 CLOSING = re.compile(rb"(?:checked|interpreter|races|run)\b[:=].*")
+NO_ANSWER = re.compile(rb"(?m)^checked: no-answer: (.*)$")
 # the toolchain runs what it compiles under another name
 OTHER_NAME = re.compile(rb"^Usage: program\b")
 
@@ -95,9 +96,10 @@ def first_answer(crates: Crates, words: list[str]) -> int:
             ran = subprocess.run(command, cwd=room / "crates" / PROGRAM_CRATE, stdin=given, capture_output=True)
     ended = ENDED.search(ran.stderr)
     if not ended:
-        said = ran.stderr.decode(errors="replace").strip().splitlines() or ["nothing was said"]
-        say(f"this way there is no answer: {'; '.join(said[-3:])}")
-        say("it has bounds that the program doesn't have: ./build proves and builds that")
+        found = NO_ANSWER.search(ran.stderr)
+        said = found[1] if found else b"; ".join(ran.stderr.splitlines()[-3:]) or b"nothing was said"
+        say(f"this way there is no answer: {said.decode(errors='replace')}")
+        say("./build proves and builds the program, which has no such bounds")
         return NOT_BUILT
     sys.stdout.buffer.write(ran.stdout)
     sys.stdout.flush()
