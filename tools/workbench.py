@@ -122,7 +122,7 @@ def main() -> int:
     why = why_not_built(crates)
     if why:
         say(f"{why}, so these sources are compiled unproved for this one answer, in about two minutes;")
-        say("./build proves and builds the program, in about 20 to 40 minutes, and then an answer takes milliseconds")
+        say("./build proves and builds the program, in about 20 to 40 minutes, and then an answer takes a fraction of a second")
         return first_answer(crates, sys.argv[1:])
     # Python ignores these, and the program would too
     for ignored in (signal.SIGPIPE, signal.SIGXFSZ):
