@@ -268,7 +268,7 @@ fn within(page: &mut Page, lines: &[Line], blocks: &Blocks, block: Block, line: 
 }
 
 /// Says why a line can't stand where it does.
-pub(crate) fn misplaced(page: &mut Page, lines: &[Line], blocks: &Blocks, line: &Line) {
+pub(crate) fn explain_misplaced(page: &mut Page, lines: &[Line], blocks: &Blocks, line: &Line) {
     match blocks.open.last() {
         None => outside(page, lines, blocks, line),
         Some(block) => within(page, lines, blocks, *block, line),

@@ -224,7 +224,7 @@ fn wrong_words(page: &mut Page, line: &Line, row: &Row) {
 }
 
 /// Says why a line is of no form.
-pub(crate) fn misspelled(page: &mut Page, line: &Line) {
+pub(crate) fn explain_misspelled(page: &mut Page, line: &Line) {
     if line.first().is_none() {
         return;
     }

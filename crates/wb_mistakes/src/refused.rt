@@ -8,8 +8,8 @@ use crate::leaving::may_leave;
 use crate::limits::too_many;
 use crate::lines::{Line, lines_of};
 use crate::main_missing::no_main;
-use crate::misplaced::{ends_early, misplaced};
-use crate::misspelled::misspelled;
+use crate::misplaced::{ends_early, explain_misplaced};
+use crate::misspelled::explain_misspelled;
 use crate::page::Page;
 use crate::unknown::unknown_name;
 use std::alloc::{AllocError, Global};
@@ -20,8 +20,8 @@ fn ungrammatical(page: &mut Page, lines: &[Line], index: usize, blocks: &Blocks)
     let number = index.saturating_add(1);
     match lines.get(index) {
         None => ends_early(page, lines, blocks, number),
-        Some(line) if line.row.is_some() => misplaced(page, lines, blocks, line),
-        Some(line) => misspelled(page, line),
+        Some(line) if line.row.is_some() => explain_misplaced(page, lines, blocks, line),
+        Some(line) => explain_misspelled(page, line),
     }
 }
 
