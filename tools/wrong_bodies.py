@@ -4,7 +4,7 @@
     tools/wrong_bodies.py [--jobs N] [--must-fail] [--after-ci] [--logs FOLDER] [--all | CRATE..]
 
 A wrong body is a file `crates/NAME/wrong-bodies/*.edit`: a first line `function: PATH`, the function that must be
-refused, as a check names it; a line `file: src/..`; and pairs of lines `old: TEXT`, `new: TEXT`, where the old text stands
+refused, as a check names it, or `function: PATH, PATH` where each of several must, or `function: every clause of PATH`; a line `file: src/..`; and pairs of lines `old: TEXT`, `new: TEXT`, where the old text stands
 once in that file. A function's proof reads the contracts of what it calls, and not the bodies; so one check of a copy of
 the crate judges one wrong body each of many functions, and says of each function whether its own proof stands or only
 waits for another's. A function with several wrong bodies is given a twin for each further one. An edit that changes more than
@@ -27,6 +27,7 @@ import shutil
 import subprocess
 import sys
 import tempfile
+from dataclasses import replace
 from functools import partial
 from pathlib import Path
 from threading import Lock
@@ -74,7 +75,7 @@ class Trial:
             said |= {it.label: text for it, text in judged if text}
             alone += [it for it, text in judged if not text]
         for it in alone:
-            said[it.label] = what_is_said(it, self.check(crate, [it], jobs)) or "refused only through what it calls"
+            said[it.label] = what_is_said_of_all(it, self.check(crate, [it], jobs))
         refused = sum(text.startswith("refused, ") or text == "refused" for text in said.values())
         with self.lock:
             print("".join(f"{label}: {text}\n" for label, text in sorted(said.items())), end="", flush=True)
@@ -96,7 +97,18 @@ class Trial:
             (copy / file).write_text(text, encoding="utf-8")
         for it in edits:
             add_proof_files(it, copy)
-        return check(room, crate, sorted({it.function for it in edits}), jobs)
+        return check(room, crate, sorted({name for it in edits for name in (it.function, *it.others)}), jobs)
+
+
+def what_is_said_of_all(edit: Edit, verdict: Verdict) -> str:
+    """What a check says of an edit that has it to itself: `refused` where each of its functions was, for its own sake."""
+    for name in (edit.function, *edit.others):
+        text = what_is_said(replace(edit, function=name), verdict) or "refused only through what it calls"
+        if not edit.others:
+            return text
+        if text != "refused":
+            return f"{name}: {text}"
+    return "refused"
 
 
 def what_is_said(edit: Edit, verdict: Verdict) -> str:
@@ -109,6 +121,8 @@ def what_is_said(edit: Edit, verdict: Verdict) -> str:
         return f"BAD EDIT: a check of the crate names no function {edit.function}"
     if said.is_proved:
         return "PROVED"
+    if standing := edit.clauses - said.clauses:
+        return f"PROVED in its clauses {', '.join(sorted(standing))}"
     if said.goal:
         return "refused"
     return f"refused, by {said.proof_file}" if said.proof_file else ""

@@ -14,6 +14,7 @@ LIBRARY = Path("out/rlib")
 STATUS = re.compile(r"fn (\S+): (proved|no proof|not proved)(?:: |; |$)(.*)")
 CALLS = re.compile(r"(?:; )?it calls (.*), which (?:is|are) not proved$")
 GOAL = re.compile(r"note: (?:\./)?src/\S+: it is not proved that ")
+CLAUSE = re.compile(r"\(`[^`]*\bclause-(\w+)`\)")
 PROOF_FILE = re.compile(r"((?:\./)?proofs/(\S+)/[A-Za-z]+\.antt:\d+):\d+: error: (.*)")
 # an error of a text that the checker cannot read, where a false statement reads well
 UNREAD = re.compile(r"(?:\./)?(?:src|specs)/\S+?:\d+:\d+: error: (`[^`]*`: )?(.*)")
@@ -30,6 +31,8 @@ class Said:
     proof_file: str
     # what it calls that is not proved
     calls: str
+    # the clauses of its contract that are open goals
+    clauses: frozenset[str]
 
 
 @dataclass
@@ -49,6 +52,7 @@ def read_verdict(text: str) -> Verdict:
     functions: dict[str, Said] = {}
     errors: dict[str, str] = {}
     has_goal, unread = False, ""
+    clauses: set[str] = set()
     for line in text.splitlines():
         if broken := UNREAD.match(line):
             if not broken[1] or NO_TEXT.search(re.sub(r"`[^`]*`", "", broken[2])):
@@ -59,12 +63,14 @@ def read_verdict(text: str) -> Verdict:
                 errors.setdefault(error[2].replace("/", "::"), error[1])
         elif GOAL.match(line):
             has_goal = True
+            clauses |= set(CLAUSE.findall(line))
         elif told := STATUS.match(line):
             name, word, rest = told.groups()
             calls, own = CALLS.search(rest), CALLS.sub("", rest)
             proof_file = errors.get(name.partition("::")[2], "")
-            functions[name] = Said(word == "proved", has_goal or bool(own), proof_file, calls[1] if calls else "")
+            functions[name] = Said(word == "proved", has_goal or bool(own), proof_file, calls[1] if calls else "", frozenset(clauses))
             has_goal = False
+            clauses.clear()
     if not unread and not re.search(r"^only=\d+", text, re.M):
         unread = last_words(text)
     return Verdict(functions, unread)

@@ -8,6 +8,8 @@ from pathlib import Path
 
 MUST_FAIL = "must-fail"
 
+EVERY_CLAUSE = "every clause of "
+
 
 class BadEdit(Exception):
     """Why an edit says nothing of its function."""
@@ -37,6 +39,10 @@ class Edit:
 
     label: str
     function: str
+    # further ones that it must refuse as well, of a change that reaches beyond bodies
+    others: tuple[str, ...]
+    # the clauses of its contract each of which must be refused, where the edit asks for all of them
+    clauses: frozenset[str]
     # what it makes of each file that it changes
     files: dict[str, str]
     # where it changes no more than the function's body
@@ -62,9 +68,11 @@ def read_edit(path: Path, label: str, crate: Path) -> Edit:
     if not path.is_file() or path.suffix != ".edit":
         raise BadEdit("its name doesn't end in .edit")
     lines = path.read_text(encoding="utf-8", errors="replace").splitlines()
-    function = lines[0].removeprefix("function: ").strip() if lines else ""
-    if not lines or not lines[0].startswith("function: ") or not function:
-        raise BadEdit("its first line isn't 'function: PATH'")
+    named = lines[0].removeprefix("function: ") if lines else ""
+    function, *others = named.removeprefix(EVERY_CLAUSE).split(", ")
+    if not lines or not lines[0].startswith("function: ") or not all((function, *others)):
+        raise BadEdit("its first line isn't 'function: PATH', or several paths with commas between them")
+    clauses = clauses_of(function, crate) if named.startswith(EVERY_CLAUSE) else frozenset()
     before: dict[str, str] = {}
     after: dict[str, str] = {}
     for file, old, new in pairs_of(lines[1:]):
@@ -81,8 +89,19 @@ def read_edit(path: Path, label: str, crate: Path) -> Edit:
     if not changed:
         raise BadEdit("it changes nothing")
     name = function.rpartition("::")[2]
-    body = wrong_body(name, changed[0], before[changed[0]], after[changed[0]]) if len(changed) == 1 else None
-    return Edit(label, function, {it: after[it] for it in changed}, body)
+    is_narrow = len(changed) == 1 and not others and not clauses
+    body = wrong_body(name, changed[0], before[changed[0]], after[changed[0]]) if is_narrow else None
+    return Edit(label, function, tuple(others), clauses, {it: after[it] for it in changed}, body)
+
+
+def clauses_of(function: str, crate: Path) -> frozenset[str]:
+    """The names of the clauses that a function of the crate ensures."""
+    head = re.compile(rf"^ *pub fn {re.escape(function.rpartition('::')[2])}\(.*?^ *\{{", re.MULTILINE | re.DOTALL)
+    found = [it[0] for file in sorted((crate / "src").rglob("*.rt")) for it in head.finditer(file.read_text(encoding="utf-8"))]
+    clauses = frozenset(re.findall(r"^ *ensures (\w+) \{", found[0], re.MULTILINE)) if len(found) == 1 else frozenset()
+    if not clauses:
+        raise BadEdit(f"there is no one public function {function} with names for its clauses")
+    return clauses
 
 
 def pairs_of(lines: list[str]) -> Iterator[tuple[str, str, str]]:

@@ -43,6 +43,39 @@ pub fn after_next(n: u32) -> u32
 """
 LOW_EDIT = "function: low::next\nfile: src/lib.rt\nold:     n + 1\nnew:     n\n"
 HIGH_EDIT = "function: high::after_next\nfile: src/lib.rt\nold: next(next(n))\nnew: next(n)\n"
+# constants that two functions use, one of which promises the number
+CONSTANTS = """\
+
+/// How many days a week has.
+pub const DAYS: u32 = 7;
+
+/// How many hours a day has.
+pub const HOURS: u32 = 24;
+
+/// The days of a week.
+pub fn week() -> u32
+    ensures { result ≡ 7 }
+{
+    DAYS
+}
+
+/// The numbers of a week and of the hours of a day.
+pub fn numbers_are()
+    ensures days { DAYS ≡ 7 }
+    ensures hours { HOURS ≡ 24 }
+{}
+
+/// As many as a week has days.
+pub fn as_many() -> u32
+    ensures { result ≡ DAYS }
+{
+    DAYS
+}
+"""
+# what a clause needs to name them
+NAMED = "use Rattle.low.specs.declared.TheConstants.{DAYS, HOURS};"
+OTHER_HOURS = "old: u32 = 24;\nnew: u32 = 25;\n"
+OTHER_DAYS = "file: src/lib.rt\nold: u32 = 7;\nnew: u32 = 8;\n"
 # means the same as the function, so that it is proved
 RIGHT_EDIT = "function: high::after_next\nfile: src/lib.rt\nold: next(next(n))\nnew: n + 2\n"
 
@@ -165,6 +198,24 @@ class WhatIsTried(TinyRepository):
         self.assertEqual(self.standing(version), ["low", "high"])
         lines, status = self.try_bodies()
         self.assertIn("high/right: PROVED", lines)
+        self.assertEqual((lines[-1], status), ("2 passed, 1 failed", 1))
+
+    def test_each_of_several_functions_must_be_refused(self) -> None:
+        self.write("crates/low/src/lib.rt", LOW.replace("\nghost use", f"\nghost {NAMED}\nghost use") + CONSTANTS)
+        self.write("crates/low/wrong-bodies/days.edit", "function: low::week\n" + OTHER_DAYS)
+        self.write("crates/low/wrong-bodies/both.edit", "function: low::week, low::as_many\n" + OTHER_DAYS)
+        lines, status = self.try_bodies("low")
+        self.assertIn("low/days: refused", lines)
+        self.assertIn("low/both: low::as_many: PROVED", lines)
+        self.assertEqual((lines[-1], status), ("2 passed, 1 failed", 1))
+
+    def test_every_clause_must_be_refused(self) -> None:
+        self.write("crates/low/src/lib.rt", LOW.replace("\nghost use", f"\nghost {NAMED}\nghost use") + CONSTANTS)
+        self.write("crates/low/wrong-bodies/days.edit", "function: every clause of low::numbers_are\n" + OTHER_DAYS)
+        self.write("crates/low/wrong-bodies/all.edit", "function: every clause of low::numbers_are\n" + OTHER_DAYS + OTHER_HOURS)
+        lines, status = self.try_bodies("low")
+        self.assertIn("low/days: PROVED in its clauses hours", lines)
+        self.assertIn("low/all: refused", lines)
         self.assertEqual((lines[-1], status), ("2 passed, 1 failed", 1))
 
 

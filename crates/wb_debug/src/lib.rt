@@ -8,7 +8,7 @@ pub use debug_heap::DebugHeap;
 pub use fault::DebugFault;
 pub use wb_model::heap::{Answer, Attempt, Gave, Header, Kind, Panic, Ptr, Rule, Shape};
 pub use wb_model::memory::NoMemory;
-pub use wb_model::run::{Leaks, Note, Trace};
+pub use wb_model::run::{Leak, Leaks, Note, Trace};
 
 pub mod debug_heap;
 pub mod fault;

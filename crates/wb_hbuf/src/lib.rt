@@ -15,4 +15,5 @@ pub use wb_debug::DebugHeap;
 pub use wb_model::heap::{Gave, Panic, Ptr};
 pub use wb_model::memory::NoMemory;
 pub use wb_model::printed_line::Line;
+pub use wb_model::script::Chars;
 pub use wb_text::Buf;

@@ -1,10 +1,9 @@
 -- Which statements ask for an attempt.
-use Rattle.std.proofs.Common.{◌≡◌, ℕ, ℤ, ◌+◌, ◌*◌, ◌≤◌, length-append, Bool, true, false, cond, List, [], ◌∷◌, ◌++◌, refl, ap, ◌∙◌, sym, arith, Option, Some, None, option_map, length}
-use Rattle.std.specs.Prelude.{not, nat_eq, nat_lt, nat_le, ◌&&◌}
-use Rattle.std.proofs.lemmas.Bool.{eq-eqb, eqb-true, lt-ltb}
+use Rattle.std.proofs.Common.{◌≡◌, ℕ, ℤ, ◌+◌, ◌*◌, ◌≤◌, length-append, Bool, true, false, cond, List, [], ◌∷◌, ◌++◌, refl, ap, ◌∙◌, sym, Option, Some, None, option_map, length}
+use Rattle.std.specs.Prelude.{not, nat_eq, nat_le, ◌&&◌}
+use Rattle.std.proofs.lemmas.Bool.{eq-eqb}
 use Rattle.wb_model.specs.declared.limits.TheConstants.{LARGEST_REQUEST, MOST_UNITS}
 use Rattle.wb_model.specs.declared.heap.TheConstants.Panic.{BAD_CELL, WRONG_KIND, NULL_OR_STALE, NUMBER_OUT_OF_RANGE, SHORTER_THAN_TEXT}
-use Rattle.wb_model.specs.declared.heap.TheConstants.{KERR_NO_MEMORY}
 use Rattle.wb_model.specs.declared.heap.Item.{Item}
 use Rattle.wb_model.specs.declared.heap.Item.TheVariants as I
 use Rattle.wb_model.specs.declared.heap.Kind.{Kind}
@@ -18,7 +17,7 @@ use Rattle.wb_model.specs.declared.script.Script.{Script}
 use Rattle.wb_model.specs.declared.script.Statement.TheOpen.{Statement-F}
 use Rattle.wb_model.specs.Row.{Cell, cell_at}
 use Rattle.wb_model.specs.Spelling.{read_as}
-use Rattle.wb_model.specs.State.{Content, units, State, leaves, Process, ends, with_some, require}
+use Rattle.wb_model.specs.State.{Content, units, State, Process, with_some, require}
 use Rattle.wb_model.specs.Operands.{within, number_of, units_of, with_cell, with_pointer}
 use Rattle.wb_model.specs.Attempts.{after_growth, attempt, allocate, grow_if, push, reallocate, reallocate_longer}
 use Rattle.wb_model.specs.Statements.{Layer, Where, is_null, is_raw, alloc_raw, realloc_of, realloc_raw, realloc_text, new_object, given_to, statement}
@@ -162,33 +161,19 @@ module _ (script : Script) (h : RunState) where
       by true = eq-eqb h.steps h.steps refl
       by false = refl
 
-  -- an item fills the last slot of a stack that has no more than that free
-  last_slot : (n slots : ℕ) → nat_eq (n + 1) slots ≡ true → nat_lt n slots ≡ true
-  last_slot n slots e = lt-ltb n slots (omega (arith, eqb-true (n + 1) slots e))
-
   push_asked : (item : Item) → asked (push item st) ≡ push_asks h
   unfolding push grow_if with_cell
   push_asked item =
-      ap (λ n. asked (elim (nat_lt (length h.items) h.slots) [
-        | true ↦ grow_if (nat_eq n h.slots) st more
-        | false ↦ ends (leaves KERR_NO_MEMORY) st
-      ])) (length-append h.items (item ∷ []))
-      ∙ by (nat_lt (length h.items) h.slots) (nat_eq (length h.items + 1) h.slots) refl refl
+      ap (λ n. asked (grow_if (nat_eq n h.slots) st more)) (length-append h.items (item ∷ [])) ∙ by (nat_eq (length h.items + 1) h.slots)
     where
       more : State
       more = record st { items = h.items ++ item ∷ [] }
 
-      by : (a b : Bool) → nat_lt (length h.items) h.slots ≡ a → nat_eq (length h.items + 1) h.slots ≡ b →
-          asked (elim a [
-            | true ↦ grow_if b st more
-            | false ↦ ends (leaves KERR_NO_MEMORY) st
-          ]) ≡ (b && growth_asks h.slots (cell_at h.cleanup h.debug.heap.row))
-      by true true room fills =
+      by : (b : Bool) → asked (grow_if b st more) ≡ (b && growth_asks h.slots (cell_at h.cleanup h.debug.heap.row))
+      by true =
           ap (λ found. asked (with_some found NULL_OR_STALE more (λ c. reallocate c (16 * (h.slots + 4)) st more after_growth))) (read_cell_at script h.cleanup h.debug.heap.row)
           ∙ growth_asked more (cell_at h.cleanup h.debug.heap.row)
-      by true false room fills = refl
-      by false true room fills = let no : false ≡ true = sym room ∙ last_slot (length h.items) h.slots fills in cc
-      by false false room fills = refl
+      by false = refl
 
   -- where no operand is refused
   carried_asked : (budget : ℕ) (at : Where) (layer : Layer) → h.steps ≤ budget → operands_refused h layer ≡ None →

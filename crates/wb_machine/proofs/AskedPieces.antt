@@ -62,12 +62,12 @@ module _ (script : Script) (budget : ℕ) where
       let layer = out-Statement s.statement in
       let next : State = state_of script (stepped h) in
       let rest = resume script budget (doing at (all ss) ∷ pending_in h.callers below) in
-      let L = between anything (h.steps + 1) budget in
+      let L = between (anything script) (h.steps + 1) budget in
       ap (λ (ps : List Pending). asks_at (h.steps + 1) (resume script budget ps goes_on (state_of script h))) is
       ∙ ap (asks_at (h.steps + 1)) (resume-all script budget at s ss (pending_in h.callers below) (state_of script h) (omega (arith, less)))
       ∙ begun_asks h (λ st. and_then (statement script meant at (out-Statement s.statement) st) rest) less
       ∙ asked_then script budget (h.steps + 1) (statement script meant at layer next) rest
-      (statement-alike L {ns = []} script meant meant at layer next (onward_all script budget (h.steps + 1)) ((omega arith, omega (arith, less)), tt)).1
+      (statement-alike L {ns = []} meant meant at layer next (onward_all script budget (h.steps + 1)) ((omega arith, omega (arith, less)), tt, tt)).1
       (λ w st least most. later_higher script budget (h.steps + 1) st.steps (rest w st) least (resume_later script budget (doing at (all ss) ∷ pending_in h.callers below) w st most))
       ∙ statement_asked script (stepped h) budget at layer (omega (arith, less))
 

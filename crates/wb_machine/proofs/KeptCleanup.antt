@@ -34,7 +34,7 @@ use Rattle.wb_cleanup.specs.Stacks.{refusal_of_top}
 use Rattle.wb_machine.specs.RunState.{RunState, read_cell, read_row, state_of, with_debug}
 use Rattle.wb_machine.specs.Flow.{FitsStep, ended_by, flow, is_stop}
 use Rattle.wb_machine.specs.PointerOperands.{operands_refused}
-use Rattle.wb_machine.specs.Carried.{Carried, left_with, number_read, pointer_read, unless_refused}
+use Rattle.wb_machine.specs.Carried.{Carried, number_read, pointer_read, unless_refused}
 use Rattle.wb_machine.specs.CarriedCleanup.{IsStackThere, growth_made, is_filled, pop_check_carried, pop_within, push_by, push_carried, with_item, without_newest}
 use Rattle.wb_machine.proofs.Rows.{read_cell_at, read_unread}
 use Rattle.wb_machine.proofs.Flows.{ReadsResized, followed_or, made_longer_or}
@@ -226,23 +226,8 @@ module _ (r : Rule) (script : Script) (h : RunState) (item : Item) (ws : List �
       ComesTo r script h (push item (state_of script h)) (push_carried h item ws)
   unfolding push flow
   pushed f now k =
-      by (nat_lt (length h.items) h.slots) (is_filled h) f now
-      ∙ ap (λ n. flow r (and_then (elim (nat_lt (length h.items) h.slots) [
-        | true ↦ grow_if (nat_eq n h.slots) (state_of script h) (state_of script (with_one_more h item))
-        | false ↦ ends (leaves KERR_NO_MEMORY) (state_of script h)
-      ]) k) h) (sym (length-append h.items (item ∷ [])))
-    where
-      carried : Bool → Bool → Carried
-      carried a b = cond a (push_by h item ws b (growth_made h b).debug (growth_made h b).gave) (left_with h KERR_NO_MEMORY)
-
-      by : (a b : Bool) → FitsStep r h (carried a b).ending (carried a b).state → IsStackThere (carried a b).state →
-          flow r (and_then (ended_by (carried a b).ending (state_of script (carried a b).state)) k) (carried a b).state
-          ≡ flow r (and_then (elim a [
-            | true ↦ grow_if b (state_of script h) (state_of script (with_one_more h item))
-            | false ↦ ends (leaves KERR_NO_MEMORY) (state_of script h)
-          ]) k) h
-      by true b f now = fills b f now k
-      by false b f now = refl
+      fills (is_filled h) f now k
+      ∙ ap (λ n. flow r (and_then (grow_if (nat_eq n h.slots) (state_of script h) (state_of script (with_one_more h item))) k) h) (sym (length-append h.items (item ∷ [])))
 
 pub push_kept : (script : Script) (h : RunState) (p : Pointer) (ws : List ℕ) → IsStackThere h →
     IsStackThere (push_carried h (I.Free (pointer_read script h p)) ws).state → operands_refused h (Statement-F.Push p) ≡ None →

@@ -34,8 +34,10 @@ pub mod ReadTexts
 pub mod Refused
 pub mod Rows
 pub mod Scripts
+pub mod SlotsKept
 pub mod StackBeside
 pub mod StackPushes
 pub mod Stayed
 pub mod Steps
 pub mod TextInvariant
+pub mod WholeCells

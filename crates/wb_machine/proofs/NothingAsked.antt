@@ -187,9 +187,9 @@ module _ (script : Script) (budget : ℕ) where
       IsLater st.steps p × Onward script budget st.steps p
   unfolding then_do on_plain_end
   items_later at n st within =
-      let L = between anything st.steps budget in
+      let L = between (anything script) st.steps budget in
       let k = onward_all script budget st.steps in
-      let fine : Fine L [] st = ((omega arith, within), tt) in (
+      let fine : Fine L [] st = ((omega arith, within), tt, tt) in (
         with_some_later st.steps _ _ _ _ (λ item.
             let one = (destroyed_item-alike L script (meant script budget) (meant script budget) at item (drop_newest 1 st) k fine).1 in
             later_then script budget st.steps (destroyed_item script (meant script budget) at item (drop_newest 1 st)) (λ way st. on_plain_end way st (meant script budget at (destroy_items n)))
@@ -206,9 +206,9 @@ module _ (script : Script) (budget : ℕ) where
   pub object_later : (at : Where) (p : Ptr) (st : State) → st.steps ≤ budget →
       IsLater st.steps (with_class st p (object_destroyed script budget at p st)) × Onward script budget st.steps (with_class st p (object_destroyed script budget at p st))
   object_later at p st within =
-      let L = between anything st.steps budget in
+      let L = between (anything script) st.steps budget in
       let k = onward_all script budget st.steps in
-      let fine : Fine L [] st = ((omega arith, within), tt) in (
+      let fine : Fine L [] st = ((omega arith, within), tt, tt) in (
         with_class_later st p _ (λ class. frame_later at p [] _ st _ within (λ q st'. release_later st.steps p st')),
         (with_class-alike L _ _ _ _ fine (λ n. in_frame-alike L _ _ _ _ _ _ _ _ _ k fine (λ ns w st g. plain-alike L _ _ w st g (λ _ st g. release-alike L _ _ g)))).1,
       )

@@ -11,6 +11,11 @@ pub on_ok_then : {X Y : Type 0} {P Q : Type 0} (r : Result X Y) → OnOk r P →
 on_ok_then (Ok x) p f = f p
 on_ok_then (Err e) p f = tt
 
+-- what holds anyhow
+pub on_ok_anyhow : {X Y : Type 0} {P : Type 0} (r : Result X Y) → P → OnOk r P
+on_ok_anyhow (Ok x) p = p
+on_ok_anyhow (Err e) p = tt
+
 -- what was popped was the last
 pub popped : {X : Type 0} (old new : List X) (o : Option X) → old ≡ new ++ option_to_list o → IsSome o → (x : X) × (old ≡ new ++ x ∷ [])
 popped old new (Some x) e is = (x, e)

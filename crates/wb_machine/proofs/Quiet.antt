@@ -6,7 +6,7 @@ use Rattle.wb_machine.specs.Carried.{stepped}
 use Rattle.wb_machine.specs.Owed.{Stays, KeepsSteps, IsSameButFrames, IsQuiet}
 
 pub quiet_still : (h : RunState) → IsQuiet h h
-quiet_still h = record { rule = refl; shape = refl; attempts = refl; trace = refl; level = refl; cleanup = refl; steps = refl }
+quiet_still h = record { rule = refl; shape = refl; attempts = refl; trace = refl; level = refl; cleanup = refl; steps = refl; items = omega arith; slots = refl; whole = λ script whole. whole }
 
 pub quiet_then : (h m g : RunState) → IsQuiet h m → IsQuiet m g → IsQuiet h g
 quiet_then h m g a b = record {
@@ -17,11 +17,16 @@ quiet_then h m g a b = record {
   level = b.level ∙ a.level;
   cleanup = b.cleanup ∙ a.cleanup;
   steps = b.steps ∙ a.steps;
+  items = omega (arith, a.items, b.items);
+  slots = b.slots ∙ a.slots;
+  whole = λ script whole. b.whole script (a.whole script whole);
 }
 
 -- frames alone changed
 pub frames_quiet : (h g : RunState) → IsSameButFrames h g → IsQuiet h g
-frames_quiet h g is = subst (λ (x : RunState). IsQuiet h x) (sym is) (record { rule = refl; shape = refl; attempts = refl; trace = refl; level = refl; cleanup = refl; steps = refl })
+frames_quiet h g is =
+    subst (λ (x : RunState). IsQuiet h x) (sym is)
+    (record { rule = refl; shape = refl; attempts = refl; trace = refl; level = refl; cleanup = refl; steps = refl; items = omega arith; slots = refl; whole = λ script whole. whole })
 
 -- a turn that is quiet but for its step
 pub quiet_step : (h g : RunState) → IsQuiet (stepped h) g → Stays h g

@@ -1,5 +1,5 @@
 -- What carrying out a statement on the cleanup stack makes of the state of a run.
-use Rattle.std.specs.Prelude.{◌≡◌, ℕ, ◌+◌, ◌-◌, ◌*◌, List, [], ◌∷◌, ◌++◌, Bool, nat_eq, nat_lt, if◌then◌else◌, Option, Some, None, length, take}
+use Rattle.std.specs.Prelude.{◌≡◌, ℕ, ◌+◌, ◌-◌, ◌*◌, List, [], ◌∷◌, ◌++◌, Bool, nat_eq, if◌then◌else◌, Option, Some, None, length, take}
 use Rattle.wb_model.specs.declared.heap.TheConstants.{KERR_NO_MEMORY}
 use Rattle.wb_model.specs.declared.heap.TheConstants.Panic.{NUMBER_OUT_OF_RANGE}
 use Rattle.wb_model.specs.declared.heap.Ptr.{Ptr}
@@ -51,11 +51,11 @@ push_by h item ws filled d (Granted p) = gone_on (with_item h item ws filled d (
 push_by h item ws filled d Denied = left_with (with_item h item ws filled d Denied) KERR_NO_MEMORY
 push_by h item ws filled d Ceiling = record { ending = Cut why.Ceiling; state = h }
 
--- a push; there always is a free slot, so that the leave is never met
+-- a push onto a stack that has a free slot
 abbrev pub push_carried : RunState → Item → List ℕ → Carried
 push_carried h item ws =
     let made = growth_made h (is_filled h) in
-    if nat_lt (length h.items) h.slots then push_by h item ws (is_filled h) made.debug made.gave else left_with h KERR_NO_MEMORY
+    push_by h item ws (is_filled h) made.debug made.gave
 
 -- the newest items are gone
 abbrev pub without_newest : RunState → ℕ → RunState

@@ -8,8 +8,10 @@ pub mod Flow
 pub mod RunState
 pub mod StateView
 pub mod Seen
+pub mod SlotInvariant
 pub mod StackInvariant
 pub mod LocalValues
+pub mod ObjectInvariant
 pub mod Owed
 pub mod PointerOperands
 pub mod TextOperands

@@ -1,8 +1,10 @@
 -- What each method owes that carries out a statement, or a part of one.
 use Rattle.std.specs.Prelude.{◌≡◌, ◌+◌, ◌^◌, ◌<◌, ◌≤◌, length}
 use Rattle.wb_machine.specs.declared.pieces.Ending.{Ending}
+use Rattle.wb_model.specs.declared.script.Script.{Script}
 use Rattle.wb_machine.specs.RunState.{RunState}
 use Rattle.wb_machine.specs.Carried.{Carried}
+use Rattle.wb_machine.specs.ObjectInvariant.{StaysWhole}
 
 -- one attempt more has a number of 32 bits
 abbrev pub MayAttempt : RunState → Type 0
@@ -54,3 +56,6 @@ pub record IsQuiet (before after : RunState) : Type 0 where
   pub level : after.debug.heap.level ≡ before.debug.heap.level
   pub cleanup : after.cleanup ≡ before.cleanup
   pub steps : after.steps ≡ before.steps
+  pub items : length after.items ≤ length before.items
+  pub slots : after.slots ≡ before.slots
+  pub whole : (script : Script) → StaysWhole script before after

@@ -9,8 +9,10 @@ use Rattle.wb_model.specs.Rest.{Fits, Progress, next_line}
 use Rattle.wb_machine.specs.declared.machine.Machine.TheInside.{Inside}
 use Rattle.wb_machine.specs.RunState.{HasLines, state_of}
 use Rattle.wb_machine.specs.Asks.{asks_next}
+use Rattle.wb_machine.specs.ObjectInvariant.{AreWhole}
 use Rattle.wb_machine.specs.Owed.{HasStack}
 use Rattle.wb_machine.specs.Seen.{Seen}
+use Rattle.wb_machine.specs.SlotInvariant.{HasRoom}
 use Rattle.wb_machine.specs.Flow.{is_stop, is_over, has_met_ceiling, AreSound, IsReady, IsFirst, pending_in, progress_of, rest_at}
 use Rattle.wb_machine.specs.Told.{leaks_at_end}
 
@@ -57,6 +59,10 @@ pub record IsSound (m : Inside) : Type 0 where
   -- a run that isn't stopped has its cleanup stack
   pub stack : m.begun ≡ true → is_stop m.control.ending ≡ false → HasStack m.state
   pub pieces : AreSound m.script.now m.control.pieces.items
+  -- a slot of the stack is free, or items come off before anything is pushed
+  pub room : m.begun ≡ true → HasRoom m.control.ending m.control.pieces.items m.state
+  -- an object has a pointer for each field of its class
+  pub whole : AreWhole m.script.now m.state.debug.heap.row
   -- no statement was begun yet
   pub no_line : m.begun ≡ false → m.control.line ≡ 0
   pub leaks : has_ended m ≡ true → is_stop m.control.ending ≡ false → m.leaks ≡ leaks_at_end m.state

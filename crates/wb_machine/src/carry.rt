@@ -1,6 +1,6 @@
 //! Which function carries out which statement.
 
-ghost use Rattle.std.specs.Prelude.{◌≡◌, ◌+◌, ◌^◌, ◌<◌, None, IfOk, OnOk, IsTrue};
+ghost use Rattle.std.specs.Prelude.{◌≡◌, ◌+◌, ◌^◌, ◌<◌, length, None, IfOk, OnOk, IsTrue};
 ghost use Rattle.wb_model.specs.Sound.{is_script};
 ghost use Rattle.wb_model.specs.declared.script.Statement.TheViews.{out-Statement};
 ghost use Rattle.wb_machine.specs.Flow.{IsSimple, IsCarriedOut};
@@ -29,6 +29,7 @@ impl State {
         requires number { MayAttempt self.old }
         requires level { self.old.debug.heap.level + 1 < 2 ^ 32 }
         requires stack { HasStack self.old }
+        requires room { length self.old.items < self.old.slots }
         ensures kept { IfOk result (λ ending. IsCarriedOut script.now floor (out-Statement first.now) self.old ending self.new) }
         ensures keeps { KeepsCount self.old self.new }
     {

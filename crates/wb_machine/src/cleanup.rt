@@ -1,6 +1,6 @@
 //! The cleanup stack: attempt 1, which makes it, and statements that push items and pop them.
 
-ghost use Rattle.std.specs.Prelude.{◌≡◌, ◌≢◌, ◌-◌, ◌^◌, ◌<◌, length, nat_le, take, true, None, Some, IfErr, IfOk, OnErr, OnOk};
+ghost use Rattle.std.specs.Prelude.{◌≡◌, ◌≢◌, ◌-◌, ◌^◌, ◌<◌, length, take, true, None, Some, IfErr, IfOk, OnErr, OnOk};
 ghost use Rattle.wb_model.specs.declared.heap.Gave.TheVariants.{Ceiling};
 ghost use Rattle.wb_model.specs.declared.heap.Item.TheVariants as I;
 ghost use Rattle.wb_model.specs.CellRow.{payload_of};
@@ -77,20 +77,10 @@ impl State {
         }
     }
 
-    /// Whether no slot is free.
-    fn is_full(&self) -> bool
-        ensures full { result ≡ nat_le self.now.slots (length self.now.items) }
-        ensures there { HasStack self.now → IsStackThere self.now }
-    {
-        match &self.cleanup {
-            Some(stack) => stack.is_full(),
-            None => false,
-        }
-    }
-
     /// Pushes an item. A growth that is refused leaves, and the item stands on the stack.
     pub fn push_item(&mut self, item: Item) -> Result<Ending, NoMemory>
         requires stack { HasStack self.old }
+        requires room { length self.old.items < self.old.slots }
         requires number { MayAttempt self.old }
         ensures carried { IfOk result (λ ending. CarriesOut self.old (push_carried self.old item (payload_of self.new.cleanup self.new.debug.heap.row)) ending self.new) }
         ensures err { OnErr result (self.new ≡ self.old) }
@@ -98,9 +88,6 @@ impl State {
         ensures stands { IsStackThere self.new }
         ensures keeps { KeepsCount self.old self.new }
     {
-        if self.is_full() {
-            return Ok(Ending::Leaves(KERR_NO_MEMORY));
-        }
         match self.put_item(item)? {
             Pushed::Fine => Ok(Ending::GoesOn),
             Pushed::Leave => Ok(Ending::Leaves(KERR_NO_MEMORY)),
@@ -111,6 +98,7 @@ impl State {
     /// Pushes a pointer that is to be freed.
     pub fn push(&mut self, script: &Script, pointer: Pointer) -> Result<Ending, NoMemory>
         requires stack { HasStack self.old }
+        requires room { length self.old.items < self.old.slots }
         requires number { MayAttempt self.old }
         ensures carried { IfOk result (λ ending. CarriesOut self.old (push_carried self.old (I.Free (pointer_read script.now self.old pointer)) (payload_of self.new.cleanup self.new.debug.heap.row)) ending self.new) }
         ensures err { OnErr result (self.new ≡ self.old) }
@@ -124,6 +112,7 @@ impl State {
     /// Pushes an object that is to be destroyed by its class.
     pub fn push_object(&mut self, script: &Script, pointer: Pointer) -> Result<Ending, NoMemory>
         requires stack { HasStack self.old }
+        requires room { length self.old.items < self.old.slots }
         requires number { MayAttempt self.old }
         ensures carried { IfOk result (λ ending. CarriesOut self.old (push_carried self.old (I.Delete (pointer_read script.now self.old pointer)) (payload_of self.new.cleanup self.new.debug.heap.row)) ending self.new) }
         ensures err { OnErr result (self.new ≡ self.old) }
@@ -142,6 +131,7 @@ impl State {
         operation: u16,
     ) -> Result<Ending, NoMemory>
         requires stack { HasStack self.old }
+        requires room { length self.old.items < self.old.slots }
         requires number { MayAttempt self.old }
         ensures carried { IfOk result (λ ending. CarriesOut self.old (push_carried self.old (I.Call (pointer_read script.now self.old pointer) operation) (payload_of self.new.cleanup self.new.debug.heap.row)) ending self.new) }
         ensures err { OnErr result (self.new ≡ self.old) }

@@ -1,7 +1,7 @@
 //! What is still to do, as explicit pieces, and the turns of a run. What the pieces act on stands in `state`, what the head of a
 //! statement leaves in `heads`, the steps that destroy in `destroying`, and what becomes of pieces that are done in `unwinding`.
 
-ghost use Rattle.std.specs.Prelude.{◌≡◌, ◌+◌, ◌^◌, ◌<◌, ◌≤◌, ◌⊎◌, ◌++◌, ◌∷◌, ◌&&◌, [], ℕ, true, false, if◌then◌else◌, nat_lt, length, unwrap_or, min, IsTrue, OnOk};
+ghost use Rattle.std.specs.Prelude.{◌≡◌, ◌+◌, ◌^◌, ◌<◌, ◌≤◌, ◌⊎◌, ◌++◌, ◌∷◌, ◌&&◌, [], ℕ, true, false, if◌then◌else◌, nat_lt, length, unwrap_or, max, min, IsTrue, OnOk};
 ghost use Rattle.wb_model.specs.Sound.{is_script};
 ghost use Rattle.wb_model.specs.Statements.{all, turns};
 ghost use Rattle.wb_model.specs.Bodies.{procedure_at};
@@ -15,7 +15,9 @@ ghost use Rattle.wb_machine.specs.RunState.{RunState, HasLines, first_state, sta
 ghost use Rattle.wb_machine.specs.Flow.{where_of, pending_in, is_stop, is_over, has_met_ceiling, progress_by, progress_of, AreOwn, AreSound, IsReady, IsFirst, rest_from, rest_of_piece, rest_at};
 ghost use Rattle.wb_machine.specs.Asks.{asks_next, MakesAsked};
 ghost use Rattle.wb_machine.specs.Carried.{stepped};
+ghost use Rattle.wb_machine.specs.ObjectInvariant.{AreWhole, StaysWhole};
 ghost use Rattle.wb_machine.specs.Owed.{HasStack, MayAttempt, Stays};
+ghost use Rattle.wb_machine.specs.SlotInvariant.{slots_for, slots_for_all, to_destroy, to_destroy_first, IsFree, HasRoom};
 
 mod destroying;
 mod heads;
@@ -87,6 +89,10 @@ impl<'a> Control<'a> {
     fn push(&mut self, piece: Piece<'a>) -> Result<(), AllocError>
         ensures pieces { OnOk result (self.new.pieces.items ≡ self.old.pieces.items ++ piece.entry ∷ []) }
         ensures ending { OnOk result (self.new.ending ≡ self.old.ending) }
+        ensures slots { OnOk result (slots_for_all self.new.pieces.items
+            ≡ max (slots_for_all self.old.pieces.items) (slots_for piece.entry)) }
+        ensures first { OnOk result (to_destroy_first self.new.pieces.items
+            ≡ to_destroy piece.entry) }
         ensures line { self.new.line ≡ self.old.line }
     {
         self.pieces.push(piece)?;
@@ -107,6 +113,8 @@ impl<'a> Control<'a> {
         ensures steps { OnOk result (state.new.steps ≡ 0) }
         ensures one { OnOk result (state.new.debug.attempts ≡ 1) }
         ensures stack { OnOk result (is_stop self.new.ending ≡ false → HasStack state.new) }
+        ensures room { OnOk result (HasRoom self.new.ending self.new.pieces.items state.new) }
+        ensures whole { OnOk result (AreWhole script.now state.new.debug.heap.row) }
         ensures line { self.new.line ≡ self.old.line }
     {
         if !state.start()? {
@@ -136,6 +144,7 @@ impl<'a> Control<'a> {
         requires number { MayAttempt state.old }
         requires lines { HasLines state.old }
         requires level { state.old.debug.heap.level + 1 < 2 ^ 32 }
+        requires free { IsFree self.old.pieces.items state.old }
         requires stack { HasStack state.old }
         requires steps { state.old.steps + 1 < 2 ^ 32 }
         ensures kept { OnOk result ((r : Rule) (budget : ℕ) → state.old.steps < budget → Fits r state.old.debug.rule (is_stop self.new.ending) state.new.debug.attempts →
@@ -144,6 +153,8 @@ impl<'a> Control<'a> {
         ensures sound { OnOk result (AreSound script.now self.new.pieces.items) }
         ensures stays { Stays state.old state.new }
         ensures steps { OnOk result (state.new.steps ≡ state.old.steps + 1) }
+        ensures room { OnOk result (HasRoom self.new.ending self.new.pieces.items state.new) }
+        ensures whole { OnOk result (StaysWhole script.now state.old state.new) }
         ensures line { OnOk result (self.new.line ≡ first.now.line) }
     {
         state.tick();
@@ -167,6 +178,8 @@ impl<'a> Control<'a> {
             rest_from script budget r self.new.ending self.new.pieces.items state.new
             ≡ rest_of_piece script budget r (doing (where_of at) (turns left body.now)) self.old.pieces.items state.old) }
         ensures sound { OnOk result ((script : Script) → AreOwn script body.now → AreSound script self.old.pieces.items → AreSound script self.new.pieces.items) }
+        ensures slots { OnOk result (slots_for_all self.new.pieces.items
+            ≤ slots_for_all self.old.pieces.items) }
         ensures ending { OnOk result (self.new.ending ≡ GoesOn) }
         ensures state { state.new ≡ stepped state.old }
         ensures line { self.new.line ≡ self.old.line }
@@ -187,6 +200,7 @@ impl<'a> Control<'a> {
         requires number { MayAttempt state.old }
         requires lines { HasLines state.old }
         requires level { state.old.debug.heap.level + 1 < 2 ^ 32 }
+        requires room { HasRoom self.old.ending self.old.pieces.items state.old }
         requires stack { HasStack state.old }
         requires steps { state.old.steps + 1 < 2 ^ 32 }
         ensures kept { OnOk result ((r : Rule) (budget : ℕ) → state.old.steps < budget → Fits r state.old.debug.rule (is_stop self.new.ending) state.new.debug.attempts →
@@ -195,6 +209,8 @@ impl<'a> Control<'a> {
         ensures sound { OnOk result (AreSound script.now self.new.pieces.items) }
         ensures stays { Stays state.old state.new }
         ensures steps { OnOk result (state.new.steps ≡ state.old.steps + 1) }
+        ensures room { OnOk result (HasRoom self.new.ending self.new.pieces.items state.new) }
+        ensures whole { OnOk result (StaysWhole script.now state.old state.new) }
         ensures line { OnOk result (self.new.line ≡ unwrap_or (first_line (pending_in state.old.callers self.old.pieces.items)) self.old.line) }
     {
         match self.pieces.pop() {
@@ -252,22 +268,26 @@ impl<'a> Control<'a> {
         requires first { begun ≡ false → IsFirst self.old.ending self.old.pieces.items state.old }
         requires later { begun ≡ true → IsReady self.old.ending self.old.pieces.items }
         requires stack { begun ≡ true → HasStack state.old }
+        requires room { begun ≡ true → HasRoom self.old.ending self.old.pieces.items state.old }
         requires sound { AreSound script.now self.old.pieces.items }
         requires small { budget ≤ LARGEST_BUDGET }
         requires within { state.old.steps ≤ budget }
         requires counted { state.old.debug.attempts ≤ state.old.steps + 1 }
         requires lines { HasLines state.old }
         requires level { state.old.debug.heap.level ≤ state.old.steps }
+        requires whole { AreWhole script.now state.old.debug.heap.row }
         ensures kept { OnOk result ((r : Rule) → Fits r state.old.debug.rule (is_over self.new.ending self.new.pieces.items) state.new.debug.attempts →
             rest_from script.now budget r self.new.ending self.new.pieces.items state.new
             ≡ rest_at script.now budget r begun self.old.ending self.old.pieces.items state.old) }
         ensures settled { OnOk result ((is_over self.new.ending self.new.pieces.items ≡ true) ⊎ IsReady self.new.ending self.new.pieces.items) }
+        ensures room { OnOk result (HasRoom self.new.ending self.new.pieces.items state.new) }
         ensures stack { OnOk result (is_stop self.new.ending ≡ false → HasStack state.new) }
         ensures sound { OnOk result (AreSound script.now self.new.pieces.items) }
         ensures stays { Stays state.old state.new }
         ensures within { OnOk result (state.new.steps ≤ budget) }
         ensures counted { OnOk result (state.new.debug.attempts ≤ state.new.steps + 1) }
         ensures level { OnOk result (state.new.debug.heap.level ≤ state.new.steps) }
+        ensures whole { OnOk result (AreWhole script.now state.new.debug.heap.row) }
         ensures first { OnOk result (begun ≡ false → state.new.steps ≡ 0) }
         ensures one { OnOk result (begun ≡ false → state.new.debug.attempts ≡ 1) }
         ensures asked { OnOk result (MakesAsked

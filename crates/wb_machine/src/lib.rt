@@ -8,6 +8,7 @@ mod carry;
 mod cells;
 mod cleanup;
 mod control;
+pub mod laws;
 mod leaves;
 mod locals;
 pub mod machine;

@@ -13,8 +13,7 @@ use wb_model::limits::LARGEST_BUDGET;
 use wb_model::memory::NoMemory;
 use wb_model::script::Script;
 use workbench::answer::READ_OR_WRITE_FAULT;
-use workbench::command::{Command, Task};
-use workbench::command_line::command;
+use workbench::{Command, Task, command};
 
 /// The status of a report that found nothing.
 const NOTHING_FOUND: u8 = 0;

@@ -10,7 +10,7 @@ use std::io;
 use std::io::{ErrorKind, StdinLock};
 use wb_explain::files::Deed;
 use workbench::host::Host;
-use workbench::streams::{Sink, Source};
+use workbench::{Sink, Source};
 
 /// What went through the files and streams of a run of the program.
 #[derive(Drop)]
@@ -80,7 +80,7 @@ pub struct Recorded<'a, S> {
 impl<'a, S: Source> Source for Recorded<'a, S> {
     ghost remaining = { λ it. S.remaining it.stream };
 
-    ghost reads = { λ old fails new. S.reads old.stream fails new.stream };
+    ghost reads = { λ old came new. S.reads old.stream came new.stream };
 
     fn read_once(&mut self, buffer: &mut [u8]) -> io::Result<usize> {
         let read = self.stream.read_once(buffer);

@@ -2,9 +2,9 @@
 -- of whatever a script does. Here stand the ways of going on; the statements are in `AlikeStatements`.
 use Rattle.std.proofs.Common.{◌≡◌, ℕ, ℤ, ◌-◌, ◌<◌, ◌≤◌, Bool, true, false, List, ◌∷◌, refl, ap, ◌∙◌, subst, Option, Some, None, Result, Ok, Err}
 use Rattle.std.proofs.Math.Path.{fun_ext}
-use Rattle.std.specs.Prelude.{nat_lt, nat_eq, [], ◌++◌, length}
-use Rattle.wb_model.specs.declared.heap.TheConstants.{KERR_NO_MEMORY}
+use Rattle.std.specs.Prelude.{nat_lt, [], ◌++◌}
 use Rattle.std.proofs.lemmas.Bool.{ltb-true, ltb-false}
+use Rattle.std.proofs.lemmas.List.{length-set}
 use Rattle.wb_model.specs.declared.heap.Ptr.{Ptr}
 use Rattle.wb_model.specs.declared.heap.Item.{Item}
 use Rattle.wb_model.specs.declared.heap.Kind.{Kind}
@@ -13,6 +13,7 @@ use Rattle.wb_model.specs.declared.heap.Answer.{Answer}
 use Rattle.wb_model.specs.declared.heap.Panic.{Panic}
 use Rattle.wb_model.specs.declared.text.Base.{Base}
 use Rattle.wb_model.specs.declared.text.Base.TheVariants as B
+use Rattle.wb_model.specs.declared.script.Script.{Script}
 use Rattle.wb_model.specs.declared.script.Refusal.{Refusal}
 use Rattle.wb_model.specs.declared.script.Refusal.TheVariants.{GivesNull, Leaves}
 use Rattle.wb_model.specs.declared.script.Pointer.{Pointer}
@@ -25,6 +26,7 @@ use Rattle.wb_model.specs.declared.script.Readable.TheVariants.{Of, ViewOf, Quot
 use Rattle.wb_model.specs.Row.{Cell, cell_at, cell_length, changed, without}
 use Rattle.wb_model.specs.Rules.{Request, Setting, is_due}
 use Rattle.wb_model.specs.Heap.{Heap, AfterAnswer, alloc_request, after_alloc, realloc_request, after_realloc, shortened, after_mark, after_mark_end}
+use Rattle.wb_model.specs.Printable.{ArePrintable}
 use Rattle.wb_model.specs.Throughout.{IsNoteOf, SuitsKind, HoldsItsKind}
 use Rattle.wb_model.specs.Texts.{Edited, Part}
 use Rattle.wb_model.specs.State.{Content, words, fields, units, none, State, Way, goes_on, returns, leaves, Process, ends, stops, asks, notes, and_then, on_plain_end, then_do, require, with_some, unless, set_heap}
@@ -37,13 +39,16 @@ use Rattle.wb_model.specs.Statements.{with_words, with_class, Piece, Where, Mean
 abbrev pub with_cells : Heap Content → List (Cell Content) → Heap Content
 with_cells heap row = record heap { row = row }
 
--- A fact about the steps counted, and one about the heap beside the numbers that attempts got so far, the newest first. The
--- second lasts whatever a script does to a heap.
+-- A fact about the steps counted; one about the heap beside the numbers that attempts got so far, the newest first; and one
+-- about the printed lines. The second lasts whatever this script does to a heap, and the third whatever it prints.
 pub record Lasting : Type 1 where
+  pub script : Script
   pub Counts : ℕ → Type 0
   pub Holds : List ℕ → Heap Content → Type 0
+  pub Prints : List (List ℕ) → Type 0
+  pub printed : (lines : List (List ℕ)) (line : List ℕ) → ArePrintable line → Prints lines → Prints (lines ++ line ∷ [])
   pub allocated : (ns : List ℕ) (heap : Heap Content) (bytes : ℕ) (kind : Kind) (fresh : Content) (n : ℕ) (answer : Answer) →
-      SuitsKind kind fresh → Holds ns heap → Holds (n ∷ ns) (after_alloc heap (alloc_request heap bytes) kind fresh n answer).heap
+      SuitsKind script kind fresh → Holds ns heap → Holds (n ∷ ns) (after_alloc heap (alloc_request heap bytes) kind fresh n answer).heap
   pub reallocated : (ns : List ℕ) (heap : Heap Content) (p : Ptr) (c : Cell Content) (bytes n : ℕ) (answer : Answer) → cell_at p heap.row ≡ Some c →
       c.head.length < cell_length bytes → Holds ns heap →
       Holds (n ∷ ns) (after_realloc heap (realloc_request heap c.head bytes) c.head (resized (cell_length bytes - 16) c.content) n answer).heap
@@ -52,7 +57,7 @@ pub record Lasting : Type 1 where
       Holds ns (shortened heap c.head (cell_length bytes) (resized (cell_length bytes - 16) c.content))
   pub freed : (ns : List ℕ) (heap : Heap Content) (p : Ptr) → Holds ns heap → Holds ns (with_cells heap (without p heap.row))
   pub rewritten : (ns : List ℕ) (heap : Heap Content) (p : Ptr) (f : Content → Content) →
-      ((c : Cell Content) → cell_at p heap.row ≡ Some c → HoldsItsKind c → SuitsKind c.head.kind (f c.content)) → Holds ns heap →
+      ((c : Cell Content) → cell_at p heap.row ≡ Some c → HoldsItsKind script c → SuitsKind script c.head.kind (f c.content)) → Holds ns heap →
       Holds ns (with_cells heap (changed p f heap.row))
   pub marked : (ns : List ℕ) (heap : Heap Content) → Holds ns heap → Holds ns (after_mark heap)
   pub mark_ended : (ns : List ℕ) (heap : Heap Content) → Holds ns heap → Holds ns (after_mark_end heap)
@@ -67,37 +72,37 @@ Shows P ns (asks t cut go) = P ns cut × (t.due ≡ is_due cut.heap.setting) × 
 Shows P ns (notes q p) = ((st : State) × P ns st × IsNoteOf st q) × Shows P ns p
 
 -- content of the right kind stays so
-pub suits-set_field : (kind : Kind) (c : Content) (i : ℕ) (q : Ptr) → SuitsKind kind c → SuitsKind kind (set_field i q c)
-suits-set_field (K.Object class) (fields ps) i q is = tt
-suits-set_field kind (words ws) i q is = is
-suits-set_field kind (units us) i q is = is
-suits-set_field kind none i q is = is
-suits-set_field K.Raw (fields ps) i q is = absurd is
-suits-set_field K.Text (fields ps) i q is = absurd is
-suits-set_field K.Cleanup (fields ps) i q is = absurd is
+pub suits-set_field : (script : Script) (kind : Kind) (c : Content) (i : ℕ) (q : Ptr) → SuitsKind script kind c → SuitsKind script kind (set_field i q c)
+suits-set_field script (K.Object class) (fields ps) i q is = length-set ps i q ∙ is
+suits-set_field script kind (words ws) i q is = is
+suits-set_field script kind (units us) i q is = is
+suits-set_field script kind none i q is = is
+suits-set_field script K.Raw (fields ps) i q is = absurd is
+suits-set_field script K.Text (fields ps) i q is = absurd is
+suits-set_field script K.Cleanup (fields ps) i q is = absurd is
 
-pub suits-set_units : (kind : Kind) (c : Content) (us : List ℕ) → SuitsKind kind c → SuitsKind kind (set_units us c)
-suits-set_units K.Text (units old) us is = tt
-suits-set_units kind (words ws) us is = is
-suits-set_units kind (fields ps) us is = is
-suits-set_units kind none us is = is
-suits-set_units K.Raw (units old) us is = absurd is
-suits-set_units (K.Object class) (units old) us is = absurd is
-suits-set_units K.Cleanup (units old) us is = absurd is
+pub suits-set_units : (script : Script) (kind : Kind) (c : Content) (us : List ℕ) → SuitsKind script kind c → SuitsKind script kind (set_units us c)
+suits-set_units script K.Text (units old) us is = tt
+suits-set_units script kind (words ws) us is = is
+suits-set_units script kind (fields ps) us is = is
+suits-set_units script kind none us is = is
+suits-set_units script K.Raw (units old) us is = absurd is
+suits-set_units script (K.Object class) (units old) us is = absurd is
+suits-set_units script K.Cleanup (units old) us is = absurd is
 
-suits-words : (kind : Kind) (c : Content) (ws us : List ℤ) → raw_words_of kind c ≡ Some ws → SuitsKind kind (words us)
-suits-words K.Raw (words old) ws us e = tt
-suits-words K.Raw (fields ps) ws us e = cc
-suits-words K.Raw (units old) ws us e = cc
-suits-words K.Raw none ws us e = cc
-suits-words (K.Object class) c ws us e = cc
-suits-words K.Text c ws us e = cc
-suits-words K.Cleanup c ws us e = cc
+suits-words : (script : Script) (kind : Kind) (c : Content) (ws us : List ℤ) → raw_words_of kind c ≡ Some ws → SuitsKind script kind (words us)
+suits-words script K.Raw (words old) ws us e = tt
+suits-words script K.Raw (fields ps) ws us e = cc
+suits-words script K.Raw (units old) ws us e = cc
+suits-words script K.Raw none ws us e = cc
+suits-words script (K.Object class) c ws us e = cc
+suits-words script K.Text c ws us e = cc
+suits-words script K.Cleanup c ws us e = cc
 
 -- a process that is another, and shows only states of which a fact holds
 module _ (L : Lasting) where
   abbrev pub Fine : List ℕ → State → Type 0
-  Fine ns st = L.Counts st.steps × L.Holds ns st.heap
+  Fine ns st = L.Counts st.steps × L.Holds ns st.heap × L.Prints st.lines
 
   abbrev pub Keeps : List ℕ → Process → Type 0
   Keeps ns p = Shows Fine ns p
@@ -123,12 +128,12 @@ module _ (L : Lasting) where
       let same = and_then-same ns p go go' e.1 h in (same.0 ∙ ap (λ x. and_then x go') e.0, same.1)
 
   attempt-alike : {ns : List ℕ} (t : Request) (after : ℕ → Answer → AfterAnswer Content) (cut st : State) (go go' : Option Ptr → State → Process) →
-      Fine ns cut → t.due ≡ is_due cut.heap.setting → L.Counts st.steps → ((n : ℕ) (a : Answer) → L.Holds (n ∷ ns) (after n a).heap) →
+      Fine ns cut → t.due ≡ is_due cut.heap.setting → L.Counts st.steps → L.Prints st.lines → ((n : ℕ) (a : Answer) → L.Holds (n ∷ ns) (after n a).heap) →
       ((ns : List ℕ) (o : Option Ptr) (st : State) → Fine ns st → Alike ns (go o st) (go' o st)) → Alike ns (attempt t after cut st go) (attempt t after cut st go')
   unfolding attempt
-  attempt-alike {ns = ns} t after cut st go go' fc due c h k = (
-    ap (asks t cut) (fun_ext (λ n. fun_ext (λ a. (k (n ∷ ns) (after n a).given (set_heap st (after n a).heap) (c, h n a)).0))),
-    (fc, due, λ n a. (k (n ∷ ns) (after n a).given (set_heap st (after n a).heap) (c, h n a)).1),
+  attempt-alike {ns = ns} t after cut st go go' fc due c lines h k = (
+    ap (asks t cut) (fun_ext (λ n. fun_ext (λ a. (k (n ∷ ns) (after n a).given (set_heap st (after n a).heap) (c, h n a, lines)).0))),
+    (fc, due, λ n a. (k (n ∷ ns) (after n a).given (set_heap st (after n a).heap) (c, h n a, lines)).1),
   )
 
   pub plain_end-alike : {ns : List ℕ} (w : Way) (st : State) (go go' : State → Process) → Fine ns st →
@@ -177,13 +182,13 @@ module _ (L : Lasting) where
   set_pointer-fine (Held (H.Local i)) _ _ f = f
   set_pointer-fine (Held H.This) _ _ f = f
   set_pointer-fine {ns = ns} (Field h class i) st q f =
-      (f.0, L.rewritten ns st.heap _ (set_field i q) (λ c e is. suits-set_field c.head.kind c.content i q is) f.1)
+      (f.0, L.rewritten ns st.heap _ (set_field i q) (λ c e is. suits-set_field L.script c.head.kind c.content i q is) f.1, f.2)
 
   -- words that are stored
   pub stored-fine : {ns : List ℕ} (st : State) (q : Ptr) (c : Cell Content) (ws us : List ℤ) → cell_at q st.heap.row ≡ Some c →
       raw_words_of c.head.kind c.content ≡ Some ws → Fine ns st → Fine ns (set_row st (changed q (λ _. words us) st.heap.row))
   stored-fine {ns = ns} st q c ws us e w f =
-      (f.0, L.rewritten ns st.heap q (λ _. words us) (λ d found is. let same : c ≡ d = cc in subst (λ x. SuitsKind x.head.kind (words us)) same (suits-words c.head.kind c.content ws us w)) f.1)
+      (f.0, L.rewritten ns st.heap q (λ _. words us) (λ d found is. let same : c ≡ d = cc in subst (λ x. SuitsKind L.script x.head.kind (words us)) same (suits-words L.script c.head.kind c.content ws us w)) f.1, f.2)
 
   pub given_to-alike : {ns : List ℕ} (p : Pointer) (r : Refusal) (o : Option Ptr) (st : State) → Fine ns st → Alike ns (given_to p r o st) (given_to p r o st)
   unfolding given_to
@@ -191,11 +196,11 @@ module _ (L : Lasting) where
   given_to-alike p GivesNull None st f = (refl, set_pointer-fine p st _ f)
   given_to-alike p Leaves None st f = (refl, f)
 
-  pub allocate-alike : {ns : List ℕ} (bytes : ℕ) (kind : Kind) (fresh : Content) (st : State) (go go' : Option Ptr → State → Process) → SuitsKind kind fresh → Fine ns st →
+  pub allocate-alike : {ns : List ℕ} (bytes : ℕ) (kind : Kind) (fresh : Content) (st : State) (go go' : Option Ptr → State → Process) → SuitsKind L.script kind fresh → Fine ns st →
       ((ns : List ℕ) (o : Option Ptr) (st : State) → Fine ns st → Alike ns (go o st) (go' o st)) → Alike ns (allocate bytes kind fresh st go) (allocate bytes kind fresh st go')
   unfolding allocate
   allocate-alike {ns = ns} bytes kind fresh st _ _ suits f k =
-      attempt-alike _ _ st st _ _ f refl f.0 (λ n a. L.allocated ns st.heap bytes kind fresh n a suits f.1) k
+      attempt-alike _ _ st st _ _ f refl f.0 f.2 (λ n a. L.allocated ns st.heap bytes kind fresh n a suits f.1) k
 
   longer-alike : {ns : List ℕ} (b : Bool) (p : Ptr) (c : Cell Content) (bytes : ℕ) (cut st : State) (go go' : Option Ptr → State → Process) →
       nat_lt c.head.length (cell_length bytes) ≡ b → cell_at p st.heap.row ≡ Some c → st.heap ≡ cut.heap → Fine ns cut → Fine ns st →
@@ -203,10 +208,10 @@ module _ (L : Lasting) where
       Alike ns (reallocate_longer b c bytes cut st go) (reallocate_longer b c bytes cut st go')
   unfolding reallocate_longer
   longer-alike {ns = ns} true p c bytes cut st _ _ longer e same fc f k =
-      attempt-alike _ _ cut st _ _ fc (ap (λ h. is_due h.setting) same) f.0
+      attempt-alike _ _ cut st _ _ fc (ap (λ h. is_due h.setting) same) f.0 f.2
       (λ n a. L.reallocated ns st.heap p c bytes n a e (ltb-true c.head.length (cell_length bytes) longer) f.1) k
   longer-alike {ns = ns} false p c bytes cut st _ _ shorter e same fc f k =
-      k ns _ _ (f.0, L.cut_down ns st.heap p c bytes e (ltb-false c.head.length (cell_length bytes) shorter) f.1)
+      k ns _ _ (f.0, L.cut_down ns st.heap p c bytes e (ltb-false c.head.length (cell_length bytes) shorter) f.1, f.2)
 
   pub reallocate-alike : {ns : List ℕ} (p : Ptr) (c : Cell Content) (bytes : ℕ) (cut st : State) (go go' : Option Ptr → State → Process) →
       cell_at p st.heap.row ≡ Some c → st.heap ≡ cut.heap → Fine ns cut → Fine ns st →
@@ -226,17 +231,7 @@ module _ (L : Lasting) where
 
   pub push-alike : {ns : List ℕ} (item : Item) (st : State) → Fine ns st → Alike ns (push item st) (push item st)
   unfolding push
-  push-alike {ns = ns} item st f = by (nat_lt (length st.items) st.slots)
-    where
-      pushed : State
-      pushed = record st { items = st.items ++ item ∷ [] }
-
-      grown : Process
-      grown = grow_if (nat_eq (length pushed.items) st.slots) st pushed
-
-      by : (b : Bool) → Alike ns (elim b [ true ↦ grown | false ↦ ends (leaves KERR_NO_MEMORY) st ]) (elim b [ true ↦ grown | false ↦ ends (leaves KERR_NO_MEMORY) st ])
-      by true = grow-alike _ _ _ refl f f
-      by false = (refl, f)
+  push-alike item st f = grow-alike _ _ _ refl f f
 
   pub with_writable-alike : {ns : List ℕ} (st : State) (d : Writable) (go go' : Base → Process) → Fine ns st → ((b : Base) → Alike ns (go b) (go' b)) →
       Alike ns (with_writable st d go) (with_writable st d go')
@@ -282,7 +277,7 @@ module _ (L : Lasting) where
   unfolding write
   write-alike (Ok us) _ (B.Local i) _ f = (refl, f)
   write-alike {ns = ns} (Ok us) st (B.Cell p) _ f =
-      (refl, (f.0, L.rewritten ns st.heap p (set_units us) (λ c e is. suits-set_units c.head.kind c.content us is) f.1))
+      (refl, (f.0, L.rewritten ns st.heap p (set_units us) (λ c e is. suits-set_units L.script c.head.kind c.content us is) f.1, f.2))
   write-alike (Ok us) _ B.Nothing _ f = (refl, f)
   write-alike (Ok us) _ (B.Literal i) _ f = (refl, f)
   write-alike (Err panic) _ _ _ f = (refl, f)
@@ -295,7 +290,7 @@ module _ (L : Lasting) where
   released-alike : {ns : List ℕ} (o : Option (Cell Content)) (p : Ptr) (st : State) → Fine ns st → Alike ns (released o p st) (released o p st)
   unfolding released
   released-alike None _ _ f = (refl, f)
-  released-alike {ns = ns} (Some c) p st f = (refl, (f.0, L.freed ns st.heap p f.1))
+  released-alike {ns = ns} (Some c) p st f = (refl, (f.0, L.freed ns st.heap p f.1, f.2))
 
   pub release-alike : {ns : List ℕ} (p : Ptr) (st : State) → Fine ns st → Alike ns (release p st) (release p st)
   unfolding release

@@ -1,5 +1,7 @@
 -- One clause for each statement: what it does keeps a lasting fact, and is alike where the meanings of what stands inside are.
-use Rattle.std.proofs.Common.{ℕ, ℤ, Bool, true, false, List, [], ◌∷◌, refl}
+use Rattle.std.proofs.Common.{ℕ, ℤ, Bool, true, false, List, [], ◌∷◌, length, refl}
+use Rattle.std.specs.Fmt.{signed_decimal}
+use Rattle.std.proofs.lemmas.List.{length-replicate}
 use Rattle.wb_model.specs.declared.heap.Ptr.{Ptr}
 use Rattle.wb_model.specs.declared.heap.Item.{Item}
 use Rattle.wb_model.specs.declared.heap.Item.TheVariants as I
@@ -12,10 +14,14 @@ use Rattle.wb_model.specs.declared.script.Condition.TheVariants.{IsNull, NotNull
 use Rattle.wb_model.specs.declared.script.Argument.{Argument}
 use Rattle.wb_model.specs.declared.script.Argument.TheVariants.{Passed, Given}
 use Rattle.wb_model.specs.declared.script.Statement.TheOpen.{Statement-F}
+use Rattle.wb_model.specs.Bodies.{class_at}
 use Rattle.wb_model.specs.Rules.{never, next, each}
-use Rattle.wb_model.specs.State.{State, Value, Way, goes_on, returns, leaves, Process}
+use Rattle.wb_model.specs.State.{null, State, Value, Way, goes_on, returns, leaves, Process}
+use Rattle.wb_model.specs.Operands.{number_of}
+use Rattle.wb_model.specs.Reading.{printed}
 use Rattle.wb_model.specs.Statements.{new_object, alloc_raw, Where, Meaning, Layer, realloc_of, realloc_raw, in_frame, plain, with_arguments, destroyed_object, destroyed_item, trapped, with_condition, leave_if, realloc_text, statement}
 use Rattle.wb_model.proofs.AlikeLemmas.{Lasting, Fine, Alike, AlikeAll, and_then-alike, then_do-alike, require-alike, with_some-alike, unless-alike, with_cell-alike, with_pointer-alike, set_pointer-fine, stored-fine, given_to-alike, allocate-alike, reallocate-alike, push-alike, with_writable-alike, with_readable-alike, with_units-alike, with_room-alike, write-alike, write_view-alike, release-alike, with_words-alike, with_class-alike}
+use Rattle.wb_model.proofs.PrintableLemmas.{printed-printable, signed_decimal-printable}
 
 module _ (L : Lasting) where
   pub plain-alike : {ns : List ℕ} (go go' : Ptr → State → Process) (w : Way) (st : State) → Fine L ns st → ((p : Ptr) (st : State) → Fine L ns st → Alike L ns (go p st) (go' p st)) → Alike L ns (plain go w st) (plain go' w st)
@@ -76,75 +82,78 @@ module _ (L : Lasting) where
       reallocate-alike L q c _ st st _ _ e refl f f (λ ns o st f. given_to-alike L _ _ o st f))))
 
   -- one clause for each statement
-  pub statement-alike : {ns : List ℕ} (script : Script) (rec rec' : Meaning) (at : Where) (s : Layer) (st : State) → AlikeAll L rec rec' → Fine L ns st → Alike L ns (statement script rec at s st) (statement script rec' at s st)
+  pub statement-alike : {ns : List ℕ} (rec rec' : Meaning) (at : Where) (s : Layer) (st : State) → AlikeAll L rec rec' → Fine L ns st → Alike L ns (statement L.script rec at s st) (statement L.script rec' at s st)
   unfolding statement new_object realloc_text
-  statement-alike script rec rec' at (Statement-F.Alloc p v r) st k f = with_pointer-alike L _ _ _ _ f (λ _. with_some-alike L _ _ _ _ _ f (λ n _. alloc_raw-alike _ _ _ _ f))
-  statement-alike script rec rec' at (Statement-F.Realloc p q v r) st k f = with_pointer-alike L _ _ _ _ f (λ _. with_pointer-alike L _ _ _ _ f (λ old. realloc_of-alike _ _ _ _ _ _ f))
-  statement-alike script rec rec' at (Statement-F.Free p) st k f = with_pointer-alike L _ _ _ _ f (λ q. release-alike L _ _ f)
-  statement-alike script rec rec' at (Statement-F.AllocLen x p) st k f = with_pointer-alike L _ _ _ _ f (λ q. with_some-alike L _ _ _ _ _ f (λ c _. (refl, f)))
-  statement-alike script rec rec' at (Statement-F.Store p i v) st k f =
+  statement-alike rec rec' at (Statement-F.Alloc p v r) st k f = with_pointer-alike L _ _ _ _ f (λ _. with_some-alike L _ _ _ _ _ f (λ n _. alloc_raw-alike _ _ _ _ f))
+  statement-alike rec rec' at (Statement-F.Realloc p q v r) st k f = with_pointer-alike L _ _ _ _ f (λ _. with_pointer-alike L _ _ _ _ f (λ old. realloc_of-alike _ _ _ _ _ _ f))
+  statement-alike rec rec' at (Statement-F.Free p) st k f = with_pointer-alike L _ _ _ _ f (λ q. release-alike L _ _ f)
+  statement-alike rec rec' at (Statement-F.AllocLen x p) st k f = with_pointer-alike L _ _ _ _ f (λ q. with_some-alike L _ _ _ _ _ f (λ c _. (refl, f)))
+  statement-alike rec rec' at (Statement-F.Store p i v) st k f =
       with_pointer-alike L _ _ _ _ f (λ q. with_words-alike L _ _ _ _ f (λ c ws e w. with_some-alike L _ _ _ _ _ f (λ n _. (refl, stored-fine L st q c ws _ e w f))))
-  statement-alike script rec rec' at (Statement-F.Load x p i) st k f = with_pointer-alike L _ _ _ _ f (λ q. with_words-alike L _ _ _ _ f (λ c ws e w. with_some-alike L _ _ _ _ _ f (λ n _. (refl, f))))
-  statement-alike script rec rec' at (Statement-F.New p class r) st k f = with_pointer-alike L _ _ _ _ f (λ _. allocate-alike L _ _ _ _ _ _ tt f (λ ns o st f. given_to-alike L _ _ o st f))
-  statement-alike script rec rec' at (Statement-F.Construct p) st k f =
+  statement-alike rec rec' at (Statement-F.Load x p i) st k f = with_pointer-alike L _ _ _ _ f (λ q. with_words-alike L _ _ _ _ f (λ c ws e w. with_some-alike L _ _ _ _ _ f (λ n _. (refl, f))))
+  statement-alike rec rec' at (Statement-F.New p class r) st k f =
+      let suits = length-replicate (length (class_at L.script class).fields) null in
+      with_pointer-alike L _ _ _ _ f (λ _. allocate-alike L _ _ _ _ _ _ suits f (λ ns o st f. given_to-alike L _ _ o st f))
+  statement-alike rec rec' at (Statement-F.Construct p) st k f =
       with_pointer-alike L _ _ _ _ f (λ q. with_class-alike L _ _ _ _ f (λ n. in_frame-alike _ _ _ _ _ _ _ _ _ k f (λ ns w st f. plain-alike _ _ w st f (λ _ st f. (refl, f)))))
-  statement-alike script rec rec' at (Statement-F.Delete p) st k f = with_pointer-alike L _ _ _ _ f (λ q. destroyed_object-alike _ _ _ _ _ _ k f)
-  statement-alike script rec rec' at (Statement-F.Set p q) st k f = with_pointer-alike L _ _ _ _ f (λ _. with_pointer-alike L _ _ _ _ f (λ to. (refl, set_pointer-fine L p _ _ f)))
-  statement-alike script rec rec' at (Statement-F.SetNumber x v) st k f = (refl, f)
-  statement-alike script rec rec' at (Statement-F.SetNull p) st k f = with_pointer-alike L _ _ _ _ f (λ _. (refl, set_pointer-fine L p _ _ f))
-  statement-alike script rec rec' at (Statement-F.Add x v) st k f = require-alike L _ _ _ _ _ f (refl, f)
-  statement-alike script rec rec' at (Statement-F.Push p) st k f = with_pointer-alike L _ _ _ _ f (λ q. push-alike L _ _ f)
-  statement-alike script rec rec' at (Statement-F.PushObject p) st k f = with_pointer-alike L _ _ _ _ f (λ q. push-alike L _ _ f)
-  statement-alike script rec rec' at (Statement-F.PushOperation p op) st k f = with_pointer-alike L _ _ _ _ f (λ q. push-alike L _ _ f)
-  statement-alike script rec rec' at (Statement-F.Pop v) st k f = with_some-alike L _ _ _ _ _ f (λ n _. require-alike L _ _ _ _ _ f (refl, f))
-  statement-alike script rec rec' at (Statement-F.PopDestroy v) st k f = with_some-alike L _ _ _ _ _ f (λ n _. require-alike L _ _ _ _ _ f (k _ _ _ _ f))
-  statement-alike script rec rec' at (Statement-F.PopCheck p) st k f =
+  statement-alike rec rec' at (Statement-F.Delete p) st k f = with_pointer-alike L _ _ _ _ f (λ q. destroyed_object-alike _ _ _ _ _ _ k f)
+  statement-alike rec rec' at (Statement-F.Set p q) st k f = with_pointer-alike L _ _ _ _ f (λ _. with_pointer-alike L _ _ _ _ f (λ to. (refl, set_pointer-fine L p _ _ f)))
+  statement-alike rec rec' at (Statement-F.SetNumber x v) st k f = (refl, f)
+  statement-alike rec rec' at (Statement-F.SetNull p) st k f = with_pointer-alike L _ _ _ _ f (λ _. (refl, set_pointer-fine L p _ _ f))
+  statement-alike rec rec' at (Statement-F.Add x v) st k f = require-alike L _ _ _ _ _ f (refl, f)
+  statement-alike rec rec' at (Statement-F.Push p) st k f = with_pointer-alike L _ _ _ _ f (λ q. push-alike L _ _ f)
+  statement-alike rec rec' at (Statement-F.PushObject p) st k f = with_pointer-alike L _ _ _ _ f (λ q. push-alike L _ _ f)
+  statement-alike rec rec' at (Statement-F.PushOperation p op) st k f = with_pointer-alike L _ _ _ _ f (λ q. push-alike L _ _ f)
+  statement-alike rec rec' at (Statement-F.Pop v) st k f = with_some-alike L _ _ _ _ _ f (λ n _. require-alike L _ _ _ _ _ f (refl, f))
+  statement-alike rec rec' at (Statement-F.PopDestroy v) st k f = with_some-alike L _ _ _ _ _ f (λ n _. require-alike L _ _ _ _ _ f (k _ _ _ _ f))
+  statement-alike rec rec' at (Statement-F.PopCheck p) st k f =
       with_pointer-alike L _ _ _ _ f (λ q. require-alike L _ _ _ _ _ f (with_some-alike L _ _ _ _ _ f (λ item _. require-alike L _ _ _ _ _ f (refl, f))))
-  statement-alike script rec rec' at (Statement-F.Leave v) st k f = (refl, f)
-  statement-alike script rec rec' at (Statement-F.LeaveIfError v) st k f = leave_if-alike _ _ _ f
-  statement-alike script rec rec' at (Statement-F.LeaveIfNull p) st k f = with_pointer-alike L _ _ _ _ f (λ q. leave_if-alike _ _ _ f)
-  statement-alike script rec rec' at (Statement-F.Call n args) st k f =
+  statement-alike rec rec' at (Statement-F.Leave v) st k f = (refl, f)
+  statement-alike rec rec' at (Statement-F.LeaveIfError v) st k f = leave_if-alike _ _ _ f
+  statement-alike rec rec' at (Statement-F.LeaveIfNull p) st k f = with_pointer-alike L _ _ _ _ f (λ q. leave_if-alike _ _ _ f)
+  statement-alike rec rec' at (Statement-F.Call n args) st k f =
       with_arguments-alike _ _ _ args f (λ vs. in_frame-alike _ _ _ _ _ _ _ _ _ k f (λ ns w st f. plain-alike _ _ w st f (λ _ st f. (refl, f))))
-  statement-alike script rec rec' at (Statement-F.CallTo x n args) st k f =
+  statement-alike rec rec' at (Statement-F.CallTo x n args) st k f =
       with_arguments-alike _ _ _ args f (λ vs. in_frame-alike _ _ _ _ _ _ _ _ _ k f (λ ns w st f. plain-alike _ _ w st f (λ p st f. (refl, f))))
-  statement-alike script rec rec' at Statement-F.Return st k f = (refl, f)
-  statement-alike script rec rec' at (Statement-F.ReturnPointer p) st k f = with_pointer-alike L _ _ _ _ f (λ q. (refl, f))
-  statement-alike {ns = ns} script rec rec' at Statement-F.Mark st k f = (refl, (f.0, L.marked ns st.heap f.1))
-  statement-alike {ns = ns} script rec rec' at (Statement-F.MarkEnd v) st k f = with_some-alike L _ _ _ _ _ f (λ n _. unless-alike L _ _ _ _ f (refl, (f.0, L.mark_ended ns st.heap f.1)))
-  statement-alike script rec rec' at (Statement-F.Check v) st k f = with_some-alike L _ _ _ _ _ f (λ n _. unless-alike L _ _ _ _ f (refl, f))
-  statement-alike script rec rec' at (Statement-F.CheckAll v) st k f = with_some-alike L _ _ _ _ _ f (λ n _. unless-alike L _ _ _ _ f (refl, f))
-  statement-alike {ns = ns} script rec rec' at (Statement-F.FailNext v) st k f = with_some-alike L _ _ _ _ _ f (λ n _. (refl, (f.0, L.set ns st.heap (next n) f.1)))
-  statement-alike {ns = ns} script rec rec' at (Statement-F.FailEvery v) st k f = with_some-alike L _ _ _ _ _ f (λ n _. (refl, (f.0, L.set ns st.heap (each n n) f.1)))
-  statement-alike {ns = ns} script rec rec' at Statement-F.FailNone st k f = (refl, (f.0, L.set ns st.heap never f.1))
-  statement-alike script rec rec' at (Statement-F.NewText p v r) st k f = with_pointer-alike L _ _ _ _ f (λ _. with_some-alike L _ _ _ _ _ f (λ n _. allocate-alike L _ _ _ _ _ _ tt f (λ ns o st f. given_to-alike L _ _ o st f)))
-  statement-alike script rec rec' at (Statement-F.ReallocText p q v) st k f =
+  statement-alike rec rec' at Statement-F.Return st k f = (refl, f)
+  statement-alike rec rec' at (Statement-F.ReturnPointer p) st k f = with_pointer-alike L _ _ _ _ f (λ q. (refl, f))
+  statement-alike {ns = ns} rec rec' at Statement-F.Mark st k f = (refl, (f.0, L.marked ns st.heap f.1, f.2))
+  statement-alike {ns = ns} rec rec' at (Statement-F.MarkEnd v) st k f = with_some-alike L _ _ _ _ _ f (λ n _. unless-alike L _ _ _ _ f (refl, (f.0, L.mark_ended ns st.heap f.1, f.2)))
+  statement-alike rec rec' at (Statement-F.Check v) st k f = with_some-alike L _ _ _ _ _ f (λ n _. unless-alike L _ _ _ _ f (refl, f))
+  statement-alike rec rec' at (Statement-F.CheckAll v) st k f = with_some-alike L _ _ _ _ _ f (λ n _. unless-alike L _ _ _ _ f (refl, f))
+  statement-alike {ns = ns} rec rec' at (Statement-F.FailNext v) st k f = with_some-alike L _ _ _ _ _ f (λ n _. (refl, (f.0, L.set ns st.heap (next n) f.1, f.2)))
+  statement-alike {ns = ns} rec rec' at (Statement-F.FailEvery v) st k f = with_some-alike L _ _ _ _ _ f (λ n _. (refl, (f.0, L.set ns st.heap (each n n) f.1, f.2)))
+  statement-alike {ns = ns} rec rec' at Statement-F.FailNone st k f = (refl, (f.0, L.set ns st.heap never f.1, f.2))
+  statement-alike rec rec' at (Statement-F.NewText p v r) st k f = with_pointer-alike L _ _ _ _ f (λ _. with_some-alike L _ _ _ _ _ f (λ n _. allocate-alike L _ _ _ _ _ _ tt f (λ ns o st f. given_to-alike L _ _ o st f)))
+  statement-alike rec rec' at (Statement-F.ReallocText p q v) st k f =
       with_pointer-alike L _ _ _ _ f (λ _. with_pointer-alike L _ _ _ _ f (λ old. with_cell-alike L _ _ _ _ f (λ c e. with_some-alike L _ _ _ _ _ f (λ us _.
       with_some-alike L _ _ _ _ _ f (λ n _. require-alike L _ _ _ _ _ f (reallocate-alike L old c _ st st _ _ e refl f f (λ ns o st f. given_to-alike L _ _ o st f)))))))
-  statement-alike script rec rec' at (Statement-F.Copy d t) st k f =
+  statement-alike rec rec' at (Statement-F.Copy d t) st k f =
       with_writable-alike L _ _ _ _ f (λ to. with_readable-alike L _ _ _ _ f (λ from. with_room-alike L _ _ _ _ f (λ max old. with_units-alike L _ _ _ _ _ f (λ us. write-alike L _ _ _ _ f))))
-  statement-alike script rec rec' at (Statement-F.Append d t) st k f =
+  statement-alike rec rec' at (Statement-F.Append d t) st k f =
       with_writable-alike L _ _ _ _ f (λ to. with_readable-alike L _ _ _ _ f (λ from. with_room-alike L _ _ _ _ f (λ max old. with_units-alike L _ _ _ _ _ f (λ us. write-alike L _ _ _ _ f))))
-  statement-alike script rec rec' at (Statement-F.Insert d v t) st k f =
+  statement-alike rec rec' at (Statement-F.Insert d v t) st k f =
       with_writable-alike L _ _ _ _ f (λ to. with_readable-alike L _ _ _ _ f (λ from. with_room-alike L _ _ _ _ f (λ max old. with_units-alike L _ _ _ _ _ f (λ us.
       with_some-alike L _ _ _ _ _ f (λ n _. require-alike L _ _ _ _ _ f (write-alike L _ _ _ _ f))))))
-  statement-alike script rec rec' at (Statement-F.DeleteText d v w) st k f =
+  statement-alike rec rec' at (Statement-F.DeleteText d v w) st k f =
       with_writable-alike L _ _ _ _ f (λ to. with_room-alike L _ _ _ _ f (λ max old. with_some-alike L _ _ _ _ _ f (λ n _. with_some-alike L _ _ _ _ _ f (λ m _. write-alike L _ _ _ _ f))))
-  statement-alike script rec rec' at (Statement-F.SetLength d v) st k f =
+  statement-alike rec rec' at (Statement-F.SetLength d v) st k f =
       with_writable-alike L _ _ _ _ f (λ to. with_room-alike L _ _ _ _ f (λ max old. with_some-alike L _ _ _ _ _ f (λ n _. write-alike L _ _ _ _ f)))
-  statement-alike script rec rec' at (Statement-F.Left w t v) st k f =
+  statement-alike rec rec' at (Statement-F.Left w t v) st k f =
       with_readable-alike L _ _ _ _ f (λ from. with_units-alike L _ _ _ _ _ f (λ us. with_some-alike L _ _ _ _ _ f (λ n _. write_view-alike L _ _ _ _ f)))
-  statement-alike script rec rec' at (Statement-F.Right w t v) st k f =
+  statement-alike rec rec' at (Statement-F.Right w t v) st k f =
       with_readable-alike L _ _ _ _ f (λ from. with_units-alike L _ _ _ _ _ f (λ us. with_some-alike L _ _ _ _ _ f (λ n _. write_view-alike L _ _ _ _ f)))
-  statement-alike script rec rec' at (Statement-F.Mid w t v u) st k f =
+  statement-alike rec rec' at (Statement-F.Mid w t v u) st k f =
       with_readable-alike L _ _ _ _ f (λ from. with_units-alike L _ _ _ _ _ f (λ us. with_some-alike L _ _ _ _ _ f (λ n _. with_some-alike L _ _ _ _ _ f (λ m _. write_view-alike L _ _ _ _ f))))
-  statement-alike script rec rec' at (Statement-F.GetLength x t) st k f = with_readable-alike L _ _ _ _ f (λ from. with_units-alike L _ _ _ _ _ f (λ us. (refl, f)))
-  statement-alike script rec rec' at (Statement-F.GetMaximum x d) st k f = with_writable-alike L _ _ _ _ f (λ to. with_room-alike L _ _ _ _ f (λ max us. (refl, f)))
-  statement-alike script rec rec' at (Statement-F.PrintText t) st k f = with_readable-alike L _ _ _ _ f (λ from. with_units-alike L _ _ _ _ _ f (λ us. (refl, f)))
-  statement-alike script rec rec' at (Statement-F.PrintNumber v) st k f = (refl, f)
-  statement-alike script rec rec' at Statement-F.NoteHeap st k f = (refl, ((st, f, (refl, refl)), f))
-  statement-alike script rec rec' at Statement-F.NoteAvailable st k f = (refl, ((st, f, refl), f))
-  statement-alike script rec rec' at Statement-F.NoteCompress st k f = (refl, ((st, f, refl), f))
-  statement-alike script rec rec' at (Statement-F.If cond first) st k f = with_condition-alike _ _ _ _ f (λ b. k _ _ _ _ f)
-  statement-alike script rec rec' at (Statement-F.IfElse cond first other) st k f = with_condition-alike _ _ _ _ f (λ b. k _ _ _ _ f)
-  statement-alike script rec rec' at (Statement-F.Repeat v body) st k f = with_some-alike L _ _ _ _ _ f (λ n _. k _ _ _ _ f)
-  statement-alike script rec rec' at (Statement-F.Trap x body) st k f = and_then-alike L _ _ _ _ _ (k _ _ _ _ f) (λ ns w st f. trapped-alike _ _ _ _ _ w st k f)
+  statement-alike rec rec' at (Statement-F.GetLength x t) st k f = with_readable-alike L _ _ _ _ f (λ from. with_units-alike L _ _ _ _ _ f (λ us. (refl, f)))
+  statement-alike rec rec' at (Statement-F.GetMaximum x d) st k f = with_writable-alike L _ _ _ _ f (λ to. with_room-alike L _ _ _ _ f (λ max us. (refl, f)))
+  statement-alike rec rec' at (Statement-F.PrintText t) st k f =
+      with_readable-alike L _ _ _ _ f (λ from. with_units-alike L _ _ _ _ _ f (λ us. (refl, (f.0, f.1, L.printed st.lines (printed us) (printed-printable us) f.2))))
+  statement-alike rec rec' at (Statement-F.PrintNumber v) st k f = (refl, (f.0, f.1, L.printed st.lines (signed_decimal (number_of st v)) (signed_decimal-printable (number_of st v)) f.2))
+  statement-alike rec rec' at Statement-F.NoteHeap st k f = (refl, ((st, f, (refl, refl)), f))
+  statement-alike rec rec' at Statement-F.NoteAvailable st k f = (refl, ((st, f, refl), f))
+  statement-alike rec rec' at Statement-F.NoteCompress st k f = (refl, ((st, f, refl), f))
+  statement-alike rec rec' at (Statement-F.If cond first) st k f = with_condition-alike _ _ _ _ f (λ b. k _ _ _ _ f)
+  statement-alike rec rec' at (Statement-F.IfElse cond first other) st k f = with_condition-alike _ _ _ _ f (λ b. k _ _ _ _ f)
+  statement-alike rec rec' at (Statement-F.Repeat v body) st k f = with_some-alike L _ _ _ _ _ f (λ n _. k _ _ _ _ f)
+  statement-alike rec rec' at (Statement-F.Trap x body) st k f = and_then-alike L _ _ _ _ _ (k _ _ _ _ f) (λ ns w st f. trapped-alike _ _ _ _ _ w st k f)

@@ -9,8 +9,9 @@ use Rattle.wb_model.specs.declared.heap.Kind.{Kind}
 use Rattle.wb_model.specs.declared.heap.Kind.TheVariants as K
 use Rattle.wb_model.specs.declared.heap.Answer.{Answer}
 use Rattle.wb_model.specs.declared.heap.Answer.TheVariants.{Granted, Simulated, Refused}
+use Rattle.wb_model.specs.declared.script.Script.{Script}
 use Rattle.wb_model.specs.Row.{Cell, headers, end_of, pointer_to, is_at, cell_at, cell_length, inserted, without, changed, place_of, IsSpacedFrom, IsRow, IsFree}
-use Rattle.wb_model.specs.Heap.{Heap, alloc_request, after_alloc, realloc_request, after_realloc, shortened, fits_in_place, lower, lowered, is_cleanup}
+use Rattle.wb_model.specs.Heap.{Heap, new_cell, moved, alloc_request, after_alloc, realloc_request, after_realloc, shortened, fits_in_place, lower, lowered, is_cleanup}
 use Rattle.wb_model.specs.Throughout.{SuitsKind, HoldsItsKind, AreCellsAfter}
 use Rattle.wb_model.specs.State.{Content, words, fields, units, none}
 use Rattle.wb_model.specs.Attempts.{resized}
@@ -21,11 +22,11 @@ use Rattle.wb_model.proofs.ReallocatedHeaps.{others-numbered}
 use Rattle.wb_model.proofs.AlikeLemmas.{Lasting}
 
 -- more attempts were made
-later : (made more : ℕ) (cells : List (Cell Content)) → made ≤ more → AreCellsAfter made cells → AreCellsAfter more cells
-later made more cells le is = record { row = is.row; made_before = λ k d lt. omega (arith, le, is.made_before k d lt); kinds = is.kinds }
+later : (script : Script) (made more : ℕ) (cells : List (Cell Content)) → made ≤ more → AreCellsAfter script made cells → AreCellsAfter script more cells
+later script made more cells le is = record { row = is.row; made_before = λ k d lt. omega (arith, le, is.made_before k d lt); kinds = is.kinds }
 
 -- the cell that a pointer names
-found-cell : (P : Cell Content → Type 0) (p : Ptr) (cells : List (Cell Content)) (c : Cell Content) → All P cells → cell_at p cells ≡ Some c → P c
+pub found-cell : (P : Cell Content → Type 0) (p : Ptr) (cells : List (Cell Content)) (c : Cell Content) → All P cells → cell_at p cells ≡ Some c → P c
 found-cell P p [] c all e = cc
 found-cell P p (d ∷ ds) c all e = by (is_at p d.head) e (found-cell P p ds c (λ k x lt. all (suc k) x (omega arith)))
   where
@@ -34,27 +35,28 @@ found-cell P p (d ∷ ds) c all e = by (is_at p d.head) e (found-cell P p ds c (
     by false found rest = rest found
 
 -- resized content is of the same kind
-suits-resized : (kind : Kind) (c : Content) (usable : ℕ) → SuitsKind kind c → SuitsKind kind (resized usable c)
-suits-resized K.Raw (words ws) usable is = tt
-suits-resized (K.Object class) (words ws) usable is = absurd is
-suits-resized K.Text (words ws) usable is = absurd is
-suits-resized K.Cleanup (words ws) usable is = absurd is
-suits-resized kind (fields ps) usable is = is
-suits-resized kind (units us) usable is = is
-suits-resized kind none usable is = is
+suits-resized : (script : Script) (kind : Kind) (c : Content) (usable : ℕ) → SuitsKind script kind c → SuitsKind script kind (resized usable c)
+suits-resized script K.Raw (words ws) usable is = tt
+suits-resized script (K.Object class) (words ws) usable is = absurd is
+suits-resized script K.Text (words ws) usable is = absurd is
+suits-resized script K.Cleanup (words ws) usable is = absurd is
+suits-resized script kind (fields ps) usable is = is
+suits-resized script kind (units us) usable is = is
+suits-resized script kind none usable is = is
 
 -- the content of the cell that a pointer names is changed to fit
-kinds-changed : (p : Ptr) (f : Content → Content) (cells : List (Cell Content)) →
-    ((c : Cell Content) → cell_at p cells ≡ Some c → HoldsItsKind c → SuitsKind c.head.kind (f c.content)) → All HoldsItsKind cells → All HoldsItsKind (changed p f cells)
-kinds-changed p f [] suits all = All-nil HoldsItsKind
-kinds-changed p f (d ∷ ds) suits all =
-    by (is_at p d.head) suits (λ h. kinds-changed p f ds h (λ k x lt. all (suc k) x (omega arith)))
+pub kinds-changed : (script : Script) (p : Ptr) (f : Content → Content) (cells : List (Cell Content)) →
+    ((c : Cell Content) → cell_at p cells ≡ Some c → HoldsItsKind script c → SuitsKind script c.head.kind (f c.content)) →
+    All (HoldsItsKind script) cells → All (HoldsItsKind script) (changed p f cells)
+kinds-changed script p f [] suits all = All-nil (HoldsItsKind script)
+kinds-changed script p f (d ∷ ds) suits all =
+    by (is_at p d.head) suits (λ h. kinds-changed script p f ds h (λ k x lt. all (suc k) x (omega arith)))
   where
-    by : (b : Bool) → ((c : Cell Content) → cond b (Some d) (cell_at p ds) ≡ Some c → HoldsItsKind c → SuitsKind c.head.kind (f c.content)) →
-        (((c : Cell Content) → cell_at p ds ≡ Some c → HoldsItsKind c → SuitsKind c.head.kind (f c.content)) → All HoldsItsKind (changed p f ds)) →
-        All HoldsItsKind (cond b (record d { content = f d.content } ∷ ds) (d ∷ changed p f ds))
-    by true h rest = All-cons HoldsItsKind (record d { content = f d.content }) ds (h d refl (all 0 d (omega arith))) (λ k x lt. all (suc k) x (omega arith))
-    by false h rest = All-cons HoldsItsKind d (changed p f ds) (all 0 d (omega arith)) (rest h)
+    by : (b : Bool) → ((c : Cell Content) → cond b (Some d) (cell_at p ds) ≡ Some c → HoldsItsKind script c → SuitsKind script c.head.kind (f c.content)) →
+        (((c : Cell Content) → cell_at p ds ≡ Some c → HoldsItsKind script c → SuitsKind script c.head.kind (f c.content)) → All (HoldsItsKind script) (changed p f ds)) →
+        All (HoldsItsKind script) (cond b (record d { content = f d.content } ∷ ds) (d ∷ changed p f ds))
+    by true h rest = All-cons (HoldsItsKind script) (record d { content = f d.content }) ds (h d refl (all 0 d (omega arith))) (λ k x lt. all (suc k) x (omega arith))
+    by false h rest = All-cons (HoldsItsKind script) d (changed p f ds) (all 0 d (omega arith)) (rest h)
 
 -- a cell of another level is the same otherwise
 lower-is : (P : Header → Type 0) (level : ℕ) (h : Header) → P h → P (record h { level = level - 1 }) → P (lower level h)
@@ -72,12 +74,12 @@ All-lowered P level (c ∷ cs) blind all =
     (lower-is P level c.head (all 0 c.head (omega arith)) (blind c.head (level - 1) (all 0 c.head (omega arith))))
     (All-lowered P level cs blind (λ k x lt. all (suc k) x (omega arith)))
 
-kinds-lowered : (level : ℕ) (cells : List (Cell Content)) → All HoldsItsKind cells → All HoldsItsKind (lowered level cells)
-kinds-lowered level [] all = All-nil HoldsItsKind
-kinds-lowered level (c ∷ cs) all =
-    All-cons HoldsItsKind (record c { head = lower level c.head }) (lowered level cs)
-    (lower-is (λ h. SuitsKind h.kind c.content) level c.head (all 0 c (omega arith)) (all 0 c (omega arith)))
-    (kinds-lowered level cs (λ k x lt. all (suc k) x (omega arith)))
+pub kinds-lowered : (script : Script) (level : ℕ) (cells : List (Cell Content)) → All (HoldsItsKind script) cells → All (HoldsItsKind script) (lowered level cells)
+kinds-lowered script level [] all = All-nil (HoldsItsKind script)
+kinds-lowered script level (c ∷ cs) all =
+    All-cons (HoldsItsKind script) (record c { head = lower level c.head }) (lowered level cs)
+    (lower-is (λ h. SuitsKind script h.kind c.content) level c.head (all 0 c (omega arith)) (all 0 c (omega arith)))
+    (kinds-lowered script level cs (λ k x lt. all (suc k) x (omega arith)))
 
 spaced-lowered : (level : ℕ) (cells : List (Cell Content)) (at : ℕ) → IsSpacedFrom at (headers cells) → IsSpacedFrom at (headers (lowered level cells))
 spaced-lowered level [] at s = tt
@@ -106,11 +108,11 @@ pub one_more : (n : ℕ) (ns : List ℕ) → n ≡ length ns + 1 → n ≡ lengt
 one_more n ns e = omega (arith, e)
 
 -- a new cell
-module _ (made : ℕ) (heap : Heap Content) (is : AreCellsAfter made heap.row) where
-  pub allocated : (bytes : ℕ) (kind : Kind) (fresh : Content) (n : ℕ) (answer : Answer) → SuitsKind kind fresh → n ≡ made + 1 →
-      AreCellsAfter n (after_alloc heap (alloc_request heap bytes) kind fresh n answer).heap.row
-  allocated bytes kind fresh n Simulated suits next = later made n heap.row (omega (arith, next)) is
-  allocated bytes kind fresh n Refused suits next = later made n heap.row (omega (arith, next)) is
+module _ (script : Script) (made : ℕ) (heap : Heap Content) (is : AreCellsAfter script made heap.row) where
+  pub allocated : (bytes : ℕ) (kind : Kind) (fresh : Content) (n : ℕ) (answer : Answer) → SuitsKind script kind fresh → n ≡ made + 1 →
+      AreCellsAfter script n (after_alloc heap (alloc_request heap bytes) kind fresh n answer).heap.row
+  allocated bytes kind fresh n Simulated suits next = later script made n heap.row (omega (arith, next)) is
+  allocated bytes kind fresh n Refused suits next = later script made n heap.row (omega (arith, next)) is
   allocated bytes kind fresh n Granted suits next =
       let length = cell_length bytes in
       let place = place_of-least (headers heap.row) length (omega arith) is.row.spaced in
@@ -120,14 +122,14 @@ module _ (made : ℕ) (heap : Heap Content) (is : AreCellsAfter made heap.row) w
         row = IsRow-inserted cell heap.row place.aligned (omega arith) (omega arith) (omega (arith, next)) place.free
             (λ k d lt e. omega (arith, next, e, is.made_before k d lt)) is.row;
         made_before = All-inserted (λ h. h.number ≤ n) cell heap.row (omega arith) (λ k d lt. omega (arith, next, is.made_before k d lt));
-        kinds = All-placed HoldsItsKind cell heap.row suits is.kinds;
+        kinds = All-placed (HoldsItsKind script) cell heap.row suits is.kinds;
       }
 
   -- another cell in the place of one
   replaced : (c new : Cell Content) (more : ℕ) → made ≤ more → cell_at (pointer_to c.head) heap.row ≡ Some c → new.head.place % 16 ≡ 0 → new.head.length % 16 ≡ 0 →
       16 ≤ new.head.length → 1 ≤ new.head.number → IsFree (filter (λ h. not (is_at (pointer_to c.head) h)) (headers heap.row)) new.head.place new.head.length →
-      All (λ h. h.number ≢ new.head.number) (filter (λ h. not (is_at (pointer_to c.head) h)) (headers heap.row)) → new.head.number ≤ more → HoldsItsKind new →
-      AreCellsAfter more (inserted new (without (pointer_to c.head) heap.row))
+      All (λ h. h.number ≢ new.head.number) (filter (λ h. not (is_at (pointer_to c.head) h)) (headers heap.row)) → new.head.number ≤ more → HoldsItsKind script new →
+      AreCellsAfter script more (inserted new (without (pointer_to c.head) heap.row))
   replaced c new more le e placed aligned long numbered free apart within suits =
       let p = pointer_to c.head in
       let others = sym (headers-without p heap.row) in
@@ -136,7 +138,7 @@ module _ (made : ℕ) (heap : Heap Content) (is : AreCellsAfter made heap.row) w
             (subst (All (λ h. h.number ≢ new.head.number)) others apart) (subst IsRow others (IsRow-filter _ (headers heap.row) is.row));
         made_before = All-inserted (λ h. h.number ≤ more) new (without p heap.row) within
             (subst (All (λ h. h.number ≤ more)) others (All-filter _ (λ h. h.number ≤ more) (headers heap.row) (λ k d lt. omega (arith, le, is.made_before k d lt))));
-        kinds = All-placed HoldsItsKind new (without p heap.row) suits (All-filter _ HoldsItsKind heap.row is.kinds);
+        kinds = All-placed (HoldsItsKind script) new (without p heap.row) suits (All-filter _ (HoldsItsKind script) heap.row is.kinds);
       }
 
   -- a pointer that names a cell is its own
@@ -149,10 +151,10 @@ module _ (made : ℕ) (heap : Heap Content) (is : AreCellsAfter made heap.row) w
   changed_to : (p : Ptr) (c : Cell Content) (place to number more : ℕ) → made ≤ more → cell_at p heap.row ≡ Some c → place % 16 ≡ 0 → to % 16 ≡ 0 → 16 ≤ to →
       IsFree (filter (λ h. not (is_at (pointer_to c.head) h)) (headers heap.row)) place to → 1 ≤ number → number ≤ more →
       All (λ h. h.number ≢ number) (filter (λ h. not (is_at (pointer_to c.head) h)) (headers heap.row)) →
-      AreCellsAfter more (inserted (resized_to c place to number) (without (pointer_to c.head) heap.row))
+      AreCellsAfter script more (inserted (resized_to c place to number) (without (pointer_to c.head) heap.row))
   changed_to p c place to number more le e placed aligned long free numbered within apart =
       replaced c (resized_to c place to number) more le (own p c e) placed aligned long numbered free apart within
-      (suits-resized c.head.kind c.content (to - 16) (found-cell HoldsItsKind p heap.row c is.kinds e))
+      (suits-resized script c.head.kind c.content (to - 16) (found-cell (HoldsItsKind script) p heap.row c is.kinds e))
 
   found-own : (p : Ptr) (c : Cell Content) → cell_at p heap.row ≡ Some c → find (is_at (pointer_to c.head)) (headers heap.row) ≡ Some c.head
   found-own p c e = found-head (pointer_to c.head) heap.row c (own p c e)
@@ -166,10 +168,10 @@ module _ (made : ℕ) (heap : Heap Content) (is : AreCellsAfter made heap.row) w
   -- a place that was chosen for a longer cell
   moved_to : (p : Ptr) (c : Cell Content) (place to n : ℕ) → n ≡ made + 1 → cell_at p heap.row ≡ Some c → place % 16 ≡ 0 → to % 16 ≡ 0 → 16 ≤ to →
       IsFree (filter (λ h. not (is_at (pointer_to c.head) h)) (headers heap.row)) place to →
-      AreCellsAfter n (inserted (resized_to c place to (cond (nat_eq place c.head.place) c.head.number n)) (without (pointer_to c.head) heap.row))
+      AreCellsAfter script n (inserted (resized_to c place to (cond (nat_eq place c.head.place) c.head.number n)) (without (pointer_to c.head) heap.row))
   moved_to p c place to n next e placed aligned long free = by (nat_eq place c.head.place)
     where
-      by : (b : Bool) → AreCellsAfter n (inserted (resized_to c place to (cond b c.head.number n)) (without (pointer_to c.head) heap.row))
+      by : (b : Bool) → AreCellsAfter script n (inserted (resized_to c place to (cond b c.head.number n)) (without (pointer_to c.head) heap.row))
       by true =
           let number = own_number p c e in
           changed_to p c place to c.head.number n (omega (arith, next)) e placed aligned long free number.0 (omega (arith, next, number.1))
@@ -179,9 +181,9 @@ module _ (made : ℕ) (heap : Heap Content) (is : AreCellsAfter made heap.row) w
           (All-filter _ (λ h. h.number ≢ n) (headers heap.row) (λ k d lt same. omega (arith, next, same, is.made_before k d lt)))
 
   pub reallocated : (p : Ptr) (c : Cell Content) (bytes n : ℕ) (answer : Answer) → cell_at p heap.row ≡ Some c → n ≡ made + 1 →
-      AreCellsAfter n (after_realloc heap (realloc_request heap c.head bytes) c.head (resized (cell_length bytes - 16) c.content) n answer).heap.row
-  reallocated p c bytes n Simulated e next = later made n heap.row (omega (arith, next)) is
-  reallocated p c bytes n Refused e next = later made n heap.row (omega (arith, next)) is
+      AreCellsAfter script n (after_realloc heap (realloc_request heap c.head bytes) c.head (resized (cell_length bytes - 16) c.content) n answer).heap.row
+  reallocated p c bytes n Simulated e next = later script made n heap.row (omega (arith, next)) is
+  reallocated p c bytes n Refused e next = later script made n heap.row (omega (arith, next)) is
   reallocated p c bytes n Granted e next = by (fits_in_place (headers heap.row) c.head to) refl
     where
       to : ℕ
@@ -191,7 +193,7 @@ module _ (made : ℕ) (heap : Heap Content) (is : AreCellsAfter made heap.row) w
       q = pointer_to c.head
 
       by : (b : Bool) → fits_in_place (headers heap.row) c.head to ≡ b →
-          AreCellsAfter n
+          AreCellsAfter script n
           (inserted
           (resized_to c (cond b c.head.place (place_of (headers heap.row) to)) to
           (cond (nat_eq (cond b c.head.place (place_of (headers heap.row) to)) c.head.place) c.head.number n)) (without q heap.row))
@@ -205,7 +207,7 @@ module _ (made : ℕ) (heap : Heap Content) (is : AreCellsAfter made heap.row) w
           (free-filter (λ h. not (is_at q h)) (headers heap.row) (place_of (headers heap.row) to) to place.free)
 
   pub cut_down : (p : Ptr) (c : Cell Content) (bytes : ℕ) → cell_at p heap.row ≡ Some c → cell_length bytes ≤ c.head.length →
-      AreCellsAfter made (shortened heap c.head (cell_length bytes) (resized (cell_length bytes - 16) c.content)).row
+      AreCellsAfter script made (shortened heap c.head (cell_length bytes) (resized (cell_length bytes - 16) c.content)).row
   cut_down p c bytes e shorter =
       let q = pointer_to c.head in
       let there = found-from q (headers heap.row) 0 c.head is.row.spaced (found-own p c e) in
@@ -215,30 +217,30 @@ module _ (made : ℕ) (heap : Heap Content) (is : AreCellsAfter made heap.row) w
       (fits-free q (cell_length bytes) (headers heap.row) fits) number.0 number.1
       (others-numbered q (headers heap.row) c.head is.row.numbered (found-own p c e))
 
-  pub freed : (p : Ptr) → AreCellsAfter made (without p heap.row)
+  pub freed : (p : Ptr) → AreCellsAfter script made (without p heap.row)
   freed p =
       let others = sym (headers-without p heap.row) in
       record {
         row = subst IsRow others (IsRow-filter _ (headers heap.row) is.row);
         made_before = subst (All (λ h. h.number ≤ made)) others (All-filter _ (λ h. h.number ≤ made) (headers heap.row) is.made_before);
-        kinds = All-filter _ HoldsItsKind heap.row is.kinds;
+        kinds = All-filter _ (HoldsItsKind script) heap.row is.kinds;
       }
 
   pub rewritten : (p : Ptr) (f : Content → Content) →
-      ((c : Cell Content) → cell_at p heap.row ≡ Some c → HoldsItsKind c → SuitsKind c.head.kind (f c.content)) → AreCellsAfter made (changed p f heap.row)
+      ((c : Cell Content) → cell_at p heap.row ≡ Some c → HoldsItsKind script c → SuitsKind script c.head.kind (f c.content)) → AreCellsAfter script made (changed p f heap.row)
   rewritten p f suits =
       let same = sym (headers-changed p f heap.row) in
       record {
         row = subst IsRow same is.row;
         made_before = subst (All (λ h. h.number ≤ made)) same is.made_before;
-        kinds = kinds-changed p f heap.row suits is.kinds;
+        kinds = kinds-changed script p f heap.row suits is.kinds;
       }
 
-  pub mark_ended : (level : ℕ) → AreCellsAfter made (lowered level heap.row)
+  pub mark_ended : (level : ℕ) → AreCellsAfter script made (lowered level heap.row)
   mark_ended level = record {
     row = record { spaced = spaced-lowered level heap.row 0 is.row.spaced; numbered = numbered-lowered level heap.row is.row.numbered };
     made_before = All-lowered (λ h. h.number ≤ made) level heap.row (λ h l le. le) is.made_before;
-    kinds = kinds-lowered level heap.row is.kinds;
+    kinds = kinds-lowered script level heap.row is.kinds;
   }
 
 -- the numbers that attempts got, the newest first, count from 1
@@ -247,20 +249,68 @@ AreCounted [] = Unit {0}
 AreCounted (n ∷ ns) = (n ≡ length ns + 1) × AreCounted ns
 
 -- that lasts
-abbrev pub cells : Lasting
-cells = record {
+abbrev pub cells : Script → Lasting
+cells script = record {
+  script = script;
   Counts = λ _. Unit {0};
-  Holds = λ ns heap. AreCounted ns → AreCellsAfter (length ns) heap.row;
+  Holds = λ ns heap. AreCounted ns → AreCellsAfter script (length ns) heap.row;
+  Prints = λ _. Unit {0};
+  printed = λ _ _ _ _. tt;
   allocated = λ ns heap bytes kind fresh n answer suits h counted.
-      subst (λ m. AreCellsAfter m (after_alloc heap (alloc_request heap bytes) kind fresh n answer).heap.row) (one_more n ns counted.0)
-      (allocated (length ns) heap (h counted.1) bytes kind fresh n answer suits counted.0);
+      subst (λ m. AreCellsAfter script m (after_alloc heap (alloc_request heap bytes) kind fresh n answer).heap.row) (one_more n ns counted.0)
+      (allocated script (length ns) heap (h counted.1) bytes kind fresh n answer suits counted.0);
   reallocated = λ ns heap p c bytes n answer e longer h counted.
-      subst (λ m. AreCellsAfter m (after_realloc heap (realloc_request heap c.head bytes) c.head (resized (cell_length bytes - 16) c.content) n answer).heap.row)
-      (one_more n ns counted.0) (reallocated (length ns) heap (h counted.1) p c bytes n answer e counted.0);
-  cut_down = λ ns heap p c bytes e shorter h counted. cut_down (length ns) heap (h counted) p c bytes e shorter;
-  freed = λ ns heap p h counted. freed (length ns) heap (h counted) p;
-  rewritten = λ ns heap p f suits h counted. rewritten (length ns) heap (h counted) p f suits;
+      subst (λ m. AreCellsAfter script m (after_realloc heap (realloc_request heap c.head bytes) c.head (resized (cell_length bytes - 16) c.content) n answer).heap.row)
+      (one_more n ns counted.0) (reallocated script (length ns) heap (h counted.1) p c bytes n answer e counted.0);
+  cut_down = λ ns heap p c bytes e shorter h counted. cut_down script (length ns) heap (h counted) p c bytes e shorter;
+  freed = λ ns heap p h counted. freed script (length ns) heap (h counted) p;
+  rewritten = λ ns heap p f suits h counted. rewritten script (length ns) heap (h counted) p f suits;
   marked = λ ns heap h. h;
-  mark_ended = λ ns heap h counted. mark_ended (length ns) heap (h counted) heap.level;
+  mark_ended = λ ns heap h counted. mark_ended script (length ns) heap (h counted) heap.level;
   set = λ ns heap setting h. h;
+}
+
+-- each cell of a heap holds what its kind holds
+abbrev pub AreOfKind : Script → Heap Content → Type 0
+AreOfKind script heap = All (HoldsItsKind script) heap.row
+
+pub kinds-allocated : (script : Script) (heap : Heap Content) (bytes : ℕ) (kind : Kind) (fresh : Content) (n : ℕ) (answer : Answer) → SuitsKind script kind fresh →
+    AreOfKind script heap → AreOfKind script (after_alloc heap (alloc_request heap bytes) kind fresh n answer).heap
+kinds-allocated script heap bytes kind fresh n Granted suits all =
+    All-placed (HoldsItsKind script) (new_cell heap n (alloc_request heap bytes) kind fresh) heap.row suits all
+kinds-allocated script heap bytes kind fresh n Simulated suits all = all
+kinds-allocated script heap bytes kind fresh n Refused suits all = all
+
+pub kinds-reallocated : (script : Script) (heap : Heap Content) (p : Ptr) (c : Cell Content) (bytes n : ℕ) (answer : Answer) → cell_at p heap.row ≡ Some c →
+    AreOfKind script heap → AreOfKind script (after_realloc heap (realloc_request heap c.head bytes) c.head (resized (cell_length bytes - 16) c.content) n answer).heap
+kinds-reallocated script heap p c bytes n Granted e all =
+    All-placed (HoldsItsKind script) (record { head = moved c.head n (realloc_request heap c.head bytes); content = resized (cell_length bytes - 16) c.content })
+    (without (pointer_to c.head) heap.row) (suits-resized script c.head.kind c.content (cell_length bytes - 16) (found-cell (HoldsItsKind script) p heap.row c all e))
+    (All-filter _ (HoldsItsKind script) heap.row all)
+kinds-reallocated script heap p c bytes n Simulated e all = all
+kinds-reallocated script heap p c bytes n Refused e all = all
+
+pub kinds-shortened : (script : Script) (heap : Heap Content) (p : Ptr) (c : Cell Content) (bytes : ℕ) → cell_at p heap.row ≡ Some c →
+    AreOfKind script heap → AreOfKind script (shortened heap c.head (cell_length bytes) (resized (cell_length bytes - 16) c.content))
+kinds-shortened script heap p c bytes e all =
+    All-placed (HoldsItsKind script) (record { head = record c.head { length = cell_length bytes }; content = resized (cell_length bytes - 16) c.content })
+    (without (pointer_to c.head) heap.row) (suits-resized script c.head.kind c.content (cell_length bytes - 16) (found-cell (HoldsItsKind script) p heap.row c all e))
+    (All-filter _ (HoldsItsKind script) heap.row all)
+
+-- that lasts of itself
+abbrev pub kinds : Script → Lasting
+kinds script = record {
+  script = script;
+  Counts = λ _. Unit {0};
+  Holds = λ ns heap. AreOfKind script heap;
+  Prints = λ _. Unit {0};
+  printed = λ _ _ _ _. tt;
+  allocated = λ ns heap bytes kind fresh n answer suits all. kinds-allocated script heap bytes kind fresh n answer suits all;
+  reallocated = λ ns heap p c bytes n answer e longer all. kinds-reallocated script heap p c bytes n answer e all;
+  cut_down = λ ns heap p c bytes e shorter all. kinds-shortened script heap p c bytes e all;
+  freed = λ ns heap p all. All-filter _ (HoldsItsKind script) heap.row all;
+  rewritten = λ ns heap p f suits all. kinds-changed script p f heap.row suits all;
+  marked = λ ns heap all. all;
+  mark_ended = λ ns heap all. kinds-lowered script heap.level heap.row all;
+  set = λ ns heap setting all. all;
 }

@@ -13,8 +13,11 @@ pub mod ObjectCells
 pub mod NewCells
 pub mod Onward
 pub mod Parts
+pub mod PrintableLemmas
 pub mod KeptCells
 pub mod ThroughoutLemmas
+pub mod FreeSlots
+pub mod FreeSlotLemmas
 pub mod Payloads
 pub mod Rows
 pub mod Settings

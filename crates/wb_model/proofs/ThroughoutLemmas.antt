@@ -1,7 +1,8 @@
--- Every state that a run shows has cells in a row, for every script: the induction over what is still to do, at this fact.
+-- Every state that a run shows has cells in a row, and printed lines of printable ASCII, for every script: the induction over
+-- what is still to do, at these facts.
 use Rattle.std.proofs.Common.{◌≡◌, ℕ, suc, ◌+◌, ◌≤◌, arith, List, [], ◌∷◌, length, length-append, refl, sym, subst, Option, Some, None}
-use Rattle.std.specs.Prelude.{ℤ}
-use Rattle.std.proofs.lemmas.List.Elements.{All-nil, All-filter}
+use Rattle.std.specs.Prelude.{ℤ, All}
+use Rattle.std.proofs.lemmas.List.Elements.{All-nil, All-push, All-filter}
 use Rattle.wb_model.specs.declared.heap.Ptr.{Ptr}
 use Rattle.wb_model.specs.declared.heap.Rule.{Rule}
 use Rattle.wb_model.specs.declared.heap.Shape.{Shape}
@@ -19,64 +20,78 @@ use Rattle.wb_model.specs.Statements.{Where}
 use Rattle.wb_model.specs.Meaning.{meaning_of, meaning_within}
 use Rattle.wb_model.specs.Account.{over, stopped, End, Account, Settled, settled, on_answer, recorded, noted, next_number}
 use Rattle.wb_model.specs.Run.{start, main_trapped, in_main, started, process, before, run, outcome_of}
+use Rattle.wb_model.specs.Printable.{ArePrintable}
 use Rattle.wb_model.specs.Throughout.{Throughout, AreCellsAfter, AreLeaksAfter}
 use Rattle.wb_model.specs.Traces.{TellsSettings}
-use Rattle.wb_model.proofs.AlikeLemmas.{Lasting, Fine, Keeps, Alike, AlikeAll, and_then-alike, then_do-alike, require-alike, allocate-alike}
+use Rattle.wb_model.proofs.AlikeLemmas.{Lasting, Shows, Fine, Keeps, Alike, AlikeAll, and_then-alike, then_do-alike, require-alike, allocate-alike}
 use Rattle.wb_model.proofs.AlikePieces.{between, shows_weaker, meaning_within-alike}
 use Rattle.wb_model.proofs.MeaningLemmas.{anything}
 use Rattle.wb_model.proofs.KeptCells.{AreCounted, cells}
 use Rattle.wb_model.proofs.Rows.{IsRow-filter}
 
 -- a whole run keeps what lasts
-module _ (L : Lasting) (script : Script) (budget : ℕ) where
+module _ (L : Lasting) (budget : ℕ) where
   abbrev B : Lasting
   B = between L 0 budget
 
-  meaning-keeps : AlikeAll B (meaning_of script budget) (meaning_of script budget)
+  meaning-keeps : AlikeAll B (meaning_of L.script budget) (meaning_of L.script budget)
   unfolding meaning_of
   meaning-keeps ns at p st f = (
     refl,
-    shows_weaker L ns 0 st.steps budget (omega arith) (meaning_within script budget (suc budget) at p st)
-        (meaning_within-alike L script budget (suc budget) (suc budget) ns at p st f.0.1 f.1 (omega arith) (omega arith)).1,
+    shows_weaker L ns 0 st.steps budget (omega arith) (meaning_within L.script budget (suc budget) at p st)
+        (meaning_within-alike L budget (suc budget) (suc budget) ns at p st f.0.1 f.1 f.2 (omega arith) (omega arith)).1,
   )
 
-  main_trapped-keeps : (ns : List ℕ) (at : Where) (w : Way) (st : State) → Fine B ns st → Alike B ns (main_trapped (meaning_of script budget) at w st) (main_trapped (meaning_of script budget) at w st)
+  main_trapped-keeps : (ns : List ℕ) (at : Where) (w : Way) (st : State) → Fine B ns st → Alike B ns (main_trapped (meaning_of L.script budget) at w st) (main_trapped (meaning_of L.script budget) at w st)
   unfolding main_trapped
   main_trapped-keeps ns at (leaves code) st f = then_do-alike B _ _ _ _ _ (meaning-keeps ns at _ st f) (λ ns st f. (refl, f))
   main_trapped-keeps ns at goes_on st f = require-alike B _ _ _ _ _ f (refl, f)
   main_trapped-keeps ns at (returns p) st f = require-alike B _ _ _ _ _ f (refl, f)
 
-  started-keeps : (ns : List ℕ) (o : Option Ptr) (st : State) → Fine B ns st → Alike B ns (started (meaning_of script budget) script o st) (started (meaning_of script budget) script o st)
+  started-keeps : (ns : List ℕ) (o : Option Ptr) (st : State) → Fine B ns st → Alike B ns (started (meaning_of L.script budget) L.script o st) (started (meaning_of L.script budget) L.script o st)
   unfolding started in_main
   started-keeps ns None st f = (refl, f)
   started-keeps ns (Some p) st f = and_then-alike B _ _ _ _ _ (meaning-keeps ns _ _ _ f) (λ ns w st f. main_trapped-keeps ns _ w st f)
 
-  pub process-keeps : L.Holds [] start.heap → Keeps B [] (process script budget)
+  pub process-keeps : L.Holds [] start.heap → L.Prints [] → Keeps B [] (process L.script budget)
   unfolding process
-  process-keeps first = (allocate-alike B _ _ _ start _ _ tt ((omega arith, omega arith), first) started-keeps).1
+  process-keeps first none = (allocate-alike B _ _ _ start _ _ tt ((omega arith, omega arith), first, none) started-keeps).1
 
--- attempts that are numbered in order
-abbrev HasCells : ℕ → State → Type 0
-HasCells made st = AreCellsAfter made st.heap.row
-
-throughout : (budget : ℕ) (ns : List ℕ) (p : Process) → Keeps (between cells 0 budget) ns p → AreCounted ns → Throughout HasCells (length ns) p
-throughout budget ns (ends way st) k counted = k.1 counted
-throughout budget ns (stops stop st) k counted = k.1 counted
-throughout budget ns (asks t cut go) k counted = (
-  k.0.1 counted,
+-- what follows from a lasting fact, where attempts are numbered in order
+throughout : (L : Lasting) (P : ℕ → State → Type 0) → ((ns : List ℕ) (st : State) → AreCounted ns → Fine L ns st → P (length ns) st) →
+    (ns : List ℕ) (p : Process) → Keeps L ns p → AreCounted ns → Throughout P (length ns) p
+throughout L P is ns (ends way st) k counted = is ns st counted k
+throughout L P is ns (stops stop st) k counted = is ns st counted k
+throughout L P is ns (asks t cut go) k counted = (
+  is ns cut counted k.0,
   λ a.
       let n = length ns + 1 in
       let longer : length (n ∷ ns) ≡ length ns + 1 = omega arith in
-      subst (λ m. Throughout HasCells m (go n a)) longer (throughout budget (n ∷ ns) (go n a) (k.2 n a) (refl, counted)),
+      subst (λ m. Throughout P m (go n a)) longer (throughout L P is (n ∷ ns) (go n a) (k.2 n a) (refl, counted)),
 )
-throughout budget ns (notes q p) k counted = ((k.0.0, k.0.1.1 counted, k.0.2), throughout budget ns p k.1 counted)
+throughout L P is ns (notes q p) k counted = ((k.0.0, is ns k.0.0 counted k.0.1, k.0.2), throughout L P is ns p k.1 counted)
 
-pub process-throughout : (script : Script) (budget : ℕ) → Throughout HasCells 0 (process script budget)
-process-throughout script budget = throughout budget [] (process script budget) (process-keeps cells script budget (λ counted. record {
-  row = record { spaced = tt; numbered = λ i j d lt end. absurd (omega (arith, end)) };
-  made_before = All-nil _;
-  kinds = All-nil _;
-})) tt
+abbrev HasCells : Script → ℕ → State → Type 0
+HasCells script made st = AreCellsAfter script made st.heap.row
+
+pub process-throughout : (script : Script) (budget : ℕ) → Throughout (HasCells script) 0 (process script budget)
+process-throughout script budget =
+    throughout (between (cells script) 0 budget) (HasCells script) (λ ns st counted f. f.1 counted) [] (process script budget) (process-keeps (cells script) budget (λ counted. record {
+      row = record { spaced = tt; numbered = λ i j d lt end. absurd (omega (arith, end)) };
+      made_before = All-nil _;
+      kinds = All-nil _;
+    }) tt) tt
+
+abbrev HasPrinted : ℕ → State → Type 0
+HasPrinted made st = All ArePrintable st.lines
+
+-- what a script prints is printable
+abbrev lines : Script → Lasting
+lines script = record (anything script) { Prints = All ArePrintable; printed = λ lines line is are. All-push ArePrintable lines line are is }
+
+process-prints : (script : Script) (budget : ℕ) → Throughout HasPrinted 0 (process script budget)
+process-prints script budget =
+    throughout (between (lines script) 0 budget) HasPrinted (λ ns st counted f. f.2) [] (process script budget) (process-keeps (lines script) budget tt (All-nil ArePrintable)) tt
 
 -- each attempt tells whether the setting at the time refuses it
 tells : (L : Lasting) (ns : List ℕ) (p : Process) → Keeps L ns p → TellsSettings p
@@ -86,7 +101,7 @@ tells L ns (asks t cut go) k = (k.1, λ n a. tells L (n ∷ ns) (go n a) (k.2 n 
 tells L ns (notes q p) k = tells L ns p k.1
 
 pub process-tells : (script : Script) (budget : ℕ) → TellsSettings (process script budget)
-process-tells script budget = tells (between anything 0 budget) [] (process script budget) (process-keeps anything script budget tt)
+process-tells script budget = tells (between (anything script) 0 budget) [] (process script budget) (process-keeps (anything script) budget tt tt)
 
 -- the state in which a run ends or stops
 settled-holds : (P : ℕ → State → Type 0) (rule : Rule) (space : Space) (p : Process) (a : Account) → Throughout P (length a.trace) p →
@@ -118,6 +133,22 @@ settled-holds P rule space (notes q p) a h = by q (λ q. settled-holds P rule sp
     by (available_note row) rest = rest (available_note row) h.1
     by (compress_note top) rest = rest (compress_note top) h.1
 
+-- the same of a fact of the states alone that a process shows
+pub settled-shows : (P : State → Type 0) (rule : Rule) (space : Space) (ns : List ℕ) (p : Process) (a : Account) → Shows (λ _ st. P st) ns p →
+    P (settled rule space p a).state
+settled-shows P rule space ns (ends way st) a k = k
+settled-shows P rule space ns (stops stop st) a k = k
+settled-shows P rule space ns (asks t cut go) a k =
+    told (answer_to rule (next_number a) t) (λ w.
+    settled-shows P rule space (next_number a ∷ ns) (go (next_number a) w) (recorded space (next_number a) t w a) (k.2 (next_number a) w))
+  where
+    told : (o : Option Answer) → ((w : Answer) → P (settled rule space (go (next_number a) w) (recorded space (next_number a) t w a)).state) →
+        P (on_answer o (record { end = stopped (is_cut Ceiling); state = cut; account = a })
+        (λ w. settled rule space (go (next_number a) w) (recorded space (next_number a) t w a))).state
+    told None rest = k.0
+    told (Some w) rest = rest w
+settled-shows P rule space ns (notes q p) a k = settled-shows P rule space ns p (noted space q a) k.1
+
 -- the leaks of a run are cells of its last row
 pub run-leaks : (script : Script) (budget : ℕ) (shape : Shape) (rule : Rule) (left : Option ℤ) (leaks : List Leak) →
     (run script rule budget shape).outcome ≡ Ended left leaks → AreLeaksAfter (length (run script rule budget shape).trace) leaks
@@ -126,8 +157,8 @@ run-leaks script budget shape rule left leaks = by last.end
     last : Settled
     last = settled rule (space_of rule shape) (process script budget) (before (space_of rule shape))
 
-    is : AreCellsAfter (length last.account.trace) last.state.heap.row
-    is = settled-holds HasCells rule (space_of rule shape) (process script budget) (before (space_of rule shape)) (process-throughout script budget)
+    is : AreCellsAfter script (length last.account.trace) last.state.heap.row
+    is = settled-holds (HasCells script) rule (space_of rule shape) (process script budget) (before (space_of rule shape)) (process-throughout script budget)
 
     by : (end : End) → outcome_of end last.state ≡ Ended left leaks → AreLeaksAfter (length last.account.trace) leaks
     by (over way) e = record {
@@ -139,3 +170,7 @@ run-leaks script budget shape rule left leaks = by last.end
     by (stopped (panics p)) e = cc
     by (stopped (is_cut why)) e = cc
     by (stopped no_cleanup) e = cc
+
+-- the lines of a run are those of its last state
+pub run-prints : (script : Script) (budget : ℕ) (shape : Shape) (rule : Rule) → All ArePrintable (run script rule budget shape).lines
+run-prints script budget shape rule = settled-holds HasPrinted rule (space_of rule shape) (process script budget) (before (space_of rule shape)) (process-prints script budget)

@@ -48,11 +48,8 @@ unfoldable pub grow_if : Bool → State → State → Process
 grow_if false before st = ends goes_on st
 grow_if true before st = with_cell st st.cleanup (λ c. reallocate c (16 * (st.slots + 4)) before st after_growth)
 
--- a push appends the item, and grows a stack that is then full; there always is a free slot, so that the leave is never met
+-- a push appends the item, and grows a stack that is then full
 unfoldable pub push : Item → State → Process
 push item st =
     let pushed = record st { items = st.items ++ item ∷ [] } in
-    elim (nat_lt (length st.items) st.slots) [
-      | true ↦ grow_if (nat_eq (length pushed.items) st.slots) st pushed
-      | false ↦ ends (leaves KERR_NO_MEMORY) st
-    ]
+    grow_if (nat_eq (length pushed.items) st.slots) st pushed

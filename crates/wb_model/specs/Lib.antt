@@ -7,6 +7,7 @@ pub mod CleanupCells
 pub mod Debug
 pub mod Destructions
 pub mod Forms
+pub mod FreeSlots
 pub mod Grammar
 pub mod Heap
 pub mod Throughout
@@ -19,6 +20,7 @@ pub mod Names
 pub mod ObjectCells
 pub mod Operands
 pub mod Passes
+pub mod Printable
 pub mod Quiet
 pub mod Reading
 pub mod Resolved

@@ -5,6 +5,8 @@ use Rattle.wb_model.specs.declared.heap.Header.{Header}
 use Rattle.wb_model.specs.declared.heap.Kind.{Kind}
 use Rattle.wb_model.specs.declared.heap.Kind.TheVariants.{Raw, Object, Text, Cleanup}
 use Rattle.wb_model.specs.declared.run.Leak.{Leak}
+use Rattle.wb_model.specs.declared.script.Script.{Script}
+use Rattle.wb_model.specs.Bodies.{class_at}
 use Rattle.wb_model.specs.Row.{Cell, headers, IsRow, top_of, total_length}
 use Rattle.wb_model.specs.Run.{leak_of}
 use Rattle.wb_model.specs.State.{Content, words, fields, units, none, State, Query, heap_note, available_note, compress_note, Process, ends, stops, asks, notes}
@@ -24,22 +26,24 @@ Throughout P made (stops stop st) = P made st
 Throughout P made (asks t cut go) = P made cut × ((answer : Answer) → Throughout P (made + 1) (go (made + 1) answer))
 Throughout P made (notes q p) = ((st : State) × P made st × IsNoteOf st q) × Throughout P made p
 
--- a Raw cell holds words, an object pointers, and a text units; what the cleanup stack's cell holds stands in the state itself
-abbrev pub SuitsKind : Kind → Content → Type 0
-SuitsKind Raw (words ws) = Unit {0}
-SuitsKind (Object class) (fields ps) = Unit {0}
-SuitsKind Text (units us) = Unit {0}
-SuitsKind Cleanup none = Unit {0}
-SuitsKind _ _ = ⊥
+-- a Raw cell holds words, an object a pointer for each field of its class, and a text units; what the cleanup stack's cell holds
+-- stands in the state itself
+abbrev pub SuitsKind : Script → Kind → Content → Type 0
+SuitsKind script Raw (words ws) = Unit {0}
+SuitsKind script (Object class) (fields ps) = length ps ≡ length (class_at script class).fields
+SuitsKind script Text (units us) = Unit {0}
+SuitsKind script Cleanup none = Unit {0}
+SuitsKind script _ _ = ⊥
 
-abbrev pub HoldsItsKind : Cell Content → Type 0
-HoldsItsKind c = SuitsKind c.head.kind c.content
+abbrev pub HoldsItsKind : Script → Cell Content → Type 0
+HoldsItsKind script c = SuitsKind script c.head.kind c.content
 
--- what the live cells are once a number of attempts were made: a row, numbered by these attempts, each with what its kind holds
-pub record AreCellsAfter (made : ℕ) (cells : List (Cell Content)) : Type 0 where
+-- what the live cells of a script are once a number of attempts were made: a row, numbered by these attempts, each with what its
+-- kind holds
+pub record AreCellsAfter (script : Script) (made : ℕ) (cells : List (Cell Content)) : Type 0 where
   pub row : IsRow (headers cells)
   pub made_before : All (λ h. h.number ≤ made) (headers cells)
-  pub kinds : All HoldsItsKind cells
+  pub kinds : All (HoldsItsKind script) cells
 
 -- what a run tells as leaks: cells of a row, numbered by its attempts
 pub record AreLeaksAfter (made : ℕ) (leaks : List Leak) : Type 0 where

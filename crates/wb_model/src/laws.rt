@@ -1,8 +1,9 @@
 //! Laws of the definitions. Each is the contract of a function that does nothing, so that the gate proves it.
 
-ghost use Rattle.std.specs.Prelude.{◌≡◌, ◌≢◌, ℕ, ℤ, ◌+◌, ◌-◌, ◌%◌, ◌<◌, ◌≤◌, ◌↔◌, List, Option, Some, None, IsTrue, nat_eq, length, take, drop, slice_get, slice_index};
+ghost use Rattle.std.specs.Prelude.{◌≡◌, ◌≢◌, ℕ, ℤ, ◌+◌, ◌-◌, ◌%◌, ◌<◌, ◌≤◌, ◌↔◌, List, Option, Some, None, IsTrue, nat_eq, length, take, drop, slice_get, slice_index, All};
 ghost use Rattle.wb_model.specs.Agreement.{Agrees, RefusesAtLeast, RefusesNoGrant, IsSameRun, IsSameButNotes};
 ghost use Rattle.wb_model.specs.Sizes.{first_refusal, NoneIsRefused, IsFirstRefused, IsGreatestEnd, IsTable};
+ghost use Rattle.wb_model.specs.FreeSlots.{HasFreeSlot, WhereverItGoesOn};
 ghost use Rattle.wb_model.specs.Throughout.{Throughout, AreCellsAfter, AreLeaksAfter};
 ghost use Rattle.wb_model.specs.Rest.{Unfolds};
 ghost use Rattle.wb_model.specs.Row.{IsSpacedFrom, IsLeastPlace, place_of, top_of};
@@ -13,9 +14,10 @@ ghost use Rattle.wb_model.specs.Sweeps.{run_at, AreAllFine, IsLeastUnfine, least
 ghost use Rattle.wb_model.specs.Texts.{units_of_part};
 ghost use Rattle.wb_model.specs.Destructions.{GoesOnWith};
 ghost use Rattle.wb_model.specs.Meaning.{meaning_of};
+ghost use Rattle.wb_model.specs.Printable.{ArePrintable};
 ghost use Rattle.wb_model.specs.Quiet.{is_quiet};
 ghost use Rattle.wb_model.specs.State.{State};
-ghost use Rattle.wb_model.specs.Statements.{Where, destroy_items, destroy_object};
+ghost use Rattle.wb_model.specs.Statements.{Piece, Where, destroy_items, destroy_object};
 ghost use Rattle.wb_model.specs.Traces.{asked_for, AreAnsweredLines, TellsSettings};
 ghost use Rattle.wb_model.specs.declared.limits.TheConstants.{CEILING};
 ghost use Rattle.wb_model.specs.declared.heap.Attempt.{Attempt};
@@ -115,11 +117,26 @@ pub fn sweeps_end()
 
 /// The live cells that a run of any script passes through are a row, whatever its attempts are answered: they ascend
 /// without meeting, at multiples of 16, and have different numbers, each that of an attempt made before. Each cell
-/// holds what its kind holds. So the leaks that a run tells are cells of a row.
+/// holds what its kind holds, an object a pointer for each field of its class. So the leaks that a run tells are cells of a row.
 pub fn cells_stay_a_row()
-    ensures throughout { (script : Script) (budget : ℕ) → Throughout (λ made st. AreCellsAfter made st.heap.row) 0 (process script budget) }
+    ensures throughout { (script : Script) (budget : ℕ) → Throughout (λ made st. AreCellsAfter script made st.heap.row) 0 (process script budget) }
     ensures leaks { (script : Script) (budget : ℕ) (shape : Shape) (r : Rule) (left : Option ℤ) (leaks : List Leak) →
         (run script r budget shape).outcome ≡ Ended left leaks → AreLeaksAfter (length (run script r budget shape).trace) leaks }
+{}
+
+/// Each line that a run prints is printable ASCII: its bytes are from 32 to 126.
+pub fn printed_lines_are_ascii()
+    ensures { (script : Script) (budget : ℕ) (shape : Shape) (r : Rule) →
+        All ArePrintable (run script r budget shape).lines }
+{}
+
+/// Wherever a run of any script goes on, the cleanup stack has fewer items than slots: where it asks for an attempt, and where it
+/// comes to a plain end or returns. And what begins so, a statement or all that is left of a block, goes on so; from which it
+/// follows, statement by statement, that each push finds a free slot.
+pub fn a_slot_stays_free()
+    ensures run { (script : Script) (budget : ℕ) → WhereverItGoesOn HasFreeSlot (process script budget) }
+    ensures pieces { (script : Script) (budget : ℕ) (at : Where) (p : Piece) (st : State) → HasFreeSlot st →
+        WhereverItGoesOn HasFreeSlot (meaning_of script budget at p st) }
 {}
 
 /// The meaning of a piece is its first step, and then the meaning of what that leaves.

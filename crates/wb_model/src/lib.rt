@@ -9,6 +9,7 @@ pub mod fault;
 pub mod heap;
 pub mod items;
 pub mod laws;
+pub mod limit_laws;
 pub mod limits;
 pub mod line_laws;
 pub mod memory;

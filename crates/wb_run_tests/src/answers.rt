@@ -9,7 +9,7 @@ use std::io::{ErrorKind, Read, Write};
 use std::test::Fail;
 use wb_model::heap::{Rule, Shape};
 use workbench::answer::{READ_OR_WRITE_FAULT, answer};
-use workbench::command::{Command, Task};
+use workbench::{Command, Task};
 
 /// Gives its bytes, `at_once` at a time, and then fails or is at its end.
 #[derive(Drop)]
@@ -205,6 +205,17 @@ fn reads_no_more_where_a_read_failed(rt: HostRuntime) {
             assert_eq!(rt; reader.calls, at + 1);
         }
     }
+}
+
+/// The script comes in five reads, a sixth finds its end, and there is no seventh.
+#[test]
+fn reads_no_more_where_the_end_is_met(rt: HostRuntime) {
+    let mut reader = giving(LEAKING, None);
+    let mut writer = taking(rt.alloc(), 1000, None);
+    let status = answer(rt.alloc(), &run_command(), &mut reader, &mut writer);
+    assert_eq!(rt; status, 1);
+    assert!(rt; writer.taken.as_slice() == LEAKING_REPORT);
+    assert_eq!(rt; reader.reads, 6);
 }
 
 /// Whether writing fails, with this beginning of the text taken before.

@@ -3,9 +3,7 @@
 use std::alloc::Global;
 use std::test::Fail;
 use wb_model::heap::{Rule, Shape};
-use workbench::command::{Command, CommandFault, Task};
-use workbench::command_line::command;
-use workbench::file_name::FileName;
+use workbench::{Command, CommandFault, FileName, Task, command};
 
 const DEFAULT_SHAPE: Shape = Shape {
     min: 4096,

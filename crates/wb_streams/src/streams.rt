@@ -1,12 +1,12 @@
 //! One read and one write, and whether they failed. What is done by them, and how often, stands elsewhere.
 //!
 //! What a read or a write does to a stream is a relation into which no contract looks. So a body that reads
-//! again where a read failed is never taken for one that read once.
+//! again where a read failed, or met the end, is never taken for one that read once.
 
 ghost use Rattle.std.specs.Prelude.{◌<◌, ◌≤◌, ℕ, List, Bool, Option, ⊤, length, IfOk, is_err};
 ghost use Rattle.std.specs.Io.{ReadsAtMost, WritesAtMost};
 ghost use Rattle.std.specs.Io.KnownBytes.{ReadConsumes, WriteAppends};
-ghost use Rattle.wb_streams.specs.Streams.{takes_nothing};
+ghost use Rattle.wb_streams.specs.Streams.{Came, came_to, takes_nothing};
 
 use std::io;
 use std::io::{Read, Write};
@@ -20,14 +20,14 @@ pub trait Source {
     /// The bytes that reads will give from here on, where they are known.
     ghost remaining: { Self → Option (List ℕ) };
 
-    /// What one read does: the source before it, whether it fails, and the source after it.
-    ghost reads: { Self → Bool → Self → Type 0 };
+    /// What one read does: the source before it, what the read comes to, and the source after it.
+    ghost reads: { Self → Came → Self → Type 0 };
 
     /// One call of the system's `read`.
     fn read_once(&mut self, buffer: &mut [u8]) -> io::Result<usize>
         ensures bound { ReadsAtMost result buffer.new }
         ensures bytes { ReadConsumes (remaining self.old) (remaining self.new) result buffer.new }
-        ensures once { reads self.old (is_err result) self.new };
+        ensures once { reads self.old (came_to result) self.new };
 }
 
 impl<R: Read> Source for R {
@@ -66,12 +66,12 @@ impl<W: Write> Sink for W {
 }
 
 /// One read into a buffer with room, which fails where the source answers an error, an interrupted one too. No
-/// byte is an `Ok` of 0, and means that the source is at its end.
+/// byte is an `Ok` of 0, and means that the source is at its end, so that nothing more is to be read.
 pub fn read_some<R: Source>(reader: &mut R, buffer: &mut [u8]) -> Result<usize, StreamFault>
     requires { 0 < length buffer.old }
     ensures bound { ReadsAtMost result buffer.new }
     ensures bytes { ReadConsumes (R.remaining reader.old) (R.remaining reader.new) result buffer.new }
-    ensures once { R.reads reader.old (is_err result) reader.new }
+    ensures once { R.reads reader.old (came_to result) reader.new }
 {
     match reader.read_once(buffer) {
         Ok(count) => Ok(count),

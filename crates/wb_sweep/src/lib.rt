@@ -8,6 +8,7 @@ pub mod sweeping;
 pub use fault::SweepFault;
 pub use found::{Found, Sweep};
 pub use sweeping::sweep;
+pub use wb_machine::RunFault;
 pub use wb_model::heap::Shape;
-pub use wb_model::run::RunResult;
+pub use wb_model::run::{RunResult, Why};
 pub use wb_model::script::Script;

@@ -10,4 +10,5 @@ pub mod units;
 pub use buf::Buf;
 pub use units::Units;
 pub use wb_model::heap::Panic;
+pub use wb_model::script::Chars;
 pub use wb_model::text::{Base, View};

@@ -1,20 +1,21 @@
 -- What an answer is by its status, whatever failed.
-use Rattle.std.proofs.Common.{◌≡◌, ◌<◌, ◌≤◌, ℕ, List, [], ◌∷◌, Bool, true, false, Option, inl, inr, arith, length, take_all, le_refl, lit≤, sym, subst}
+use Rattle.std.proofs.Common.{◌≡◌, ◌+◌, ◌<◌, ◌≤◌, ℕ, List, [], ◌∷◌, Bool, true, false, Option, inl, inr, arith, length, take_all, le_refl, lit≤, sym, subst}
 use Rattle.std.specs.Io.KnownBytes.{Appends}
 use Rattle.wb_model.specs.declared.run.Outcome.{Outcome}
 use Rattle.wb_model.specs.declared.run.Outcome.TheVariants.{Ended, Panicked, NoCleanup, Cut}
 use Rattle.wb_model.specs.declared.heap.Shape.{Shape}
 use Rattle.wb_model.specs.declared.script.Script.{Script}
+use Rattle.wb_model.specs.declared.limits.TheConstants.{LONGEST_SCRIPT}
 use Rattle.wb_model.specs.Run.{run}
-use Rattle.workbench.specs.declared.answer.TheConstants.{READ_OR_WRITE_FAULT, WANT_OF_MEMORY}
 use Rattle.wb_command_line.specs.declared.command.Command.{Command}
 use Rattle.wb_command_line.specs.declared.command.Task.{Task}
 use Rattle.wb_command_line.specs.declared.command.Task.TheVariants as T
 use Rattle.workbench.specs.declared.figures.Figures.{Figures}
-use Rattle.workbench.specs.Answer.{IsAnswer, IsAnyMessage, IsMessage, IsPartWritten, IsReported, IsReportWritten, IsSaid}
+use Rattle.workbench.specs.Answer.{AreFirst, IsAnswer, IsAnyMessage, IsMessage, IsPartWritten, IsReported, IsReportWritten, IsSaid}
+use Rattle.workbench.specs.JsonReport.{laid_out}
 use Rattle.workbench.specs.Report.{IsReport, IsTaskReport, no_memory}
 use Rattle.workbench.specs.RunText.{outcome_status}
-use Rattle.wb_streams.specs.Streams.{AppendsFirst}
+use Rattle.wb_streams.specs.Streams.{AppendsFirst, Came}
 use Rattle.workbench.specs.TwoNumbers.{IsCheckReport, IsSizeReport, IsSweepReport}
 
 -- ---- a report's status is at most 3
@@ -49,11 +50,26 @@ report_status_le : (command : Command) (bytes text : List ℕ) (figures : Figure
 report_status_le command bytes text figures status (inl r) = task_status_le command.task r.script command.budget command.shape text figures status r.told
 report_status_le command bytes text figures status (inr r) = omega (arith, r.status_is)
 
+-- ---- what was read is reported on, and laid out
+
+pub laid_out_is_reported : (command : Command) (told : Option (List ℕ)) (bytes seen lines text : List ℕ) (figures : Figures) (status own : ℕ)
+    → AreFirst (LONGEST_SCRIPT + 1) told bytes → seen ≡ bytes → IsReport command seen lines figures own → text ≡ laid_out command.json lines figures own → status ≡ own
+    → IsReported command told text status
+laid_out_is_reported command told bytes seen lines text figures status own first same report laid is =
+    subst (IsReported command told text) (sym is) (record {
+      bytes = bytes;
+      read = first;
+      lines = lines;
+      figures = figures;
+      report = subst (λ read. IsReport command read lines figures own) same report;
+      text_is = laid;
+    })
+
 -- ---- the answer, where a read and a write failed or did not
 
 module _ (command : Command) (told held held' : Option (List ℕ)) where
   by_status : (read write : Bool) (text : List ℕ) (own status : ℕ) → IsMessage command told read text own → IsSaid held held' write text own status
-      → (status ≤ READ_OR_WRITE_FAULT) × (status < WANT_OF_MEMORY → IsReportWritten command told held held' status) × (status ≡ WANT_OF_MEMORY → Appends held held' no_memory)
+      → (status ≤ 5) × (status < 4 → IsReportWritten command told held held' status) × (status ≡ 4 → Appends held held' no_memory)
   by_status read true text own status m s = (omega (arith, s.1), λ low. absurd (omega (arith, s.1, low)), λ four. absurd (omega (arith, s.1, four)))
   by_status true false text own status m s =
       (omega (arith, s.1, m.1), λ low. absurd (omega (arith, s.1, m.1, low)), λ four. absurd (omega (arith, s.1, m.1, four)))
@@ -75,12 +91,12 @@ module _ (command : Command) (told held held' : Option (List ℕ)) where
   said_is_first true text own status s = s.0
   said_is_first false text own status s = (length text, subst (Appends held held') (sym (take_all (length text) text (le_refl _))) s.0)
 
-module _ {R W : Type 0} (remaining : R → Option (List ℕ)) (reads : R → Bool → R → Type 0)
+module _ {R W : Type 0} (remaining : R → Option (List ℕ)) (reads : R → Came → R → Type 0)
     (contents : W → Option (List ℕ)) (writes : W → Bool → W → Type 0)
     (command : Command) (reader reader' : R) (writer writer' : W) (status : ℕ)
     (a : IsAnswer remaining reads contents writes command reader reader' writer writer' status) where
-  pub answer_by_status : (status ≤ READ_OR_WRITE_FAULT) × (status < WANT_OF_MEMORY → IsReportWritten command (remaining reader) (contents writer) (contents writer') status)
-      × (status ≡ WANT_OF_MEMORY → Appends (contents writer) (contents writer') no_memory)
+  pub answer_by_status : (status ≤ 5) × (status < 4 → IsReportWritten command (remaining reader) (contents writer) (contents writer') status)
+      × (status ≡ 4 → Appends (contents writer) (contents writer') no_memory)
   answer_by_status = by_status command (remaining reader) (contents writer) (contents writer') a.failed a.written.failed a.text a.own status a.message a.written.said
 
   pub answer_is_part : IsPartWritten command (remaining reader) (contents writer) (contents writer')

@@ -1,6 +1,10 @@
 pub mod AnswerLemmas
+pub mod AsciiLemmas
 pub mod Hexadecimal
 pub mod JsonLemmas
 pub mod KnownBytesLemmas
+pub mod OneReport
 pub mod ProgramLemmas
+pub mod RiseLemmas
+pub mod WordsLemmas
 pub mod WorkedReports

@@ -1,5 +1,5 @@
 -- What the program has done, by what its words came to.
-use Rattle.std.proofs.Common.{◌≡◌, ◌⊎◌, ℕ, List, Bool, true, false, Result, Ok, Err, MatchResult, inl, refl, sym, subst}
+use Rattle.std.proofs.Common.{◌≡◌, ℕ, List, true, Result, Ok, Err, MatchResult, inl, refl, sym, subst}
 use Rattle.clap.specs.Words.{Text, takes}
 use Rattle.wb_command_line.specs.CommandLine.{command_line}
 use Rattle.wb_command_line.specs.Fault.{IsAfterUsage, IsFaultOf}
@@ -27,6 +27,6 @@ pub done_with : {V E H W M : Type 0} (words : Result V E) (texts : V → List Te
     → MatchResult words (λ v. IsDone carries_out tells (texts v) host host' output output' messages messages status)
     (λ e. IsRefused tells (unread e) host host' output output' messages messages status)
 done_with (Ok had) texts unread carries_out tells command host host' output output' messages status read done =
-    inl (record { command = command; spelled = read.0; done = done; untold = refl })
+    inl (record { command = command; spelled = read.0; in_ranges = read.1; done = done; untold = refl })
 done_with (Err e) texts unread carries_out tells command host host' output output' messages status read done =
     absurd (subst (λ r. MatchResult r (λ _. Unit {0}) (λ _. ⊥)) read tt)

@@ -1,24 +1,24 @@
 -- What is read, what is written, and the exit status, whatever the reader and the writer do.
-use Rattle.std.specs.Prelude.{◌≡◌, ◌≤◌, ◌⊎◌, ℕ, List, Bool, true, false, Option, Result, Err, length, take, IfSome}
+use Rattle.std.specs.Prelude.{◌≡◌, ◌+◌, ◌≤◌, ◌⊎◌, ℕ, List, Bool, true, false, Option, Result, Err, length, take, IfSome}
 use Rattle.std.specs.Io.KnownBytes.{Appends}
 use Rattle.workbench.specs.declared.answer.ReportFault.{ReportFault}
 use Rattle.workbench.specs.declared.answer.ReportFault.TheVariants.{Read}
-use Rattle.workbench.specs.declared.answer.TheConstants.{MOST_READ, READ_OR_WRITE_FAULT, WANT_OF_MEMORY}
+use Rattle.wb_model.specs.declared.limits.TheConstants.{LONGEST_SCRIPT}
 use Rattle.wb_command_line.specs.declared.command.Command.{Command}
 use Rattle.workbench.specs.declared.figures.Figures.{Figures}
 use Rattle.workbench.specs.JsonReport.{laid_out}
 use Rattle.workbench.specs.Report.{IsReport, no_memory, read_fault}
-use Rattle.wb_streams.specs.Streams.{AppendsFirst, Tries}
+use Rattle.wb_streams.specs.Streams.{AppendsFirst, Came, Reads, Writes}
 
 -- the bytes are the first of those that a reader tells, where it does, and never more than this
 pub record AreFirst (most : ℕ) (told : Option (List ℕ)) (bytes : List ℕ) : Type 0 where
   pub within : length bytes ≤ most
   pub first : IfSome told (λ all. bytes ≡ take most all)
 
--- the report of the command on the first bytes that the reader tells, laid out as the command wants it
+-- the report of the command on the first bytes that the reader tells, one more than a script may have, laid out as the command wants it
 pub record IsReported (command : Command) (told : Option (List ℕ)) (text : List ℕ) (status : ℕ) : Type 0 where
   pub bytes : List ℕ
-  pub read : AreFirst MOST_READ told bytes
+  pub read : AreFirst (LONGEST_SCRIPT + 1) told bytes
   pub lines : List ℕ
   pub figures : Figures
   pub report : IsReport command bytes lines figures status
@@ -33,27 +33,27 @@ is_read_fault _ = false
 
 -- what is to be written, and the status that goes with it, where a read failed and where none did
 abbrev pub IsMessage : Command → Option (List ℕ) → Bool → List ℕ → ℕ → Type 0
-IsMessage command told true text status = (text ≡ read_fault) × (status ≡ READ_OR_WRITE_FAULT)
-IsMessage command told false text status = IsReported command told text status ⊎ ((text ≡ no_memory) × (status ≡ WANT_OF_MEMORY))
+IsMessage command told true text status = (text ≡ read_fault) × (status ≡ 5)
+IsMessage command told false text status = IsReported command told text status ⊎ ((text ≡ no_memory) × (status ≡ 4))
 
 -- a write failed, so that only the first of the text went out; or none did, and the text's own status stands
 abbrev pub IsSaid : Option (List ℕ) → Option (List ℕ) → Bool → List ℕ → ℕ → ℕ → Type 0
-IsSaid held held' true text own status = AppendsFirst held held' text × (status ≡ READ_OR_WRITE_FAULT)
+IsSaid held held' true text own status = AppendsFirst held held' text × (status ≡ 5)
 IsSaid held held' false text own status = Appends held held' text × (status ≡ own)
 
 -- a text is written, and a status answered, by what the writes came to
 pub record IsWritten {W : Type 0} (contents : W → Option (List ℕ)) (writes : W → Bool → W → Type 0) (old new : W)
     (text : List ℕ) (own status : ℕ) : Type 0 where
   pub failed : Bool
-  pub tried : Tries writes old failed new
+  pub wrote : Writes writes old failed new
   pub said : IsSaid (contents old) (contents new) failed text own status
 
 -- the answer to a command, by what the reads and the writes came to
-pub record IsAnswer {R W : Type 0} (remaining : R → Option (List ℕ)) (reads : R → Bool → R → Type 0)
+pub record IsAnswer {R W : Type 0} (remaining : R → Option (List ℕ)) (reads : R → Came → R → Type 0)
     (contents : W → Option (List ℕ)) (writes : W → Bool → W → Type 0)
     (command : Command) (reader reader' : R) (writer writer' : W) (status : ℕ) : Type 0 where
   pub failed : Bool
-  pub tried : Tries reads reader failed reader'
+  pub read : Reads reads reader failed reader'
   pub text : List ℕ
   pub own : ℕ
   pub message : IsMessage command (remaining reader) failed text own

@@ -1,6 +1,5 @@
 -- The report as one JSON object: its lines, and its figures, under the keys that version 1 of this form has.
 use Rattle.std.specs.Prelude.{ℕ, List, Bool, Option, Some, None, codes, if◌then◌else◌, map}
-use Rattle.std.specs.Str.Lossy.{utf8_lossy}
 use Rattle.serde_json.specs.Data.{Data, null, number, string, array, object, item, no_items, member, no_members, unsigned}
 use Rattle.serde_json.specs.View.{items_of}
 use Rattle.serde_json.specs.Written.{compact_text}
@@ -18,9 +17,8 @@ abbrev pub count_or_null : Option ℕ → Data
 count_or_null None = null
 count_or_null (Some n) = count n
 
--- a line is the string of its characters
 abbrev pub line_string : List ℕ → Data
-line_string text = string (utf8_lossy text)
+line_string text = string text
 
 -- the lines of the text report, without their line feeds
 abbrev pub line_strings : List ℕ → Data

@@ -1,7 +1,9 @@
 pub mod Answer
+pub mod Ascii
 pub mod Figures
 pub mod JsonReport
 pub mod Program
 pub mod Report
+pub mod Rises
 pub mod RunText
 pub mod TwoNumbers

@@ -66,11 +66,12 @@ pub record IsRefused {H W M : Type 0} (tells : M → WordsFault → M → Type 0
   pub unwritten : output' ≡ output
   pub status_is : status ≡ words_status fault
 
--- the words spell a command, which is carried out, and nothing is told
+-- the words spell a command with its numbers in their ranges, which is carried out, and nothing is told
 pub record IsObeyed {H W M : Type 0} (carries_out : Command → H → H → W → W → ℕ → Type 0) (words : List Text)
     (host host' : H) (output output' : W) (messages messages' : M) (status : ℕ) : Type 0 where
   pub command : Command
   pub spelled : IsSpelledBy words command
+  pub in_ranges : IsTrue (is_answerable command)
   pub done : carries_out command host host' output output' status
   pub untold : messages' ≡ messages
 

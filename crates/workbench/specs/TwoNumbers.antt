@@ -11,7 +11,7 @@ use Rattle.wb_model.specs.declared.run.Why.{Why}
 use Rattle.wb_model.specs.declared.run.Why.TheVariants.{Budget, Ceiling}
 use Rattle.wb_model.specs.declared.script.Script.{Script}
 use Rattle.wb_model.specs.declared.size.Rise.{Rise}
-use Rattle.wb_model.specs.Run.{run}
+use Rattle.wb_model.specs.Run.{run, rises as rises_of}
 use Rattle.wb_model.specs.Sizes.{IsHeapLength}
 use Rattle.wb_model.specs.Sweeps.{run_at, AreAllFine, IsLeastBad, IsLeastCut}
 use Rattle.wb_sweep.specs.declared.found.Sweep.{Sweep}
@@ -40,12 +40,14 @@ cut_at_line number Budget = line (codes "cut " ++ decimal number ++ codes " budg
 cut_at_line number Ceiling = line (codes "cut " ++ decimal number ++ codes " ceiling")
 
 -- The length is told. It is the least at which the run meets no refusal of the heap, and for each smaller one the line of the
--- table whose range holds it names the first attempt that the heap refuses (`IsHeapLength`). The run without a limit isn't cut.
+-- table whose range holds it names the first attempt that the heap refuses (`IsHeapLength`). The rows of the table are the rises of
+-- the run without a limit, which isn't cut (`AreRises` says in words what rises are).
 pub record IsSized (script : Script) (budget : ℕ) (shape : Shape) (text : List ℕ) (figures : Figures) : Type 0 where
   pub required : ℕ
   pub rises : List Rise
   pub uncut : (why : Why) → (run script Unlimited budget shape).outcome ≢ Cut why
   pub needed : IsHeapLength script budget shape required rises
+  pub rises_are : rises ≡ rises_of script budget shape
   pub text_is : text ≡ size_text required rises
   pub figures_are : figures ≡ size_figures required rises
 

@@ -1,15 +1,17 @@
 //! The answer to a command: what is read, what is written, and the exit status. What a report says stands in
 //! `report`.
 
-ghost use Rattle.std.specs.Prelude.{◌≡◌, ◌<◌, ◌≤◌, length, take, IfOk, IfSome, IsTrue, OnOk, OnErr, is_err};
+ghost use Rattle.std.specs.Prelude.{◌≡◌, ◌+◌, ◌<◌, ◌≤◌, length, take, IfOk, IfSome, IsTrue, OnOk, OnErr, is_err};
 ghost use Rattle.std.specs.Io.{ReadsAtMost};
 ghost use Rattle.std.specs.Io.KnownBytes.{Appends};
 ghost use Rattle.workbench.specs.declared.answer.ReportFault.TheVariants.{Read, NoMemory};
 ghost use Rattle.workbench.specs.Answer.{AreFirst, IsAnswer, IsPartWritten, IsReported, IsReportWritten, IsWritten, is_read_fault};
 ghost use Rattle.wb_command_line.specs.Command.{is_answerable};
+ghost use Rattle.workbench.specs.Ascii.{HasPrintableLines};
 ghost use Rattle.workbench.specs.JsonReport.{laid_out};
+ghost use Rattle.wb_model.specs.declared.limits.TheConstants.{LONGEST_SCRIPT};
 ghost use Rattle.workbench.specs.Report.{no_memory, read_fault};
-ghost use Rattle.wb_streams.specs.Streams.{AppendsFirst, TakesAtMost, Tries};
+ghost use Rattle.wb_streams.specs.Streams.{AppendsFirst, Reads, TakesAtMost, Writes};
 
 use crate::json_report::json_text;
 use crate::report::{Report, report_on};
@@ -69,7 +71,8 @@ impl From<NoMemory> for ReportFault {
 /// being written. Nothing is written before the whole text is there.
 ///
 /// What failed is what the reads and writes that were made answered, so that `READ_OR_WRITE_FAULT` comes
-/// exactly where one of them failed. After one that failed no other is made of that kind.
+/// exactly where one of them failed. After one that failed no other is made of that kind, and no read after one
+/// that brought no byte.
 pub fn answer<R: Source, W: Sink>(
     alloc: Global,
     command: &Command,
@@ -79,14 +82,15 @@ pub fn answer<R: Source, W: Sink>(
     requires { IsTrue (is_answerable command.now) }
     ensures answer { IsAnswer R.remaining R.reads W.contents W.writes
         command.now reader.old reader.new writer.old writer.new result }
-    ensures status { result ≤ READ_OR_WRITE_FAULT }
-    ensures report { result < WANT_OF_MEMORY → IsReportWritten command.now (R.remaining reader.old)
+    ensures status { result ≤ 5 }
+    ensures report { result < 4 → IsReportWritten command.now (R.remaining reader.old)
         (W.contents writer.old) (W.contents writer.new) result }
-    ensures no_memory { result ≡ WANT_OF_MEMORY →
+    ensures no_memory { result ≡ 4 →
         Appends (W.contents writer.old) (W.contents writer.new) no_memory }
     ensures nothing_else { IsPartWritten command.now (R.remaining reader.old)
         (W.contents writer.old) (W.contents writer.new) }
-    ensures taken { TakesAtMost MOST_READ (R.remaining reader.old) (R.remaining reader.new) }
+    ensures taken { TakesAtMost (LONGEST_SCRIPT + 1)
+        (R.remaining reader.old) (R.remaining reader.new) }
 {
     read_and_say(alloc, command, reader, writer)
 }
@@ -101,7 +105,8 @@ fn read_and_say<R: Source, W: Sink>(
     requires { IsTrue (is_answerable command.now) }
     ensures answer { IsAnswer R.remaining R.reads W.contents W.writes
         command.now reader.old reader.new writer.old writer.new result }
-    ensures taken { TakesAtMost MOST_READ (R.remaining reader.old) (R.remaining reader.new) }
+    ensures taken { TakesAtMost (LONGEST_SCRIPT + 1)
+        (R.remaining reader.old) (R.remaining reader.new) }
 {
     match reported(alloc, command, reader) {
         Ok(message) => say(writer, message.text.as_slice(), message.status),
@@ -112,7 +117,7 @@ fn read_and_say<R: Source, W: Sink>(
 
 /// Writes the line of a read that failed, and gives its status.
 pub fn say_read_fault<W: Sink>(writer: &mut W) -> u8
-    ensures { IsWritten W.contents W.writes writer.old writer.new read_fault READ_OR_WRITE_FAULT result }
+    ensures { IsWritten W.contents W.writes writer.old writer.new read_fault 5 result }
 {
     say(writer, b"read fault\n", READ_OR_WRITE_FAULT)
 }
@@ -135,6 +140,7 @@ struct Message {
 }
 
 /// The report of the command on the first bytes that the reader gives, as the command wants it.
+#[tactic(auto, using(crate::proofs::AsciiLemmas::report_lines))]
 fn reported<R: Source>(
     alloc: Global,
     command: &Command,
@@ -143,8 +149,9 @@ fn reported<R: Source>(
     requires { IsTrue (is_answerable command.now) }
     ensures report { IfOk result (λ r.
         IsReported command.now (R.remaining reader.old) r.text.items r.status) }
-    ensures taken { TakesAtMost MOST_READ (R.remaining reader.old) (R.remaining reader.new) }
-    ensures tried { Tries R.reads reader.old (is_read_fault result) reader.new }
+    ensures taken { TakesAtMost (LONGEST_SCRIPT + 1)
+        (R.remaining reader.old) (R.remaining reader.new) }
+    ensures read { Reads R.reads reader.old (is_read_fault result) reader.new }
 {
     let bytes = first_bytes(alloc, reader, MOST_READ)?;
     let report = report_on(alloc, command, bytes.as_slice())?;
@@ -153,7 +160,9 @@ fn reported<R: Source>(
 
 /// A report as its lines, or as JSON.
 fn laid_out(alloc: Global, json: bool, report: Report) -> Result<Message, NoMemory>
-    ensures text { IfOk result (λ m. m.text.items ≡ laid_out json report.text.items report.figures report.status) }
+    requires { HasPrintableLines report.text.items }
+    ensures text { IfOk result (λ m. m.text.items
+        ≡ laid_out json report.text.items report.figures report.status) }
     ensures status { IfOk result (λ m. m.status ≡ report.status) }
 {
     let status = report.status;
@@ -173,7 +182,7 @@ fn first_bytes<R: Source>(
 ) -> Result<Vec<u8>, ReportFault>
     ensures bytes { IfOk result (λ bytes. AreFirst most (R.remaining reader.old) bytes.items) }
     ensures taken { TakesAtMost most (R.remaining reader.old) (R.remaining reader.new) }
-    ensures tried { Tries R.reads reader.old (is_read_fault result) reader.new }
+    ensures read { Reads R.reads reader.old (is_read_fault result) reader.new }
 {
     let mut bytes = vec![in alloc; 0; most]?;
     let count = filled(reader, bytes.as_mut_slice())?;
@@ -187,8 +196,9 @@ fn filled<R: Source>(reader: &mut R, buffer: &mut [u8]) -> Result<usize, StreamF
     ensures bound { ReadsAtMost result buffer.new }
     ensures bytes { IfOk result (λ n. IfSome (R.remaining reader.old)
         (λ all. take n buffer.new ≡ take (length buffer.old) all)) }
-    ensures taken { TakesAtMost (length buffer.old) (R.remaining reader.old) (R.remaining reader.new) }
-    ensures tried { Tries R.reads reader.old (is_err result) reader.new }
+    ensures taken { TakesAtMost (length buffer.old)
+        (R.remaining reader.old) (R.remaining reader.new) }
+    ensures read { Reads R.reads reader.old (is_err result) reader.new }
 {
     let mut filled = 0;
     while filled < buffer.len() {
@@ -205,7 +215,7 @@ fn filled<R: Source>(reader: &mut R, buffer: &mut [u8]) -> Result<usize, StreamF
 fn write_whole<W: Sink>(writer: &mut W, text: &[u8]) -> Result<(), StreamFault>
     ensures ok { OnOk result (Appends (W.contents writer.old) (W.contents writer.new) text.now) }
     ensures err { OnErr result (AppendsFirst (W.contents writer.old) (W.contents writer.new) text.now) }
-    ensures tried { Tries W.writes writer.old (is_err result) writer.new }
+    ensures wrote { Writes W.writes writer.old (is_err result) writer.new }
 {
     let mut written = 0;
     while written < text.len() {

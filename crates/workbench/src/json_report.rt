@@ -3,7 +3,9 @@
 ghost use Rattle.std.specs.Prelude.{◌≡◌, ◌≢◌, ◌∷◌, ◌<◌, [], length, IfOk, map};
 ghost use Rattle.serde_json.specs.View.{view};
 ghost use Rattle.wb_model.specs.Lines.{lines_of};
-ghost use Rattle.workbench.specs.JsonReport.{count_or_null, failing_number, json_text, line_strings, report_object, rise_pair, rise_pairs};
+ghost use Rattle.wb_model.specs.Printable.{ArePrintable};
+ghost use Rattle.workbench.specs.Ascii.{HasPrintableLines};
+ghost use Rattle.workbench.specs.JsonReport.{count_or_null, failing_number, json_text, line_string, line_strings, report_object, rise_pair, rise_pairs};
 
 use crate::figures::Failing;
 use crate::report::Report;
@@ -19,6 +21,7 @@ const VERSION: u32 = 1;
 /// The report as a JSON object without blanks, and a line feed. The only error is that memory ran out.
 #[tactic(auto, using(crate::proofs::JsonLemmas::report_has_none))]
 pub fn json_text(alloc: Global, report: &Report) -> Result<Vec<u8>, NoMemory>
+    requires { HasPrintableLines report.now.text.items }
     ensures { IfOk result (λ text. text.items
         ≡ json_text report.now.text.items report.now.figures report.now.status) }
 {
@@ -30,6 +33,7 @@ pub fn json_text(alloc: Global, report: &Report) -> Result<Vec<u8>, NoMemory>
 /// The object. Its keys come in the order of their letters.
 #[tactic(auto, unfolding(crate::specs::JsonReport::report_object))]
 fn report_object(alloc: Global, report: &Report) -> Result<Value, AllocError>
+    requires { HasPrintableLines report.now.text.items }
     ensures { IfOk result (λ object. view object
         ≡ report_object report.now.text.items report.now.figures report.now.status) }
 {
@@ -62,16 +66,25 @@ fn count_or_null(count: Option<u64>) -> Value
 
 /// The lines of a text, each as a string.
 fn line_strings(alloc: Global, text: &[u8]) -> Result<Value, AllocError>
+    requires { HasPrintableLines text.now }
     ensures { IfOk result (λ strings. view strings ≡ line_strings text.now) }
 {
     let mut strings = Vec::new(alloc);
     let mut rest = text;
     while !rest.is_empty() {
         let (line, after) = first_line(rest);
-        strings.push(Value::String(String::from_utf8_lossy(alloc, line)?))?;
+        strings.push(line_string(alloc, line)?)?;
         rest = after;
     }
     Ok(Value::Array(strings))
+}
+
+/// A line of ASCII as a string. A lossy reading loses nothing of it.
+fn line_string(alloc: Global, line: &[u8]) -> Result<Value, AllocError>
+    requires { ArePrintable line.now }
+    ensures { IfOk result (λ value. view value ≡ line_string line.now) }
+{
+    Ok(Value::String(String::from_utf8_lossy(alloc, line)?))
 }
 
 /// The first line without its line feed, and the bytes behind that.

@@ -40,12 +40,12 @@ pub fn program<S: AsStr + Drop, H: Host, W: Sink, M: Messages>(
         (IsCarriedOut H.lends H.opens
         (IsAnswer H.Input.remaining H.Input.reads W.contents W.writes)
         (IsAnswer H.File.remaining H.File.reads W.contents W.writes)
-        (λ old new. IsWritten W.contents W.writes old new read_fault READ_OR_WRITE_FAULT))
+        (λ old new. IsWritten W.contents W.writes old new read_fault 5))
         M.tells (map S.text had.items)
         host.old host.new output.old output.new messages.old messages.new result)
         (λ error. IsRefused M.tells (fault_of_words error)
         host.old host.new output.old output.new messages.old messages.new result) }
-    ensures status { result ≤ COMMAND_LINE_FAULT }
+    ensures status { result ≤ 6 }
 {
     match commanded(alloc, words) {
         Ok(command) => carry_out(alloc, &command, host, output),
@@ -76,9 +76,9 @@ fn carry_out<H: Host, W: Sink>(alloc: Global, command: &Command, host: &mut H, o
     ensures done { IsCarriedOut H.lends H.opens
         (IsAnswer H.Input.remaining H.Input.reads W.contents W.writes)
         (IsAnswer H.File.remaining H.File.reads W.contents W.writes)
-        (λ old new. IsWritten W.contents W.writes old new read_fault READ_OR_WRITE_FAULT)
+        (λ old new. IsWritten W.contents W.writes old new read_fault 5)
         command.now host.old host.new output.old output.new result }
-    ensures status { result ≤ READ_OR_WRITE_FAULT }
+    ensures status { result ≤ 5 }
 {
     let Some(name) = &command.file else {
         let mut input = host.standard_input();

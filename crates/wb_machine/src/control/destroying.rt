@@ -1,6 +1,6 @@
 //! Steps that destroy items of the cleanup stack and objects, and the bodies that run for them.
 
-ghost use Rattle.std.specs.Prelude.{◌≡◌, ◌+◌, ◌^◌, ◌<◌, ◌∷◌, [], ℕ, IsTrue, OnOk};
+ghost use Rattle.std.specs.Prelude.{◌≡◌, ◌+◌, ◌^◌, ◌<◌, ◌≤◌, ◌∷◌, [], ℕ, IsTrue, OnOk};
 ghost use Rattle.std.specs.List.{list_all};
 ghost use Rattle.wb_model.specs.Sound.{is_script};
 ghost use Rattle.wb_model.specs.Statements.{destroy_items, destroy_object, destroyed_item, destroyed_object, is_null};
@@ -14,7 +14,9 @@ ghost use Rattle.wb_machine.specs.Bodies.{IsBody};
 ghost use Rattle.wb_machine.specs.LocalValues.{values_handed};
 ghost use Rattle.wb_machine.specs.RunState.{Values, RunState, state_of};
 ghost use Rattle.wb_machine.specs.Flow.{where_of, afterwards, frame_with, pending_in, AreOwn, AreSound, rest_from, rest_after, rest_of_piece, rest_of_body};
+ghost use Rattle.wb_machine.specs.ObjectInvariant.{StaysWhole};
 ghost use Rattle.wb_machine.specs.Owed.{IsQuiet, Stays};
+ghost use Rattle.wb_machine.specs.SlotInvariant.{slots_for_all, IsFree, IsFreeAfter, HasRoom};
 
 use crate::arguments::Handed;
 use crate::bodies::{destroy_at, operation_at};
@@ -34,6 +36,8 @@ impl<'a> Control<'a> {
             rest_from script budget r self.new.ending self.new.pieces.items h
             ≡ rest_after script budget r (destroyed_object (is_null ptr) (meaning_of script budget) (where_of at) ptr (state_of script h)) self.old.pieces.items h) }
         ensures sound { OnOk result ((script : Script) → AreSound script self.old.pieces.items → AreSound script self.new.pieces.items) }
+        ensures slots { OnOk result (slots_for_all self.new.pieces.items
+            ≤ slots_for_all self.old.pieces.items) }
         ensures line { self.new.line ≡ self.old.line }
     {
         if ptr.number != 0 {
@@ -57,6 +61,8 @@ impl<'a> Control<'a> {
             ≡ rest_after script.now budget r (destroyed_item script.now (meaning_of script.now budget) (where_of at) item (state_of script.now state.old)) self.old.pieces.items state.old) }
         ensures sound { OnOk result (AreSound script.now self.old.pieces.items → AreSound script.now self.new.pieces.items) }
         ensures quiet { IsQuiet state.old state.new }
+        ensures slots { OnOk result (slots_for_all self.new.pieces.items
+            ≤ slots_for_all self.old.pieces.items) }
         ensures line { self.new.line ≡ self.old.line }
     {
         match item {
@@ -91,13 +97,16 @@ impl<'a> Control<'a> {
         requires script { IsTrue (is_script script.now) }
         requires going { self.old.ending ≡ GoesOn }
         requires left { 0 < left }
+        requires free { IsFreeAfter 1 self.old.pieces.items state.old }
         requires steps { state.old.steps + 1 < 2 ^ 32 }
         ensures kept { OnOk result ((r : Rule) (budget : ℕ) → state.old.steps < budget →
             rest_from script.now budget r self.new.ending self.new.pieces.items state.new
             ≡ rest_of_piece script.now budget r (doing (where_of at) (destroy_items left)) self.old.pieces.items state.old) }
         ensures sound { OnOk result (AreSound script.now self.old.pieces.items → AreSound script.now self.new.pieces.items) }
         ensures stays { Stays state.old state.new }
+        ensures whole { OnOk result (StaysWhole script.now state.old state.new) }
         ensures steps { OnOk result (state.new.steps ≡ state.old.steps + 1) }
+        ensures room { OnOk result (HasRoom self.new.ending self.new.pieces.items state.new) }
         ensures line { self.new.line ≡ self.old.line }
     {
         state.tick();
@@ -122,13 +131,16 @@ impl<'a> Control<'a> {
     ) -> Result<(), NoMemory>
         requires script { IsTrue (is_script script.now) }
         requires going { self.old.ending ≡ GoesOn }
+        requires free { IsFree self.old.pieces.items state.old }
         requires steps { state.old.steps + 1 < 2 ^ 32 }
         ensures kept { OnOk result ((r : Rule) (budget : ℕ) → state.old.steps < budget →
             rest_from script.now budget r self.new.ending self.new.pieces.items state.new
             ≡ rest_of_piece script.now budget r (doing (where_of at) (destroy_object ptr)) self.old.pieces.items state.old) }
         ensures sound { OnOk result (AreSound script.now self.old.pieces.items → AreSound script.now self.new.pieces.items) }
         ensures stays { Stays state.old state.new }
+        ensures whole { OnOk result (StaysWhole script.now state.old state.new) }
         ensures steps { OnOk result (state.new.steps ≡ state.old.steps + 1) }
+        ensures room { OnOk result (HasRoom self.new.ending self.new.pieces.items state.new) }
         ensures line { self.new.line ≡ self.old.line }
     {
         state.tick();

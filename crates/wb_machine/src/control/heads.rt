@@ -1,6 +1,6 @@
 //! What the head of a statement leaves: it is carried out, or leaves pieces.
 
-ghost use Rattle.std.specs.Prelude.{◌≡◌, ◌+◌, ◌^◌, ◌<◌, [], ◌∷◌, ℕ, None, IsTrue, OnOk};
+ghost use Rattle.std.specs.Prelude.{◌≡◌, ◌+◌, ◌^◌, ◌<◌, ◌≤◌, [], ◌∷◌, ℕ, None, length, max, IsTrue, OnOk};
 ghost use Rattle.std.specs.List.{list_all};
 ghost use Rattle.wb_model.specs.Sound.{is_script};
 ghost use Rattle.wb_model.specs.declared.heap.Rule.{Rule};
@@ -13,6 +13,9 @@ ghost use Rattle.wb_machine.specs.Bodies.{IsBody};
 ghost use Rattle.wb_machine.specs.LocalValues.{is_small, values_handed};
 ghost use Rattle.wb_machine.specs.PointerOperands.{first_refusal, of_condition, operands_refused};
 ghost use Rattle.wb_machine.specs.Flow.{where_of, afterwards, AreOwn, IsOwn, AreSound, FitsStep, rest_from, rest_of_statement, rest_of_body};
+ghost use Rattle.wb_machine.specs.ObjectInvariant.{StaysWhole};
+ghost use Rattle.wb_machine.specs.SlotInvariant.{slots_for_all, IsFree, HasRoom};
+ghost use Rattle.wb_machine.specs.RunState.{HasLines};
 ghost use Rattle.wb_machine.specs.Owed.{HasStack, MayAttempt, KeepsSteps, IsQuiet};
 
 use crate::arguments::Handed;
@@ -44,6 +47,8 @@ impl<'a> Control<'a> {
             ≡ rest_of_statement script.now budget r (where_of at) (Statement-F.IfElse condition first.now other.now) self.old.pieces.items state.now) }
         ensures sound { OnOk result ((script : Script) → AreOwn script first.now → AreOwn script other.now → AreSound script self.old.pieces.items → AreSound script self.new.pieces.items) }
         ensures ending { OnOk result (self.new.ending ≡ GoesOn) }
+        ensures slots { OnOk result (slots_for_all self.new.pieces.items
+            ≤ slots_for_all self.old.pieces.items) }
         ensures line { self.new.line ≡ self.old.line }
     {
         let part = if state.holds(script, condition) {
@@ -68,6 +73,8 @@ impl<'a> Control<'a> {
             rest_from script budget r self.new.ending self.new.pieces.items state.now
             ≡ rest_of_statement script budget r (where_of at) (Statement-F.Repeat count body.now) self.old.pieces.items state.now) }
         ensures sound { OnOk result ((script : Script) → AreOwn script body.now → AreSound script self.old.pieces.items → AreSound script self.new.pieces.items) }
+        ensures slots { OnOk result (slots_for_all self.new.pieces.items
+            ≤ slots_for_all self.old.pieces.items) }
         ensures line { self.new.line ≡ self.old.line }
     {
         match number_within(MOST_TURNS, state.number(count)) {
@@ -91,6 +98,8 @@ impl<'a> Control<'a> {
             ≡ rest_of_statement script budget r (where_of at) (Statement-F.Trap local body.now) self.old.pieces.items state.now) }
         ensures sound { OnOk result ((script : Script) → AreOwn script body.now → AreSound script self.old.pieces.items → AreSound script self.new.pieces.items) }
         ensures ending { OnOk result (self.new.ending ≡ GoesOn) }
+        ensures slots { OnOk result (slots_for_all self.new.pieces.items
+            ≤ max (slots_for_all self.old.pieces.items) (length state.now.items + 1)) }
         ensures line { self.new.line ≡ self.old.line }
     {
         let entry = state.items();
@@ -108,6 +117,8 @@ impl<'a> Control<'a> {
             rest_from script budget r self.new.ending self.new.pieces.items state.now
             ≡ rest_of_statement script budget r (where_of at) (Statement-F.PopDestroy count) self.old.pieces.items state.now) }
         ensures sound { OnOk result ((script : Script) → AreSound script self.old.pieces.items → AreSound script self.new.pieces.items) }
+        ensures slots { OnOk result (slots_for_all self.new.pieces.items
+            ≤ slots_for_all self.old.pieces.items) }
         ensures line { self.new.line ≡ self.old.line }
     {
         let Some(count) = not_negative(state.number(count)) else {
@@ -135,8 +146,11 @@ impl<'a> Control<'a> {
         ensures kept { OnOk result ((r : Rule) (budget : ℕ) → first_refusal state.old (object ∷ []) ≡ None →
             rest_from script.now budget r self.new.ending self.new.pieces.items state.new
             ≡ rest_of_statement script.now budget r (where_of at) (Statement-F.Construct object) self.old.pieces.items state.old) }
-        ensures sound { OnOk result (AreSound script.now self.old.pieces.items → AreSound script.now self.new.pieces.items) }
+        ensures sound { OnOk result (AreSound script.now self.old.pieces.items →
+            AreSound script.now self.new.pieces.items) }
         ensures quiet { IsQuiet state.old state.new }
+        ensures slots { OnOk result (slots_for_all self.new.pieces.items
+            ≤ slots_for_all self.old.pieces.items) }
         ensures line { self.new.line ≡ self.old.line }
     {
         let this = state.pointer(script, object);
@@ -160,6 +174,28 @@ impl<'a> Control<'a> {
         }
     }
 
+    /// The destruction of the object that an operand names. The operand keeps its pointer.
+    fn begin_delete_of(
+        &mut self,
+        script: &Script,
+        at: Standing,
+        object: Pointer,
+        state: &State,
+    ) -> Result<(), NoMemory>
+        requires { self.old.ending ≡ GoesOn }
+        ensures kept { OnOk result ((r : Rule) (budget : ℕ) →
+            first_refusal state.now (object ∷ []) ≡ None →
+            rest_from script.now budget r self.new.ending self.new.pieces.items state.now
+            ≡ rest_of_statement script.now budget r (where_of at) (Statement-F.Delete object) self.old.pieces.items state.now) }
+        ensures sound { OnOk result (AreSound script.now self.old.pieces.items →
+            AreSound script.now self.new.pieces.items) }
+        ensures room { OnOk result (IsFree self.old.pieces.items state.now →
+            HasRoom self.new.ending self.new.pieces.items state.now) }
+        ensures line { self.new.line ≡ self.old.line }
+    {
+        self.begin_delete(at, state.pointer(script, object))
+    }
+
     /// A body begins in a frame of its own, of an object or of none, and then its caller's frame stands again. One frame too
     /// many is refused.
     pub fn begin_body(
@@ -179,6 +215,8 @@ impl<'a> Control<'a> {
             ≡ rest_of_body script.now budget r (where_of at) this (values_handed script.now state.old handed.entry) b (afterwards after) self.old.pieces.items state.old) }
         ensures sound { OnOk result ((script : Script) → AreOwn script body.entry.statements.now → AreSound script self.old.pieces.items → AreSound script self.new.pieces.items) }
         ensures quiet { IsQuiet state.old state.new }
+        ensures slots { OnOk result (slots_for_all self.new.pieces.items
+            ≤ slots_for_all self.old.pieces.items) }
         ensures line { self.new.line ≡ self.old.line }
     {
         if at.depth >= MOST_FRAMES {
@@ -212,12 +250,17 @@ impl<'a> Control<'a> {
         requires sound { AreSound script.now self.old.pieces.items }
         requires number { MayAttempt state.old }
         requires level { state.old.debug.heap.level + 1 < 2 ^ 32 }
+        requires free { IsFree self.old.pieces.items state.old }
         requires stack { HasStack state.old }
         ensures kept { OnOk result ((r : Rule) (budget : ℕ) → FitsStep r state.old self.new.ending state.new →
             rest_from script.now budget r self.new.ending self.new.pieces.items state.new
             ≡ rest_of_statement script.now budget r (where_of at) (out-Statement statement.now) self.old.pieces.items state.old) }
         ensures sound { OnOk result (AreSound script.now self.new.pieces.items) }
         ensures keeps { KeepsSteps state.old state.new }
+        ensures whole { OnOk result (HasLines state.old →
+            StaysWhole script.now state.old state.new) }
+        ensures room { OnOk result (HasLines state.old →
+            HasRoom self.new.ending self.new.pieces.items state.new) }
         ensures line { self.new.line ≡ self.old.line }
     {
         match statement {
@@ -240,7 +283,7 @@ impl<'a> Control<'a> {
             Statement::Trap(local, body) => self.begin_trap(at, *local, body.as_slice(), state),
             Statement::PopDestroy(count) => self.begin_pop(at, *count, state),
             Statement::Construct(object) => self.begin_construct(script, at, *object, state),
-            Statement::Delete(object) => self.begin_delete(at, state.pointer(script, *object)),
+            Statement::Delete(object) => self.begin_delete_of(script, at, *object, state),
             Statement::Call(index, arguments) => {
                 let body = lines_of(procedure_at(script, *index));
                 let handed = Handed::Arguments(arguments.as_slice());
@@ -271,12 +314,17 @@ impl<'a> Control<'a> {
         requires sound { AreSound script.now self.old.pieces.items }
         requires number { MayAttempt state.old }
         requires level { state.old.debug.heap.level + 1 < 2 ^ 32 }
+        requires free { IsFree self.old.pieces.items state.old }
         requires stack { HasStack state.old }
         ensures kept { OnOk result ((r : Rule) (budget : ℕ) → FitsStep r state.old self.new.ending state.new →
             rest_from script.now budget r self.new.ending self.new.pieces.items state.new
             ≡ rest_of_statement script.now budget r (where_of at) (out-Statement statement.now) self.old.pieces.items state.old) }
         ensures sound { OnOk result (AreSound script.now self.new.pieces.items) }
         ensures keeps { KeepsSteps state.old state.new }
+        ensures whole { OnOk result (HasLines state.old →
+            StaysWhole script.now state.old state.new) }
+        ensures room { OnOk result (HasLines state.old →
+            HasRoom self.new.ending self.new.pieces.items state.new) }
         ensures line { self.new.line ≡ self.old.line }
     {
         match state.operands_refused(statement) {

@@ -1,6 +1,6 @@
 //! What becomes of pieces that are done, and of how the piece above them ended.
 
-ghost use Rattle.std.specs.Prelude.{◌≡◌, ◌+◌, ◌-◌, ◌<◌, ◌≤◌, ◌⊎◌, ◌++◌, ◌∷◌, [], ℕ, List, true, false, length, take, drop, vec_len, IsTrue, OnOk};
+ghost use Rattle.std.specs.Prelude.{◌≡◌, ◌+◌, ◌-◌, ◌<◌, ◌≤◌, ◌⊎◌, ◌++◌, ◌∷◌, [], ℕ, List, true, false, length, max, take, drop, vec_len, IsTrue, OnOk};
 ghost use Rattle.wb_model.specs.Statements.{destroy_items};
 ghost use Rattle.wb_model.specs.Rest.{doing, catching, caught, calling, main_catching, main_caught};
 ghost use Rattle.wb_model.specs.declared.heap.Rule.{Rule};
@@ -11,6 +11,7 @@ ghost use Rattle.wb_machine.specs.RunState.{Values, RunState};
 ghost use Rattle.wb_machine.specs.Flow.{where_of, in_main_frame, frame_with, afterwards, pending_of, callers_under, pending_in, needs_step, weight, weight_of, is_stop, is_over, IsSoundPiece, AreSound, IsReady, rest_from, rest_under};
 ghost use Rattle.wb_machine.specs.Bodies.{followed_carried};
 ghost use Rattle.wb_machine.specs.Owed.{CarriesOut, IsQuiet};
+ghost use Rattle.wb_machine.specs.SlotInvariant.{slots_for, slots_for_all, to_destroy_first, HasRoom, HasRoomUnder};
 
 use crate::control::Control;
 use crate::locals::{NULL, Slot};
@@ -46,6 +47,10 @@ impl<'a> Control<'a> {
             ≡ doing (where_of at) (destroy_items (length state.now.items - entry)) ∷ pending_of callers then.entry ∷ pending_in (callers_under callers then.entry) self.old.pieces.items) }
         ensures weight { OnOk result (weight_of self.new.pieces.items ≡ weight_of self.old.pieces.items + weight then.entry + 1) }
         ensures sound { OnOk result ((script : Script) → IsSoundPiece script then.entry → AreSound script self.old.pieces.items → AreSound script self.new.pieces.items) }
+        ensures slots { OnOk result (slots_for_all self.new.pieces.items
+            ≡ max (slots_for_all self.old.pieces.items) (slots_for then.entry)) }
+        ensures first { OnOk result (to_destroy_first self.new.pieces.items
+            ≡ length state.now.items - entry) }
         ensures ending { OnOk result (self.new.ending ≡ self.old.ending) }
         ensures line { self.new.line ≡ self.old.line }
     {
@@ -72,6 +77,9 @@ impl<'a> Control<'a> {
         ensures lighter { OnOk result (weight_of self.new.pieces.items < weight_of self.old.pieces.items + 3) }
         ensures sound { OnOk result ((script : Script) → AreSound script self.old.pieces.items → AreSound script self.new.pieces.items) }
         ensures quiet { IsQuiet state.old state.new }
+        ensures room { OnOk result (entry < state.old.slots →
+            HasRoomUnder self.old.ending self.old.pieces.items state.old →
+            HasRoom self.new.ending self.new.pieces.items state.new) }
         ensures line { self.new.line ≡ self.old.line }
     {
         match self.ending {
@@ -95,6 +103,8 @@ impl<'a> Control<'a> {
             ≡ rest_under script budget r self.old.ending (caught local code ∷ pending_in state.old.callers self.old.pieces.items) state.old }
         ensures pieces { self.new.pieces.items ≡ self.old.pieces.items }
         ensures quiet { IsQuiet state.old state.new }
+        ensures room { HasRoomUnder self.old.ending self.old.pieces.items state.old →
+            HasRoom self.new.ending self.old.pieces.items state.new }
         ensures line { self.new.line ≡ self.old.line }
     {
         if let Ending::GoesOn = self.ending {
@@ -111,6 +121,8 @@ impl<'a> Control<'a> {
             ≡ rest_under script budget r self.old.ending (main_catching in_main_frame ∷ pending_in state.now.callers self.old.pieces.items) state.now) }
         ensures lighter { OnOk result (weight_of self.new.pieces.items < weight_of self.old.pieces.items + 3) }
         ensures sound { OnOk result ((script : Script) → AreSound script self.old.pieces.items → AreSound script self.new.pieces.items) }
+        ensures room { OnOk result (HasRoomUnder self.old.ending self.old.pieces.items state.now →
+            HasRoom self.new.ending self.new.pieces.items state.now) }
         ensures line { self.new.line ≡ self.old.line }
     {
         match self.ending {
@@ -131,6 +143,8 @@ impl<'a> Control<'a> {
             rest_from script budget r self.new.ending self.old.pieces.items h
             ≡ rest_under script budget r self.old.ending (main_caught code ∷ pending_in h.callers self.old.pieces.items) h }
         ensures pieces { self.new.pieces.items ≡ self.old.pieces.items }
+        ensures room { (h : RunState) → HasRoomUnder self.old.ending self.old.pieces.items h →
+            HasRoom self.new.ending self.old.pieces.items h }
         ensures line { self.new.line ≡ self.old.line }
     {
         if let Ending::GoesOn = self.ending {
@@ -147,6 +161,8 @@ impl<'a> Control<'a> {
             ≡ rest_under script budget r self.old.ending (calling (frame_with this (drop base state.old.callers)) (afterwards after) ∷ pending_in (take base state.old.callers) self.old.pieces.items) state.old }
         ensures pieces { self.new.pieces.items ≡ self.old.pieces.items }
         ensures quiet { IsQuiet state.old state.new }
+        ensures room { HasRoomUnder self.old.ending self.old.pieces.items state.old →
+            HasRoom self.new.ending self.old.pieces.items state.new }
         ensures line { self.new.line ≡ self.old.line }
     {
         state.end_call(this, base);
@@ -169,6 +185,9 @@ impl<'a> Control<'a> {
         ensures lighter { OnOk result (weight_of self.new.pieces.items < weight_of self.old.pieces.items + weight piece.entry) }
         ensures sound { OnOk result ((script : Script) → AreSound script self.old.pieces.items → AreSound script self.new.pieces.items) }
         ensures quiet { IsQuiet state.old state.new }
+        ensures room { OnOk result (slots_for piece.entry ≤ state.old.slots →
+            HasRoomUnder self.old.ending self.old.pieces.items state.old →
+            HasRoom self.new.ending self.new.pieces.items state.new) }
         ensures line { self.new.line ≡ self.old.line }
     {
         match piece {
@@ -191,6 +210,8 @@ impl<'a> Control<'a> {
             rest_from script budget r self.new.ending self.new.pieces.items state.new ≡ rest_from script budget r self.old.ending self.old.pieces.items state.old) }
         ensures stop { OnOk result (is_stop self.old.ending ≡ true → is_stop self.new.ending ≡ true) }
         ensures quiet { IsQuiet state.old state.new }
+        ensures room { OnOk result (HasRoom self.old.ending self.old.pieces.items state.old →
+            HasRoom self.new.ending self.new.pieces.items state.new) }
         ensures line { self.new.line ≡ self.old.line }
         ensures sound { OnOk result ((script : Script) → AreSound script self.old.pieces.items → AreSound script self.new.pieces.items) }
         ensures settled { OnOk result ((is_over self.new.ending self.new.pieces.items ≡ true) ⊎ IsReady self.new.ending self.new.pieces.items) }

@@ -1,14 +1,14 @@
 -- Proof: filled. What stands at the front of the buffer is what the reader gave.
-use Rattle.std.proofs.Common.{false, length, ◌-◌, ◌≡◌, ◌≤◌, take}
+use Rattle.std.proofs.Common.{length, ◌-◌, ◌≤◌, take}
 use Rattle.std.specs.Io.KnownBytes.{Consumes}
-use Rattle.wb_streams.specs.Streams.{Tries}
+use Rattle.wb_streams.specs.Streams.{some_bytes, Tries}
 use Rattle.workbench.proofs.answer.filled.Given as goal
 
 abbrev pub invariant-loop-filled : goal.invariant-loop-filled
 invariant-loop-filled g l = record {
   within : l.filled ≤ length l.buffer;
   gave : Consumes (g.R.Source.remaining l.initial.reader) (g.R.Source.remaining l.reader) (take l.filled l.buffer);
-  tried : Tries g.R.Source.reads l.initial.reader false l.reader;
+  tried : Tries some_bytes g.R.Source.reads l.initial.reader some_bytes l.reader;
 }
 
 abbrev pub decreases-loop-filled : goal.decreases-loop-filled

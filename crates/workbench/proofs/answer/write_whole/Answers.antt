@@ -6,14 +6,14 @@ use Rattle.wb_streams.proofs.TriesLemmas.{more_failed}
 use Rattle.workbench.proofs.answer.write_whole.Goals as goal
 
 pub loop-written-init : goal.loop-written-init
-loop-written-init g c = record { within = search rules; took = Appends-nothing _; tried = none }
+loop-written-init g c = record { within = search rules; took = Appends-nothing _; wrote = none }
 
 pub loop-written-preserved : goal.loop-written-preserved
 loop-written-preserved g c = record {
   within = search rules;
   took = Appends-more _ _ _ c.args.text.now _ _ c.loop-written.invariant.took c.in_ok-written.ensures.bytes;
-  tried = more _ _ _ c.loop-written.invariant.tried c.in_ok-written.ensures.once;
+  wrote = more _ _ _ c.loop-written.invariant.wrote c.in_ok-written.ensures.once;
 }
 
-pub returns-in_err-written-clause-tried : goal.returns-in_err-written-clause-tried
-returns-in_err-written-clause-tried g c = more_failed _ _ _ _ _ (search rules) c.loop-written.invariant.tried c.in_err-written.ensures.once
+pub returns-in_err-written-clause-wrote : goal.returns-in_err-written-clause-wrote
+returns-in_err-written-clause-wrote g c = more_failed _ _ _ _ _ (search rules) c.loop-written.invariant.wrote c.in_err-written.ensures.once

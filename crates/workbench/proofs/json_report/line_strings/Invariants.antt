@@ -2,11 +2,15 @@
 use Rattle.std.proofs.Common.{◌≡◌, ◌++◌, length, map}
 use Rattle.serde_json.specs.View.{view}
 use Rattle.wb_model.specs.Lines.{lines_of}
+use Rattle.workbench.specs.Ascii.{HasPrintableLines}
 use Rattle.workbench.specs.JsonReport.{line_string}
 use Rattle.workbench.proofs.json_report.line_strings.Given as goal
 
 abbrev pub invariant-loop-rest : goal.invariant-loop-rest
-invariant-loop-rest l = map view l.strings.items ++ map line_string (lines_of l.rest) ≡ map line_string (lines_of l.text)
+invariant-loop-rest l = record {
+  strings : map view l.strings.items ++ map line_string (lines_of l.rest) ≡ map line_string (lines_of l.text);
+  printable : HasPrintableLines l.rest;
+}
 
 abbrev pub decreases-loop-rest : goal.decreases-loop-rest
 decreases-loop-rest l = length l.rest

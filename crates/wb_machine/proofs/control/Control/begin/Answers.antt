@@ -1,14 +1,19 @@
-use Rattle.std.proofs.Common.{ap, ◌∙◌, sym, subst, refl}
+use Rattle.std.proofs.Common.{ap, ◌∙◌, sym, subst, refl, arith}
 use Rattle.std.specs.List.{list_all}
 use Rattle.wb_machine.specs.LocalValues.{is_small}
 use Rattle.wb_machine.specs.declared.pieces.Ending.TheVariants.{NoCleanup}
 use Rattle.wb_machine.specs.declared.pieces.Piece.TheVariants.{Code}
 use Rattle.wb_machine.specs.declared.pieces.TheConstants.{IN_MAIN}
+use Rattle.wb_model.specs.Debug.{Debug}
 use Rattle.wb_machine.specs.Flow.{AreOwn}
+use Rattle.wb_machine.specs.ObjectInvariant.{AreWhole}
+use Rattle.wb_machine.specs.SlotInvariant.{slots_for_all}
 use Rattle.wb_machine.specs.RunState.{main_of, with_debug}
 use Rattle.wb_machine.specs.Carried.{entered, first_made, started_by}
 use Rattle.wb_machine.proofs.Begins.{granted_enters, granted_goes, refused_ends, refused_stays, run_begun, begun_pieces}
+use Rattle.wb_machine.proofs.WholeCells.{started_whole}
 use Rattle.wb_machine.proofs.Scripts.{main_there, procedure_locals, procedure_statements, sound_begun}
+use Rattle.wb_machine.proofs.SlotsKept.{begun_room, stop_room}
 use Rattle.wb_machine.proofs.control.Control.begin.Goals as goal
 
 pub procedure_at-main-requires : goal.procedure_at-main-requires
@@ -50,3 +55,19 @@ returns-clause-sound c =
     sound_begun script c.args.self.now.pieces.items c.push.new.self.pieces.items c.push-2.new.self.pieces.items (Code IN_MAIN c.as_slice-2.result) c.requires.pieces
     c.in_ok-push.ensures.pieces c.in_ok-push-2.ensures.pieces
     (subst (AreOwn script) (sym (c.as_slice-2.ensures ∙ ap (λ b. b.statements) c.procedure_at-main.ensures)) (procedure_statements script c.requires.script script.main (main_there script c.requires.script)))
+
+pub returns-then-not-branch-clause-whole : goal.returns-then-not-branch-clause-whole
+returns-then-not-branch-clause-whole c = started_whole c.args.script.now c.args.state.now c.start.new.self c.requires.start c.in_ok-start.ensures.started
+
+pub returns-clause-whole : goal.returns-clause-whole
+returns-clause-whole c =
+    let script = c.args.script.now in
+    subst (λ (d : Debug). AreWhole script d.heap.row) (sym c.enter.ensures.debug) (started_whole script c.args.state.now c.start.new.self c.requires.start c.in_ok-start.ensures.started)
+
+pub returns-then-not-branch-clause-room : goal.returns-then-not-branch-clause-room
+returns-then-not-branch-clause-room c = stop_room NoCleanup c.args.self.now.pieces.items c.start.new.self refl
+
+pub returns-clause-room : goal.returns-clause-room
+returns-clause-room c =
+    begun_room c.push-2.new.self.ending c.push-2.new.self.pieces.items c.args.state.now c.start.new.self c.enter.new.self c.as_slice.result.now c.requires.start c.in_ok-start.ensures.started
+    c.in_ok-enter.ensures.entered (omega (arith, c.in_ok-push-2.ensures.slots, c.in_ok-push.ensures.slots, ap slots_for_all c.requires.pieces))

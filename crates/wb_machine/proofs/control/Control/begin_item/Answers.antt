@@ -14,6 +14,7 @@ use Rattle.wb_machine.proofs.Falls.{carried_rest}
 use Rattle.wb_machine.proofs.Heads.{free_destroyed, delete_destroyed, call_destroyed}
 use Rattle.wb_machine.proofs.KeptCells.{release_kept}
 use Rattle.wb_machine.proofs.Scripts.{operation_own}
+use Rattle.wb_machine.proofs.WholeCells.{released_quiet}
 use Rattle.wb_machine.proofs.control.Control.begin_item.Goals as goal
 
 pub returns-in-Free-clause-kept : goal.returns-in-Free-clause-kept
@@ -57,3 +58,6 @@ returns-in-Call-clause-sound c =
 pub begin_body-requires-clause-locals : goal.begin_body-requires-clause-locals
 begin_body-requires-clause-locals c =
     subst (λ (locals : List Local). IsTrue (list_all is_small locals)) (sym c.operation_at-body.ensures.locals) (operation_own c.args.script.now c.requires.script c.in-Call.operation).1
+
+pub returns-in-Free-clause-quiet : goal.returns-in-Free-clause-quiet
+returns-in-Free-clause-quiet c = released_quiet c.args.state.now c.release-self.new.self c.in-Free.ptr c.release-self.result c.release-self.ensures

@@ -1,4 +1,4 @@
-use Rattle.std.proofs.Common.{◌≡◌, List, [], map, refl, ap, ◌∙◌, sym, subst}
+use Rattle.std.proofs.Common.{◌≡◌, List, [], map, refl, ap, ◌∙◌, sym, subst, arith}
 use Rattle.std.specs.List.{list_all}
 use Rattle.wb_model.specs.declared.script.Body.{Body}
 use Rattle.wb_model.specs.declared.script.Numbered.{Numbered}
@@ -6,21 +6,22 @@ use Rattle.wb_machine.specs.LocalValues.{is_small}
 use Rattle.wb_model.specs.declared.script.Statement.TheOpen.{Statement-F}
 use Rattle.wb_model.specs.State.{null}
 use Rattle.wb_model.specs.declared.script.Argument.{Argument}
-use Rattle.wb_model.specs.declared.heap.Ptr.{Ptr}
-use Rattle.wb_model.specs.Statements.{Layer, destroyed_object, is_null}
+use Rattle.wb_model.specs.Statements.{Layer}
 use Rattle.wb_model.specs.Bodies.{procedure_at}
 use Rattle.wb_model.specs.Meaning.{meaning_of}
 use Rattle.wb_model.specs.Run.{result_of}
 use Rattle.wb_model.specs.Rest.{nothing_more, gives_to, resume}
 use Rattle.wb_machine.proofs.Steps.{rest_known}
-use Rattle.wb_machine.specs.RunState.{Values, state_of}
-use Rattle.wb_model.specs.declared.script.Statement.TheViews.{out-Statement, outs-If, outs-IfElse, outs-Repeat, outs-Trap, outs-Call, outs-CallTo, outs-Delete}
-use Rattle.wb_machine.specs.Flow.{where_of, pending_in, AreOwn, rest_after, rest_of_statement, rest_of_body}
+use Rattle.wb_machine.specs.RunState.{Values}
+use Rattle.wb_model.specs.declared.script.Statement.TheViews.{out-Statement, outs-If, outs-IfElse, outs-Repeat, outs-Trap, outs-Call, outs-CallTo}
+use Rattle.wb_machine.specs.Flow.{where_of, pending_in, AreOwn, rest_of_statement, rest_of_body}
 use Rattle.wb_machine.specs.LocalValues.{passed}
 use Rattle.wb_machine.specs.PointerOperands.{operands_refused}
-use Rattle.wb_machine.proofs.Outcomes.{on_ok_then}
-use Rattle.wb_machine.proofs.Heads.{if_as_choice, call_as_body, call_to_as_body, delete_asked}
+use Rattle.wb_machine.proofs.Outcomes.{on_ok_then, on_ok_anyhow}
+use Rattle.wb_machine.proofs.WholeCells.{carried_whole}
+use Rattle.wb_machine.proofs.Heads.{if_as_choice, call_as_body, call_to_as_body}
 use Rattle.wb_machine.proofs.Scripts.{own_if, own_choice, own_turns, own_trapped, own_none, own_call, own_call_to, procedure_locals, procedure_statements}
+use Rattle.wb_machine.proofs.SlotsKept.{carried_room, free_room, still_room, quiet_room}
 use Rattle.wb_machine.proofs.control.Control.begin_statement.Goals as goal
 
 pub returns-in-If-clause-kept : goal.returns-in-If-clause-kept
@@ -76,6 +77,8 @@ returns-in_ok-self-in_default c =
           ∙ ap result_of (c.in_ok-self-in_default.ensures.kept r f (meaning_of script budget) (where_of c.args.at) refl (resume script budget (pending_in c.args.state.now.callers pieces)));
       sound = c.requires.sound;
       keeps = record { steps = c.in_ok-self-in_default.ensures.keeps.steps; stays = c.in_ok-self-in_default.ensures.keeps.stays };
+      room = λ lines. carried_room script c.args.at.floor (out-Statement c.args.statement.now) pieces c.args.state.now c.carry_out.new.self c.in_ok-self-in_default.field-0 lines c.in_ok-self-in_default.ensures.kept c.requires.free;
+      whole = λ lines. carried_whole script c.args.at.floor (out-Statement c.args.statement.now) c.args.state.now c.carry_out.new.self c.in_ok-self-in_default.field-0 lines c.in_ok-self-in_default.ensures.kept;
       line = refl;
     }
 
@@ -156,20 +159,52 @@ returns-in-CallTo-clause-sound c =
     sound script (subst (AreOwn script) (sym (c.lines_of-body-in-CallTo.ensures.statements ∙ ap (λ (b : Body). b.statements) c.procedure_at-in-CallTo.ensures)) (procedure_statements script c.requires.script c.in-CallTo.index called.1))
     c.requires.sound)
 
-pub returns-in-Delete-clause-kept : goal.returns-in-Delete-clause-kept
-returns-in-Delete-clause-kept c =
-    on_ok_then c.begin_delete.result c.begin_delete.ensures.kept (λ kept r budget f.
-    let script = c.args.script.now in
-    let h = c.args.state.now in
-    let old = c.args.self.now.pieces.items in
-    let at = where_of c.args.at in
-    let p = c.in-Delete.object in
-    let layer = out-Statement c.args.statement.now in
-    let is : layer ≡ Statement-F.Delete p = ap out-Statement c.in-Delete.is ∙ outs-Delete p in
-    kept script r budget h
-    ∙ ap (λ (q : Ptr). rest_after script budget r (destroyed_object (is_null q) (meaning_of script budget) at q (state_of script h)) old h) c.pointer.ensures
-    ∙ delete_asked script budget r at p old h (sym (ap (operands_refused h) is) ∙ c.requires.operands)
-    ∙ ap (λ (l : Layer). rest_of_statement script budget r at l old h) (sym is))
+pub returns-in-Construct-clause-whole : goal.returns-in-Construct-clause-whole
+returns-in-Construct-clause-whole c = on_ok_anyhow c.begin_construct.result (λ lines. c.begin_construct.ensures.quiet.whole c.args.script.now)
 
-pub returns-in-Delete-clause-sound : goal.returns-in-Delete-clause-sound
-returns-in-Delete-clause-sound c = on_ok_then c.begin_delete.result c.begin_delete.ensures.sound (λ sound. sound c.args.script.now c.requires.sound)
+pub returns-in-Call-clause-whole : goal.returns-in-Call-clause-whole
+returns-in-Call-clause-whole c = on_ok_anyhow c.begin_body.result (λ lines. c.begin_body.ensures.quiet.whole c.args.script.now)
+
+pub returns-in-CallTo-clause-whole : goal.returns-in-CallTo-clause-whole
+returns-in-CallTo-clause-whole c = on_ok_anyhow c.begin_body-in-CallTo.result (λ lines. c.begin_body-in-CallTo.ensures.quiet.whole c.args.script.now)
+
+pub returns-in-If-clause-room : goal.returns-in-If-clause-room
+returns-in-If-clause-room c =
+    on_ok_then c.begin_if.result c.begin_if.ensures.slots (λ slots lines.
+    still_room c.begin_if.new.self.ending c.args.self.now.pieces.items c.begin_if.new.self.pieces.items c.args.state.now c.requires.free slots)
+
+pub returns-in-IfElse-clause-room : goal.returns-in-IfElse-clause-room
+returns-in-IfElse-clause-room c =
+    on_ok_then c.begin_if-in-IfElse.result c.begin_if-in-IfElse.ensures.slots (λ slots lines.
+    still_room c.begin_if-in-IfElse.new.self.ending c.args.self.now.pieces.items c.begin_if-in-IfElse.new.self.pieces.items c.args.state.now c.requires.free slots)
+
+pub returns-in-Repeat-clause-room : goal.returns-in-Repeat-clause-room
+returns-in-Repeat-clause-room c =
+    on_ok_then c.begin_repeat.result c.begin_repeat.ensures.slots (λ slots lines.
+    still_room c.begin_repeat.new.self.ending c.args.self.now.pieces.items c.begin_repeat.new.self.pieces.items c.args.state.now c.requires.free slots)
+
+pub returns-in-PopDestroy-clause-room : goal.returns-in-PopDestroy-clause-room
+returns-in-PopDestroy-clause-room c =
+    on_ok_then c.begin_pop.result c.begin_pop.ensures.slots (λ slots lines.
+    still_room c.begin_pop.new.self.ending c.args.self.now.pieces.items c.begin_pop.new.self.pieces.items c.args.state.now c.requires.free slots)
+
+pub returns-in-Trap-clause-room : goal.returns-in-Trap-clause-room
+returns-in-Trap-clause-room c =
+    let h = c.args.state.now in
+    on_ok_then c.begin_trap.result c.begin_trap.ensures.slots (λ slots lines.
+    free_room c.begin_trap.new.self.ending c.args.self.now.pieces.items c.begin_trap.new.self.pieces.items h h c.requires.free slots (omega arith) refl)
+
+pub returns-in-Construct-clause-room : goal.returns-in-Construct-clause-room
+returns-in-Construct-clause-room c =
+    on_ok_then c.begin_construct.result c.begin_construct.ensures.slots (λ slots lines.
+    quiet_room c.begin_construct.new.self.ending c.args.self.now.pieces.items c.begin_construct.new.self.pieces.items c.args.state.now c.begin_construct.new.state c.requires.free slots c.begin_construct.ensures.quiet)
+
+pub returns-in-Call-clause-room : goal.returns-in-Call-clause-room
+returns-in-Call-clause-room c =
+    on_ok_then c.begin_body.result c.begin_body.ensures.slots (λ slots lines.
+    quiet_room c.begin_body.new.self.ending c.args.self.now.pieces.items c.begin_body.new.self.pieces.items c.args.state.now c.begin_body.new.state c.requires.free slots c.begin_body.ensures.quiet)
+
+pub returns-in-CallTo-clause-room : goal.returns-in-CallTo-clause-room
+returns-in-CallTo-clause-room c =
+    on_ok_then c.begin_body-in-CallTo.result c.begin_body-in-CallTo.ensures.slots (λ slots lines.
+    quiet_room c.begin_body-in-CallTo.new.self.ending c.args.self.now.pieces.items c.begin_body-in-CallTo.new.self.pieces.items c.args.state.now c.begin_body-in-CallTo.new.state c.requires.free slots c.begin_body-in-CallTo.ensures.quiet)

@@ -1,6 +1,7 @@
-use Rattle.std.proofs.Common.{◌∷◌, ap, ◌∙◌, sym}
+use Rattle.std.proofs.Common.{◌∷◌, refl, ap, ◌∙◌, sym, arith}
 use Rattle.wb_machine.specs.Flow.{where_of, pending_of, callers_under, pending_in, needs_step, rest_under}
 use Rattle.wb_machine.proofs.Falls.{fallen_code, fallen_turns, fallen_items, fallen_object}
+use Rattle.wb_machine.proofs.SlotsKept.{room_stays}
 use Rattle.wb_machine.proofs.control.Control.fall.Goals as goal
 
 pub returns-in-Code-clause-kept : goal.returns-in-Code-clause-kept
@@ -34,3 +35,19 @@ returns-in-Object-clause-kept c script r budget within =
     let h = c.args.state.now in
     fallen_object script budget r pieces (where_of c.in-Object.field-0) c.in-Object.field-1 ending h c.requires.stop (λ e. sym (ap needs_step c.in-Object.is) ∙ c.requires.done e)
     ∙ sym (ap (λ p. rest_under script budget r ending (pending_of h.callers p ∷ pending_in (callers_under h.callers p) pieces) h) c.in-Object.is)
+
+pub returns-in-Code-clause-room : goal.returns-in-Code-clause-room
+returns-in-Code-clause-room c had room =
+    room_stays c.args.self.now.ending c.args.self.now.pieces.items c.args.state.now c.args.state.now (omega arith) refl room
+
+pub returns-in-Turns-clause-room : goal.returns-in-Turns-clause-room
+returns-in-Turns-clause-room c had room =
+    room_stays c.args.self.now.ending c.args.self.now.pieces.items c.args.state.now c.args.state.now (omega arith) refl room
+
+pub returns-in-Items-clause-room : goal.returns-in-Items-clause-room
+returns-in-Items-clause-room c had room =
+    room_stays c.args.self.now.ending c.args.self.now.pieces.items c.args.state.now c.args.state.now (omega arith) refl room
+
+pub returns-in-Object-clause-room : goal.returns-in-Object-clause-room
+returns-in-Object-clause-room c had room =
+    room_stays c.args.self.now.ending c.args.self.now.pieces.items c.args.state.now c.args.state.now (omega arith) refl room

@@ -1,10 +1,11 @@
-use Rattle.std.proofs.Common.{◌∷◌, ap, ◌∙◌, sym, rules, w32, FitsSigned}
+use Rattle.std.proofs.Common.{◌∷◌, refl, ap, ◌∙◌, sym, arith, rules, w32, FitsSigned}
 use Rattle.std.proofs.lemmas.Int.{to_z-of_z}
 use Rattle.wb_model.specs.State.{number}
 use Rattle.wb_model.specs.Rest.{caught}
 use Rattle.wb_machine.specs.Carried.{stored}
 use Rattle.wb_machine.specs.Flow.{pending_in, rest_from, rest_under}
 use Rattle.wb_machine.proofs.Falls.{caught_goes_on, caught_passes}
+use Rattle.wb_machine.proofs.SlotsKept.{stored_room, room_stays}
 use Rattle.wb_machine.proofs.control.Control.fall_caught.Goals as goal
 
 pub returns-in-GoesOn-clause-kept : goal.returns-in-GoesOn-clause-kept
@@ -19,3 +20,11 @@ returns-in-GoesOn-clause-kept c script r budget =
 pub returns-in_default-clause-kept : goal.returns-in_default-clause-kept
 returns-in_default-clause-kept c script r budget =
     caught_passes script budget r c.args.self.now.pieces.items c.args.local c.args.code c.args.self.now.ending c.args.state.now c.requires c.in_default.not-GoesOn
+
+pub returns-in-GoesOn-clause-room : goal.returns-in-GoesOn-clause-room
+returns-in-GoesOn-clause-room c room =
+    stored_room c.args.self.now.ending c.args.self.now.pieces.items c.args.state.now c.set.new.self c.args.local _ c.set.ensures room
+
+pub returns-in_default-clause-room : goal.returns-in_default-clause-room
+returns-in_default-clause-room c room =
+    room_stays c.args.self.now.ending c.args.self.now.pieces.items c.args.state.now c.args.state.now (omega arith) refl room

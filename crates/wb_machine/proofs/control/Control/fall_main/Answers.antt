@@ -1,9 +1,12 @@
-use Rattle.std.proofs.Common.{◌∷◌, ◌-◌, length, ap, ◌∙◌, sym, arith, rules, w32, FitsSigned}
+use Rattle.std.proofs.Common.{◌∷◌, ◌-◌, length, refl, ap, ◌∙◌, sym, arith, rules, w32, FitsSigned}
 use Rattle.std.proofs.lemmas.Int.{to_z-of_z}
+use Rattle.wb_model.specs.declared.heap.TheConstants.Panic.{ITEMS_LEFT}
 use Rattle.wb_model.specs.Statements.{destroy_items}
 use Rattle.wb_model.specs.Rest.{doing, main_catching, main_caught}
+use Rattle.wb_machine.specs.declared.pieces.Ending.TheVariants.{GoesOn, Panics}
 use Rattle.wb_machine.specs.Flow.{in_main_frame, pending_in, rest_from, rest_under}
 use Rattle.wb_machine.proofs.Falls.{main_ends, main_items_left, main_left}
+use Rattle.wb_machine.proofs.SlotsKept.{stop_room, leave_room, main_room}
 use Rattle.wb_machine.proofs.control.Control.fall_main.Goals as goal
 
 pub returns-in_ok-destroy_to-in-Leaves-clause-kept : goal.returns-in_ok-destroy_to-in-Leaves-clause-kept
@@ -28,3 +31,17 @@ returns-in_default-clause-kept c script r budget within =
 pub returns-in_default-2-clause-kept : goal.returns-in_default-2-clause-kept
 returns-in_default-2-clause-kept c script r budget within =
     main_items_left script budget r c.args.self.now.pieces.items c.args.self.now.ending c.args.state.now c.requires c.in_default-2.not-Leaves (λ e. c.if-items-eq0.false (c.items.ensures.items ∙ e))
+
+pub returns-in_ok-destroy_to-in-Leaves-clause-room : goal.returns-in_ok-destroy_to-in-Leaves-clause-room
+returns-in_ok-destroy_to-in-Leaves-clause-room c room going =
+    let done = c.in_ok-destroy_to-in-Leaves.ensures in
+    let r = room c.requires in
+    leave_room c.args.self.now.ending c.destroy_to.new.self.ending 0 c.args.self.now.pieces.items c.destroy_to.new.self.pieces.items c.args.state.now c.requires done.ending (omega (arith, r.some))
+    (omega (arith, done.slots)) done.first room going
+
+pub returns-in_default-clause-room : goal.returns-in_default-clause-room
+returns-in_default-clause-room c room =
+    main_room c.args.self.now.ending GoesOn c.args.self.now.pieces.items c.args.state.now c.requires (omega (arith, c.items.ensures.items, c.if-items-eq0.true)) room
+
+pub returns-in_default-2-clause-room : goal.returns-in_default-2-clause-room
+returns-in_default-2-clause-room c room = stop_room (Panics ITEMS_LEFT) c.args.self.now.pieces.items c.args.state.now refl

@@ -4,6 +4,7 @@ use Rattle.wb_machine.specs.Flow.{pending_of, callers_under, pending_in}
 use Rattle.wb_machine.proofs.Quiet.{quiet_then}
 use Rattle.wb_machine.proofs.Steps.{pending_pushed, rest_known}
 use Rattle.wb_machine.proofs.Scripts.{sound_below, weight_pushed}
+use Rattle.wb_machine.proofs.SlotsKept.{entered_under, room_under}
 use Rattle.wb_machine.proofs.control.Control.settle.Goals as goal
 
 pub loop-self-preserved-in-Continue-1 : goal.loop-self-preserved-in-Continue-1
@@ -23,6 +24,9 @@ loop-self-preserved-in-Continue-1 c =
           ∙ c.loop-self.invariant.kept script r budget within;
       stop = λ was. let x = sym (c.loop-self.invariant.stop was) ∙ done.0 in cc;
       line = fell.line ∙ c.loop-self.invariant.line;
+      room = λ before.
+          let was = c.loop-self.invariant.room before in
+          fell.room (entered_under c.loop-self.self.ending new old piece st top done.0 was) (room_under c.loop-self.self.ending new old piece st top (λ e. done.2 new piece top e) was);
       quiet = quiet_then c.args.state.now st c.fall.new.state c.loop-self.invariant.quiet fell.quiet;
       sound = λ script s. fell.sound script (sound_below script new old piece top (c.loop-self.invariant.sound script s));
     }

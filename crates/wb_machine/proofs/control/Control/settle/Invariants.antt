@@ -3,9 +3,10 @@ use Rattle.wb_model.specs.declared.heap.Rule.{Rule}
 use Rattle.wb_model.specs.declared.script.Script.{Script}
 use Rattle.wb_machine.specs.Flow.{is_stop, AreSound, weight_of, rest_from}
 use Rattle.wb_machine.specs.Owed.{IsQuiet}
+use Rattle.wb_machine.specs.SlotInvariant.{HasRoom}
 use Rattle.wb_machine.proofs.control.Control.settle.Given as goal
 
--- the rest stays, a stop, the line, what asks for nothing, and that the pieces are the script's own
+-- the rest stays, a stop, the line, what asks for nothing, the free slot, and that the pieces are the script's own
 abbrev pub invariant-loop-self : goal.invariant-loop-self
 invariant-loop-self l =
     record {
@@ -14,6 +15,7 @@ invariant-loop-self l =
       stop : is_stop l.fn.self.ending ≡ true → is_stop l.self.ending ≡ true;
       line : l.self.line ≡ l.fn.self.line;
       quiet : IsQuiet l.fn.state l.state;
+      room : HasRoom l.fn.self.ending l.fn.self.pieces.items l.fn.state → HasRoom l.self.ending l.self.pieces.items l.state;
       sound : (script : Script) → AreSound script l.fn.self.pieces.items → AreSound script l.self.pieces.items;
     }
 

@@ -1,13 +1,15 @@
-use Rattle.std.proofs.Common.{◌≡◌, ◌∷◌, ◌++◌, [], List, ap, ◌∙◌, sym, subst}
+use Rattle.std.proofs.Common.{◌≡◌, ◌∷◌, ◌++◌, [], List, refl, ap, ◌∙◌, sym, subst, arith}
 use Rattle.std.specs.Prelude.{option_to_list}
 use Rattle.wb_model.specs.declared.script.Numbered.{Numbered}
 use Rattle.wb_model.specs.Statements.{all, turns, destroy_items, destroy_object}
 use Rattle.wb_model.specs.Rest.{doing}
 use Rattle.wb_machine.specs.declared.pieces.Piece.TheVariants.{Code, Turns, Items, Object}
 use Rattle.wb_machine.specs.Flow.{where_of, AreOwn, rest_from, rest_of_piece}
-use Rattle.wb_machine.proofs.Outcomes.{on_ok_then, split_first}
+use Rattle.wb_machine.proofs.Outcomes.{on_ok_then, on_ok_anyhow, split_first}
+use Rattle.wb_machine.proofs.WholeCells.{stepped_whole}
 use Rattle.wb_machine.proofs.Steps.{pending_pushed, rest_on_top}
 use Rattle.wb_machine.proofs.Scripts.{sound_below, sound_top}
+use Rattle.wb_machine.proofs.SlotsKept.{room_free, room_items, stepped_free, still_room}
 use Rattle.wb_machine.proofs.control.Control.step.Goals as goal
 
 pub step_code-requires-clause-own : goal.step_code-requires-clause-own
@@ -101,3 +103,42 @@ returns-in-Some-Object-clause-sound c =
     let old = c.args.self.now.pieces.items in
     let top : old ≡ below ++ Object arm.at arm.ptr ∷ [] = c.pop.ensures.items ∙ ap (λ o. below ++ option_to_list o) arm.is ∙ ap (λ p. below ++ p ∷ []) arm.field-0-is in
     on_ok_then c.step_object.result c.step_object.ensures.sound (λ sound. sound (sound_below c.args.script.now below old (Object arm.at arm.ptr) top c.requires.sound))
+
+pub returns-in-Some-Turns-clause-whole : goal.returns-in-Some-Turns-clause-whole
+returns-in-Some-Turns-clause-whole c = on_ok_anyhow c.step_turns.result (stepped_whole c.args.script.now c.args.state.now c.step_turns.new.state c.step_turns.ensures.state)
+
+pub step_code-requires-clause-free : goal.step_code-requires-clause-free
+step_code-requires-clause-free c =
+    let arm = c.in-Some-Code-default-len1-up in
+    let below = c.pop.new.self.items in
+    let old = c.args.self.now.pieces.items in
+    let top : old ≡ below ++ Code arm.at arm.field-0-1 ∷ [] = c.pop.ensures.items ∙ ap (λ o. below ++ option_to_list o) arm.is ∙ ap (λ p. below ++ p ∷ []) arm.field-0-is in
+    room_free c.args.self.now.ending below old (Code arm.at arm.field-0-1) c.args.state.now c.requires.ready.0 top refl c.requires.room
+
+pub step_items-requires-clause-free : goal.step_items-requires-clause-free
+step_items-requires-clause-free c =
+    let arm = c.in-Some-Items in
+    let below = c.pop.new.self.items in
+    let old = c.args.self.now.pieces.items in
+    let top : old ≡ below ++ Items arm.at arm.left ∷ [] = c.pop.ensures.items ∙ ap (λ o. below ++ option_to_list o) arm.is ∙ ap (λ p. below ++ p ∷ []) arm.field-0-is in
+    room_items c.args.self.now.ending below old (Items arm.at arm.left) c.args.state.now c.requires.ready.0 top c.requires.room
+
+pub step_object-requires-clause-free : goal.step_object-requires-clause-free
+step_object-requires-clause-free c =
+    let arm = c.in-Some-Object in
+    let below = c.pop.new.self.items in
+    let old = c.args.self.now.pieces.items in
+    let top : old ≡ below ++ Object arm.at arm.ptr ∷ [] = c.pop.ensures.items ∙ ap (λ o. below ++ option_to_list o) arm.is ∙ ap (λ p. below ++ p ∷ []) arm.field-0-is in
+    room_free c.args.self.now.ending below old (Object arm.at arm.ptr) c.args.state.now c.requires.ready.0 top refl c.requires.room
+
+pub returns-in-Some-Turns-clause-room : goal.returns-in-Some-Turns-clause-room
+returns-in-Some-Turns-clause-room c =
+    let arm = c.in-Some-Turns in
+    let below = c.pop.new.self.items in
+    let old = c.args.self.now.pieces.items in
+    let top : old ≡ below ++ Turns arm.at arm.left arm.body ∷ [] = c.pop.ensures.items ∙ ap (λ o. below ++ option_to_list o) arm.is ∙ ap (λ p. below ++ p ∷ []) arm.field-0-is in
+    let h = c.args.state.now in
+    let g = c.step_turns.new.state in
+    on_ok_then c.step_turns.result c.step_turns.ensures.slots (λ slots.
+    still_room c.step_turns.new.self.ending below c.step_turns.new.self.pieces.items g
+    (stepped_free below below h g c.step_turns.ensures.state (omega arith) (room_free c.args.self.now.ending below old (Turns arm.at arm.left arm.body) h c.requires.ready.0 top refl c.requires.room)) slots)

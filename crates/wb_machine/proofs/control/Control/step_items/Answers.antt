@@ -1,4 +1,4 @@
-use Rattle.std.proofs.Common.{◌-◌, ap, ◌∙◌, sym, arith}
+use Rattle.std.proofs.Common.{◌-◌, refl, ap, ◌∙◌, sym, arith}
 use Rattle.wb_model.specs.declared.heap.TheConstants.Panic.{POP_BELOW_TRAP}
 use Rattle.wb_model.specs.Statements.{newest, destroyed_item}
 use Rattle.wb_model.specs.Meaning.{meaning_of}
@@ -7,9 +7,11 @@ use Rattle.wb_machine.specs.declared.pieces.Piece.TheVariants.{Items}
 use Rattle.wb_machine.specs.RunState.{RunState, state_of}
 use Rattle.wb_machine.specs.Bodies.{without_newest}
 use Rattle.wb_machine.specs.Flow.{where_of, rest_from, rest_after}
-use Rattle.wb_machine.proofs.Outcomes.{on_ok_then}
+use Rattle.wb_machine.proofs.Outcomes.{on_ok_then, on_ok_anyhow}
+use Rattle.wb_machine.proofs.WholeCells.{taken_whole}
 use Rattle.wb_machine.proofs.Steps.{pending_pushed, rest_destroyed, rest_undestroyed}
 use Rattle.wb_machine.proofs.Scripts.{sound_pushed}
+use Rattle.wb_machine.proofs.SlotsKept.{taken_free, quiet_room, stop_room}
 use Rattle.wb_machine.proofs.control.Control.step_items.Goals as goal
 
 pub returns-in-Some-clause-kept : goal.returns-in-Some-clause-kept
@@ -45,3 +47,23 @@ returns-in-None-clause-kept c r budget within =
 pub returns-in-None-clause-sound : goal.returns-in-None-clause-sound
 returns-in-None-clause-sound c below =
     sound_pushed c.args.script.now c.args.self.now.pieces.items c.push.new.self.pieces.items (Items c.args.at (c.args.left - 1)) c.in_ok-push.ensures.pieces below tt
+
+pub returns-in-Some-clause-whole : goal.returns-in-Some-clause-whole
+returns-in-Some-clause-whole c =
+    let script = c.args.script.now in
+    on_ok_anyhow c.begin_item.result (λ whole.
+    c.begin_item.ensures.quiet.whole script (taken_whole script c.args.state.now c.tick.new.self c.take_newest.new.self c.tick.ensures c.take_newest.ensures.taken whole))
+
+pub returns-in-None-clause-whole : goal.returns-in-None-clause-whole
+returns-in-None-clause-whole c = taken_whole c.args.script.now c.args.state.now c.tick.new.self c.take_newest.new.self c.tick.ensures c.take_newest.ensures.taken
+
+pub returns-in-Some-clause-room : goal.returns-in-Some-clause-room
+returns-in-Some-clause-room c =
+    let mid = c.push.new.self.pieces.items in
+    on_ok_then c.begin_item.result c.begin_item.ensures.slots (λ slots.
+    quiet_room c.begin_item.new.self.ending mid c.begin_item.new.self.pieces.items c.take_newest.new.self c.begin_item.new.state
+    (taken_free c.args.self.now.pieces.items mid c.args.state.now c.tick.new.self c.take_newest.new.self c.tick.ensures c.take_newest.ensures.taken (omega (arith, c.in_ok-push.ensures.slots)) c.requires.free)
+    slots c.begin_item.ensures.quiet)
+
+pub returns-in-None-clause-room : goal.returns-in-None-clause-room
+returns-in-None-clause-room c = stop_room (Panics POP_BELOW_TRAP) c.push.new.self.pieces.items c.take_newest.new.self refl

@@ -1,4 +1,4 @@
-use Rattle.std.proofs.Common.{List, IsTrue, [], ap, ◌∙◌, sym, subst}
+use Rattle.std.proofs.Common.{List, IsTrue, [], refl, ap, ◌∙◌, sym, subst, arith}
 use Rattle.std.specs.List.{list_all}
 use Rattle.wb_model.specs.declared.script.Local.{Local}
 use Rattle.wb_machine.specs.LocalValues.{is_small}
@@ -10,10 +10,12 @@ use Rattle.wb_machine.specs.RunState.{RunState}
 use Rattle.wb_machine.specs.Bodies.{class_read}
 use Rattle.wb_machine.specs.Carried.{stepped}
 use Rattle.wb_machine.specs.Flow.{where_of, AreOwn, rest_from, rest_of_body}
-use Rattle.wb_machine.proofs.Outcomes.{on_ok_then}
+use Rattle.wb_machine.proofs.Outcomes.{on_ok_then, on_ok_anyhow}
+use Rattle.wb_machine.proofs.WholeCells.{stepped_whole}
 use Rattle.wb_machine.proofs.Heads.{destroy_as_body, destroy_refused}
 use Rattle.wb_machine.proofs.Steps.{rest_unmade}
 use Rattle.wb_machine.proofs.Scripts.{destroy_own}
+use Rattle.wb_machine.proofs.SlotsKept.{stepped_free, quiet_room, stop_room}
 use Rattle.wb_machine.proofs.control.Control.step_object.Goals as goal
 
 pub returns-in-Ok-clause-kept : goal.returns-in-Ok-clause-kept
@@ -49,3 +51,21 @@ returns-in-Err-clause-kept c r budget within =
 pub begin_body-requires-clause-locals : goal.begin_body-requires-clause-locals
 begin_body-requires-clause-locals c =
     subst (λ (locals : List Local). IsTrue (list_all is_small locals)) (sym c.destroy_at-body.ensures.locals) (destroy_own c.args.script.now c.requires.script c.in-Ok.class).1
+
+pub returns-in-Ok-clause-whole : goal.returns-in-Ok-clause-whole
+returns-in-Ok-clause-whole c =
+    let script = c.args.script.now in
+    on_ok_anyhow c.begin_body.result (λ whole. c.begin_body.ensures.quiet.whole script (stepped_whole script c.args.state.now c.tick.new.self c.tick.ensures whole))
+
+pub returns-in-Err-clause-whole : goal.returns-in-Err-clause-whole
+returns-in-Err-clause-whole c = stepped_whole c.args.script.now c.args.state.now c.tick.new.self c.tick.ensures
+
+pub returns-in-Ok-clause-room : goal.returns-in-Ok-clause-room
+returns-in-Ok-clause-room c =
+    let old = c.args.self.now.pieces.items in
+    on_ok_then c.begin_body.result c.begin_body.ensures.slots (λ slots.
+    quiet_room c.begin_body.new.self.ending old c.begin_body.new.self.pieces.items c.tick.new.self c.begin_body.new.state
+    (stepped_free old old c.args.state.now c.tick.new.self c.tick.ensures (omega arith) c.requires.free) slots c.begin_body.ensures.quiet)
+
+pub returns-in-Err-clause-room : goal.returns-in-Err-clause-room
+returns-in-Err-clause-room c = stop_room (Panics c.in-Err.panic) c.args.self.now.pieces.items c.tick.new.self refl

@@ -7,11 +7,13 @@ use Rattle.wb_machine.specs.declared.control.Control.{Control}
 use Rattle.wb_machine.specs.RunState.{RunState, state_of}
 use Rattle.wb_machine.specs.Asks.{asks_next, MakesAsked}
 use Rattle.wb_machine.specs.Flow.{pending_in, is_stop, is_over, has_met_ceiling, progress_of, AreSound, rest_from, rest_at}
+use Rattle.wb_machine.specs.ObjectInvariant.{AreWhole}
 use Rattle.wb_machine.proofs.AskedPieces.{settled_cut}
 use Rattle.wb_machine.proofs.Begins.{rest_first}
 use Rattle.wb_machine.proofs.Counted.{made_as_asked}
 use Rattle.wb_machine.proofs.Fitting.{fits-limit, fits-before, going_on}
 use Rattle.wb_machine.proofs.control.Control.turn.Goals.{then-not-begun+in_ok-begin, else-not-begun+then-steps-budget+in_ok-step, else-not-begun+else-steps-budget}
+use Rattle.wb_machine.proofs.SlotsKept.{moved_room, stop_room}
 use Rattle.wb_machine.proofs.control.Control.turn.Goals as goal
 
 pub returns-clause-sound : goal.returns-clause-sound
@@ -22,6 +24,16 @@ returns-clause-sound c =
       | then-not-begun+in_ok-begin w ↦ subst P (sym w.self-is) w.in_ok-begin.ensures.sound
       | else-not-begun+then-steps-budget+in_ok-step w ↦ subst P (sym w.self-is) w.in_ok-step.ensures.sound
       | else-not-begun+else-steps-budget w ↦ subst P (sym w.self-is) (subst (AreSound script) (sym w.cut.ensures.pieces) c.requires.sound)
+    ])
+
+pub returns-clause-whole : goal.returns-clause-whole
+returns-clause-whole c =
+    let script = c.args.script.now in
+    let P : RunState → Type 0 = λ x. AreWhole script x.debug.heap.row in
+    c.in_ok-settle.ensures.quiet.whole script (elim c.if-not-begun.branch [
+      | then-not-begun+in_ok-begin w ↦ subst P (sym w.state-is) w.in_ok-begin.ensures.whole
+      | else-not-begun+then-steps-budget+in_ok-step w ↦ subst P (sym w.state-is) (w.in_ok-step.ensures.whole c.requires.whole)
+      | else-not-begun+else-steps-budget w ↦ subst P (sym w.state-is) c.requires.whole
     ])
 
 -- a fact of what one of the branches made
@@ -124,3 +136,14 @@ returns-clause-asked c =
             asked = λ at_once whole. let clash : false ≡ true = sym none ∙ at_once in cc;
           })
     ]
+
+pub returns-clause-room : goal.returns-clause-room
+returns-clause-room c =
+    let mid = c.if-not-begun.self in
+    let g = c.if-not-begun.state in
+    c.in_ok-settle.ensures.room (elim c.if-not-begun.branch [
+      | then-not-begun+in_ok-begin w ↦ moved_room w.begin.new.self mid w.begin.new.state g w.self-is w.state-is w.in_ok-begin.ensures.room
+      | else-not-begun+then-steps-budget+in_ok-step w ↦ moved_room w.step.new.self mid w.step.new.state g w.self-is w.state-is w.in_ok-step.ensures.room
+      | else-not-begun+else-steps-budget w ↦
+          moved_room w.cut.new.self mid c.args.state.now g w.self-is w.state-is (stop_room w.cut.new.self.ending w.cut.new.self.pieces.items c.args.state.now (ap is_stop w.cut.ensures.ending))
+    ])

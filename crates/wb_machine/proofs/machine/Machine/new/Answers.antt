@@ -1,5 +1,7 @@
 use Rattle.std.proofs.Common.{◌≡◌, ap, ◌∙◌, sym, subst, arith, length}
-use Rattle.wb_machine.specs.RunState.{first_state}
+use Rattle.std.proofs.lemmas.List.Elements.{All-nil}
+use Rattle.wb_machine.specs.RunState.{RunState, first_state}
+use Rattle.wb_machine.specs.ObjectInvariant.{AreWhole}
 use Rattle.wb_machine.specs.Flow.{AreSound, IsFirst}
 use Rattle.wb_machine.proofs.Begins.{rest_first}
 use Rattle.wb_machine.proofs.Fitting.{fits-limit}
@@ -24,7 +26,9 @@ invariant_of-result c =
         first = λ e. is_first;
         settled = λ e. cc;
         stack = λ e going. cc;
+        room = λ e. cc;
         pieces = subst (AreSound script) (sym c.new-2.ensures.pieces) tt;
+        whole = subst (λ (x : RunState). AreWhole script x.debug.heap.row) (sym start) (All-nil _);
         no_line = λ e. c.new-2.ensures.line;
         leaks = λ e goes. cc;
       };

@@ -33,7 +33,9 @@ invariant_of-self-2 c =
         first = λ e. cc;
         settled = λ e. turn.settled;
         stack = λ e going. turn.stack going;
+        room = λ e. turn.room;
         pieces = turn.sound;
+        whole = turn.whole;
         no_line = λ e. cc;
         leaks = λ e goes. c.in_ok-list_leaks.ensures.told (ap is_stop c.ending.ensures ∙ goes);
       };

@@ -1,0 +1,56 @@
+//! The numbers that the limits and the panics are. Definitions and code cite each by its name, and follow it wherever it
+//! goes; what a reader of `docs/LANGUAGE.md` and `docs/REPORTS.md` is told stands here as a law. Each is the contract of a
+//! function that does nothing, so that the gate proves it.
+
+ghost use Rattle.std.specs.Prelude.{◌≡◌, pos, neg_ℤ};
+ghost use Rattle.wb_model.specs.declared.heap.Panic.TheVariants.{User, Workbench};
+ghost use Rattle.wb_model.specs.declared.heap.TheConstants.{KERR_NO_MEMORY};
+ghost use Rattle.wb_model.specs.declared.heap.TheConstants.Panic.{POSITION_OUT_OF_BOUNDS, TOO_LONG, BAD_CELL, NULL_OR_STALE, WRONG_KIND, POP_BELOW_TRAP, ANOTHER_ITEM_ON_TOP, ITEMS_LEFT, NO_OPEN_MARK, TOO_MANY_FRAMES, SHORTER_THAN_TEXT, NUMBER_OUT_OF_RANGE};
+ghost use Rattle.wb_model.specs.declared.limits.TheConstants.{CEILING, LARGEST_REQUEST, MOST_UNITS, MOST_TURNS, MOST_FRAMES, LARGEST_BUDGET, DEFAULT_BUDGET, LARGEST_MINIMUM, DEFAULT_MINIMUM, SMALLEST_STEP, LARGEST_STEP, DEFAULT_STEP, LONGEST_SCRIPT, LONGEST_LITERAL, LONGEST_NAME, NINE_DIGITS, MOST_PROCEDURES, MOST_CLASSES, MOST_FIELDS, MOST_EXTRA, MOST_PARAMETERS, MOST_LOCALS, DEEPEST_BLOCK, LARGEST_BUFFER, LONGEST_PRINTED};
+
+/// What a script may have, in the order of "Limits" in `docs/LANGUAGE.md`; then what its statements may ask for; then the
+/// lengths of heap, and what the options of `docs/REPORTS.md` may say.
+pub fn limits_are()
+    ensures script { LONGEST_SCRIPT ≡ 65_536 }
+    ensures name { LONGEST_NAME ≡ 32 }
+    ensures classes { MOST_CLASSES ≡ 64 }
+    ensures fields { MOST_FIELDS ≡ 16 }
+    ensures extra { MOST_EXTRA ≡ 65_536 }
+    ensures procedures { MOST_PROCEDURES ≡ 256 }
+    ensures parameters { MOST_PARAMETERS ≡ 4 }
+    ensures locals { MOST_LOCALS ≡ 32 }
+    ensures blocks { DEEPEST_BLOCK ≡ 16 }
+    ensures frames { MOST_FRAMES ≡ 128 }
+    ensures buffer { LARGEST_BUFFER ≡ 256 }
+    ensures numeral { NINE_DIGITS ≡ 999_999_999 }
+    ensures literal { LONGEST_LITERAL ≡ 65_536 }
+    ensures request { LARGEST_REQUEST ≡ 1_048_576 }
+    ensures text { MOST_UNITS ≡ 524_286 }
+    ensures turns { MOST_TURNS ≡ 1_048_576 }
+    ensures printed { LONGEST_PRINTED ≡ 80 }
+    ensures ceiling { CEILING ≡ 16_777_216 }
+    ensures budget { LARGEST_BUDGET ≡ 1_000_000 }
+    ensures default_budget { DEFAULT_BUDGET ≡ 10_000 }
+    ensures minimum { LARGEST_MINIMUM ≡ 1_048_576 }
+    ensures default_minimum { DEFAULT_MINIMUM ≡ 4096 }
+    ensures smallest_step { SMALLEST_STEP ≡ 16 }
+    ensures largest_step { LARGEST_STEP ≡ 1_048_576 }
+    ensures default_step { DEFAULT_STEP ≡ 4096 }
+{}
+
+/// The panics, in the order of their table in `docs/LANGUAGE.md`, and the code with which a refused allocation leaves.
+pub fn panics_are()
+    ensures position { POSITION_OUT_OF_BOUNDS ≡ User 10 }
+    ensures long { TOO_LONG ≡ User 11 }
+    ensures cell { BAD_CELL ≡ User 42 }
+    ensures stale { NULL_OR_STALE ≡ Workbench 1 }
+    ensures kind { WRONG_KIND ≡ Workbench 2 }
+    ensures pop { POP_BELOW_TRAP ≡ Workbench 3 }
+    ensures item { ANOTHER_ITEM_ON_TOP ≡ Workbench 4 }
+    ensures left { ITEMS_LEFT ≡ Workbench 5 }
+    ensures mark { NO_OPEN_MARK ≡ Workbench 6 }
+    ensures frames { TOO_MANY_FRAMES ≡ Workbench 7 }
+    ensures shorter { SHORTER_THAN_TEXT ≡ Workbench 8 }
+    ensures range { NUMBER_OUT_OF_RANGE ≡ Workbench 9 }
+    ensures code { KERR_NO_MEMORY ≡ neg_ℤ (pos 4) }
+{}

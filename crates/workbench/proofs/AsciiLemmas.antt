@@ -1,0 +1,288 @@
+-- Reports are printable ASCII: each line of theirs is made of words, numbers and what a script printed.
+use Rattle.std.proofs.Common.{◌≡◌, ℕ, ◌-◌, ◌==◌, Bool, true, false, List, [], ◌∷◌, ◌++◌, ℤ, Option, Some, None, inl, inr, true≢false, eq-eqb, refl, sym, ◌∙◌, subst, arith, length, replicate, codes, decimal, flat_map, All, IsAscii}
+use Rattle.std.specs.Fmt.{digits, signed_decimal}
+use Rattle.std.specs.List.{list_all}
+use Rattle.std.specs.Str.Lossy.{utf8_lossy}
+use Rattle.std.proofs.lemmas.List.Elements.{All-nil, All-cons, All-head, All-tail, All-append, All-push, All-replicate, All-weaker}
+use Rattle.std.proofs.lemmas.Str.{IsUtf8-from_ascii, utf8_lossy-IsUtf8}
+use Rattle.std.proofs.lemmas.Str.Ascii.{IsAscii-cons, IsAscii-nil}
+use Rattle.wb_model.specs.declared.fault.ScriptFault.{ScriptFault}
+use Rattle.wb_model.specs.declared.fault.ScriptFault.TheVariants.{TooLong, NotAscii, Grammar, UnknownName, DoubleName, WrongKind, MayLeave, NoMain, TooMany, NoMemory}
+use Rattle.wb_model.specs.declared.heap.Answer.{Answer}
+use Rattle.wb_model.specs.declared.heap.Answer.TheVariants.{Granted, Simulated, Refused}
+use Rattle.wb_model.specs.declared.heap.Attempt.{Attempt}
+use Rattle.wb_model.specs.declared.heap.Panic.{Panic}
+use Rattle.wb_model.specs.declared.heap.Panic.TheVariants.{User, Alloc, Workbench}
+use Rattle.wb_model.specs.declared.heap.Rule.{Rule}
+use Rattle.wb_model.specs.declared.heap.Rule.TheVariants.{Number}
+use Rattle.wb_model.specs.declared.heap.Shape.{Shape}
+use Rattle.wb_model.specs.declared.run.Leak.{Leak}
+use Rattle.wb_model.specs.declared.run.Note.{Note}
+use Rattle.wb_model.specs.declared.run.Note.TheVariants.{Heap, Available, Compress}
+use Rattle.wb_model.specs.declared.run.Outcome.{Outcome}
+use Rattle.wb_model.specs.declared.run.Outcome.TheVariants.{Ended, Panicked, NoCleanup, Cut}
+use Rattle.wb_model.specs.declared.run.RunResult.{RunResult}
+use Rattle.wb_model.specs.declared.run.Why.{Why}
+use Rattle.wb_model.specs.declared.run.Why.TheVariants.{Budget, Ceiling}
+use Rattle.wb_model.specs.declared.script.Script.{Script}
+use Rattle.wb_model.specs.declared.size.Rise.{Rise}
+use Rattle.wb_model.specs.Lines.{ends_line, onto_first, pieces_from, quoted_after}
+use Rattle.wb_model.specs.Printable.{IsPrintable, ArePrintable}
+use Rattle.wb_model.specs.Run.{run}
+use Rattle.wb_model.proofs.PrintableLemmas.{is_printable, printable_by_test, decimal-printable, hexadecimal-printable, signed_decimal-printable}
+use Rattle.wb_model.proofs.ThroughoutLemmas.{run-prints}
+use Rattle.wb_command_line.specs.declared.command.Command.{Command}
+use Rattle.wb_command_line.specs.declared.command.Task.{Task}
+use Rattle.wb_command_line.specs.declared.command.Task.TheVariants as T
+use Rattle.workbench.specs.declared.figures.Figures.{Figures}
+use Rattle.workbench.specs.Ascii.{HasPrintableLines, IsPrintableText, IsTextByte}
+use Rattle.workbench.specs.Report.{IsReport, IsTaskReport, fault_line, no_memory, read_fault, refused, refused_at}
+use Rattle.workbench.specs.RunText.{answer_word, attempt_line, cut_line, eight_digits, end_line, leak_line, leaks_text, line, note_line, outcome_text, panic_line, print_line, run_text}
+use Rattle.workbench.specs.TwoNumbers.{IsCheckReport, IsFailing, IsSized, IsSizeReport, IsSweepReport, attempts_line, cut_at_line, found_text, none_line, refuses_line, size_text, table_text}
+
+-- ---- words and numbers
+
+-- a word that is written out
+abbrev IsWord : List ℕ → Type 0
+IsWord word = list_all is_printable word ≡ true
+
+and_word : (before word : List ℕ) → ArePrintable before → IsWord word → ArePrintable (before ++ word)
+and_word before word are is = All-append IsPrintable before word are (printable_by_test word is)
+
+and_number : (before : List ℕ) (n : ℕ) → ArePrintable before → ArePrintable (before ++ decimal n)
+and_number before n are = All-append IsPrintable before (decimal n) are (decimal-printable n)
+
+one_number : (word : List ℕ) (n : ℕ) → IsWord word → ArePrintable (word ++ decimal n)
+one_number word n is = and_number word n (printable_by_test word is)
+
+two_numbers : (first : List ℕ) (n : ℕ) (second : List ℕ) (m : ℕ) → IsWord first → IsWord second → ArePrintable (first ++ decimal n ++ second ++ decimal m)
+two_numbers first n second m is also = and_number (first ++ decimal n ++ second) m (and_word (first ++ decimal n) second (one_number first n is) also)
+
+three_numbers : (first : List ℕ) (n : ℕ) (second : List ℕ) (m : ℕ) (third : List ℕ) (k : ℕ) → IsWord first → IsWord second → IsWord third →
+    ArePrintable (first ++ decimal n ++ second ++ decimal m ++ third ++ decimal k)
+three_numbers first n second m third k is also too =
+    let before = first ++ decimal n ++ second ++ decimal m in
+    and_number (before ++ third) k (and_word before third (two_numbers first n second m is also) too)
+
+-- ---- lines
+
+of_line : (bytes : List ℕ) → ArePrintable bytes → IsPrintableText (line bytes)
+of_line bytes are = All-push IsTextByte bytes 10 (All-weaker IsPrintable IsTextByte (λ byte is. inl is) bytes are) (inr refl)
+
+of_word : (word : List ℕ) → IsWord word → IsPrintableText (line word)
+of_word word is = of_line word (printable_by_test word is)
+
+of_number : (word : List ℕ) (n : ℕ) → IsWord word → IsPrintableText (line (word ++ decimal n))
+of_number word n is = of_line (word ++ decimal n) (one_number word n is)
+
+of_numbers : (first : List ℕ) (n : ℕ) (second : List ℕ) (m : ℕ) → IsWord first → IsWord second → IsPrintableText (line (first ++ decimal n ++ second ++ decimal m))
+of_numbers first n second m is also = of_line (first ++ decimal n ++ second ++ decimal m) (two_numbers first n second m is also)
+
+both : (xs ys : List ℕ) → IsPrintableText xs → IsPrintableText ys → IsPrintableText (xs ++ ys)
+both xs ys are also = All-append IsTextByte xs ys are also
+
+of_each : {A : Type 0} (told : A → List ℕ) → ((a : A) → IsPrintableText (told a)) → (all : List A) → IsPrintableText (flat_map told all)
+of_each told is [] = All-nil IsTextByte
+of_each told is (a ∷ all) = both (told a) (flat_map told all) (is a) (of_each told is all)
+
+-- ---- the text of a run
+
+of_printed : (lines : List (List ℕ)) → All ArePrintable lines → IsPrintableText (flat_map print_line lines)
+of_printed [] are = All-nil IsTextByte
+of_printed (text ∷ lines) are =
+    let word : ArePrintable (codes "print ") = printable_by_test (codes "print ") refl in
+    both (print_line text) (flat_map print_line lines)
+    (of_line (codes "print " ++ text) (All-append IsPrintable (codes "print ") text word (All-head ArePrintable text lines are)))
+    (of_printed lines (All-tail ArePrintable text lines are))
+
+of_note : (note : Note) → IsPrintableText (note_line note)
+unfolding note_line
+of_note (Heap count total committed) =
+    of_line (codes "note heap " ++ decimal count ++ codes " " ++ decimal total ++ codes " " ++ decimal committed)
+    (three_numbers (codes "note heap ") count (codes " ") total (codes " ") committed refl refl refl)
+of_note (Available total longest) = of_numbers (codes "note available ") total (codes " ") longest refl refl
+of_note (Compress reclaimed) = of_number (codes "note compress ") reclaimed refl
+
+answer-printable : (answer : Answer) → IsWord (answer_word answer)
+answer-printable Granted = refl
+answer-printable Simulated = refl
+answer-printable Refused = refl
+
+of_attempt : (a : Attempt) → IsPrintableText (attempt_line a)
+unfolding attempt_line
+of_attempt a =
+    let before = codes "attempt " ++ decimal a.number ++ codes " length " ++ decimal a.length ++ codes " place " ++ decimal a.place in
+    of_line (before ++ codes " " ++ answer_word a.answer) (and_word (before ++ codes " ") (answer_word a.answer)
+    (and_word before (codes " ") (three_numbers (codes "attempt ") a.number (codes " length ") a.length (codes " place ") a.place refl refl refl) refl)
+    (answer-printable a.answer))
+
+of_leak : (leak : Leak) → IsPrintableText (leak_line leak)
+unfolding leak_line
+of_leak leak =
+    of_line (codes "leak " ++ decimal leak.number ++ codes " length " ++ decimal leak.length ++ codes " place " ++ decimal leak.place)
+    (three_numbers (codes "leak ") leak.number (codes " length ") leak.length (codes " place ") leak.place refl refl refl)
+
+of_leaks : (leaks : List Leak) → IsPrintableText (leaks_text leaks)
+of_leaks leaks = both (line (codes "leaks " ++ decimal (length leaks))) (flat_map leak_line leaks) (of_number (codes "leaks ") (length leaks) refl) (of_each leak_line of_leak leaks)
+
+of_end : (left : Option ℤ) → IsPrintableText (end_line left)
+of_end None = of_word (codes "ended") refl
+of_end (Some code) =
+    of_line (codes "left " ++ signed_decimal code)
+    (All-append IsPrintable (codes "left ") (signed_decimal code) (printable_by_test (codes "left ") refl) (signed_decimal-printable code))
+
+eight_digits-printable : (n : ℕ) → ArePrintable (eight_digits n)
+eight_digits-printable n =
+    let zeros = 8 - length (digits 16 false n) in
+    All-append IsPrintable (replicate zeros 48) (digits 16 false n) (All-replicate IsPrintable zeros 48 (omega arith, omega arith)) (hexadecimal-printable n)
+
+of_panic : (panic : Panic) → IsPrintableText (panic_line panic)
+of_panic (User n) = of_number (codes "panic USER ") n refl
+of_panic (Alloc place) =
+    of_line (codes "panic ALLOC " ++ eight_digits place)
+    (All-append IsPrintable (codes "panic ALLOC ") (eight_digits place) (printable_by_test (codes "panic ALLOC ") refl) (eight_digits-printable place))
+of_panic (Workbench n) = of_number (codes "panic WORKBENCH ") n refl
+
+of_cut : (why : Why) → IsPrintableText (cut_line why)
+of_cut Budget = of_word (codes "cut budget") refl
+of_cut Ceiling = of_word (codes "cut ceiling") refl
+
+of_outcome : (outcome : Outcome) → IsPrintableText (outcome_text outcome)
+of_outcome (Ended left leaks) = both (end_line left) (leaks_text leaks) (of_end left) (of_leaks leaks)
+of_outcome (Panicked panic) = of_panic panic
+of_outcome NoCleanup = of_word (codes "nocleanup") refl
+of_outcome (Cut why) = of_cut why
+
+of_run : (r : RunResult) → All ArePrintable r.lines → IsPrintableText (run_text r)
+of_run r are =
+    let printed = flat_map print_line r.lines in
+    let noted = printed ++ flat_map note_line r.notes in
+    let traced = noted ++ flat_map attempt_line r.trace in
+    both (traced ++ outcome_text r.outcome) (line (codes "steps " ++ decimal r.steps))
+    (both traced (outcome_text r.outcome)
+    (both noted (flat_map attempt_line r.trace)
+    (both printed (flat_map note_line r.notes) (of_printed r.lines are) (of_each note_line of_note r.notes)) (of_each attempt_line of_attempt r.trace))
+    (of_outcome r.outcome))
+    (of_number (codes "steps ") r.steps refl)
+
+-- ---- the two numbers
+
+of_table : (from : ℕ) (rises : List Rise) → IsPrintableText (table_text from rises)
+of_table from [] = All-nil IsTextByte
+of_table from (rise ∷ rises) =
+    both (refuses_line from rise.number) (table_text rise.top rises) (of_numbers (codes "from ") from (codes " refuses ") rise.number refl refl) (of_table rise.top rises)
+
+of_size : (required : ℕ) (rises : List Rise) → IsPrintableText (size_text required rises)
+of_size required rises =
+    let first = line (codes "required " ++ decimal required) in
+    both (first ++ table_text 0 rises) (line (codes "enough from " ++ decimal required))
+    (both first (table_text 0 rises) (of_number (codes "required ") required refl) (of_table 0 rises)) (of_number (codes "enough from ") required refl)
+
+of_cut_at : (number : ℕ) (why : Why) → IsPrintableText (cut_at_line number why)
+of_cut_at number Budget = of_line (codes "cut " ++ decimal number ++ codes " budget") (and_word (codes "cut " ++ decimal number) (codes " budget") (one_number (codes "cut ") number refl) refl)
+of_cut_at number Ceiling = of_line (codes "cut " ++ decimal number ++ codes " ceiling") (and_word (codes "cut " ++ decimal number) (codes " ceiling") (one_number (codes "cut ") number refl) refl)
+
+of_attempts : (attempts : ℕ) → IsPrintableText (attempts_line attempts)
+of_attempts attempts = of_number (codes "attempts ") attempts refl
+
+of_found : (number : ℕ) (r : RunResult) → All ArePrintable r.lines → IsPrintableText (found_text number r)
+of_found number r are = both (line (codes "number " ++ decimal number)) (run_text r) (of_number (codes "number ") number refl) (of_run r are)
+
+-- ---- the lines of a fault, and those that come in a report's place
+
+of_refused : (fault : ℕ) → IsPrintableText (refused fault)
+of_refused fault = of_number (codes "refused ") fault refl
+
+of_refused_at : (fault at : ℕ) → IsPrintableText (refused_at fault at)
+of_refused_at fault at = of_numbers (codes "refused ") fault (codes " line ") at refl refl
+
+pub no_memory-printable : IsPrintableText no_memory
+no_memory-printable = of_word (codes "no memory") refl
+
+pub read_fault-printable : IsPrintableText read_fault
+read_fault-printable = of_word (codes "read fault") refl
+
+of_fault : (fault : ScriptFault) → IsPrintableText (fault_line fault)
+of_fault TooLong = of_refused 1
+of_fault (NotAscii at) = of_refused_at 2 at
+of_fault (Grammar at) = of_refused_at 3 at
+of_fault (UnknownName at) = of_refused_at 4 at
+of_fault (DoubleName at) = of_refused_at 5 at
+of_fault (WrongKind at) = of_refused_at 6 at
+of_fault (MayLeave at) = of_refused_at 7 at
+of_fault NoMain = of_refused 8
+of_fault (TooMany at) = of_refused_at 9 at
+of_fault NoMemory = no_memory-printable
+
+-- ---- reports
+
+module _ (script : Script) (budget : ℕ) (shape : Shape) where
+  run_lines : (rule : Rule) → All ArePrintable (run script rule budget shape).lines
+  run_lines rule = run-prints script budget shape rule
+
+  of_sized : (text : List ℕ) (figures : Figures) → IsSized script budget shape text figures → IsPrintableText text
+  of_sized text figures is = subst IsPrintableText (sym is.text_is) (of_size is.required is.rises)
+
+  of_size_report : (text : List ℕ) (figures : Figures) (status : ℕ) → IsSizeReport script budget shape text figures status → IsPrintableText text
+  of_size_report text figures status (inl is) = of_sized text figures is.0
+  of_size_report text figures status (inr is) = subst IsPrintableText (sym is.0.text_is) (of_cut_at 0 is.0.why)
+
+  of_failing : (text : List ℕ) (figures : Figures) → IsFailing script budget shape text figures → IsPrintableText text
+  of_failing text figures is =
+      subst IsPrintableText (sym is.text_is) (both (attempts_line _) (found_text is.number is.result) (of_attempts _)
+      (of_found is.number is.result (subst (λ (r : RunResult). All ArePrintable r.lines) (sym is.least.run_is) (run_lines (Number is.number)))))
+
+  of_sweep_report : (text : List ℕ) (figures : Figures) (status : ℕ) → IsSweepReport script budget shape text figures status → IsPrintableText text
+  of_sweep_report text figures status (inl is) = of_failing text figures is.0
+  of_sweep_report text figures status (inr (inl is)) = subst IsPrintableText (sym is.0.text_is) (both (attempts_line _) none_line (of_attempts _) (of_word (codes "number none") refl))
+  of_sweep_report text figures status (inr (inr is)) = subst IsPrintableText (sym is.0.text_is) (of_cut_at is.0.number is.0.why)
+
+  of_check_report : (text : List ℕ) (figures : Figures) (status : ℕ) → IsCheckReport script budget shape text figures status → IsPrintableText text
+  of_check_report text figures status (inl is) =
+      subst IsPrintableText (sym is.text_is) (both is.first is.second (of_sized is.first is.size is.sized) (of_sweep_report is.second is.sweep status is.swept))
+  of_check_report text figures status (inr is) = subst IsPrintableText (sym is.0.text_is) (of_cut_at 0 is.0.why)
+
+  of_task : (task : Task) (text : List ℕ) (figures : Figures) (status : ℕ) → IsTaskReport task script budget shape text figures status → IsPrintableText text
+  of_task (T.Run rule) text figures status is = subst IsPrintableText (sym is.text_is) (of_run (run script rule budget shape) (run_lines rule))
+  of_task T.Size text figures status is = of_size_report text figures status is
+  of_task T.Sweep text figures status is = of_sweep_report text figures status is
+  of_task T.Check text figures status is = of_check_report text figures status is
+
+pub report-printable : (command : Command) (bytes text : List ℕ) (figures : Figures) (status : ℕ) → IsReport command bytes text figures status → IsPrintableText text
+report-printable command bytes text figures status (inl is) = of_task is.script command.budget command.shape command.task text figures status is.told
+report-printable command bytes text figures status (inr is) = subst IsPrintableText (sym is.text_is) (of_fault is.fault)
+
+-- ---- the lines of a text
+
+printable_unless : (byte : ℕ) → IsTextByte byte → (byte == 10) ≡ false → IsPrintable byte
+printable_unless byte (inl is) isnt = is
+printable_unless byte (inr e) isnt = absurd (true≢false (sym (eq-eqb byte 10 e) ∙ isnt))
+
+one_more : (byte : ℕ) (pieces : List (List ℕ)) → IsPrintable byte → All ArePrintable pieces → All ArePrintable (onto_first byte pieces)
+one_more byte [] is are = All-cons ArePrintable (byte ∷ []) [] (All-cons IsPrintable byte [] is (All-nil IsPrintable)) (All-nil ArePrintable)
+one_more byte (piece ∷ pieces) is are =
+    All-cons ArePrintable (byte ∷ piece) pieces (All-cons IsPrintable byte piece is (All-head ArePrintable piece pieces are)) (All-tail ArePrintable piece pieces are)
+
+lines_from : (quoted : Bool) (text : List ℕ) → IsPrintableText text → All ArePrintable (pieces_from ends_line quoted text)
+lines_from quoted [] are = All-nil ArePrintable
+lines_from quoted (byte ∷ text) are =
+    let rest = All-tail IsTextByte byte text are in
+    by (byte == 10) refl (lines_from false text rest) (lines_from (quoted_after quoted byte) text rest)
+  where
+    by : (b : Bool) → (byte == 10) ≡ b → All ArePrintable (pieces_from ends_line false text) → All ArePrintable (pieces_from ends_line (quoted_after quoted byte) text) →
+        All ArePrintable (elim b [ true ↦ [] ∷ pieces_from ends_line false text | false ↦ onto_first byte (pieces_from ends_line (quoted_after quoted byte) text) ])
+    by true is lines more = All-cons ArePrintable [] (pieces_from ends_line false text) (All-nil IsPrintable) lines
+    by false isnt lines more = one_more byte (pieces_from ends_line (quoted_after quoted byte) text) (printable_unless byte (All-head IsTextByte byte text are) isnt) more
+
+pub report_lines : (command : Command) (bytes text : List ℕ) (figures : Figures) (status : ℕ) → IsReport command bytes text figures status → HasPrintableLines text
+unfolding HasPrintableLines
+report_lines command bytes text figures status is = lines_from false text (report-printable command bytes text figures status is)
+
+-- ---- the lossy reading of such a line is the line itself
+
+ascii : (bytes : List ℕ) → ArePrintable bytes → IsAscii bytes
+ascii [] are = IsAscii-nil
+ascii (byte ∷ bytes) are = let is = All-head IsPrintable byte bytes are in IsAscii-cons byte bytes (omega (arith, is.1)) (ascii bytes (All-tail IsPrintable byte bytes are))
+
+pub lossless : (bytes : List ℕ) → ArePrintable bytes → utf8_lossy bytes ≡ bytes
+lossless bytes are = utf8_lossy-IsUtf8 bytes (IsUtf8-from_ascii bytes (ascii bytes are))

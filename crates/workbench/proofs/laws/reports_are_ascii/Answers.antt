@@ -1,0 +1,5 @@
+use Rattle.workbench.proofs.AsciiLemmas.{no_memory-printable, read_fault-printable, report-printable, report_lines}
+use Rattle.workbench.proofs.laws.reports_are_ascii.Goals as goal
+
+pub returns : goal.returns
+returns c = record { text = report-printable; lines = report_lines; no_memory = no_memory-printable; read_fault = read_fault-printable }

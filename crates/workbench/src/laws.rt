@@ -1,0 +1,53 @@
+//! Laws of reports and of the program. Each is the contract of a function that does nothing, so that the gate proves it.
+
+ghost use Rattle.std.specs.Prelude.{◌≡◌, ℕ, List, IsTrue};
+ghost use Rattle.clap.specs.Words.{Text};
+ghost use Rattle.wb_command_line.specs.Command.{is_answerable};
+ghost use Rattle.wb_command_line.specs.Spelled.{IsSpelledBy};
+ghost use Rattle.wb_command_line.specs.declared.command.Command.{Command};
+ghost use Rattle.wb_command_line.specs.declared.command.CommandFault.TheVariants.{NoMemory};
+ghost use Rattle.wb_model.specs.Run.{rises, run};
+ghost use Rattle.wb_model.specs.declared.heap.Rule.TheVariants.{Unlimited};
+ghost use Rattle.wb_model.specs.declared.heap.Shape.{Shape};
+ghost use Rattle.wb_model.specs.declared.script.Script.{Script};
+ghost use Rattle.workbench.specs.Ascii.{HasPrintableLines, IsPrintableText};
+ghost use Rattle.workbench.specs.Program.{IsWordsFault};
+ghost use Rattle.workbench.specs.Report.{IsReport, no_memory, read_fault};
+ghost use Rattle.workbench.specs.Rises.{AreRises};
+ghost use Rattle.workbench.specs.declared.figures.Figures.{Figures};
+ghost use Rattle.workbench.specs.declared.host.WordsFault.{WordsFault};
+ghost use Rattle.workbench.specs.declared.host.WordsFault.TheVariants.{Refused};
+
+/// The rises, whose numbers and ends are the rows of a printed table, are exactly the granted lines of the run without a limit
+/// that end past every granted line before them, in the order of the trace.
+pub fn rises_are()
+    ensures { (script : Script) (budget : ℕ) (shape : Shape)
+        → AreRises (run script Unlimited budget shape).trace (rises script budget shape) }
+{}
+
+/// The bytes and the command determine the report: any two reports of them have one text, one status and the same values.
+pub fn one_report()
+    ensures { (command : Command) (bytes text other_text : List ℕ) (figures other_figures : Figures)
+        (status other_status : ℕ) → IsReport command bytes text figures status
+        → IsReport command bytes other_text other_figures other_status
+        → (text ≡ other_text) × (figures ≡ other_figures) × (status ≡ other_status) }
+{}
+
+/// The text of a report is printable ASCII and line feeds, so that each of its lines has bytes from 32 to 126 alone. The lines
+/// that come in a report's place, `no memory` and `read fault`, have no others either.
+pub fn reports_are_ascii()
+    ensures text { (command : Command) (bytes text : List ℕ) (figures : Figures) (status : ℕ) →
+        IsReport command bytes text figures status → IsPrintableText text }
+    ensures lines { (command : Command) (bytes text : List ℕ) (figures : Figures) (status : ℕ) →
+        IsReport command bytes text figures status → HasPrintableLines text }
+    ensures no_memory { IsPrintableText no_memory }
+    ensures read_fault { IsPrintableText read_fault }
+{}
+
+/// No words spell a command with its numbers in their ranges and have a fault as well, but that memory ran out, which says
+/// nothing of words. So what `program` does with words is one of two things, and not both.
+pub fn obeyed_or_blamed()
+    ensures { (words : List Text) (command : Command) (fault : WordsFault)
+        → IsSpelledBy words command → IsTrue (is_answerable command) → IsWordsFault words fault
+        → fault ≡ Refused NoMemory }
+{}
