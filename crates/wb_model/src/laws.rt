@@ -119,7 +119,8 @@ pub fn sweeps_end()
 /// without meeting, at multiples of 16, and have different numbers, each that of an attempt made before. Each cell
 /// holds what its kind holds, an object a pointer for each field of its class. So the leaks that a run tells are cells of a row.
 pub fn cells_stay_a_row()
-    ensures throughout { (script : Script) (budget : ℕ) → Throughout (λ made st. AreCellsAfter script made st.heap.row) 0 (process script budget) }
+    ensures throughout { (script : Script) (budget : ℕ) →
+        Throughout (λ made st. AreCellsAfter script made st.heap.row) 0 (process script budget) }
     ensures leaks { (script : Script) (budget : ℕ) (shape : Shape) (r : Rule) (left : Option ℤ) (leaks : List Leak) →
         (run script r budget shape).outcome ≡ Ended left leaks → AreLeaksAfter (length (run script r budget shape).trace) leaks }
 {}
@@ -134,9 +135,10 @@ pub fn printed_lines_are_ascii()
 /// comes to a plain end or returns. And what begins so, a statement or all that is left of a block, goes on so; from which it
 /// follows, statement by statement, that each push finds a free slot.
 pub fn a_slot_stays_free()
-    ensures run { (script : Script) (budget : ℕ) → WhereverItGoesOn HasFreeSlot (process script budget) }
-    ensures pieces { (script : Script) (budget : ℕ) (at : Where) (p : Piece) (st : State) → HasFreeSlot st →
-        WhereverItGoesOn HasFreeSlot (meaning_of script budget at p st) }
+    ensures run { (script : Script) (budget : ℕ) →
+        WhereverItGoesOn HasFreeSlot (process script budget) }
+    ensures pieces { (script : Script) (budget : ℕ) (at : Where) (p : Piece) (st : State) →
+        HasFreeSlot st → WhereverItGoesOn HasFreeSlot (meaning_of script budget at p st) }
 {}
 
 /// The meaning of a piece is its first step, and then the meaning of what that leaves.
