@@ -15,7 +15,7 @@ from typing import Any, NamedTuple
 SECONDS = 120
 
 # what a table says of the rows behind it, and what holds where it doesn't say it
-SETTINGS = {"words": "run", "rows": "scripts", "before": "", "behind": "", "messages": "", "answer": ""}
+SETTINGS = {"words": "run", "rows": "scripts", "before": "", "behind": "", "script": "", "byte": "", "messages": "", "answer": ""}
 ROW = "    "
 ESCAPES = {"n": "\n", "t": "\t", "r": "\r", "\\": "\\", "e": ""}
 ACCEPTED = (0, 1, 3)
@@ -114,6 +114,22 @@ def row_of(place: str, text: str, told: dict[str, str]) -> Row:
     return Row(place, words, script.encode("latin-1"), told["answer"], told["messages"])
 
 
+def rows_in_range(place: str, text: str, told: dict[str, str]) -> list[Row]:
+    """The rows that a range gives: the settings' script cut after so many bytes, or with another byte at an offset."""
+    span = re.fullmatch(r"(\d+)(?:\.\.(\d+))?", text)
+    if not span:
+        sys.exit(f"{place}: neither a number nor a range")
+    script, byte = (unescaped(told[it], place).encode("latin-1") for it in ("script", "byte"))
+    places = range(int(span[1]), int(span[2] or span[1]) + 1)
+    is_cut = told["rows"] == "cuts"
+    if not places or places[-1] >= len(script) + is_cut or len(byte) == is_cut:
+        sys.exit(f"{place}: the script has no such place, or there is not one byte for it")
+    return [
+        Row(f"{place} at {at}", told["words"].split(), script[:at] + (b"" if is_cut else byte + script[at + 1 :]), told["answer"], told["messages"])
+        for at in places
+    ]
+
+
 def rows_of(table: Path) -> list[Row]:
     """The rows of a table."""
     told, rows, unused = dict(SETTINGS), [], str(table)
@@ -122,7 +138,9 @@ def rows_of(table: Path) -> list[Row]:
         key, mark, text = line.partition(":")
         text = text.removeprefix(" ")
         if line.startswith(ROW):
-            rows.append(row_of(place, line.removeprefix(ROW), told))
+            text, is_range = line.removeprefix(ROW), told["rows"] in ("cuts", "bytes")
+            one = row_of(place, text, told)
+            rows += rows_in_range(place, text, told) if is_range else [one]
             unused = ""
         elif mark and is_setting(key, text):
             if key == "answer" and unused and told["answer"]:
@@ -138,7 +156,7 @@ def rows_of(table: Path) -> list[Row]:
 
 def is_setting(key: str, text: str) -> bool:
     """Whether a table may say this."""
-    forms = {"rows": "scripts|words", "answer": r"accepted|refused \d+( line \d+)?|\d+( .+)?"}
+    forms = {"rows": "scripts|words|cuts|bytes", "answer": r"accepted|refused \d+( line \d+)?|\d+( .+)?"}
     return key in SETTINGS and re.fullmatch(forms.get(key, ".*"), text) is not None
 
 
