@@ -1,14 +1,17 @@
-/* Makes one allocation of a program fail, where it is loaded before the program (LD_PRELOAD): the one whose number FAIL_AT says,
-   from 1. At the end the number of allocations made goes to the file that COUNT_TO names, where it names one. */
+/* Makes allocations of a program fail, where it is loaded before the program (LD_PRELOAD): the one whose number FAIL_AT says, from 1;
+   where FAIL_HOW is `from`, that and all later ones; where it is `each`, every one whose number is a multiple of it. At the end the
+   number of allocations made goes to the file that COUNT_TO names, where it names one. */
 
 #define _GNU_SOURCE
 #include <dlfcn.h>
 #include <errno.h>
 #include <stdio.h>
 #include <stdlib.h>
+#include <string.h>
 
 static unsigned long made;
 static unsigned long fail_at;
+static enum { once, from, each } fail_how;
 
 static void *(*next_malloc)(size_t);
 static void *(*next_realloc)(void *, size_t);
@@ -24,6 +27,8 @@ __attribute__((constructor)) static void begin(void) {
     next_calloc = dlsym(RTLD_NEXT, "calloc");
     const char *number = getenv("FAIL_AT");
     fail_at = number ? strtoul(number, NULL, 10) : 0;
+    const char *how = getenv("FAIL_HOW");
+    fail_how = how && !strcmp(how, "from") ? from : how && !strcmp(how, "each") ? each : once;
     made = 0;
 }
 
@@ -40,7 +45,7 @@ __attribute__((destructor)) static void end(void) {
 
 static int fails(void) {
     made++;
-    if (made != fail_at)
+    if (!fail_at || (fail_how == once && made != fail_at) || (fail_how == from && made < fail_at) || (fail_how == each && made % fail_at))
         return 0;
     errno = ENOMEM;
     return 1;

@@ -1,71 +1,96 @@
 #!/usr/bin/env python3
-"""Lets each allocation of the built program fail in turn, one in each run.
+"""Lets allocations of the built program fail: each alone, each with all later ones, and each with all multiples of its number.
 
-    tools/failing_allocations.py PROGRAM COMMAND SCRIPT..
+    tools/failing_allocations.py PROGRAM SCRIPT..
 
-For each script the program runs once for each number up to that of its last allocation, with that one refused. Each of
-these runs must write the report that it writes with enough memory and end with its status, or write the line
-`no memory` and end with 4, or end with 4 before anything is read, where the command line itself finds no memory, and write
-nothing; nothing else may come of it. It needs a C compiler (`cc`), which builds
-tools/failing_allocation.c. The last line is `N passed, M failed`, of scripts.
+A script with its arguments in a file `STEM.args` beside it is a case, and is given on standard input; of another one the program is
+asked to `check` the file. For each number up to that of its last allocation the program runs once in each of the three ways. Each of
+these runs must write the report that it writes with enough memory and end with its status, or write the line `no memory` and end with 4,
+or end with 4 before anything is read, where the command line itself finds no memory, and write nothing; nothing else may come of it.
+Standard error must have what it has with enough memory, or nothing, or that there is no memory for the command. It needs a C compiler
+(`cc`), which builds tools/failing_allocation.c. The last line is `N passed, M failed`, of scripts.
 """
 
 import os
 import subprocess
 import sys
 import tempfile
+from concurrent.futures import ThreadPoolExecutor
 from pathlib import Path
+from typing import NamedTuple
+
+from crates import processors
 
 SOURCE = Path(__file__).resolve().parent / "failing_allocation.c"
-NO_MEMORY = (b"no memory\n", 4)
-NO_MEMORY_FOR_THE_COMMAND = (b"", 4)
+WAYS = ("once", "from", "each")
 
 
-class Program:
-    """A program, with the library that refuses an allocation of it."""
+class Answer(NamedTuple):
+    """What a run writes, and its status."""
 
-    def __init__(self, path: Path, room: Path) -> None:
-        self.path = path.resolve()
-        self.library = room / "failing_allocation.so"
-        self.count = room / "count"
-        subprocess.run(["cc", "-O1", "-shared", "-fPIC", "-o", self.library, SOURCE, "-ldl"], check=True)
-
-    def run(self, command: str, script: Path, fail_at: int) -> tuple[bytes, int]:
-        """What a run writes, and its status, where the allocation with this number fails; none does at 0."""
-        world = dict(os.environ, LD_PRELOAD=str(self.library), FAIL_AT=str(fail_at), COUNT_TO=str(self.count))
-        ran = subprocess.run([self.path, command, script], env=world, stdout=subprocess.PIPE, stderr=subprocess.DEVNULL)
-        return ran.stdout, ran.returncode
-
-    def made(self) -> int:
-        """How many allocations the last run made."""
-        return int(self.count.read_text())
+    output: bytes
+    messages: bytes
+    status: int
 
 
-def passes(program: Program, command: str, script: Path) -> bool:
-    """Whether each allocation may fail, and what came of it."""
-    plain = program.run(command, script, 0)
-    last = program.made()
-    wanting = unread = 0
-    for number in range(1, last + 1):
-        told = program.run(command, script, number)
-        if told == NO_MEMORY:
-            wanting += 1
-        elif told == NO_MEMORY_FOR_THE_COMMAND and not wanting:
-            unread += 1
-        elif told != plain:
-            print(f"{script}: failed: with allocation {number} of {last} refused, status {told[1]} and {told[0]!r}")
-            return False
-    print(f"{script}: passed: {last} allocations, {unread} for the command line, {wanting} of the rest end in `no memory`", flush=True)
+NO_MEMORY = Answer(b"no memory\n", b"", 4)
+NO_MEMORY_FOR_THE_COMMAND = (Answer(b"", b"error: no memory\n", 4), Answer(b"", b"", 4))
+
+
+class Trial:
+    """A program and a script, with the library that refuses allocations."""
+
+    def __init__(self, program: Path, script: Path, room: Path) -> None:
+        self.program, self.library, self.count = program, room / "failing_allocation.so", room / f"{script.stem}.count"
+        arguments = script.with_suffix(".args")
+        is_case = arguments.exists()
+        self.words = arguments.read_text().splitlines() if is_case else ["check", str(script)]
+        self.given = script.read_bytes() if is_case else b""
+
+    def run(self, how: str, fail_at: int) -> Answer:
+        """What comes of a run whose allocation with this number fails in this way; none does at 0."""
+        world = dict(os.environ, LD_PRELOAD=str(self.library), FAIL_AT=str(fail_at), FAIL_HOW=how)
+        if not fail_at:
+            world["COUNT_TO"] = str(self.count)
+        ran = subprocess.run([self.program, *self.words], env=world, input=self.given, capture_output=True)
+        return Answer(ran.stdout, ran.stderr, ran.returncode)
+
+    def fault(self) -> tuple[str | None, int, int]:
+        """What is wrong with an answer, or None; how many allocations the plain run makes, and how many runs ended in `no memory`."""
+        plain = self.run("once", 0)
+        last = int(self.count.read_text())
+        wanting = 0
+        for how in WAYS:
+            was_read = False
+            for number in range(1, last + 1):
+                answer = self.run(how, number)
+                was_read |= answer == NO_MEMORY
+                wanting += answer == NO_MEMORY
+                is_early = answer in NO_MEMORY_FOR_THE_COMMAND and not was_read
+                if answer not in (NO_MEMORY, plain, plain._replace(messages=b"")) and not is_early:
+                    return f"{how} {number} of {last}: status {answer.status}, {answer.output!r} and {answer.messages!r}", last, wanting
+        return None, last, wanting
+
+
+def passes(trial: Trial, script: Path) -> bool:
+    """Whether allocations may fail, with what came of it."""
+    fault, last, wanting = trial.fault()
+    if fault:
+        print(f"{script}: failed: {fault}", flush=True)
+        return False
+    print(f"{script}: passed: {last} allocations, and {wanting} of {len(WAYS) * last} runs end in `no memory`", flush=True)
     # a program that makes none, or none that matters, shows nothing
     return wanting > 0
 
 
 def main() -> None:
-    if len(sys.argv) < 4:
+    if len(sys.argv) < 3:
         sys.exit(__doc__)
-    program, command, scripts = Path(sys.argv[1]), sys.argv[2], [Path(word) for word in sys.argv[3:]]
-    with tempfile.TemporaryDirectory() as room:
-        tried = [passes(Program(program, Path(room)), command, script) for script in scripts]
+    program, scripts = Path(sys.argv[1]).resolve(), [Path(word) for word in sys.argv[2:]]
+    with tempfile.TemporaryDirectory() as folder, ThreadPoolExecutor(processors()) as pool:
+        room = Path(folder)
+        subprocess.run(["cc", "-O1", "-shared", "-fPIC", "-o", room / "failing_allocation.so", SOURCE, "-ldl"], check=True)
+        tried = list(pool.map(lambda it: passes(Trial(program, it, room), it), scripts))
     print(f"{sum(tried)} passed, {len(tried) - sum(tried)} failed")
     sys.exit(0 if all(tried) else 1)
 
