@@ -1,0 +1,157 @@
+#!/usr/bin/env python3
+"""Runs the built program with broken input, output and words: what it answers, and that nothing but an exit ends it.
+
+    tools/broken_streams.py PROGRAM
+
+Input is a directory, closed, empty, a pipe that comes in pieces or ends early, a FIFO, a file of 4 GiB or one that isn't there; output
+is closed, full, or a pipe that nobody reads; words are very many, very long, or no UTF-8. A pipe that nobody reads is a write that fails
+like any other: the program isn't killed by SIGPIPE, whatever that signal was set to. The last line is `N passed, M failed`.
+"""
+
+import os
+import subprocess
+import sys
+import tempfile
+import threading
+import time
+from collections.abc import Callable
+from pathlib import Path
+from typing import Any
+
+SCRIPT = b"proc main\nptr a\nalloc a 16\nend\n"
+REPORT = b"attempt 1 length 144 place 0 granted\nattempt 2 length 32 place 144 granted\nended\nleaks 1\nleak 2 length 32 place 144\nsteps 1\n"
+READ_FAULT = b"read fault\n"
+# how long a run may take, in seconds
+LIMIT = 5
+
+# what a run answers: standard output, or None where nothing can be read of it, and the status
+Answer = tuple[bytes | None, int]
+
+
+class Runs:
+    """Runs of a program, in a folder of their own."""
+
+    def __init__(self, program: Path, room: Path) -> None:
+        self.program, self.room = program, room
+        self.passed = self.failed = 0
+
+    def run(self, *words: str | bytes, **streams: Any) -> Answer:
+        """What a run with these words and streams answers."""
+        streams = {"stdout": subprocess.PIPE, "stderr": subprocess.PIPE} | streams
+        ran = subprocess.run([os.fsencode(self.program), *(os.fsencode(it) for it in words)], timeout=LIMIT, **streams)
+        return ran.stdout, ran.returncode
+
+    def file(self, name: str) -> str:
+        """The path of a file in the room."""
+        return str(self.room / name)
+
+    def check(self, what: str, wanted: Answer, run: Callable[[], Answer]) -> None:
+        """Counts whether a run answers as it must."""
+        try:
+            answer = run()
+        except subprocess.TimeoutExpired:
+            answer = (b"no answer in time", -1)
+        self.passed += answer == wanted
+        self.failed += answer != wanted
+        if answer != wanted:
+            print(f"{what}: wanted {wanted}, got {answer}")
+
+
+def fed(path: str | int, pieces: list[bytes]) -> threading.Thread:
+    """Starts to write pieces into a pipe, with pauses, and closes it."""
+
+    def feed() -> None:
+        with open(path, "wb", buffering=0) as pipe:
+            for piece in pieces:
+                pipe.write(piece)
+                time.sleep(0.02)
+
+    writer = threading.Thread(target=feed)
+    writer.start()
+    return writer
+
+
+def from_pipe(runs: Runs, pieces: list[bytes]) -> Answer:
+    """What a script that comes in pieces is answered with."""
+    reader, writer = os.pipe()
+    thread = fed(writer, pieces)
+    with open(reader, "rb") as given:
+        answer = runs.run("run", stdin=given)
+    thread.join()
+    return answer
+
+
+def from_fifo(runs: Runs) -> Answer:
+    """What the script is answered with where it is read from a FIFO."""
+    os.mkfifo(runs.file("fifo"))
+    thread = fed(runs.file("fifo"), [SCRIPT])
+    answer = runs.run("run", runs.file("fifo"))
+    thread.join()
+    return answer
+
+
+def to_nobody(runs: Runs, *words: str, restore: bool) -> Answer:
+    """What comes of a report that goes to a pipe without a reader, with SIGPIPE as it is by default or ignored."""
+    reader, writer = os.pipe()
+    os.close(reader)
+    with open(writer, "wb") as output:
+        return runs.run("run", *words, input=SCRIPT, stdout=output, restore_signals=restore)
+
+
+def to_full_device(runs: Runs, *words: str) -> Answer:
+    """What comes of a report for which there is no room."""
+    with open("/dev/full", "wb") as output:
+        return runs.run("run", *words, input=SCRIPT, stdout=output)
+
+
+def inputs(runs: Runs) -> None:
+    """Input that is broken."""
+    with open(runs.file("big"), "wb") as big:
+        big.truncate(4 << 30)
+    runs.check("a directory", (READ_FAULT, 5), lambda: runs.run("run", str(runs.room)))
+    directory = os.open(runs.room, os.O_RDONLY)
+    runs.check("a directory as standard input", (READ_FAULT, 5), lambda: runs.run("run", stdin=directory))
+    runs.check("closed standard input", (READ_FAULT, 5), lambda: runs.run("run", preexec_fn=lambda: os.close(0)))
+    runs.check("nothing", (b"refused 8\n", 2), lambda: runs.run("run", stdin=subprocess.DEVNULL))
+    runs.check("a pipe that comes in pieces", (REPORT, 1), lambda: from_pipe(runs, [SCRIPT[:3], SCRIPT[3:20], SCRIPT[20:]]))
+    runs.check("a pipe that ends early", (b"refused 3 line 3\n", 2), lambda: from_pipe(runs, [SCRIPT[:3], SCRIPT[3:18]]))
+    runs.check("a FIFO", (REPORT, 1), lambda: from_fifo(runs))
+    runs.check("a file of 4 GiB", (b"refused 1\n", 2), lambda: runs.run("run", runs.file("big")))
+    runs.check("no such file", (READ_FAULT, 5), lambda: runs.run("run", runs.file("none")))
+    runs.check("an empty name", (READ_FAULT, 5), lambda: runs.run("run", ""))
+    runs.check("a name of 60,000 bytes", (READ_FAULT, 5), lambda: runs.run("run", "x" * 60_000))
+
+
+def outputs(runs: Runs) -> None:
+    """Output that is broken, of a report in both forms."""
+    for words in ((), ("--json",)):
+        closed = {"input": SCRIPT, "stdout": None, "preexec_fn": lambda: os.close(1)}
+        runs.check(f"closed standard output {words}", (None, 5), lambda: runs.run("run", *words, **closed))
+        runs.check(f"a full device {words}", (None, 5), lambda: to_full_device(runs, *words))
+        runs.check(f"a pipe without a reader {words}", (None, 5), lambda: to_nobody(runs, *words, restore=True))
+        runs.check(f"the same with SIGPIPE ignored {words}", (None, 5), lambda: to_nobody(runs, *words, restore=False))
+
+
+def words(runs: Runs) -> None:
+    """Words that are broken."""
+    runs.check("100,000 words", (b"", 6), lambda: runs.run(*["run"] * 100_000))
+    runs.check("an option 50,000 times", (b"", 6), lambda: runs.run("run", *["--budget", "5"] * 50_000))
+    runs.check("a word that is no UTF-8", (b"", 6), lambda: runs.run("run", b"\xff"))
+    runs.check("an option that is no UTF-8", (b"", 6), lambda: runs.run("run", b"--budget=\xff"))
+
+
+def main() -> int:
+    """Makes the runs, and prints the totals."""
+    if len(sys.argv) != 2:
+        sys.exit(__doc__)
+    with tempfile.TemporaryDirectory() as folder:
+        runs = Runs(Path(sys.argv[1]).resolve(), Path(folder))
+        inputs(runs)
+        outputs(runs)
+        words(runs)
+    print(f"{runs.passed} passed, {runs.failed} failed")
+    return 1 if runs.failed else 0
+
+
+if __name__ == "__main__":
+    sys.exit(main())
