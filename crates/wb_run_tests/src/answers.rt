@@ -11,11 +11,12 @@ use wb_model::heap::{Rule, Shape};
 use workbench::answer::{READ_OR_WRITE_FAULT, answer};
 use workbench::{Command, Task};
 
-/// Gives its bytes, `at_once` at a time, and then fails or is at its end.
+/// Gives its bytes, `at_once` at a time and with each read `grows` more, and then fails or is at its end.
 #[derive(Drop)]
 struct Giver<'a> {
     bytes: &'a [u8],
     at_once: usize,
+    grows: usize,
     then: Option<ErrorKind>,
     reads: usize,
 }
@@ -33,6 +34,23 @@ impl Read for Giver<'_> {
         let (given, rest) = self.bytes.split_at(count);
         buffer[..count].copy_from_slice(given);
         self.bytes = rest;
+        self.at_once = self.at_once.wrapping_add(self.grows);
+        Ok(count)
+    }
+}
+
+/// Gives the byte `a` for ever, `at_once` at a time.
+#[derive(Drop)]
+struct Endless {
+    at_once: usize,
+    reads: usize,
+}
+
+impl Read for Endless {
+    fn read(&mut self, buffer: &mut [u8]) -> io::Result<usize> {
+        self.reads = self.reads.wrapping_add(1);
+        let count = buffer.len().min(self.at_once);
+        buffer[..count].fill(b'a');
         Ok(count)
     }
 }
@@ -124,8 +142,15 @@ impl Write for FailingOnce<Taker> {
     }
 }
 
-/// A plain run of the script.
+/// A plain run of the script, reported as lines.
 fn run_command() -> Command
+    ensures { IsTrue (is_answerable result) }
+{
+    run_command_in(false)
+}
+
+/// A plain run of the script, reported as lines or as JSON.
+fn run_command_in(json: bool) -> Command
     ensures { IsTrue (is_answerable result) }
 {
     Command {
@@ -136,7 +161,7 @@ fn run_command() -> Command
             min: 4096,
             step: 4096,
         },
-        json: false,
+        json,
     }
 }
 
@@ -144,6 +169,7 @@ fn giving(bytes: &[u8], then: Option<ErrorKind>) -> Giver<'_> {
     Giver {
         bytes,
         at_once: 7,
+        grows: 0,
         then,
         reads: 0,
     }
@@ -218,19 +244,95 @@ fn reads_no_more_where_the_end_is_met(rt: HostRuntime) {
     assert_eq!(rt; reader.reads, 6);
 }
 
+/// Whether the script that a reader gives has its report.
+fn has_its_report(alloc: Global, reader: &mut impl Read) -> bool {
+    let mut writer = Vec::new(alloc);
+    let status = answer(alloc, &run_command(), reader, &mut writer);
+    writer.as_slice() == LEAKING_REPORT && status == 1
+}
+
+#[test]
+fn answers_alike_however_many_bytes_come_at_once(rt: HostRuntime) {
+    for at_once in 1..40 {
+        let mut reader = giving(LEAKING, None);
+        reader.at_once = at_once;
+        assert!(rt; has_its_report(rt.alloc(), &mut reader));
+        assert_eq!(rt;
+            reader.reads,
+            LEAKING.len().div_ceil(at_once).wrapping_add(1)
+        );
+    }
+}
+
+/// One byte comes at the first read, two at the second, and so on: 31 bytes take eight reads, and a ninth finds the end.
+#[test]
+fn answers_alike_where_each_read_brings_more(rt: HostRuntime) {
+    let mut reader = giving(LEAKING, None);
+    reader.at_once = 1;
+    reader.grows = 1;
+    assert!(rt; has_its_report(rt.alloc(), &mut reader));
+    assert_eq!(rt; reader.reads, 9);
+}
+
+#[test]
+fn reads_no_further_than_a_script_may_be_long(rt: HostRuntime) {
+    for (at_once, reads) in [(1, 65_537), (1000, 66), (100_000, 1)] {
+        let mut reader = Endless { at_once, reads: 0 };
+        let mut writer = Vec::new(rt.alloc());
+        let status = answer(rt.alloc(), &run_command(), &mut reader, &mut writer);
+        assert_eq!(rt; status, 2);
+        assert!(rt; writer.as_slice() == b"refused 1\n".as_slice());
+        assert_eq!(rt; reader.reads, reads);
+    }
+}
+
 /// Whether writing fails, with this beginning of the text taken before.
 fn stops(alloc: Global, reader: &mut Giver<'_>, writer: &mut impl Write) -> bool {
     answer(alloc, &run_command(), reader, writer) == READ_OR_WRITE_FAULT
 }
 
+/// Whether the report, which is this text, goes out up to its `at`-th write, of five bytes each, where that fails.
+fn ends_at_write(
+    alloc: Global,
+    json: bool,
+    text: &[u8],
+    at: usize,
+    kind: Option<ErrorKind>,
+) -> bool {
+    let mut writer = FailingOnce::new(taking(alloc, 1000, None), at, kind);
+    let status = answer(
+        alloc,
+        &run_command_in(json),
+        &mut giving(LEAKING, None),
+        &mut writer,
+    );
+    let begun = text.get(..at.wrapping_mul(5));
+    status == READ_OR_WRITE_FAULT
+        && Some(writer.stream.taken.as_slice()) == begun
+        && writer.calls == at.wrapping_add(1)
+}
+
+/// Each write in turn, of the report in both forms, fails in each way.
 #[test]
 fn writes_no_more_where_a_write_failed(rt: HostRuntime) {
-    for kind in FAILURES {
-        for at in 0..6 {
-            let mut writer = FailingOnce::new(taking(rt.alloc(), 1000, None), at, kind);
-            assert!(rt; stops(rt.alloc(), &mut giving(LEAKING, None), &mut writer));
-            assert!(rt; Some(writer.stream.taken.as_slice()) == LEAKING_REPORT.get(..5 * at));
-            assert_eq!(rt; writer.calls, at + 1);
+    for json in [false, true] {
+        let mut whole = taking(rt.alloc(), 1000, None);
+        let status = answer(
+            rt.alloc(),
+            &run_command_in(json),
+            &mut giving(LEAKING, None),
+            &mut whole,
+        );
+        assert_eq!(rt; status, 1);
+        let text = whole.taken.as_slice();
+        assert_eq!(rt; whole.writes, text.len().div_ceil(5));
+        for at in 0..whole.writes {
+            for kind in FAILURES {
+                assert!(rt;
+                    ends_at_write(rt.alloc(), json, text, at, kind),
+                    "json {json}, write {at}"
+                );
+            }
         }
     }
 }
