@@ -76,7 +76,7 @@ class Trial:
             alone += [it for it, text in judged if not text]
         for it in alone:
             said[it.label] = what_is_said_of_all(it, self.check(crate, [it], jobs))
-        refused = sum(text.startswith("refused, ") or text == "refused" for text in said.values())
+        refused = sum(map(is_refusal, said.values()))
         with self.lock:
             print("".join(f"{label}: {text}\n" for label, text in sorted(said.items())), end="", flush=True)
             self.passed += refused
@@ -101,14 +101,19 @@ class Trial:
 
 
 def what_is_said_of_all(edit: Edit, verdict: Verdict) -> str:
-    """What a check says of an edit that has it to itself: `refused` where each of its functions was, for its own sake."""
-    for name in (edit.function, *edit.others):
-        text = what_is_said(replace(edit, function=name), verdict) or "refused only through what it calls"
-        if not edit.others:
-            return text
-        if text != "refused":
-            return f"{name}: {text}"
-    return "refused"
+    """What a check says of an edit that has it to itself: that it was refused where each of its functions was, for its own sake."""
+    names = (edit.function, *edit.others)
+    said = {it: what_is_said(replace(edit, function=it), verdict) or "refused only through what it calls" for it in names}
+    for name, text in said.items():
+        if not is_refusal(text):
+            return f"{name}: {text}" if edit.others else text
+    # the weakest of the refusals
+    return max(said.values(), key=len)
+
+
+def is_refusal(text: str) -> bool:
+    """Whether this says that a function was refused for its own sake."""
+    return text == "refused" or text.startswith("refused, ")
 
 
 def what_is_said(edit: Edit, verdict: Verdict) -> str:
