@@ -7,11 +7,13 @@ A script with its arguments in a file `STEM.args` beside it is a case, and is gi
 asked to `check` the file. For each number up to that of its last allocation the program runs once in each of the three ways. Each of
 these runs must write the report that it writes with enough memory and end with its status, or write the line `no memory` and end with 4,
 or end with 4 before anything is read, where the command line itself finds no memory, and write nothing; nothing else may come of it.
-Standard error must have what it has with enough memory, or nothing, or that there is no memory for the command. It needs a C compiler
-(`cc`), which builds tools/failing_allocation.c. The last line is `N passed, M failed`, of scripts.
+Standard error must have what it has with enough memory, or nothing, or that there is no memory for the command; or less: where no memory
+was left to find what raised a panic, the same panic of the same line with what holds of all such panics. It needs a C compiler (`cc`),
+which builds tools/failing_allocation.c. The last line is `N passed, M failed`, of scripts.
 """
 
 import os
+import re
 import subprocess
 import sys
 import tempfile
@@ -23,6 +25,8 @@ from crates import processors
 
 SOURCE = Path(__file__).resolve().parent / "failing_allocation.c"
 WAYS = ("once", "from", "each")
+# which panic a line of an explanation is about, before it says what raised it
+PANIC = re.compile(rb".*:\d+: panic [A-Z]+ [0-9a-f]+: \w+: ")
 
 
 class Answer(NamedTuple):
@@ -35,6 +39,18 @@ class Answer(NamedTuple):
 
 NO_MEMORY = Answer(b"no memory\n", b"", 4)
 NO_MEMORY_FOR_THE_COMMAND = (Answer(b"", b"error: no memory\n", 4), Answer(b"", b"", 4))
+
+
+def says_less(answer: Answer, plain: Answer) -> bool:
+    """Whether an answer is the plain one, but that its messages leave out what raised a panic."""
+    lines = plain.messages.splitlines()
+    panics = {it[0] for it in map(PANIC.match, lines) if it}
+
+    def is_fine(line: bytes) -> bool:
+        panic = PANIC.match(line)
+        return line in lines or line.startswith((b"note: ", b"help: ")) or bool(panic and panic[0] in panics)
+
+    return answer._replace(messages=b"") == plain._replace(messages=b"") and all(map(is_fine, answer.messages.splitlines()))
 
 
 class Trial:
@@ -67,7 +83,7 @@ class Trial:
                 was_read |= answer == NO_MEMORY
                 wanting += answer == NO_MEMORY
                 is_early = answer in NO_MEMORY_FOR_THE_COMMAND and not was_read
-                if answer not in (NO_MEMORY, plain, plain._replace(messages=b"")) and not is_early:
+                if answer != NO_MEMORY and not is_early and not says_less(answer, plain):
                     return f"{how} {number} of {last}: status {answer.status}, {answer.output!r} and {answer.messages!r}", last, wanting
         return None, last, wanting
 
