@@ -1,6 +1,6 @@
 //! Forks of a run beside the runs that they stand for, and a copy that waits until its source has ended.
 
-ghost use Rattle.std.specs.Prelude.{◌≡◌, ◌≤◌, false, IsTrue};
+ghost use Rattle.std.specs.Prelude.{◌≡◌, IsTrue};
 ghost use Rattle.wb_model.specs.Sound.{is_script};
 ghost use Rattle.wb_model.specs.declared.heap.Rule.TheVariants.{Number};
 
@@ -14,16 +14,19 @@ use wb_sweep::result_under;
 use workbench::run_text::put_run;
 
 const BUDGET: u32 = 100_000;
+
 const SHAPE: Shape = Shape {
     min: 4096,
     step: 4096,
 };
+/// The first turn, one for each step, and one that cuts the run.
+const MOST_TURNS: u32 = BUDGET + 2;
 /// So many attempts are made before the copy is taken that waits.
 const BEFORE: u32 = 5;
 
 /// How many forks a run has, and what of it comes to another result.
 #[derive(Clone, Copy, Debug, PartialEq, Eq)]
-pub enum Comparison {
+pub(crate) enum Comparison {
     /// Each fork comes to what its run does.
     Same(u32),
     /// The fork in which this attempt fails doesn't.
@@ -33,7 +36,7 @@ pub enum Comparison {
 }
 
 /// Compares the forks of a script's run with the runs. `None` where the script has a fault, and where memory runs out.
-pub fn compare(alloc: Global, bytes: &[u8]) -> Option<Comparison> {
+pub(crate) fn compare(alloc: Global, bytes: &[u8]) -> Option<Comparison> {
     let script = read(alloc, bytes).ok()?;
     let plain = run(alloc, &script, Rule::Number(0), BUDGET, SHAPE).ok()?;
     let mut lead = Machine::new(alloc, &script, Rule::Number(0), BUDGET, SHAPE).ok()?;
@@ -49,10 +52,13 @@ pub fn compare(alloc: Global, bytes: &[u8]) -> Option<Comparison> {
 }
 
 /// The number of the first fork that comes to another result than its run. The run is walked to its end.
-fn other_fork(alloc: Global, script: &Script, lead: &mut Machine) -> Option<Option<u32>> {
-    loop {
+fn other_fork(alloc: Global, script: &Script, lead: &mut Machine) -> Option<Option<u32>>
+    requires script { IsTrue (is_script script.now) }
+    requires rule { lead.old.rule ≡ Number 0 }
+{
+    for _ in 0..MOST_TURNS {
         if lead.will_attempt() {
-            let number = lead.attempts().saturating_add(1);
+            let number = lead.attempts().checked_add(1)?;
             let fork = result_under(lead, Rule::Number(number)).ok()?;
             let whole = run(alloc, script, Rule::Number(number), BUDGET, SHAPE).ok()?;
             if !is_same(alloc, &fork, &whole)? {
@@ -60,21 +66,34 @@ fn other_fork(alloc: Global, script: &Script, lead: &mut Machine) -> Option<Opti
             }
         }
         if let Turn::Ended = lead.step().ok()? {
-            return Some(None);
+            break;
         }
     }
+    Some(None)
 }
 
 /// Whether a copy comes to what the run does, though its source has ended before.
-fn waits(alloc: Global, script: &Script, plain: &RunResult) -> Option<bool> {
+fn waits(alloc: Global, script: &Script, plain: &RunResult) -> Option<bool>
+    requires { IsTrue (is_script script.now) }
+{
     let mut source = Machine::new(alloc, script, Rule::Number(0), BUDGET, SHAPE).ok()?;
-    while source.attempts() != BEFORE || !source.will_attempt() {
-        if let Turn::Ended = source.step().ok()? {
-            return Some(true);
-        }
-    }
+    take_turns(&mut source)?;
     let copy = source.try_copy().ok()?;
-    Some(is_same(alloc, plain, &source.run_to_end().ok()?)? && is_same(alloc, plain, &copy.run_to_end().ok()?)?)
+    Some(
+        is_same(alloc, plain, &source.run_to_end().ok()?)?
+            && is_same(alloc, plain, &copy.run_to_end().ok()?)?,
+    )
+}
+
+/// Goes on up to the attempt before which a copy is taken, or to the end of the run.
+fn take_turns(source: &mut Machine) -> Option<()> {
+    for _ in 0..MOST_TURNS {
+        if source.attempts() == BEFORE && source.will_attempt() {
+            break;
+        }
+        source.step().ok()?;
+    }
+    Some(())
 }
 
 /// Whether two results are reported alike: all that a run tells is reported.

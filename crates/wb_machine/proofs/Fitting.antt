@@ -1,5 +1,5 @@
 -- A rule that fits says the same as the machine's own of the attempts made so far.
-use Rattle.std.proofs.Common.{◌≡◌, ℕ, ◌+◌, ◌≤◌, Bool, true, false, refl, ap, ◌∙◌, inl, inr, arith}
+use Rattle.std.proofs.Common.{◌≡◌, ℕ, ◌+◌, ◌≤◌, Bool, true, false, refl, ap, inl, inr, arith}
 use Rattle.std.specs.Prelude.{if◌then◌else◌, Some}
 use Rattle.wb_model.specs.declared.heap.Answer.TheVariants.{Simulated}
 use Rattle.wb_model.specs.declared.heap.Rule.{Rule}

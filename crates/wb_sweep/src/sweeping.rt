@@ -57,9 +57,12 @@ fn found_among(lead: &mut Machine, last: u32) -> Result<Option<Found>, SweepFaul
     requires well { lead.old.failed ≡ false }
     requires last { last ≡ length (run_at lead.old.script lead.old.budget lead.old.shape 0).trace }
     requires fine { is_fine (run_at lead.old.script lead.old.budget lead.old.shape 0) ≡ true }
-    ensures fine { IfOk result (λ found. found ≡ None → AreFineBelow (run_at lead.old.script lead.old.budget lead.old.shape) (last + 1)) }
-    ensures found { IfOk result (λ found. IfSome found (λ bad. IsLeastBad lead.old.script lead.old.budget lead.old.shape bad.number bad.result)) }
-    ensures cut { (number : ℕ) (why : Why) → result ≡ Err (SweepFault.Cut number why) → IsLeastCut lead.old.script lead.old.budget lead.old.shape number why }
+    ensures fine { IfOk result (λ found. found ≡ None →
+        AreFineBelow (run_at lead.old.script lead.old.budget lead.old.shape) (last + 1)) }
+    ensures found { IfOk result (λ found. IfSome found (λ bad.
+        IsLeastBad lead.old.script lead.old.budget lead.old.shape bad.number bad.result)) }
+    ensures cut { (number : ℕ) (why : Why) → result ≡ Err (SweepFault.Cut number why) →
+        IsLeastCut lead.old.script lead.old.budget lead.old.shape number why }
     ensures shape { result ≢ Err SweepFault.BadShape }
 {
     while lead.attempts() < last {
@@ -89,9 +92,12 @@ fn found_later(
     requires greatest { budget ≤ LARGEST_BUDGET }
     requires fine { is_fine (run_at script.now budget shape 0) ≡ true }
     requires last { last ≡ length (run_at script.now budget shape 0).trace }
-    ensures fine { IfOk result (λ found. found ≡ None → AreFineBelow (run_at script.now budget shape) (last + 1)) }
-    ensures found { IfOk result (λ found. IfSome found (λ bad. IsLeastBad script.now budget shape bad.number bad.result)) }
-    ensures cut { (number : ℕ) (why : Why) → result ≡ Err (SweepFault.Cut number why) → IsLeastCut script.now budget shape number why }
+    ensures fine { IfOk result (λ found. found ≡ None →
+        AreFineBelow (run_at script.now budget shape) (last + 1)) }
+    ensures found { IfOk result (λ found. IfSome found (λ bad.
+        IsLeastBad script.now budget shape bad.number bad.result)) }
+    ensures cut { (number : ℕ) (why : Why) → result ≡ Err (SweepFault.Cut number why) →
+        IsLeastCut script.now budget shape number why }
     ensures shape { result ≡ Err SweepFault.BadShape → is_shape shape ≡ false }
 {
     let mut lead = Machine::new(alloc, script, Rule::Number(0), budget, shape)?;

@@ -3,7 +3,6 @@ use Rattle.wb_model.specs.declared.run.RunResult.{RunResult}
 use Rattle.wb_model.specs.Run.{run}
 use Rattle.wb_machine.specs.Flow.{is_over, rest_at}
 use Rattle.wb_machine.specs.Seen.{Seen}
-use Rattle.wb_machine.specs.Told.{leaks_at_end, told_by}
 use Rattle.wb_machine.specs.Whole.{has_ended}
 use Rattle.wb_machine.proofs.Ends.{rest_over}
 use Rattle.wb_machine.proofs.Scripts.{and_left, and_right}

@@ -27,8 +27,7 @@ pub returns-then-steps-self-clause-going : goal.returns-then-steps-self-clause-g
 returns-then-steps-self-clause-going c will =
     let begun : m.begun ≡ true = c.if-not-self.false in
     let sound = c.self.invariant.sound c.if-self.false in
-    let asks = sym (c.asks.ensures m.budget sound.pieces (omega (arith, c.if-steps-self.true, c.steps.ensures))) ∙ will in
-    (
+    let asks = sym (c.asks.ensures m.budget sound.pieces (omega (arith, c.if-steps-self.true, c.steps.ensures))) ∙ will in (
       sym (ap (λ (s : Seen). s.over) c.self.view_is) ∙ ap (λ b. b && is_over m.control.ending m.control.pieces.items) begun ∙ by _ refl asks,
       sym (ap (λ (s : Seen). s.failed) c.self.view_is) ∙ c.if-self.false,
     )
