@@ -1,5 +1,5 @@
-//! Copies of heaps, cells and words: each tells what its source does, and what is done to one changes nothing in the other. They
-//! are taken before the sixth attempt of a script that frees neighbours and then asks for a cell in their place.
+//! Copies of heaps, cells and words: each tells what its source does, and what is done to one changes nothing in the other. Those
+//! of heaps are taken before the sixth attempt of a script that frees neighbours and then asks for a cell in their place.
 
 use crate::debug_calls::{Call as DebugCall, CopiedDebugHeap, WorkedDebugHeap};
 use crate::heap_calls::{Call as HeapCall, CopiedHeap, WorkedHeap};
