@@ -104,7 +104,7 @@ impl Chunk {
     }
 
     /// A chunk of the same words, in memory of its own: what is done to one changes nothing in the other. On `Err` memory
-    /// was refused; no words take none.
+    /// was refused.
     pub fn try_copy(&self) -> Result<Chunk, AllocError>
         ensures { IfOk result (λ copy. copy ≡ self.now) }
     {
