@@ -1,7 +1,7 @@
 //! The cells of a chunk, and their calls. Which bytes a grown heap may use, and in what order memory is asked for, is
 //! not decided here.
 
-ghost use Rattle.std.specs.Prelude.{◌≡◌, ◌≢◌, ◌+◌, ◌*◌, ◌%◌, ◌<◌, ◌≤◌, [], ◌++◌, max, length, take, drop, slice_index, slice_set, All, OnOk, OnErr, option_map, IsOk, IsSome};
+ghost use Rattle.std.specs.Prelude.{◌≡◌, ◌≢◌, ◌+◌, ◌*◌, ◌%◌, ◌<◌, ◌≤◌, [], ◌++◌, max, length, take, drop, slice_index, slice_set, All, IfOk, OnOk, OnErr, option_map, IsOk, IsSome};
 ghost use Rattle.wb_chunk.specs.Halves.{half_of, with_half};
 ghost use Rattle.wb_model.specs.CellRow.{CellRow, FitsInPlace, IsGap, IsSoundCells, payload_of, room_behind, with_length, with_level, with_payload};
 ghost use Rattle.wb_model.specs.LimitedHeap.{next_live_of, zero_words};
@@ -54,6 +54,18 @@ impl Cells {
                 first: NONE,
             },
         }
+    }
+
+    /// The same cells, with as many bytes held, in memory of their own: what is done to one changes nothing in the other. On
+    /// `Err` memory was refused.
+    pub fn try_copy(&self) -> Result<Cells, NoMemory>
+        ensures { IfOk result (λ copy. copy ≡ self.now) }
+    {
+        Ok(Cells {
+            words: self.words.try_copy()?,
+            starts: self.starts.try_copy()?,
+            ends: self.ends,
+        })
     }
 
     /// Holds at least `bytes` bytes; the cells stay as they are. Where memory is refused, nothing changes; it takes

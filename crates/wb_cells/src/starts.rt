@@ -1,6 +1,6 @@
 //! One bit for each place of 16 bytes, which says whether a live cell begins there.
 
-ghost use Rattle.std.specs.Prelude.{◌≡◌, ◌+◌, ◌-◌, ◌*◌, ◌/◌, ◌<◌, ◌≤◌, [], ◌++◌, length, replicate, slice_set, slice_index_or, false, IsOk, OnOk, OnErr};
+ghost use Rattle.std.specs.Prelude.{◌≡◌, ◌+◌, ◌-◌, ◌*◌, ◌/◌, ◌<◌, ◌≤◌, [], ◌++◌, length, replicate, slice_set, slice_index_or, false, IfOk, IsOk, OnOk, OnErr};
 ghost use Rattle.wb_cells.specs.Starts.{IsNext};
 ghost use Rattle.wb_cells.specs.Bits.{IsWithBit};
 
@@ -40,6 +40,15 @@ impl Starts {
         Starts {
             words: Chunk::new(alloc),
         }
+    }
+
+    /// The same bits, in memory of their own. On `Err` memory was refused.
+    pub fn try_copy(&self) -> Result<Starts, AllocError>
+        ensures { IfOk result (λ copy. copy ≡ self.now) }
+    {
+        Ok(Starts {
+            words: self.words.try_copy()?,
+        })
     }
 
     /// How many bits there are.

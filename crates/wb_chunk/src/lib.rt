@@ -4,7 +4,7 @@
 //! pointer. What words mean stands in the crates above.
 #![tactic(auto)]
 
-ghost use Rattle.std.specs.Prelude.{◌≡◌, ◌+◌, ◌*◌, ◌^◌, ◌<◌, ◌≤◌, [], ◌++◌, length, replicate, slice_index, slice_set, slice_range, IsOk, OnOk, OnErr};
+ghost use Rattle.std.specs.Prelude.{◌≡◌, ◌+◌, ◌*◌, ◌^◌, ◌<◌, ◌≤◌, [], ◌++◌, length, replicate, slice_index, slice_set, slice_range, IfOk, IsOk, OnOk, OnErr};
 ghost use Rattle.std.specs.List.{All, replace_range};
 ghost use Rattle.wb_chunk.specs.Halves.{half_of, with_half};
 
@@ -101,6 +101,25 @@ impl Chunk {
         }
         self.count = count;
         Ok(())
+    }
+
+    /// A chunk of the same words, in memory of its own: what is done to one changes nothing in the other. On `Err` memory
+    /// was refused.
+    pub fn try_copy(&self) -> Result<Chunk, AllocError>
+        ensures { IfOk result (λ copy. copy ≡ self.now) }
+    {
+        if self.count == 0 {
+            return Ok(Chunk::new(self.alloc));
+        }
+        let mut region = Region::allocate(&self.alloc, self.count)?;
+        let words = self.as_slice();
+        append_words(&mut region, 0, words);
+        Ok(Chunk {
+            region: Some(region),
+            count: self.count,
+            capacity: self.count,
+            alloc: self.alloc,
+        })
     }
 
     /// The word at an index.

@@ -21,7 +21,7 @@ const MORE_SLOTS: u32 = 4;
 ///
 /// Every call but `start` that is handed a heap asks for the one in which the stack stands. Source: Symbian OS v9 SDK reference,
 /// CleanupStack, and this project's profile for the slots.
-#[derive(Clone, Debug, Drop, PartialEq, Eq)]
+#[derive(Clone, Copy, Debug, PartialEq, Eq)]
 pub struct Cleanup {
     cell: Ptr,
     /// How many items stand on it.

@@ -1,5 +1,5 @@
 -- What the end of a mark refuses, and what it leaves of the cells.
-use Rattle.std.proofs.Common.{◌≡◌, ◌≢◌, ℕ, ◌-◌, ◌≤◌, suc, length, All, List, [], ◌∷◌, Some, Bool, true, false, cond, ap, ◌∙◌, arith, subst, sym}
+use Rattle.std.proofs.Common.{◌≡◌, ◌≢◌, ℕ, ◌-◌, ◌≤◌, suc, All, List, [], ◌∷◌, Some, Bool, true, false, cond, ap, ◌∙◌, arith, subst, sym}
 use Rattle.std.specs.Prelude.{◌&&◌, not, nat_eq}
 use Rattle.std.proofs.lemmas.Bool.{ne_eqb}
 use Rattle.std.proofs.lemmas.List.Elements.{All-cons, All-nil}

@@ -6,6 +6,7 @@ ghost use Rattle.wb_debug.specs.Lines.{DropsLast};
 ghost use Rattle.wb_model.specs.Debug.{IsSoundDebug, alloc_made, answer_in, check_all_refusal, check_refusal, debug_compressed, debug_without, first_debug, leaks_of_heap, trace_line, note_of_available, note_of_compress, note_of_heap, number_of_next, realloc_made, release_refusal, with_setting};
 ghost use Rattle.wb_model.specs.Heap.{after_mark, after_mark_end, alloc_request, mark_end_refusal, realloc_request, request_at};
 ghost use Rattle.wb_model.specs.Row.{cell_at, cell_length};
+ghost use Rattle.wb_model.specs.Rest.{SameSoFar};
 ghost use Rattle.wb_model.specs.Rules.{each, never, next};
 ghost use Rattle.wb_model.specs.Space.{is_shape};
 
@@ -78,6 +79,22 @@ impl DebugHeap {
             setting: Setting::Never,
             attempts: 0,
             trace: Items::new(alloc),
+        })
+    }
+
+    /// The same heap with its attempts, its trace, its marks and the script's setting, in memory of its own: what is done to one
+    /// changes nothing in the other. `NoMemory` where memory was refused.
+    pub fn try_copy(&self) -> Result<DebugHeap, NoMemory>
+        ensures { IfOk result (λ copy. copy ≡ self.now) }
+    {
+        Ok(DebugHeap {
+            alloc: self.alloc,
+            heap: self.heap.try_copy()?,
+            rule: self.rule,
+            level: self.level,
+            setting: self.setting,
+            attempts: self.attempts,
+            trace: self.trace.try_copy()?,
         })
     }
 
@@ -312,8 +329,19 @@ impl DebugHeap {
     }
 }
 
-/// The script's own setting; each call replaces what an earlier one set.
+/// What is to fail besides: the rule, and the script's own setting, of which each call replaces what an earlier one set.
 impl DebugHeap {
+    /// Another rule from here on; the script's own setting and all else stay. Neither rule is a limit, and both refuse the same
+    /// of the attempts made so far, so that the heap is as if it had been made under the new one. Source: this project's
+    /// profile.
+    pub fn set_rule(&mut self, rule: Rule)
+        requires { SameSoFar rule self.old.rule self.old.attempts }
+        ensures set { self.new ≡ record self.old { rule = rule } }
+        ensures sound { IsSoundDebug self.new }
+    {
+        self.rule = rule;
+    }
+
     /// The `n`-th next attempt is to fail, once; `n` counts from 1. Source: Symbian OS v9 SDK reference,
     /// RHeap::EFailNext.
     pub fn fail_next(&mut self, n: u32)

@@ -66,6 +66,14 @@ pub(crate) struct WorkedDebugHeap {
     pub(crate) calls: &'static [Call],
 }
 
+/// A debug heap that is copied after some calls: what both tell then, and calls that change one of them.
+#[derive(Clone, Copy)]
+pub(crate) struct CopiedDebugHeap {
+    pub(crate) before: WorkedDebugHeap,
+    pub(crate) told: &'static [Call],
+    pub(crate) changes: &'static [Call],
+}
+
 /// A debug heap, and how many marks are open.
 #[derive(Drop)]
 struct Marked {
@@ -79,22 +87,58 @@ pub(crate) fn first_other(
     alloc: Global,
     worked: &WorkedDebugHeap,
 ) -> Result<Option<usize>, DebugFault> {
-    let mut marked = Marked {
-        heap: DebugHeap::new(alloc, worked.rule, worked.shape)?,
-        marks: 0,
-    };
-    if marked.attempt(128, Kind::Cleanup).is_none() {
-        return Err(DebugFault::NoMemory);
-    }
-    for (index, call) in worked.calls.iter().enumerate() {
-        if !marked.answers(*call) {
-            return Ok(Some(index));
-        }
-    }
-    Ok(None)
+    let mut marked = Marked::new(alloc, worked)?;
+    Ok(marked.first_other(worked.calls))
+}
+
+/// Whether a copy tells what its source does, stays as it is while the source changes, and then changes as it did; and the same
+/// of the source while a copy changes.
+pub(crate) fn is_apart(alloc: Global, copied: &CopiedDebugHeap) -> Result<bool, DebugFault> {
+    let mut source = Marked::new(alloc, &copied.before)?;
+    let mut fine = source.all_answer(copied.before.calls);
+    let mut copy = source.try_copy()?;
+    fine = fine && source.all_answer(copied.told) && copy.all_answer(copied.told);
+    fine = fine && source.all_answer(copied.changes) && copy.all_answer(copied.told);
+    let mut second = copy.try_copy()?;
+    fine = fine && second.all_answer(copied.changes) && copy.all_answer(copied.told);
+    Ok(fine && copy.all_answer(copied.changes))
 }
 
 impl Marked {
+    /// A heap after attempt 1.
+    fn new(alloc: Global, worked: &WorkedDebugHeap) -> Result<Marked, DebugFault> {
+        let mut marked = Marked {
+            heap: DebugHeap::new(alloc, worked.rule, worked.shape)?,
+            marks: 0,
+        };
+        match marked.attempt(128, Kind::Cleanup) {
+            Some(_) => Ok(marked),
+            None => Err(DebugFault::NoMemory),
+        }
+    }
+
+    fn try_copy(&self) -> Result<Marked, DebugFault> {
+        Ok(Marked {
+            heap: self.heap.try_copy()?,
+            marks: self.marks,
+        })
+    }
+
+    /// The index of the first call that gives another answer.
+    fn first_other(&mut self, calls: &[Call]) -> Option<usize> {
+        for (index, call) in calls.iter().enumerate() {
+            if !self.answers(*call) {
+                return Some(index);
+            }
+        }
+        None
+    }
+
+    /// Whether each call gives its answer.
+    fn all_answer(&mut self, calls: &[Call]) -> bool {
+        self.first_other(calls).is_none()
+    }
+
     /// Whether a call gives its answer.
     fn answers(&mut self, call: Call) -> bool {
         match call {

@@ -73,6 +73,14 @@ pub(crate) struct WorkedHeap {
     pub(crate) calls: &'static [Call],
 }
 
+/// A heap that is copied after some calls: what both tell then, and calls that change one of them.
+#[derive(Clone, Copy)]
+pub(crate) struct CopiedHeap {
+    pub(crate) before: WorkedHeap,
+    pub(crate) told: &'static [Call],
+    pub(crate) changes: &'static [Call],
+}
+
 /// A heap, and the number of its next attempt.
 #[derive(Drop)]
 struct Numbered {
@@ -84,23 +92,62 @@ struct Numbered {
 
 /// The index of the first call that gives another answer.
 pub(crate) fn first_other(alloc: Global, worked: &WorkedHeap) -> Result<Option<usize>, HeapFault> {
-    if worked.limit > CEILING {
-        return Err(HeapFault::TooShort);
-    }
-    let mut numbered = Numbered {
-        heap: Heap::new(alloc, worked.limit, worked.shape)?,
-        next: 1,
-    };
-    numbered.grant(144)?;
-    for (index, call) in worked.calls.iter().enumerate() {
-        if !numbered.answers(*call) {
-            return Ok(Some(index));
-        }
-    }
-    Ok(None)
+    let mut numbered = Numbered::new(alloc, worked)?;
+    Ok(numbered.first_other(worked.calls))
+}
+
+/// Whether a copy tells what its source does, stays as it is while the source changes, and then changes as it did; and the same
+/// of the source while a copy changes.
+pub(crate) fn is_apart(alloc: Global, copied: &CopiedHeap) -> Result<bool, HeapFault> {
+    let mut source = Numbered::new(alloc, &copied.before)?;
+    let mut fine = source.all_answer(copied.before.calls);
+    let mut copy = source.try_copy()?;
+    fine = fine && source.all_answer(copied.told) && copy.all_answer(copied.told);
+    fine = fine && source.all_answer(copied.changes) && copy.all_answer(copied.told);
+    let mut second = copy.try_copy()?;
+    fine = fine && second.all_answer(copied.changes) && copy.all_answer(copied.told);
+    Ok(fine && copy.all_answer(copied.changes))
 }
 
 impl Numbered {
+    /// A heap after its first attempt.
+    fn new(alloc: Global, worked: &WorkedHeap) -> Result<Numbered, HeapFault> {
+        if worked.limit > CEILING {
+            return Err(HeapFault::TooShort);
+        }
+        let mut numbered = Numbered {
+            heap: Heap::new(alloc, worked.limit, worked.shape)?,
+            next: 1,
+        };
+        numbered.grant(144)?;
+        Ok(numbered)
+    }
+
+    fn try_copy(&self) -> Result<Numbered, HeapFault> {
+        match self.heap.try_copy() {
+            Ok(heap) => Ok(Numbered {
+                heap,
+                next: self.next,
+            }),
+            Err(_) => Err(HeapFault::NoMemory),
+        }
+    }
+
+    /// The index of the first call that gives another answer.
+    fn first_other(&mut self, calls: &[Call]) -> Option<usize> {
+        for (index, call) in calls.iter().enumerate() {
+            if !self.answers(*call) {
+                return Some(index);
+            }
+        }
+        None
+    }
+
+    /// Whether each call gives its answer.
+    fn all_answer(&mut self, calls: &[Call]) -> bool {
+        self.first_other(calls).is_none()
+    }
+
     /// Whether a call gives its answer.
     fn answers(&mut self, call: Call) -> bool {
         match call {

@@ -11,6 +11,8 @@ mod cells;
 #[cfg(test)]
 mod chunks;
 #[cfg(test)]
+mod copies;
+#[cfg(test)]
 mod debug_calls;
 #[cfg(test)]
 mod debug_heaps;

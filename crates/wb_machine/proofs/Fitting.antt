@@ -1,29 +1,22 @@
 -- A rule that fits says the same as the machine's own of the attempts made so far.
-use Rattle.std.proofs.Common.{◌≡◌, ℕ, ◌+◌, ◌≤◌, Bool, true, false, refl, ap, ◌∙◌, sym, inl, inr, arith}
+use Rattle.std.proofs.Common.{◌≡◌, ℕ, ◌+◌, ◌≤◌, Bool, true, false, refl, ap, inl, inr, arith}
 use Rattle.std.specs.Prelude.{if◌then◌else◌, Some}
-use Rattle.wb_model.specs.declared.limits.TheConstants.{CEILING}
 use Rattle.wb_model.specs.declared.heap.Answer.TheVariants.{Simulated}
 use Rattle.wb_model.specs.declared.heap.Rule.{Rule}
-use Rattle.wb_model.specs.declared.heap.Rule.TheVariants.{Unlimited, Limit, Number}
 use Rattle.std.specs.Prelude.{List}
 use Rattle.wb_machine.specs.declared.pieces.Ending.{Ending}
 use Rattle.wb_machine.specs.declared.pieces.Ending.TheVariants.{GoesOn, Returns, Leaves, Panics, Cut, NoCleanup}
 use Rattle.wb_machine.specs.declared.pieces.Piece.{Piece}
 use Rattle.wb_machine.specs.Flow.{is_stop, is_over}
-use Rattle.wb_model.specs.Agreement.{IsNoLimit}
 use Rattle.wb_model.specs.Rest.{Fits}
 use Rattle.wb_model.specs.Rules.{unless_refused, answer_to, Request}
 use Rattle.wb_model.specs.Space.{limit_under}
-
-no_limit : (r : Rule) → IsNoLimit r → limit_under r ≡ CEILING
-no_limit Unlimited h = refl
-no_limit (Limit l) h = absurd h
-no_limit (Number n) h = refl
+use Rattle.wb_model.proofs.RuleLemmas.{same-limit}
 
 -- both leave the heap the same length
 pub fits-limit : (r own : Rule) (ended : Bool) (attempts : ℕ) → Fits r own ended attempts → limit_under r ≡ limit_under own
 fits-limit r own ended attempts (inl e) = ap limit_under e
-fits-limit r own ended attempts (inr f) = no_limit r f.1.no_limit ∙ sym (no_limit own f.1.own_no_limit)
+fits-limit r own ended attempts (inr f) = same-limit r own attempts f.1
 
 -- and answer alike
 pub fits-answer : (r own : Rule) (ended : Bool) (attempts n : ℕ) (t : Request) → Fits r own ended attempts → 1 ≤ n → n ≤ attempts →

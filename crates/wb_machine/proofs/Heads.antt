@@ -17,7 +17,7 @@ use Rattle.wb_model.specs.declared.script.Pointer.{Pointer}
 use Rattle.wb_model.specs.declared.script.Numbered.{Numbered}
 use Rattle.wb_model.specs.declared.script.Condition.{Condition}
 use Rattle.wb_model.specs.declared.script.Statement.TheOpen.{Statement-F}
-use Rattle.wb_model.specs.State.{null, initial, pointer, number, Process, goes_on, and_then, on_plain_end, with_some, require}
+use Rattle.wb_model.specs.State.{null, initial, pointer, Process, goes_on, and_then, on_plain_end, with_some, require}
 use Rattle.wb_model.specs.Operands.{within, not_negative}
 use Rattle.wb_model.specs.Statements.{all, turns, destroy_items, destroy_object, Where, Layer, statement, choice, trapped, in_frame, plain, with_class, is_null, release, destroyed_item, destroyed_object}
 use Rattle.wb_model.specs.Bodies.{procedure_at, operation_at, class_at, no_body}

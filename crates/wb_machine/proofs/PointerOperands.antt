@@ -1,6 +1,6 @@
 -- Pointer operands come to what they mean: what is refused, what is read, and what is written.
 use Rattle.std.proofs.Common.{◌≡◌, ℕ, zero, suc, ◌+◌, ◌<◌, length, take, get_or, arith, Bool, true, false, cond, List, [], ◌∷◌, ◌++◌, Option, Some, None, Ok, Err, refl, sym, ap, ◌∙◌}
-use Rattle.std.specs.Prelude.{nat_eq, not, option_map, slice_get, unwrap_or}
+use Rattle.std.specs.Prelude.{nat_eq, option_map, slice_get, unwrap_or}
 use Rattle.std.proofs.lemmas.Bool.{eqb-true}
 use Rattle.wb_model.specs.declared.heap.TheConstants.Panic.{NULL_OR_STALE, WRONG_KIND}
 use Rattle.wb_model.specs.declared.heap.Panic.{Panic}

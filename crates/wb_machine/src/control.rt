@@ -1,7 +1,7 @@
 //! What is still to do, as explicit pieces, and the turns of a run. What the pieces act on stands in `state`, what the head of a
 //! statement leaves in `heads`, the steps that destroy in `destroying`, and what becomes of pieces that are done in `unwinding`.
 
-ghost use Rattle.std.specs.Prelude.{◌≡◌, ◌+◌, ◌^◌, ◌<◌, ◌≤◌, ◌⊎◌, ◌++◌, ◌∷◌, ◌&&◌, [], ℕ, true, false, if◌then◌else◌, nat_lt, length, unwrap_or, max, min, IsTrue, OnOk};
+ghost use Rattle.std.specs.Prelude.{IfOk, ◌≡◌, ◌+◌, ◌^◌, ◌<◌, ◌≤◌, ◌⊎◌, ◌++◌, ◌∷◌, ◌&&◌, [], ℕ, true, false, if◌then◌else◌, nat_lt, length, unwrap_or, max, min, IsTrue, OnOk};
 ghost use Rattle.wb_model.specs.Sound.{is_script};
 ghost use Rattle.wb_model.specs.Statements.{all, turns};
 ghost use Rattle.wb_model.specs.Bodies.{procedure_at};
@@ -62,6 +62,21 @@ impl<'a> Control<'a> {
             ending: Ending::GoesOn,
             line: 0,
         }
+    }
+
+    /// The same pieces, in memory of their own. On `Err` memory was refused.
+    pub fn try_copy(&self) -> Result<Control<'a>, AllocError>
+        ensures pieces { IfOk result (λ copy. copy.pieces.items ≡ self.now.pieces.items) }
+        ensures ending { IfOk result (λ copy. copy.ending ≡ self.now.ending) }
+        ensures line { IfOk result (λ copy. copy.line ≡ self.now.line) }
+    {
+        let mut pieces = Vec::new(*self.pieces.allocator());
+        pieces.extend_from_slice(self.pieces.as_slice())?;
+        Ok(Control {
+            pieces,
+            ending: self.ending,
+            line: self.line,
+        })
     }
 
     /// How the piece above the pending ones ended.

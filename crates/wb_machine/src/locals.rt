@@ -82,6 +82,17 @@ pub fn copy_of(buf: &Buf) -> Buf
     }
 }
 
+/// The same buffers, in memory of their own.
+fn copies_of(buffers: &Vec<Buf>) -> Result<Vec<Buf>, AllocError>
+    ensures { IfOk result (λ copies. copies.items ≡ buffers.now.items) }
+{
+    let mut copies = Vec::new(*buffers.allocator());
+    for buf in buffers.as_slice() {
+        copies.push(copy_of(buf))?;
+    }
+    Ok(copies)
+}
+
 /// Puts a value that isn't a buffer of its own behind the locals.
 pub fn push_slot(slots: &mut Vec<Stored>, slot: Slot) -> Result<(), AllocError>
     ensures pushed { (buffers : List Buffer) → OnOk result (values_stored buffers slots.new.items ≡ values_stored buffers slots.old.items ++ value_of slot ∷ []) }
@@ -168,6 +179,20 @@ impl Locals {
             none: Buf::new(0),
             base: 0,
         }
+    }
+
+    /// The same locals, in memory of their own. On `Err` memory was refused.
+    pub fn try_copy(&self) -> Result<Locals, AllocError>
+        ensures { IfOk result (λ copy. copy ≡ self.now) }
+    {
+        let mut slots = Vec::new(*self.slots.allocator());
+        slots.extend_from_slice(self.slots.as_slice())?;
+        Ok(Locals {
+            slots,
+            buffers: copies_of(&self.buffers)?,
+            none: Buf::new(0),
+            base: self.base,
+        })
     }
 
     /// A frame on top, for a body that is handed this and declares these locals. Answers where the caller's frame begins. No

@@ -2,6 +2,7 @@
 
 ghost use Rattle.std.specs.Prelude.{◌≡◌, ◌+◌, ◌≤◌, ◌↔◌, None, true, false, length, min, is_err, IsTrue, IfOk, IsOk, OnOk, OnErr};
 ghost use Rattle.wb_model.specs.Sound.{is_script};
+ghost use Rattle.wb_model.specs.Rest.{SameSoFar};
 ghost use Rattle.wb_model.specs.Space.{is_shape};
 ghost use Rattle.wb_model.specs.Run.{run};
 ghost use Rattle.wb_model.specs.declared.run.Outcome.TheVariants.{Cut};
@@ -180,11 +181,39 @@ impl<'a> Machine<'a> {
         Ok(Turn::Ended)
     }
 
+    /// The same run, in memory of its own: what is done to one changes nothing in the other. `NoMemory` where memory was
+    /// refused.
+    pub fn try_copy(&self) -> Result<Machine<'a>, NoMemory>
+        ensures { IfOk result (λ copy. copy ≡ self.now) }
+    {
+        Ok(Machine {
+            script: self.script,
+            budget: self.budget,
+            begun: self.begun,
+            control: self.control.try_copy()?,
+            state: self.state.try_copy()?,
+            leaks: self.leaks.try_copy()?,
+            failed: self.failed,
+        })
+    }
+
+    /// Goes on under another rule. Neither is a limit, and both refuse the same of the attempts made so far: so the run comes to
+    /// what it would have come to under the new rule from its start on.
+    pub fn set_rule(&mut self, rule: Rule)
+        requires same { SameSoFar rule self.old.rule self.old.attempts }
+        requires going { self.old.over ≡ false }
+        requires well { self.old.failed ≡ false }
+        ensures { self.new ≡ record self.old { rule = rule } }
+    {
+        self.state.set_rule(rule);
+    }
+
     /// Whether the next turn asks for an attempt, if it finds memory. Then it makes one, unless the ceiling cuts the run. The
     /// first turn does. One that cuts the run at the budget asks for none; nor does any once the run is over, or after
     /// `NoMemory`.
     pub fn will_attempt(&self) -> bool
-        ensures { result ≡ self.now.asks }
+        ensures asks { result ≡ self.now.asks }
+        ensures going { result ≡ true → (self.now.over ≡ false) × (self.now.failed ≡ false) }
     {
         if self.failed {
             return false;
@@ -195,9 +224,11 @@ impl<'a> Machine<'a> {
         self.state.steps() < self.budget && self.control.asks(self.script, &self.state)
     }
 
-    /// How many attempts were made so far. One that the ceiling cuts isn't counted.
+    /// How many attempts were made so far; once the run is over, how many it makes. One that the ceiling cuts isn't counted.
     pub fn attempts(&self) -> u32
-        ensures { result ≡ self.now.attempts }
+        ensures so_far { result ≡ self.now.attempts }
+        ensures all { self.now.over ≡ true → self.now.failed ≡ false →
+            result ≡ length (run self.now.script self.now.rule self.now.budget self.now.shape).trace }
     {
         self.state.attempts()
     }
@@ -207,6 +238,18 @@ impl<'a> Machine<'a> {
         ensures { result ≡ self.now.line }
     {
         self.control.line()
+    }
+
+    /// Takes all turns that are left. An Ok is what the run comes to under the machine's rule: exactly what the definitions say of
+    /// a whole run.
+    pub fn run_to_end(mut self) -> Result<RunResult, NoMemory>
+        ensures { IfOk result (λ told. told ≡ run self.entry.script self.entry.rule self.entry.budget self.entry.shape) }
+    {
+        if self.failed {
+            return Err(NoMemory);
+        }
+        while let Turn::GoesOn = self.step()? {}
+        Ok(self.result())
     }
 
     /// What the run tells, once it is over: exactly what the definitions say of the script, the rule, the
@@ -261,7 +304,6 @@ pub fn run(
     ensures ran { IfOk result (λ told. told ≡ run script.now rule budget shape) }
     ensures shape { (result ≡ Err RunFault.BadShape) ↔ (is_shape shape ≡ false) }
 {
-    let mut machine = Machine::new(alloc, script, rule, budget, shape)?;
-    while let Turn::GoesOn = machine.step()? {}
-    Ok(machine.result())
+    let machine = Machine::new(alloc, script, rule, budget, shape)?;
+    Ok(machine.run_to_end()?)
 }

@@ -3,6 +3,7 @@
 
 ghost use Rattle.std.specs.Prelude.{◌≡◌, ◌+◌, ◌^◌, ◌<◌, ◌↔◌, [], length, false, IfOk, OnOk, IsTrue};
 ghost use Rattle.std.specs.List.{list_all};
+ghost use Rattle.wb_model.specs.Rest.{SameSoFar};
 ghost use Rattle.wb_model.specs.Space.{is_shape};
 ghost use Rattle.wb_model.specs.State.{null};
 ghost use Rattle.wb_machine.specs.RunState.{first_state};
@@ -24,6 +25,7 @@ use wb_debug::fault::DebugFault;
 use wb_model::heap::{Ptr, Rule, Shape};
 use wb_model::items::Items;
 use wb_model::memory::NoMemory;
+use wb_model::printed_line::copy_of_lines;
 use wb_model::run::{Leaks, Lines, Notes, Outcome, RunResult};
 use wb_model::script::{Holder, Local, Number, Pointer, Script};
 
@@ -71,6 +73,29 @@ impl State {
             notes: Items::new(alloc),
             steps: 0,
         })
+    }
+
+    /// The same state, in memory of its own: what is done to one changes nothing in the other.
+    pub fn try_copy(&self) -> Result<State, NoMemory>
+        ensures { IfOk result (λ copy. copy ≡ self.now) }
+    {
+        Ok(State {
+            heap: self.heap.try_copy()?,
+            cleanup: self.cleanup,
+            this: self.this,
+            locals: self.locals.try_copy()?,
+            lines: copy_of_lines(&self.lines)?,
+            notes: self.notes.try_copy()?,
+            steps: self.steps,
+        })
+    }
+
+    /// Another rule from here on, which refuses the same of the attempts made so far; neither is a limit.
+    pub fn set_rule(&mut self, rule: Rule)
+        requires { SameSoFar rule self.old.debug.rule self.old.debug.attempts }
+        ensures { self.new ≡ record self.old { debug = record self.old.debug { rule = rule } } }
+    {
+        self.heap.set_rule(rule);
     }
 
     /// How many attempts were made.

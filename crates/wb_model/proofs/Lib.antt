@@ -32,6 +32,7 @@ pub mod WordLemmas
 pub mod WritingLemmas
 pub mod TraceLemmas
 pub mod SizeLemmas
+pub mod RuleLemmas
 pub mod SameRuns
 pub mod SweepLemmas
 pub mod QuietRuns

@@ -14,6 +14,7 @@ use std::marker::Model;
 use wb_cells::Cells;
 use wb_model::heap::{Header, Kind, Ptr, Shape};
 use wb_model::limits::CEILING;
+use wb_model::memory::NoMemory;
 
 /// A simulated heap: live cells with their payloads, and a limit that none of them passes.
 ///
@@ -70,6 +71,21 @@ impl Heap {
             committed,
             count: 0,
             total: 0,
+        })
+    }
+
+    /// The same heap, in memory of its own: what is done to one changes nothing in the other. `NoMemory` where memory was
+    /// refused.
+    pub fn try_copy(&self) -> Result<Heap, NoMemory>
+        ensures { IfOk result (λ copy. copy ≡ self.now) }
+    {
+        Ok(Heap {
+            cells: self.cells.try_copy()?,
+            limit: self.limit,
+            shape: self.shape,
+            committed: self.committed,
+            count: self.count,
+            total: self.total,
         })
     }
 

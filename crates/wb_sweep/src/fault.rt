@@ -1,6 +1,7 @@
 //! Why a sweep has no answer.
 
 use wb_machine::RunFault;
+use wb_model::memory::NoMemory;
 use wb_model::run::Why;
 
 /// Why a sweep has no answer.
@@ -25,5 +26,16 @@ impl From<RunFault> for SweepFault {
             RunFault::BadShape => SweepFault::BadShape,
             RunFault::NoMemory => SweepFault::NoMemory,
         }
+    }
+}
+
+impl From<NoMemory> for SweepFault {
+    ghost use Rattle.std.specs.Prelude.{◌≡◌};
+    ghost use Rattle.wb_sweep.specs.declared.fault.SweepFault.TheVariants as faults;
+
+    ghost from_gives = { λ _ fault. fault ≡ faults.NoMemory };
+
+    fn from(_error: NoMemory) -> SweepFault {
+        SweepFault::NoMemory
     }
 }

@@ -2,10 +2,12 @@
 #![tactic(auto)]
 
 pub mod fault;
+pub mod fork;
 pub mod found;
 pub mod sweeping;
 
 pub use fault::SweepFault;
+pub use fork::result_under;
 pub use found::{Found, Sweep};
 pub use sweeping::sweep;
 pub use wb_machine::RunFault;

@@ -1,5 +1,5 @@
 use Rattle.std.proofs.Common.{◌≡◌, ℕ, ◌+◌, ◌-◌, ◌<◌, ◌≤◌, Bool, true, false, cond, refl, subst, ◌∙◌, arith}
-use Rattle.wb_machine.proofs.machine.run.Goals as goal
+use Rattle.wb_machine.proofs.machine.Machine.run_to_end.Goals as goal
 
 -- a turn that goes on was the first, or counted a step
 fewer : (begun later : Bool) (budget steps after : ℕ) → later ≡ true → after ≤ budget → (begun ≡ false → steps ≡ 0) → (begun ≡ true → after ≡ steps + 1) →
@@ -8,10 +8,10 @@ fewer true true budget steps after e le first more = omega (arith, le, more refl
 fewer false true budget steps after e le first more = omega (arith, le, first refl)
 fewer begun false budget steps after e le first more = cc
 
-pub loop-machine-smaller : goal.loop-machine-smaller
-loop-machine-smaller c =
-    let old = c.loop-machine.machine in
+pub loop-self-smaller : goal.loop-self-smaller
+loop-self-smaller c =
+    let old = c.loop-self.self in
     let now = c.step.new.self in
     let step = c.in_ok-step.ensures in
-    let within : now.steps ≤ c.args.budget = subst (λ b. now.steps ≤ b) (step.budget ∙ c.loop-machine.invariant.budget) step.within in
-    fewer old.begun now.begun c.args.budget old.steps now.steps step.begun within c.loop-machine.invariant.first (λ begun. step.counted begun c.in-GoesOn.is)
+    let within : now.steps ≤ c.args.self.budget = subst (λ b. now.steps ≤ b) (step.budget ∙ c.loop-self.invariant.budget) step.within in
+    fewer old.begun now.begun c.args.self.budget old.steps now.steps step.begun within c.loop-self.invariant.first (λ begun. step.counted begun c.in-GoesOn.is)

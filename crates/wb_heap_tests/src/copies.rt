@@ -1,0 +1,174 @@
+//! Copies of heaps, cells and words: each tells what its source does, and what is done to one changes nothing in the other. Those
+//! of heaps are taken before the sixth attempt of a script that frees neighbours and then asks for a cell in their place.
+
+use crate::debug_calls::{Call as DebugCall, CopiedDebugHeap, WorkedDebugHeap};
+use crate::heap_calls::{Call as HeapCall, CopiedHeap, WorkedHeap};
+use crate::{debug_calls, heap_calls};
+use std::test::Fail;
+use wb_cells::Cells;
+use wb_chunk::Chunk;
+use wb_model::heap::Answer::Granted;
+use wb_model::heap::{Header, Kind, Ptr, Rule, Shape};
+
+const SHAPE: Shape = Shape { min: 0, step: 4096 };
+
+static DEBUG_HEAP: CopiedDebugHeap = CopiedDebugHeap {
+    before: WorkedDebugHeap {
+        about: "cells that were freed merge",
+        rule: Rule::Number(0),
+        shape: SHAPE,
+        calls: &[
+            DebugCall::Alloc(16, (144, 2)),
+            DebugCall::Alloc(16, (176, 3)),
+            DebugCall::Alloc(16, (208, 4)),
+            DebugCall::Alloc(16, (240, 5)),
+            DebugCall::Free((176, 3)),
+            DebugCall::Free((144, 2)),
+            DebugCall::Free((208, 4)),
+            DebugCall::Store((240, 5), 3, 7),
+            DebugCall::Mark,
+            DebugCall::FailNext(3),
+        ],
+    },
+    told: &[
+        DebugCall::Attempts(5),
+        DebugCall::Trace(&[
+            (1, 144, 0, Granted),
+            (2, 32, 144, Granted),
+            (3, 32, 176, Granted),
+            (4, 32, 208, Granted),
+            (5, 32, 240, Granted),
+        ]),
+        DebugCall::Leaks(&[(5, 32, 240)]),
+        DebugCall::Size(2, 176, 4096),
+        DebugCall::Available(3920, 3824),
+        DebugCall::Word((240, 5), 3, 7),
+        DebugCall::Header((240, 5), 32, 0),
+        DebugCall::NoHeader((144, 2)),
+        DebugCall::NoHeader((144, 6)),
+    ],
+    changes: &[
+        DebugCall::Alloc(80, (144, 6)),
+        DebugCall::Realloc((240, 5), 48, (240, 5)),
+        DebugCall::NoAlloc(16),
+        DebugCall::Store((144, 6), 19, 9),
+        DebugCall::StoreHalf((144, 6), 0, 5),
+        DebugCall::Copy((144, 6), (240, 5), 4),
+        DebugCall::Word((240, 5), 0, 5),
+        DebugCall::Word((240, 5), 3, 0),
+        DebugCall::MarkEnd(1, None),
+        DebugCall::FailEvery(1),
+        DebugCall::NoAlloc(16),
+        DebugCall::FailNone,
+        DebugCall::Free((240, 5)),
+        DebugCall::Alloc(3856, (240, 10)),
+        DebugCall::Free((240, 10)),
+        DebugCall::Compress(4096),
+        DebugCall::Attempts(10),
+        DebugCall::Leaks(&[(6, 96, 144)]),
+    ],
+};
+
+static HEAP: CopiedHeap = CopiedHeap {
+    before: WorkedHeap {
+        about: "cells that were freed merge",
+        limit: 8192,
+        shape: SHAPE,
+        calls: &[
+            HeapCall::Alloc(32, (144, 2)),
+            HeapCall::Alloc(32, (176, 3)),
+            HeapCall::Alloc(32, (208, 4)),
+            HeapCall::Alloc(32, (240, 5)),
+            HeapCall::Free((176, 3)),
+            HeapCall::Free((144, 2)),
+            HeapCall::Free((208, 4)),
+            HeapCall::Store((240, 5), 3, 7),
+        ],
+    },
+    told: &[
+        HeapCall::PlaceFor(96, 144),
+        HeapCall::PlaceFor(112, 272),
+        HeapCall::Size(2, 176, 4096),
+        HeapCall::Available(3920, 3824),
+        HeapCall::Held(4096),
+        HeapCall::NextLive(144, (240, 5)),
+        HeapCall::NoneLive(272),
+        HeapCall::Word((240, 5), 3, 7),
+        HeapCall::Header((240, 5), 32, 0),
+        HeapCall::NoHeader((144, 2)),
+        HeapCall::NoHeader((144, 6)),
+    ],
+    changes: &[
+        HeapCall::Alloc(96, (144, 6)),
+        HeapCall::Realloc((240, 5), 64, (240, 5)),
+        HeapCall::SetLevel((144, 6), 3),
+        HeapCall::Header((144, 6), 96, 3),
+        HeapCall::Store((144, 6), 19, 9),
+        HeapCall::StoreHalf((144, 6), 0, 5),
+        HeapCall::Copy((144, 6), (240, 5), 4),
+        HeapCall::Word((240, 5), 3, 0),
+        HeapCall::Free((240, 5)),
+        HeapCall::Alloc(3872, (240, 8)),
+        HeapCall::Held(8192),
+        HeapCall::Free((240, 8)),
+        HeapCall::Compress(4096),
+        HeapCall::Size(2, 240, 4096),
+    ],
+};
+
+#[test]
+fn copies_of_heaps_are_apart(rt: HostRuntime) -> Result<(), Fail> {
+    assert!(rt; debug_calls::is_apart(rt.alloc(), &DEBUG_HEAP)?);
+    assert!(rt; heap_calls::is_apart(rt.alloc(), &HEAP)?);
+    Ok(())
+}
+
+#[test]
+fn a_copy_of_words_is_apart(rt: HostRuntime) -> Result<(), Fail> {
+    let mut chunk = Chunk::new(rt.alloc());
+    assert_eq!(rt; chunk.try_copy()?.words(), 0);
+    chunk.grow(2)?;
+    chunk.set_word(1, 7);
+    let mut copy = chunk.try_copy()?;
+    assert_eq!(rt; copy.word(1), 7);
+    copy.set_word(1, 8);
+    copy.grow(1)?;
+    assert_eq!(rt; chunk.words(), 2);
+    assert_eq!(rt; chunk.word(1), 7);
+    chunk.zero(0, 2);
+    assert_eq!(rt; copy.words(), 3);
+    assert_eq!(rt; copy.word(1), 8);
+    Ok(())
+}
+
+#[test]
+fn a_copy_of_cells_is_apart(rt: HostRuntime) -> Result<(), Fail> {
+    let mut cells = Cells::new(rt.alloc());
+    cells.reserve(256)?;
+    let header = Header {
+        place: 0,
+        length: 32,
+        kind: Kind::Raw,
+        level: 0,
+        number: 1,
+    };
+    cells.take(0, 32, header);
+    let cell = Ptr {
+        place: 0,
+        number: 1,
+    };
+    cells.set_payload(cell, 1, 5);
+    let mut copy = cells.try_copy()?;
+    assert_eq!(rt; copy.payload(cell, 1), 5);
+    copy.set_payload(cell, 1, 6);
+    assert_eq!(rt; cells.payload(cell, 1), 5);
+    copy.give(cell);
+    assert_eq!(rt; copy.top(), 0);
+    assert_eq!(rt; cells.top(), 32);
+    assert_eq!(rt; cells.header(cell), Some(header));
+    let second = cells.try_copy()?;
+    cells.give(cell);
+    assert_eq!(rt; second.header(cell), Some(header));
+    assert_eq!(rt; second.held(), 256);
+    Ok(())
+}

@@ -1,0 +1,23 @@
+//! Copies of a run that go on under another rule. Which rules a sweep tries is not decided here.
+
+ghost use Rattle.std.specs.Prelude.{◌≡◌, false, IfOk};
+ghost use Rattle.wb_model.specs.Rest.{SameSoFar};
+ghost use Rattle.wb_model.specs.Run.{run};
+
+use wb_machine::Machine;
+use wb_model::heap::Rule;
+use wb_model::memory::NoMemory;
+use wb_model::run::RunResult;
+
+/// What a run under way comes to under another rule, which refuses the same of the attempts made so far; neither is a limit. A
+/// copy goes on to its end, and the run itself stays as it is.
+pub fn result_under(lead: &Machine, rule: Rule) -> Result<RunResult, NoMemory>
+    requires same { SameSoFar rule lead.now.rule lead.now.attempts }
+    requires going { lead.now.over ≡ false }
+    requires well { lead.now.failed ≡ false }
+    ensures { IfOk result (λ told. told ≡ run lead.now.script rule lead.now.budget lead.now.shape) }
+{
+    let mut fork = lead.try_copy()?;
+    fork.set_rule(rule);
+    fork.run_to_end()
+}
