@@ -1,0 +1,11 @@
+use Rattle.std.proofs.Common.{◌≡◌, ◌≤◌}
+use Rattle.wb_model.specs.declared.heap.Rule.TheVariants.{Number}
+use Rattle.wb_fork_tests.proofs.forks.walk.Given as goal
+
+-- the run goes on without failure, and a turn makes at most one attempt
+abbrev pub invariant-loop : goal.invariant-loop
+invariant-loop l =
+    record {
+      rule : l.lead.rule ≡ Number 0;
+      few : l.lead.attempts ≤ l.counter;
+    }

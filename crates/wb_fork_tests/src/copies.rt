@@ -1,0 +1,107 @@
+//! A copy of a run under way, and its source: each stays as it is while the other goes on to its end.
+
+ghost use Rattle.std.specs.Prelude.{IsTrue};
+ghost use Rattle.wb_model.specs.Sound.{is_script};
+
+use crate::results::{BUDGET, MOST_TURNS, SHAPE, comes_to_run};
+use std::alloc::Global;
+use wb_machine::{Machine, RunFault, Turn};
+use wb_model::heap::Rule;
+use wb_model::memory::NoMemory;
+use wb_model::script::Script;
+
+/// So many attempts are made before the copy is taken.
+const BEFORE: u32 = 5;
+
+/// Where a run stands, as far as its machine shows it.
+#[derive(Clone, Copy, Debug, PartialEq, Eq)]
+struct Place {
+    attempts: u32,
+    /// The line that was begun last.
+    line: u32,
+    /// Whether the next turn asks for an attempt.
+    asks: bool,
+}
+
+/// Which of the two goes on to its end while the other waits.
+#[derive(Clone, Copy, Debug, PartialEq, Eq)]
+enum First {
+    Source,
+    Copy,
+}
+
+/// Whether a copy that is taken before the sixth attempt of a script's run, and its source, are apart, whichever of them ends
+/// first. A run of fewer attempts is copied at its end.
+pub(crate) fn are_copies_apart(alloc: Global, script: &Script) -> Result<bool, RunFault>
+    requires { IsTrue (is_script script.now) }
+{
+    Ok(is_apart(alloc, script, First::Source)? && is_apart(alloc, script, First::Copy)?)
+}
+
+fn is_apart(alloc: Global, script: &Script, first: First) -> Result<bool, RunFault>
+    requires { IsTrue (is_script script.now) }
+{
+    let mut source = Machine::new(alloc, script, Rule::Number(0), BUDGET, SHAPE)?;
+    let is_copy_apart = is_copy_apart(alloc, script, first, &mut source);
+    let is_source_as_run = comes_to_run(alloc, script, source)?;
+    Ok(is_source_as_run && is_copy_apart?)
+}
+
+/// Copies a run before its sixth attempt, lets one of the two end, and then the copy. The source is left for its own end.
+fn is_copy_apart(
+    alloc: Global,
+    script: &Script,
+    first: First,
+    source: &mut Machine,
+) -> Result<bool, RunFault>
+    requires { IsTrue (is_script script.now) }
+{
+    go_to_attempt(source)?;
+    let mut copy = source.try_copy()?;
+    let stays = one_stays(first, source, &mut copy);
+    let is_copy_as_run = comes_to_run(alloc, script, copy)?;
+    Ok(is_copy_as_run && stays?)
+}
+
+/// Goes on up to the attempt before which the copy is taken, or to the end of the run.
+fn go_to_attempt(source: &mut Machine) -> Result<(), NoMemory> {
+    for _ in 0..MOST_TURNS {
+        if source.attempts() == BEFORE && source.will_attempt() {
+            break;
+        }
+        source.step()?;
+    }
+    Ok(())
+}
+
+fn one_stays(first: First, source: &mut Machine, copy: &mut Machine) -> Result<bool, NoMemory> {
+    match first {
+        First::Source => stays(copy, source),
+        First::Copy => stays(source, copy),
+    }
+}
+
+/// Whether two machines stand at the same place, and one of them still does when the other has come to its end.
+fn stays(waiting: &Machine, going: &mut Machine) -> Result<bool, NoMemory> {
+    let place = place_of(waiting);
+    let is_same = place == place_of(going);
+    go_to_end(going)?;
+    Ok(is_same && place == place_of(waiting))
+}
+
+fn place_of(machine: &Machine) -> Place {
+    Place {
+        attempts: machine.attempts(),
+        line: machine.line(),
+        asks: machine.will_attempt(),
+    }
+}
+
+fn go_to_end(machine: &mut Machine) -> Result<(), NoMemory> {
+    for _ in 0..MOST_TURNS {
+        if let Turn::Ended = machine.step()? {
+            break;
+        }
+    }
+    Ok(())
+}

@@ -1,0 +1,44 @@
+//! Compares the forks of a script's run with the runs that they stand for, and a copy of that run with its source.
+//!
+//! A fork is a copy of the run that goes on under another rule, so that an attempt fails which the run itself is granted. The
+//! program reads the script on standard input, and says how many forks there are. Where a fork or a copy comes to anything else
+//! than it should, the program says which, and ends with status 1.
+#![tactic(auto)]
+
+mod comparison;
+mod copies;
+mod forks;
+mod results;
+
+use comparison::{Comparison, compare};
+use std::io;
+use std::io::Read;
+use std::process::ExitCode;
+
+fn main(rt: HostRuntime) -> ExitCode {
+    say(&rt).unwrap_or(ExitCode::FAILURE)
+}
+
+/// Says what was found.
+fn say(rt: &HostRuntime) -> io::Result<ExitCode> {
+    match compared(rt)? {
+        Some(Comparison::Same(forks)) => {
+            println!(rt; "{forks} forks, each as its run, and a copy apart from its source")?;
+            return Ok(ExitCode::SUCCESS);
+        }
+        Some(Comparison::OtherFork(number)) => {
+            println!(rt; "another result where attempt {number} fails")?;
+        }
+        Some(Comparison::OtherRun) => println!(rt; "another result of the run itself")?,
+        Some(Comparison::OtherCopy) => println!(rt; "a copy that isn't apart from its source")?,
+        None => println!(rt; "no script, or no memory")?,
+    }
+    Ok(ExitCode::FAILURE)
+}
+
+/// What was found of the script on standard input.
+fn compared(rt: &HostRuntime) -> io::Result<Option<Comparison>> {
+    let mut bytes = Vec::new(rt.alloc());
+    rt.stdin().read_to_end(&mut bytes)?;
+    Ok(compare(rt.alloc(), &bytes))
+}
