@@ -3,15 +3,13 @@
 ghost use Rattle.std.specs.Prelude.{IsTrue};
 ghost use Rattle.wb_model.specs.Sound.{is_script};
 
+use crate::comparison::Comparison;
 use crate::results::{BUDGET, MOST_TURNS, SHAPE, comes_to_run};
 use std::alloc::Global;
 use wb_machine::{Machine, RunFault, Turn};
 use wb_model::heap::Rule;
 use wb_model::memory::NoMemory;
 use wb_model::script::Script;
-
-/// So many attempts are made before the copy is taken.
-const BEFORE: u32 = 5;
 
 /// Where a run stands, as far as its machine shows it.
 #[derive(Clone, Copy, Debug, PartialEq, Eq)]
@@ -30,43 +28,64 @@ enum First {
     Copy,
 }
 
-/// Whether a copy that is taken before the sixth attempt of a script's run, and its source, are apart, whichever of them ends
-/// first. A run of fewer attempts is copied at its end.
-pub(crate) fn are_copies_apart(alloc: Global, script: &Script) -> Result<bool, RunFault>
+/// Copies a script's run without failure before each of its attempts, of which there are so many, and tells whether each copy
+/// and its source are apart, whichever of the two ends first.
+pub(crate) fn compare_copies(
+    alloc: Global,
+    script: &Script,
+    attempts: u32,
+) -> Result<Comparison, RunFault>
     requires { IsTrue (is_script script.now) }
 {
-    Ok(is_apart(alloc, script, First::Source)? && is_apart(alloc, script, First::Copy)?)
+    for made in 0..attempts {
+        if !are_apart(alloc, script, made)? {
+            return Ok(Comparison::OtherCopy(made + 1));
+        }
+    }
+    Ok(Comparison::Same(attempts))
 }
 
-fn is_apart(alloc: Global, script: &Script, first: First) -> Result<bool, RunFault>
+/// Whether a copy and its source are apart, where the copy is taken when so many attempts are made and the next is to come.
+fn are_apart(alloc: Global, script: &Script, made: u32) -> Result<bool, RunFault>
+    requires { IsTrue (is_script script.now) }
+{
+    Ok(
+        one_waits(alloc, script, made, First::Source)?
+            && one_waits(alloc, script, made, First::Copy)?,
+    )
+}
+
+/// Whether one of the two stays as it is while the other ends, and then each comes to what the whole run does.
+fn one_waits(alloc: Global, script: &Script, made: u32, first: First) -> Result<bool, RunFault>
     requires { IsTrue (is_script script.now) }
 {
     let mut source = Machine::new(alloc, script, Rule::Number(0), BUDGET, SHAPE)?;
-    let is_copy_apart = is_copy_apart(alloc, script, first, &mut source);
+    let is_copy_apart = is_copy_apart(alloc, script, made, first, &mut source);
     let is_source_as_run = comes_to_run(alloc, script, source)?;
     Ok(is_source_as_run && is_copy_apart?)
 }
 
-/// Copies a run before its sixth attempt, lets one of the two end, and then the copy. The source is left for its own end.
+/// Copies a run once so many attempts are made, lets one of the two end, and then the copy. The source is left for its own end.
 fn is_copy_apart(
     alloc: Global,
     script: &Script,
+    made: u32,
     first: First,
     source: &mut Machine,
 ) -> Result<bool, RunFault>
     requires { IsTrue (is_script script.now) }
 {
-    go_to_attempt(source)?;
+    go_to_attempt(source, made)?;
     let mut copy = source.try_copy()?;
     let stays = one_stays(first, source, &mut copy);
     let is_copy_as_run = comes_to_run(alloc, script, copy)?;
     Ok(is_copy_as_run && stays?)
 }
 
-/// Goes on up to the attempt before which the copy is taken, or to the end of the run.
-fn go_to_attempt(source: &mut Machine) -> Result<(), NoMemory> {
+/// Goes on until so many attempts are made and the next turn makes one more, or to the end of a run that makes no more.
+fn go_to_attempt(source: &mut Machine, made: u32) -> Result<(), NoMemory> {
     for _ in 0..MOST_TURNS {
-        if source.attempts() == BEFORE && source.will_attempt() {
+        if source.attempts() == made && source.will_attempt() {
             break;
         }
         source.step()?;

@@ -1,4 +1,4 @@
-//! Compares the forks of a script's run with the runs that they stand for, and a copy of that run with its source.
+//! Compares the forks of a script's run with the runs that they stand for, and copies of that run with their source.
 //!
 //! A fork is a copy of the run that goes on under another rule, so that an attempt fails which the run itself is granted. The
 //! program reads the script on standard input, and says how many forks there are. Where a fork or a copy comes to anything else
@@ -23,14 +23,18 @@ fn main(rt: HostRuntime) -> ExitCode {
 fn say(rt: &HostRuntime) -> io::Result<ExitCode> {
     match compared(rt)? {
         Some(Comparison::Same(forks)) => {
-            println!(rt; "{forks} forks, each as its run, and a copy apart from its source")?;
+            println!(rt;
+                "{forks} forks, each as its run, and as many copies, each apart from its source"
+            )?;
             return Ok(ExitCode::SUCCESS);
         }
         Some(Comparison::OtherFork(number)) => {
             println!(rt; "another result where attempt {number} fails")?;
         }
         Some(Comparison::OtherRun) => println!(rt; "another result of the run itself")?,
-        Some(Comparison::OtherCopy) => println!(rt; "a copy that isn't apart from its source")?,
+        Some(Comparison::OtherCopy(number)) => {
+            println!(rt; "a copy before attempt {number} isn't apart from its source")?;
+        }
         None => println!(rt; "no script, or no memory")?,
     }
     Ok(ExitCode::FAILURE)

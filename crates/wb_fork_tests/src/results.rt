@@ -44,6 +44,7 @@ pub(crate) fn is_result(
     Ok(is_same(&whole, told))
 }
 
+/// Whether two runs tell the same in all that they tell.
 fn is_same(one: &RunResult, other: &RunResult) -> bool {
     let RunResult {
         outcome,
