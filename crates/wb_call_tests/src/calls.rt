@@ -1,0 +1,69 @@
+//! The calls of a debug heap that may find no memory. Each is made once more, with the same arguments, where it answers `NoMemory`. One
+//! whose arguments no call may have isn't made, and answers `NoMemory` too: then the plain run has other lines than it should.
+
+ghost use Rattle.std.specs.Prelude.{◌≡◌, ◌+◌, ◌^◌, ◌<◌, ◌≤◌, IfOk, IsSome, OnErr, OnOk};
+ghost use Rattle.wb_model.specs.Debug.{IsSoundDebug, alloc_made};
+ghost use Rattle.wb_model.specs.Row.{cell_at};
+
+use wb_debug::DebugHeap;
+use wb_model::heap::{Gave, Kind, Ptr};
+use wb_model::limits::CEILING;
+use wb_model::memory::NoMemory;
+use wb_model::run::Leaks;
+
+/// An attempt to get a cell.
+pub(crate) fn alloc(heap: &mut DebugHeap, bytes: u32, kind: Kind) -> Result<Gave, NoMemory>
+    ensures made { OnOk result (heap.new ≡ (alloc_made heap.old bytes kind).debug) }
+    ensures err { OnErr result (heap.new ≡ heap.old) }
+    ensures sound { OnOk result (IsSoundDebug heap.new) }
+{
+    if heap.attempts() == u32::MAX || bytes > CEILING {
+        return Err(NoMemory);
+    }
+    match heap.attempt_alloc(bytes, kind) {
+        Ok(gave) => Ok(gave),
+        Err(_) => heap.attempt_alloc(bytes, kind),
+    }
+}
+
+/// An attempt to give a cell another length.
+pub(crate) fn realloc(heap: &mut DebugHeap, ptr: Ptr, bytes: u32) -> Result<Gave, NoMemory>
+    ensures { heap.new.heap.level ≡ heap.old.heap.level }
+{
+    if heap.attempts() == u32::MAX || bytes > CEILING || heap.header(ptr).is_none() {
+        return Err(NoMemory);
+    }
+    match realloc_live(heap, ptr, bytes) {
+        Ok(gave) => Ok(gave),
+        Err(_) => realloc_live(heap, ptr, bytes),
+    }
+}
+
+/// The attempt itself, of a live cell.
+fn realloc_live(heap: &mut DebugHeap, ptr: Ptr, bytes: u32) -> Result<Gave, NoMemory>
+    requires live { IsSome (cell_at ptr heap.old.heap.row) }
+    requires bytes { bytes ≤ CEILING }
+    requires number { heap.old.attempts + 1 < 2 ^ 32 }
+    ensures level { heap.new.heap.level ≡ heap.old.heap.level }
+    ensures err { OnErr result (heap.new ≡ heap.old) }
+{
+    heap.attempt_realloc(ptr, bytes)
+}
+
+/// A copy of a heap.
+pub(crate) fn copy(heap: &DebugHeap) -> Result<DebugHeap, NoMemory>
+    ensures { IfOk result (λ copy. copy ≡ heap.now) }
+{
+    match heap.try_copy() {
+        Ok(copy) => Ok(copy),
+        Err(_) => heap.try_copy(),
+    }
+}
+
+/// The live cells of a heap, by place.
+pub(crate) fn live(heap: &DebugHeap) -> Result<Leaks, NoMemory> {
+    match heap.leaks() {
+        Ok(leaks) => Ok(leaks),
+        Err(_) => heap.leaks(),
+    }
+}

@@ -1,0 +1,85 @@
+//! A debug heap and its copies: each shows what the other does, and what is done to one changes nothing in the other. The copies are
+//! taken before the sixth attempt of a heap that frees neighbours and then asks for a cell in their place.
+
+use crate::heaps::{Call, Marked};
+use crate::stop::Stop;
+
+/// What is done before the copies are taken.
+static BEFORE: [Call; 11] = [
+    Call::Alloc(128),
+    Call::Alloc(16),
+    Call::Alloc(16),
+    Call::Alloc(16),
+    Call::Mark,
+    Call::Alloc(16),
+    Call::Free((176, 3)),
+    Call::Free((144, 2)),
+    Call::Free((208, 4)),
+    Call::Store((240, 5), 3, 7),
+    Call::FailNext(3),
+];
+
+/// Every kind of change: grants, reallocations, a refusal that was set before, words, marks, settings, releases and a note.
+static CHANGES: [Call; 16] = [
+    Call::Alloc(80),
+    Call::Realloc((240, 5), 48),
+    Call::Alloc(16),
+    Call::Store((144, 6), 19, 9),
+    Call::Store((240, 5), 3, 8),
+    Call::Mark,
+    Call::Alloc(32),
+    Call::MarkEnd(1),
+    Call::MarkEnd(3),
+    Call::FailEvery(1),
+    Call::Alloc(16),
+    Call::FailNone,
+    Call::Free((144, 6)),
+    Call::Alloc(3856),
+    Call::Free((352, 11)),
+    Call::Compress,
+];
+
+/// Changes a copy while its source stays, and then the source while another copy stays.
+pub(crate) fn compare_copies(rt: &HostRuntime) -> Result<(), Stop> {
+    let mut source = Marked::new(rt.alloc())?;
+    change_both(rt, &mut source)
+}
+
+fn change_both(rt: &HostRuntime, source: &mut Marked) -> Result<(), Stop> {
+    source.make_calls(rt, &BEFORE)?;
+    change_copy(rt, source)?;
+    change_source(rt, source)
+}
+
+/// Changes a copy.
+fn change_copy(rt: &HostRuntime, source: &Marked) -> Result<(), Stop> {
+    let mut copy = source.copy()?;
+    change_one(rt, ["copy", "source"], &mut copy, source)
+}
+
+/// Changes the source, and then the copy in the same way.
+fn change_source(rt: &HostRuntime, source: &mut Marked) -> Result<(), Stop> {
+    let mut copy = source.copy()?;
+    change_in_turn(rt, source, &mut copy)
+}
+
+fn change_in_turn(rt: &HostRuntime, source: &mut Marked, copy: &mut Marked) -> Result<(), Stop> {
+    change_one(rt, ["source", "copy"], source, copy)?;
+    copy.make_calls(rt, &CHANGES)?;
+    copy.show(rt, "copy")
+}
+
+/// Shows two heaps, changes the first of them, and shows both again.
+fn change_one(
+    rt: &HostRuntime,
+    names: [&str; 2],
+    changed: &mut Marked,
+    other: &Marked,
+) -> Result<(), Stop> {
+    let [name, other_name] = names;
+    other.show(rt, other_name)?;
+    changed.show(rt, name)?;
+    changed.make_calls(rt, &CHANGES)?;
+    other.show(rt, other_name)?;
+    changed.show(rt, name)
+}

@@ -1,0 +1,225 @@
+//! Calls of a debug heap, made one after another as a table tells, with a line of each.
+
+ghost use Rattle.std.specs.Prelude.{◌≡◌};
+
+use crate::calls;
+use crate::lines::{show, tell_gave, tell_heap};
+use crate::stop::Stop;
+use std::alloc::Global;
+use wb_debug::DebugHeap;
+use wb_model::heap::{Kind, Ptr, Rule, Shape};
+use wb_model::limits::CEILING;
+use wb_model::memory::NoMemory;
+use wb_model::run::Note;
+
+/// A cell, by its place and the number of its attempt.
+pub(crate) type Cell = (u32, u32);
+
+/// A call of a debug heap. Lengths are bytes without a header.
+#[derive(Clone, Copy)]
+pub(crate) enum Call {
+    Alloc(u32),
+    Realloc(Cell, u32),
+    Free(Cell),
+    Mark,
+    /// How many cells are expected.
+    MarkEnd(u32),
+    FailNext(u32),
+    FailEvery(u32),
+    FailNone,
+    /// A word of a cell, by its index, and its new value.
+    Store(Cell, u32, u32),
+    Compress,
+}
+
+/// A debug heap, and how many marks are open.
+#[derive(Drop)]
+pub(crate) struct Marked {
+    heap: DebugHeap,
+    marks: u32,
+    ghost open: { heap.heap.level ≡ marks },
+}
+
+/// Heaps of this shape begin without memory, so that the first attempt asks for it.
+pub(crate) const SHAPE: Shape = Shape { min: 0, step: 64 };
+
+/// Cells that are granted in a hole and at the top, grow at their place and move, and are refused by a setting.
+static ATTEMPTS: [Call; 23] = [
+    Call::Alloc(16),
+    Call::Alloc(40),
+    Call::Alloc(16),
+    Call::Store((32, 2), 9, 7),
+    Call::Free((0, 1)),
+    Call::Alloc(8),
+    Call::Realloc((32, 2), 40),
+    Call::Realloc((32, 2), 100),
+    Call::Alloc(33),
+    Call::Realloc((128, 5), 200),
+    Call::Mark,
+    Call::FailNext(2),
+    Call::Alloc(4),
+    Call::Alloc(4),
+    Call::Alloc(4),
+    Call::FailEvery(2),
+    Call::Realloc((0, 4), 60),
+    Call::Realloc((416, 11), 500),
+    Call::FailNone,
+    Call::Realloc((416, 11), 500),
+    Call::Alloc(CEILING),
+    Call::MarkEnd(2),
+    Call::Compress,
+];
+
+/// Makes the calls of the table, and tells all that the heap shows then.
+pub(crate) fn make_attempts(rt: &HostRuntime) -> Result<(), Stop> {
+    let mut marked = Marked::new(rt.alloc())?;
+    make_and_show(rt, &mut marked)
+}
+
+fn make_and_show(rt: &HostRuntime, marked: &mut Marked) -> Result<(), Stop> {
+    marked.make_calls(rt, &ATTEMPTS)?;
+    marked.show(rt, "after all attempts")
+}
+
+impl Marked {
+    /// A heap without a cell.
+    pub(crate) fn new(alloc: Global) -> Result<Marked, NoMemory> {
+        match DebugHeap::new(alloc, Rule::Unlimited, SHAPE) {
+            Ok(heap) => Ok(Marked { heap, marks: 0 }),
+            Err(_) => Err(NoMemory),
+        }
+    }
+
+    /// A copy.
+    pub(crate) fn copy(&self) -> Result<Marked, NoMemory> {
+        Ok(Marked {
+            heap: calls::copy(&self.heap)?,
+            marks: self.marks,
+        })
+    }
+
+    /// Tells all that the heap shows.
+    pub(crate) fn show(&self, rt: &HostRuntime, name: &str) -> Result<(), Stop> {
+        show(rt, name, &self.heap)
+    }
+
+    /// Makes calls, with a line of each.
+    pub(crate) fn make_calls(&mut self, rt: &HostRuntime, calls: &[Call]) -> Result<(), Stop> {
+        for call in calls {
+            self.make_call(rt, *call)?;
+        }
+        Ok(())
+    }
+
+    fn make_call(&mut self, rt: &HostRuntime, call: Call) -> Result<(), Stop> {
+        match call {
+            Call::Alloc(bytes) => self.alloc(rt, bytes),
+            Call::Realloc(cell, bytes) => self.realloc(rt, pointer(cell), bytes),
+            _ => self.make_plain(rt, call),
+        }
+    }
+
+    /// An attempt to get a raw cell.
+    fn alloc(&mut self, rt: &HostRuntime, bytes: u32) -> Result<(), Stop> {
+        let gave = calls::alloc(&mut self.heap, bytes, Kind::Raw)?;
+        tell_gave(rt, "alloc", bytes, gave, &self.heap)
+    }
+
+    /// An attempt to give a cell another length.
+    fn realloc(&mut self, rt: &HostRuntime, ptr: Ptr, bytes: u32) -> Result<(), Stop> {
+        let gave = calls::realloc(&mut self.heap, ptr, bytes)?;
+        tell_gave(rt, "realloc", bytes, gave, &self.heap)
+    }
+
+    /// A call that takes no memory.
+    fn make_plain(&mut self, rt: &HostRuntime, call: Call) -> Result<(), Stop> {
+        let is_done = self.do_plain(call);
+        print!(rt; "{}: {is_done}", name_of(call))?;
+        tell_heap(rt, &self.heap)
+    }
+
+    /// Makes such a call. Whether it wasn't refused; of `Compress`, whether it gave up anything.
+    fn do_plain(&mut self, call: Call) -> bool {
+        match call {
+            Call::Free(cell) => self.heap.release(pointer(cell)).is_ok(),
+            Call::Mark => self.mark(),
+            Call::MarkEnd(n) => self.mark_end(n),
+            Call::Store(cell, i, word) => self.store(pointer(cell), i, word),
+            Call::Compress => self.heap.note_compress() != Note::Compress(0),
+            _ => self.set(call),
+        }
+    }
+
+    /// The same of a call that sets which attempts fail.
+    fn set(&mut self, call: Call) -> bool {
+        match call {
+            Call::FailNext(n) if n > 0 => {
+                self.heap.fail_next(n);
+                true
+            }
+            Call::FailEvery(n) if n > 0 => {
+                self.heap.fail_every(n);
+                true
+            }
+            Call::FailNone => {
+                self.heap.fail_none();
+                true
+            }
+            _ => false,
+        }
+    }
+
+    /// Opens a mark. Whether there could be one more.
+    fn mark(&mut self) -> bool {
+        let Some(marks) = self.marks.checked_add(1) else {
+            return false;
+        };
+        self.heap.mark();
+        self.marks = marks;
+        true
+    }
+
+    /// Closes a mark. Whether one was open, and the cells are as many as expected.
+    fn mark_end(&mut self, n: u32) -> bool {
+        let is_closed = self.heap.mark_end(n).is_ok();
+        if is_closed && self.marks > 0 {
+            self.marks -= 1;
+        }
+        is_closed
+    }
+
+    /// Stores a word. Whether there was one.
+    fn store(&mut self, ptr: Ptr, i: u32, word: u32) -> bool {
+        match self.heap.header(ptr) {
+            Some(header) if i < header.words() => {
+                self.heap.set_payload(ptr, i, word);
+                true
+            }
+            _ => false,
+        }
+    }
+}
+
+/// The name of a call.
+fn name_of(call: Call) -> &'static str {
+    match call {
+        Call::Alloc(_) => "alloc",
+        Call::Realloc(_, _) => "realloc",
+        Call::Free(_) => "free",
+        Call::Mark => "mark",
+        Call::MarkEnd(_) => "markend",
+        Call::FailNext(_) => "failnext",
+        Call::FailEvery(_) => "failevery",
+        Call::FailNone => "failnone",
+        Call::Store(_, _, _) => "store",
+        Call::Compress => "compress",
+    }
+}
+
+/// The pointer that names a cell.
+fn pointer(cell: Cell) -> Ptr {
+    Ptr {
+        place: cell.0,
+        number: cell.1,
+    }
+}

@@ -1,0 +1,102 @@
+//! The lines that calls are told by. Each is written at once, so that it takes no memory.
+
+use crate::calls;
+use crate::stop::Stop;
+use wb_debug::DebugHeap;
+use wb_model::heap::{Attempt, Gave, Ptr};
+use wb_model::run::{Leak, Note};
+
+/// Tells what an attempt gave: the number and the place of the cell, or who refused.
+pub(crate) fn tell_gave(
+    rt: &HostRuntime,
+    call: &str,
+    asked: u32,
+    gave: Gave,
+    heap: &DebugHeap,
+) -> Result<(), Stop> {
+    let told = match gave {
+        Gave::Granted(cell) => {
+            print!(rt; "{call} {asked}: cell {} at {}", cell.number, cell.place)
+        }
+        Gave::Denied => print!(rt; "{call} {asked}: denied"),
+        Gave::Ceiling => print!(rt; "{call} {asked}: past the ceiling"),
+    };
+    told?;
+    tell_heap(rt, heap)
+}
+
+/// Ends a line: how many attempts were counted, how many lines the trace has, how many cells are live, and the lengths.
+pub(crate) fn tell_heap(rt: &HostRuntime, heap: &DebugHeap) -> Result<(), Stop> {
+    let (live, bytes, committed) = match heap.note_heap() {
+        Note::Heap(live, bytes, committed) => (live, bytes, committed),
+        _ => (0, 0, 0),
+    };
+    println!(rt;
+        ", attempts {}, trace {}, live {live} of {bytes}, committed {committed}",
+        heap.attempts(),
+        heap.trace().len()
+    )?;
+    Ok(())
+}
+
+/// Tells all that a heap shows: its trace, and its live cells with what they hold.
+pub(crate) fn show(rt: &HostRuntime, name: &str, heap: &DebugHeap) -> Result<(), Stop> {
+    print!(rt; "{name}")?;
+    tell_heap(rt, heap)?;
+    show_free(rt, heap)?;
+    show_trace(rt, heap.trace().as_slice())?;
+    let cells = calls::live(heap)?;
+    show_cells(rt, heap, cells.as_slice())
+}
+
+/// Tells what is free.
+fn show_free(rt: &HostRuntime, heap: &DebugHeap) -> Result<(), Stop> {
+    let (total, longest) = match heap.note_available() {
+        Note::Available(total, longest) => (total, longest),
+        _ => (0, 0),
+    };
+    println!(rt; "  free {total}, longest {longest}")?;
+    Ok(())
+}
+
+/// Tells the lines of a trace.
+fn show_trace(rt: &HostRuntime, trace: &[Attempt]) -> Result<(), Stop> {
+    for line in trace {
+        println!(rt;
+            "  attempt {} length {} place {} {:?}",
+            line.number, line.length, line.place, line.answer
+        )?;
+    }
+    Ok(())
+}
+
+/// Tells the cells, each with those of its words that aren't zero.
+fn show_cells(rt: &HostRuntime, heap: &DebugHeap, cells: &[Leak]) -> Result<(), Stop> {
+    for cell in cells {
+        println!(rt;
+            "  cell {} length {} place {}",
+            cell.number, cell.length, cell.place
+        )?;
+        let ptr = Ptr {
+            place: cell.place,
+            number: cell.number,
+        };
+        show_words(rt, heap, ptr)?;
+    }
+    Ok(())
+}
+
+/// Tells the level of a cell, and those of its words that aren't zero.
+fn show_words(rt: &HostRuntime, heap: &DebugHeap, ptr: Ptr) -> Result<(), Stop> {
+    let Some(header) = heap.header(ptr) else {
+        return Ok(());
+    };
+    println!(rt; "    level {}", header.level)?;
+    for i in 0..header.words() {
+        let word = heap.payload(ptr, i);
+        if word != 0 {
+            println!(rt; "    word {i} is {word}")?;
+        }
+    }
+    Ok(())
+}

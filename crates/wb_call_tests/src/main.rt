@@ -1,0 +1,40 @@
+//! Makes those calls that may find no memory, one after another, and prints a line of what each gave.
+//!
+//! A call that answers `NoMemory` is made once more with the same arguments. Where it was refused plainly, as its contract says, the
+//! lines are the same as if memory had been there at once. Where the second call finds no memory either, the last line is
+//! `no memory`, and the status 4. Printing takes no memory.
+#![tactic(auto)]
+
+mod calls;
+mod copies;
+mod heaps;
+mod lines;
+mod objects;
+mod runs;
+mod scripts;
+mod stacks;
+mod stop;
+mod texts;
+
+use std::process::ExitCode;
+use stop::Stop;
+
+fn main(rt: HostRuntime) -> ExitCode {
+    match make_calls(&rt) {
+        Ok(()) => ExitCode::SUCCESS,
+        Err(Stop::NoMemory) => {
+            let _ = println!(rt; "no memory");
+            ExitCode::from(4)
+        }
+        Err(Stop::NotWritten) => ExitCode::from(5),
+    }
+}
+
+/// Makes the calls of each subject.
+fn make_calls(rt: &HostRuntime) -> Result<(), Stop> {
+    heaps::make_attempts(rt)?;
+    copies::compare_copies(rt)?;
+    stacks::push_items(rt)?;
+    texts::make_texts(rt)?;
+    scripts::read_scripts(rt)
+}

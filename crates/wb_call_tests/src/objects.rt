@@ -1,0 +1,56 @@
+//! Objects of a script's classes, made in a heap of their own.
+
+ghost use Rattle.std.specs.Prelude.{◌≡◌, ◌<◌, ◌≤◌, length, true};
+ghost use Rattle.wb_model.specs.Bodies.{class_at};
+ghost use Rattle.wb_model.specs.Statements.{payload_of_object};
+
+use crate::heaps::SHAPE;
+use crate::lines::{show, tell_gave};
+use crate::stop::Stop;
+use wb_debug::DebugHeap;
+use wb_model::heap::{Gave, Rule};
+use wb_model::limits::CEILING;
+use wb_model::memory::NoMemory;
+use wb_model::script::Script;
+use wb_objects::make;
+
+/// The classes of which objects are made, by their indexes.
+const MADE: [u16; 5] = [0, 1, 0, 1, 1];
+
+/// Makes objects, and tells all that the heap shows then.
+pub(crate) fn make_objects(rt: &HostRuntime, script: &Script) -> Result<(), Stop> {
+    let Ok(mut heap) = DebugHeap::new(rt.alloc(), Rule::Number(3), SHAPE) else {
+        return Err(Stop::NoMemory);
+    };
+    make_and_show(rt, &mut heap, script)
+}
+
+fn make_and_show(rt: &HostRuntime, heap: &mut DebugHeap, script: &Script) -> Result<(), Stop> {
+    for class in MADE {
+        let gave = make_again(heap, script, class)?;
+        tell_gave(rt, "object of class", u32::from(class), gave, heap)?;
+    }
+    show(rt, "after all objects", heap)
+}
+
+/// `make`, once more where memory ran out.
+fn make_again(heap: &mut DebugHeap, script: &Script, class: u16) -> Result<Gave, NoMemory> {
+    if heap.attempts() == u32::MAX || !has_class(script, class) {
+        return Err(NoMemory);
+    }
+    match make(heap, script, class) {
+        Ok(gave) => Ok(gave),
+        Err(_) => make(heap, script, class),
+    }
+}
+
+/// Whether the script has the class, and one object of it can stand below the ceiling.
+fn has_class(script: &Script, class: u16) -> bool
+    ensures there { result ≡ true → class < length script.now.classes }
+    ensures fits { result ≡ true → payload_of_object (class_at script.now class) ≤ CEILING }
+{
+    match script.classes.get(usize::from(class)) {
+        Some(class) => class.fields.len() <= 16 && class.extra <= CEILING - 136,
+        None => false,
+    }
+}

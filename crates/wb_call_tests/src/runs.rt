@@ -1,0 +1,152 @@
+//! A run that is taken turn by turn, beside copies of it. Before each turn that asks for an attempt a copy goes on to the end of the run,
+//! and another waits while the run takes its turn: neither changes the other.
+
+ghost use Rattle.std.specs.Prelude.{IsTrue};
+ghost use Rattle.wb_model.specs.Sound.{is_script};
+
+use crate::stop::Stop;
+use std::alloc::Global;
+use wb_machine::{Machine, Turn};
+use wb_model::heap::{Rule, Shape};
+use wb_model::memory::NoMemory;
+use wb_model::run::{Outcome, RunResult};
+use wb_model::script::Script;
+
+const BUDGET: u32 = 1000;
+
+/// The first turn, one for each step, and one that cuts the run.
+const MOST_TURNS: u32 = BUDGET + 2;
+
+const SHAPE: Shape = Shape {
+    min: 256,
+    step: 256,
+};
+
+/// Runs a script.
+pub(crate) fn run_script(rt: &HostRuntime, script: &Script) -> Result<(), Stop>
+    requires { IsTrue (is_script script.now) }
+{
+    let mut lead = machine(rt.alloc(), script)?;
+    take_turns(rt, &mut lead)
+}
+
+/// A machine at the start of the run, asked for once more where memory ran out.
+fn machine<'a>(alloc: Global, script: &'a Script) -> Result<Machine<'a>, NoMemory>
+    requires { IsTrue (is_script script.now) }
+{
+    match new_machine(alloc, script) {
+        Ok(machine) => Ok(machine),
+        Err(_) => new_machine(alloc, script),
+    }
+}
+
+/// The same, asked for once. A heap may have the shape, so that only memory can be wanting.
+fn new_machine<'a>(alloc: Global, script: &'a Script) -> Result<Machine<'a>, NoMemory>
+    requires { IsTrue (is_script script.now) }
+{
+    match Machine::new(alloc, script, Rule::Number(0), BUDGET, SHAPE) {
+        Ok(machine) => Ok(machine),
+        Err(_) => Err(NoMemory),
+    }
+}
+
+/// Takes all turns of a run.
+fn take_turns(rt: &HostRuntime, lead: &mut Machine) -> Result<(), Stop> {
+    for _ in 0..MOST_TURNS {
+        if lead.will_attempt() {
+            tell_end(rt, lead)?;
+        }
+        if take_turn(rt, lead)? == Turn::Ended {
+            break;
+        }
+    }
+    tell_end(rt, lead)
+}
+
+/// Takes a turn while a copy waits, and tells both.
+fn take_turn(rt: &HostRuntime, lead: &mut Machine) -> Result<Turn, Stop> {
+    let waiting = copy(lead)?;
+    take_turn_beside(rt, lead, &waiting)
+}
+
+fn take_turn_beside<'a>(
+    rt: &HostRuntime,
+    lead: &mut Machine<'a>,
+    waiting: &Machine<'a>,
+) -> Result<Turn, Stop> {
+    let turn = step(lead, waiting)?;
+    tell(rt, "run", lead)?;
+    tell(rt, "copy", waiting)?;
+    Ok(turn)
+}
+
+/// Takes a turn. A machine that found no memory finds none for good: so a copy of the one that waits takes its place, and the turn
+/// is taken once more.
+fn step<'a>(lead: &mut Machine<'a>, waiting: &Machine<'a>) -> Result<Turn, NoMemory> {
+    match lead.step() {
+        Ok(turn) => Ok(turn),
+        Err(_) => {
+            *lead = copy(waiting)?;
+            lead.step()
+        }
+    }
+}
+
+/// A copy of a run, asked for once more where memory ran out.
+fn copy<'a>(machine: &Machine<'a>) -> Result<Machine<'a>, NoMemory> {
+    match machine.try_copy() {
+        Ok(copy) => Ok(copy),
+        Err(_) => machine.try_copy(),
+    }
+}
+
+/// Tells where a run stands.
+fn tell(rt: &HostRuntime, name: &str, machine: &Machine) -> Result<(), Stop> {
+    println!(rt;
+        "{name}: line {}, attempts {}, asks for one {}",
+        machine.line(),
+        machine.attempts(),
+        machine.will_attempt()
+    )?;
+    Ok(())
+}
+
+/// Tells what a copy comes to that goes on to the end of the run.
+fn tell_end(rt: &HostRuntime, lead: &Machine) -> Result<(), Stop> {
+    let told = end(lead)?;
+    tell_result(rt, &told)
+}
+
+/// What the run comes to, by a copy, and by another one where memory ran out.
+fn end(lead: &Machine) -> Result<RunResult, NoMemory> {
+    match end_of_copy(lead) {
+        Ok(told) => Ok(told),
+        Err(_) => end_of_copy(lead),
+    }
+}
+
+fn end_of_copy(lead: &Machine) -> Result<RunResult, NoMemory> {
+    match lead.try_copy() {
+        Ok(copy) => copy.run_to_end(),
+        Err(_) => Err(NoMemory),
+    }
+}
+
+/// Tells how a run ended, and how much it told.
+fn tell_result(rt: &HostRuntime, told: &RunResult) -> Result<(), Stop> {
+    let written = match &told.outcome {
+        Outcome::Ended { left, leaks } => print!(rt; "ended: {left:?}, {} leaks", leaks.len()),
+        Outcome::Panicked(panic) => print!(rt; "ended: {panic:?}"),
+        Outcome::NoCleanup => print!(rt; "ended: no cleanup stack"),
+        Outcome::Cut(why) => print!(rt; "ended: cut by {why:?}"),
+    };
+    written?;
+    println!(rt;
+        ", {} attempts, {} lines, notes {:?}, steps {}",
+        told.trace.len(),
+        told.lines.len(),
+        told.notes.as_slice(),
+        told.steps
+    )?;
+    Ok(())
+}

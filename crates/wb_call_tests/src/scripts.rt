@@ -1,0 +1,130 @@
+//! Scripts that are read: one with lines of most kinds, which objects are then made of and which is run, and some that have a fault.
+
+ghost use Rattle.std.specs.Prelude.{IfOk, IsTrue};
+ghost use Rattle.wb_model.specs.Sound.{is_script};
+
+use crate::objects::make_objects;
+use crate::runs::run_script;
+use crate::stop::Stop;
+use std::alloc::Global;
+use wb_model::fault::ScriptFault;
+use wb_model::script::Script;
+use wb_script::read;
+
+/// A script with classes, an operation, calls, a TRAP, texts, settings and notes.
+static SCRIPT: &[u8] = b"class Item 4
+field next Item
+field text
+construct
+allocl self.text 8
+end
+destroy
+free self.text
+end
+end
+class Plain 20
+end
+op undo cell
+free cell
+end
+proc fill count:int
+ptr cell
+buf line 8
+copy line \"cells\"
+repeat count
+allocl cell 16
+push cell
+end
+print line
+popdestroy count
+end
+proc main
+ptr item Item
+ptr text
+ptr lost
+int code
+hnewl text 4
+append text \"ok\"
+allocl lost 4
+pushop lost undo
+newleave item Item
+pushobj item
+trap code
+call fill 7
+end
+print code
+hrealloc text text 40
+failnext 1
+alloc lost 100
+heap
+alloc lost 200
+mark
+alloc lost 60
+available
+compress
+set code 3
+leave code
+end
+";
+
+/// Scripts with a fault, each found by another check.
+static FAULTY: [&[u8]; 6] = [
+    b"proc main\nptr a\n\x07\nend",
+    b"proc main\nptr a\nelse\nend",
+    b"proc main\nptr a\nalloc b 4\nend",
+    b"proc main\nptr a\nint a\nend",
+    b"proc main\nptr a\nadd a 4\nend",
+    b"proc start\nptr a\nalloc a 4\nend",
+];
+
+/// Reads the scripts, and goes on with the one that has no fault.
+pub(crate) fn read_scripts(rt: &HostRuntime) -> Result<(), Stop> {
+    for bytes in &FAULTY {
+        tell_fault(rt, bytes)?;
+    }
+    match read_again(rt.alloc(), SCRIPT) {
+        Ok(script) => use_script(rt, &script),
+        Err(_) => Err(Stop::NoMemory),
+    }
+}
+
+/// Reads a script with a fault, and tells which it is.
+fn tell_fault(rt: &HostRuntime, bytes: &[u8]) -> Result<(), Stop> {
+    match read_again(rt.alloc(), bytes) {
+        Err(ScriptFault::NoMemory) => Err(Stop::NoMemory),
+        Err(fault) => {
+            println!(rt; "read: {fault:?}")?;
+            Ok(())
+        }
+        Ok(_) => {
+            println!(rt; "read: no fault")?;
+            Ok(())
+        }
+    }
+}
+
+/// `read`, once more where memory ran out.
+fn read_again(alloc: Global, bytes: &[u8]) -> Result<Script, ScriptFault>
+    ensures { IfOk result (λ script. IsTrue (is_script script)) }
+{
+    match read(alloc, bytes) {
+        Ok(script) => Ok(script),
+        Err(ScriptFault::NoMemory) => read(alloc, bytes),
+        Err(fault) => Err(fault),
+    }
+}
+
+/// Tells what a script has, makes objects of its classes, and runs it.
+fn use_script(rt: &HostRuntime, script: &Script) -> Result<(), Stop>
+    requires { IsTrue (is_script script.now) }
+{
+    println!(rt;
+        "read: {} classes, {} procedures, {} operations, {} literals",
+        script.classes.len(),
+        script.procedures.len(),
+        script.operations.len(),
+        script.literals.len()
+    )?;
+    make_objects(rt, script)?;
+    run_script(rt, script)
+}

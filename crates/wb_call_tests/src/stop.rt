@@ -1,0 +1,29 @@
+//! Why the calls end early.
+
+use std::io;
+use wb_model::memory::NoMemory;
+
+/// Why the calls end early.
+#[derive(Clone, Copy, Debug)]
+pub(crate) enum Stop {
+    /// A call answered `NoMemory` when it was made once more.
+    NoMemory,
+    /// A line couldn't be written.
+    NotWritten,
+}
+
+impl From<NoMemory> for Stop {
+    ghost from_gives = { λ _ _. Unit {0} };
+
+    fn from(_error: NoMemory) -> Stop {
+        Stop::NoMemory
+    }
+}
+
+impl From<io::Error> for Stop {
+    ghost from_gives = { λ _ _. Unit {0} };
+
+    fn from(_error: io::Error) -> Stop {
+        Stop::NotWritten
+    }
+}

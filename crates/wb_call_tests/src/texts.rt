@@ -1,0 +1,116 @@
+//! Texts that are made in cells, and get other maxima: at their place, and at another.
+
+ghost use Rattle.std.specs.Prelude.{◌≤◌, [], IfOk};
+ghost use Rattle.wb_model.specs.TextCells.{IsGrantedText, IsRemadeText, IsTextAt, text_at};
+
+use crate::calls;
+use crate::heaps::SHAPE;
+use crate::lines::{show, tell_gave};
+use crate::stop::Stop;
+use wb_debug::DebugHeap;
+use wb_hbuf::{length, make, max_len, remake, set_length};
+use wb_model::heap::{Gave, Kind, Ptr, Rule};
+use wb_model::limits::MOST_UNITS;
+use wb_model::memory::NoMemory;
+
+/// Makes texts, and tells all that the heap shows then.
+pub(crate) fn make_texts(rt: &HostRuntime) -> Result<(), Stop> {
+    let Ok(mut heap) = DebugHeap::new(rt.alloc(), Rule::Unlimited, SHAPE) else {
+        return Err(Stop::NoMemory);
+    };
+    make_and_show(rt, &mut heap)
+}
+
+fn make_and_show(rt: &HostRuntime, heap: &mut DebugHeap) -> Result<(), Stop> {
+    make_hole(rt, heap)?;
+    grow_text(rt, heap)?;
+    show(rt, "after all texts", heap)
+}
+
+/// Makes a hole in front of a live cell.
+fn make_hole(rt: &HostRuntime, heap: &mut DebugHeap) -> Result<(), Stop> {
+    let first = alloc(rt, heap, 64)?;
+    alloc(rt, heap, 16)?;
+    let _ = heap.release(first);
+    Ok(())
+}
+
+/// A raw cell.
+fn alloc(rt: &HostRuntime, heap: &mut DebugHeap, bytes: u32) -> Result<Ptr, Stop> {
+    let gave = calls::alloc(heap, bytes, Kind::Raw)?;
+    tell_gave(rt, "alloc", bytes, gave, heap)?;
+    match gave {
+        Gave::Granted(ptr) => Ok(ptr),
+        Gave::Denied | Gave::Ceiling => Err(Stop::NoMemory),
+    }
+}
+
+/// A text that grows in the hole, then moves behind the live cell, is denied more, and shrinks.
+fn grow_text(rt: &HostRuntime, heap: &mut DebugHeap) -> Result<(), Stop> {
+    let text = made(rt, heap, 4)?;
+    let _ = set_length(heap, text, 3);
+    let text = remade(rt, heap, text, 20)?;
+    let text = remade(rt, heap, text, 90)?;
+    heap.fail_next(1);
+    let text = remade(rt, heap, text, 200)?;
+    let text = remade(rt, heap, text, 3)?;
+    let (units, most) = (length(heap, text), max_len(heap, text));
+    println!(rt; "text of {units} units, at most {most}")?;
+    Ok(())
+}
+
+/// A new text for `n` units.
+fn made(rt: &HostRuntime, heap: &mut DebugHeap, n: u32) -> Result<Ptr, Stop>
+    requires { n ≤ MOST_UNITS }
+    ensures { IfOk result (λ ptr. IsTextAt ptr heap.new) }
+{
+    let gave = make_again(heap, n)?;
+    tell_gave(rt, "make", n, gave, heap)?;
+    match gave {
+        Gave::Granted(ptr) => Ok(ptr),
+        Gave::Denied | Gave::Ceiling => Err(Stop::NoMemory),
+    }
+}
+
+/// `make`, once more where memory ran out.
+fn make_again(heap: &mut DebugHeap, n: u32) -> Result<Gave, NoMemory>
+    requires { n ≤ MOST_UNITS }
+    ensures { IfOk result (IsGrantedText heap.new []) }
+{
+    if heap.attempts() == u32::MAX {
+        return Err(NoMemory);
+    }
+    match make(heap, n) {
+        Ok(gave) => Ok(gave),
+        Err(_) => make(heap, n),
+    }
+}
+
+/// The pointer to a text that was to get another maximum: the old one where that was denied.
+fn remade(rt: &HostRuntime, heap: &mut DebugHeap, ptr: Ptr, n: u32) -> Result<Ptr, Stop>
+    requires text { IsTextAt ptr heap.old }
+    requires most { n ≤ MOST_UNITS }
+    ensures { IfOk result (λ p. IsTextAt p heap.new) }
+{
+    let gave = remake_again(heap, ptr, n)?;
+    tell_gave(rt, "remake", n, gave, heap)?;
+    match gave {
+        Gave::Granted(moved) => Ok(moved),
+        Gave::Denied | Gave::Ceiling => Ok(ptr),
+    }
+}
+
+/// `remake`, once more where memory ran out.
+fn remake_again(heap: &mut DebugHeap, ptr: Ptr, n: u32) -> Result<Gave, NoMemory>
+    requires text { IsTextAt ptr heap.old }
+    requires most { n ≤ MOST_UNITS }
+    ensures { IfOk result (IsRemadeText heap.new ptr (text_at ptr heap.old)) }
+{
+    if heap.attempts() == u32::MAX || n < length(heap, ptr) {
+        return Err(NoMemory);
+    }
+    match remake(heap, ptr, n) {
+        Ok(gave) => Ok(gave),
+        Err(_) => remake(heap, ptr, n),
+    }
+}
