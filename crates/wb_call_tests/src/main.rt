@@ -10,6 +10,7 @@ mod copies;
 mod heaps;
 mod lines;
 mod objects;
+mod rises;
 mod runs;
 mod scripts;
 mod stacks;
@@ -33,6 +34,7 @@ fn main(rt: HostRuntime) -> ExitCode {
 /// Makes the calls of each subject.
 fn make_calls(rt: &HostRuntime) -> Result<(), Stop> {
     heaps::make_attempts(rt)?;
+    rises::make_attempts(rt)?;
     copies::compare_copies(rt)?;
     stacks::push_items(rt)?;
     texts::make_texts(rt)?;

@@ -1,5 +1,5 @@
 -- What the end of a mark refuses, and what it leaves of the cells.
-use Rattle.std.proofs.Common.{◌≡◌, ◌≢◌, ℕ, ◌-◌, ◌≤◌, suc, All, List, [], ◌∷◌, Some, Bool, true, false, cond, ap, ◌∙◌, arith, subst, sym}
+use Rattle.std.proofs.Common.{◌≡◌, ◌≢◌, ℕ, ◌-◌, ◌≤◌, suc, All, List, [], ◌∷◌, Some, Bool, true, false, cond, refl, ap, ◌∙◌, arith, subst}
 use Rattle.std.specs.Prelude.{◌&&◌, not, nat_eq}
 use Rattle.std.proofs.lemmas.Bool.{ne_eqb}
 use Rattle.std.proofs.lemmas.List.Elements.{All-cons, All-nil}
@@ -11,6 +11,7 @@ use Rattle.wb_model.specs.LimitedHeap.{LimitedHeap, IsSoundHeap}
 use Rattle.wb_model.specs.Row.{Cell, headers}
 use Rattle.wb_debug.specs.declared.debug_heap.DebugHeap.TheInside.{Inside}
 use Rattle.wb_debug.specs.Debug.{IsKept}
+use Rattle.wb_debug.proofs.Kept.{row-kept, set-kept}
 
 -- below the outermost level it refuses what a check does
 pub mark_end-checks : (d e : Debug) (n : ℕ) (panic : Panic) → d ≡ e → d.heap.level ≢ 0 → check_refusal d n ≡ Some panic → mark_end_refusal e.heap n ≡ Some panic
@@ -31,10 +32,6 @@ All-lowered most level (c ∷ cs) all =
 
 pub lowered-kept : (inside : Inside) (heap : LimitedHeap) (from level : ℕ) → heap ≡ record inside.heap { row = lowered from inside.heap.row } →
     IsSoundHeap heap → IsKept inside → IsKept (record inside { heap = heap; level = level })
-lowered-kept inside heap from level is sound kept = record {
-  sound = sound;
-  limit = ap (λ (h : LimitedHeap). h.limit) is ∙ kept.limit;
-  numbered = subst (λ (h : LimitedHeap). All (λ g. g.number ≤ inside.attempts) (headers h.row)) (sym is)
-      (All-lowered (inside.attempts) from inside.heap.row kept.numbered);
-  counted = kept.counted;
-}
+lowered-kept inside heap from level is sound kept =
+    set-kept (record inside { heap = heap }) heap level inside.setting inside.log refl refl
+    (row-kept inside heap (lowered from inside.heap.row) inside.heap.committed is (All-lowered inside.attempts from inside.heap.row kept.numbered) sound kept)

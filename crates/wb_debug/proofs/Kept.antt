@@ -1,18 +1,27 @@
 -- What each call leaves of the heap's fields, and what that tells callers.
-use Rattle.std.proofs.Common.{◌≡◌, ℕ, suc, ◌+◌, ◌%◌, ◌≤◌, ◌++◌, Result, Ok, Err, IsErr, IsOkAnd, IfOk, OnErr, OnOk, All, List, [], ◌∷◌, length, length-append, Some, IfSome, option_map, find, Bool, true, false, cond, refl, sym, ap, subst, ◌∙◌, arith}
+use Rattle.std.proofs.Common.{◌≡◌, ◌⊎◌, inl, inr, ℕ, suc, ◌+◌, ◌%◌, ◌≤◌, ◌++◌, max, Result, Ok, Err, IsErr, IsOkAnd, IfOk, OnErr, OnOk, All, List, [], ◌∷◌, length, length-append, Option, Some, None, is_some, IfSome, option_map, find, Bool, true, false, cond, refl, sym, ap, subst, ◌∙◌, arith}
+use Rattle.std.specs.Prelude.{nat_lt}
 use Rattle.std.proofs.lemmas.List.Elements.{All-cons, All-nil}
 use Rattle.wb_model.specs.declared.heap.Header.{Header}
 use Rattle.wb_model.specs.declared.heap.Kind.{Kind}
 use Rattle.wb_model.specs.declared.heap.Ptr.{Ptr}
+use Rattle.wb_model.specs.declared.heap.Answer.TheVariants.{Simulated, Refused}
 use Rattle.wb_model.specs.declared.heap.Attempt.{Attempt}
+use Rattle.wb_model.specs.declared.heap.Shape.{Shape}
+use Rattle.wb_model.specs.declared.size.Rise.{Rise}
 use Rattle.wb_model.specs.Debug.{Debug, IsLiveIn, IsSoundDebug}
-use Rattle.wb_model.specs.LimitedHeap.{LimitedHeap, IsSoundHeap, heap_with, heap_without, heap_changed, heap_compressed}
-use Rattle.wb_model.specs.Row.{IsSpacedFrom, headers, end_of, is_at, cell_at}
+use Rattle.wb_model.specs.LimitedHeap.{LimitedHeap, IsSoundHeap, space_in, place_in, fresh_cell, heap_with, heap_without, heap_changed, heap_compressed}
+use Rattle.wb_model.specs.Rises.{end_of_line, granted_end, rise_of, rises_with, top_of_rises, trace_with}
+use Rattle.wb_model.specs.Row.{Cell, IsSpacedFrom, headers, end_of, is_at, cell_at}
+use Rattle.wb_model.specs.Space.{bound_below, space_below}
+use Rattle.wb_model.proofs.AccountLemmas.{last-rise}
 use Rattle.wb_model.proofs.LimitedHeaps.{All-heap_with, All-heap_without}
 use Rattle.wb_model.proofs.Rows.{headers-changed, head-cell_at}
 use Rattle.wb_debug.specs.declared.debug_heap.DebugHeap.TheInside.{Inside}
 use Rattle.wb_debug.specs.declared.setting.Setting.{Setting}
-use Rattle.wb_debug.specs.Debug.{debug_of, IsKept}
+use Rattle.wb_debug.specs.Debug.{debug_of, IsStepped, IsKept}
+use Rattle.wb_debug.specs.Log.{Log, logged, top_in}
+use Rattle.wb_debug.proofs.Room.{HasRoom, held-stepped, inserted-has, same-room}
 
 -- each cell of a row
 record IsSpaced (h : Header) : Type 0 where
@@ -39,6 +48,7 @@ kept-sound inside kept = record {
     within = omega (arith, kept.sound.within k h lt, kept.sound.bound, kept.limit);
   };
   attempts = kept.counted;
+  untraced = kept.untraced;
   shape = kept.sound.shape;
 }
 
@@ -57,65 +67,136 @@ cell-live inside d p is kept =
     (subst (λ o. IfSome o (IsLiveIn (debug_of inside))) (sym (head-cell_at p inside.heap.row))
     (find-All (IsLiveIn (debug_of inside)) (is_at p) (headers inside.heap.row) (kept-sound inside kept).live))
 
--- another heap under the same limit, whose cells are of attempts that were made
-pub heap-kept : (inside : Inside) (heap : LimitedHeap) → heap.limit ≡ inside.heap.limit → All (λ h. h.number ≤ inside.attempts) (headers heap.row) →
-    IsSoundHeap heap → IsKept inside → IsKept (record inside { heap = heap })
-heap-kept inside heap limit numbered sound kept = record { sound = sound; limit = limit ∙ kept.limit; numbered = numbered; counted = kept.counted }
+-- other cells or another committed length, of the same memory
+pub heap-kept : (inside : Inside) (row : List (Cell (List ℕ))) (committed : ℕ) → All (λ h. h.number ≤ inside.attempts) (headers row) →
+    let heap : LimitedHeap = record inside.heap { row = row; committed = committed } in IsSoundHeap heap → IsKept inside → IsKept (record inside { heap = heap })
+heap-kept inside row committed numbered sound kept = record {
+  sound = sound;
+  limit = kept.limit;
+  numbered = numbered;
+  counted = kept.counted;
+  untraced = kept.untraced;
+  stepped = kept.stepped;
+  reached = kept.reached;
+}
+
+-- the same of a heap that is equal to that
+pub row-kept : (inside : Inside) (heap : LimitedHeap) (row : List (Cell (List ℕ))) (committed : ℕ) → heap ≡ record inside.heap { row = row; committed = committed } →
+    All (λ h. h.number ≤ inside.attempts) (headers row) → IsSoundHeap heap → IsKept inside → IsKept (record inside { heap = heap })
+row-kept inside heap row committed is numbered sound kept =
+    subst (λ (h : LimitedHeap). IsKept (record inside { heap = h })) (sym is) (heap-kept inside row committed numbered (subst IsSoundHeap is sound) kept)
 
 -- another payload
 pub changed-kept : (inside : Inside) (heap : LimitedHeap) (p : Ptr) (words : List ℕ) → heap ≡ heap_changed inside.heap p words → IsSoundHeap heap → IsKept inside →
     IsKept (record inside { heap = heap })
 changed-kept inside heap p words is sound kept =
-    heap-kept inside heap (ap (λ (h : LimitedHeap). h.limit) is)
-    (subst (λ (h : LimitedHeap). All (λ g. g.number ≤ inside.attempts) (headers h.row)) (sym is)
-    (subst (All (λ g. g.number ≤ inside.attempts)) (sym (headers-changed p (λ _. words) inside.heap.row)) kept.numbered)) sound kept
+    row-kept inside heap _ inside.heap.committed is
+    (subst (All (λ g. g.number ≤ inside.attempts)) (sym (headers-changed p (λ _. words) inside.heap.row)) kept.numbered) sound kept
 
 -- a release
 pub released-kept : (inside : Inside) (heap : LimitedHeap) (p : Ptr) → heap ≡ heap_without inside.heap p → IsSoundHeap heap → IsKept inside →
     IsKept (record inside { heap = heap })
 released-kept inside heap p is sound kept =
-    heap-kept inside heap (ap (λ (h : LimitedHeap). h.limit) is)
-    (subst (λ (h : LimitedHeap). All (λ g. g.number ≤ inside.attempts) (headers h.row)) (sym is)
-    (All-heap_without (λ g. g.number ≤ inside.attempts) inside.heap p kept.numbered)) sound kept
+    row-kept inside heap _ inside.heap.committed is (All-heap_without (λ g. g.number ≤ inside.attempts) inside.heap p kept.numbered) sound kept
 
 -- the heap as it was
 pub same-kept : (inside : Inside) (heap : LimitedHeap) → heap ≡ inside.heap → IsKept inside → IsKept (record inside { heap = heap })
 same-kept inside heap is kept = subst (λ (h : LimitedHeap). IsKept (record inside { heap = h })) (sym is) kept
 
--- another level or setting, and a heap and a trace as they were
-pub set-kept : (inside : Inside) (heap : LimitedHeap) (level : ℕ) (setting : Setting) (trace : List Attempt) → heap ≡ inside.heap → trace ≡ inside.trace → IsKept inside →
-    IsKept (record inside { heap = heap; level = level; setting = setting; trace = trace })
-set-kept inside heap level setting trace is same kept =
-    subst (λ (h : LimitedHeap). IsKept (record inside { heap = h; level = level; setting = setting; trace = trace })) (sym is)
-    (subst (λ (t : List Attempt). IsKept (record inside { level = level; setting = setting; trace = t })) (sym same)
-    (record { sound = kept.sound; limit = kept.limit; numbered = kept.numbered; counted = kept.counted }))
+-- another level or setting, and a heap and what is kept of the attempts as they were
+pub set-kept : (inside : Inside) (heap : LimitedHeap) (level : ℕ) (setting : Setting) (log : Log) → heap ≡ inside.heap → log ≡ inside.log → IsKept inside →
+    IsKept (record inside { heap = heap; level = level; setting = setting; log = log })
+set-kept inside heap level setting log is same kept =
+    subst (λ (h : LimitedHeap). IsKept (record inside { heap = h; level = level; setting = setting; log = log })) (sym is)
+    (subst (λ (l : Log). IsKept (record inside { level = level; setting = setting; log = l })) (sym same)
+    (record {
+      sound = kept.sound;
+      limit = kept.limit;
+      numbered = kept.numbered;
+      counted = kept.counted;
+      untraced = kept.untraced;
+      stepped = kept.stepped;
+      reached = kept.reached;
+    }))
+
+-- one more attempt has its line
+lines_counted : (log : Log) (line : Attempt) (attempts : ℕ) → (is_some log.rises ≡ false → attempts ≡ length log.trace) → is_some (logged log line).rises ≡ false →
+    attempts + 1 ≡ length (logged log line).trace
+lines_counted log line attempts = by log.rises
+  where
+    by : (o : Option (List Rise)) → (is_some o ≡ false → attempts ≡ length log.trace) → is_some (rises_with o line) ≡ false → attempts + 1 ≡ length (trace_with o log.trace line)
+    by None counted none = ap (λ n. n + 1) (counted refl) ∙ sym (length-append log.trace (line ∷ []))
+    by (Some rs) counted none = cc
+
+-- or none, where the rises are kept
+no_lines : (log : Log) (line : Attempt) → (is_some log.rises ≡ true → log.trace ≡ []) → is_some (logged log line).rises ≡ true → (logged log line).trace ≡ []
+no_lines log line = by log.rises
+  where
+    by : (o : Option (List Rise)) → (is_some o ≡ true → log.trace ≡ []) → is_some (rises_with o line) ≡ true → trace_with o log.trace line ≡ []
+    by None untraced some = cc
+    by (Some rs) untraced some = untraced refl
+
+-- the last rise is the one before, or ends where this attempt does
+top_after : (o : Option (List Rise)) (line : Attempt) → top_in (rises_with o line) ≤ max (top_in o) (end_of_line line)
+top_after None line = omega arith
+top_after (Some rs) line = by (nat_lt (top_of_rises rs) (end_of_line line)) refl
+  where
+    by : (b : Bool) → nat_lt (top_of_rises rs) (end_of_line line) ≡ b → top_of_rises (cond b (rs ++ rise_of line ∷ []) rs) ≤ max (top_of_rises rs) (end_of_line line)
+    by true e = omega (arith, last-rise 0 rs (rise_of line))
+    by false e = omega arith
 
 -- an attempt that was counted
-pub counted-kept : (inside : Inside) (heap : LimitedHeap) (setting : Setting) (trace : List Attempt) (line : Attempt) → heap.limit ≡ inside.heap.limit →
-    All (λ h. h.number ≤ inside.attempts + 1) (headers heap.row) → IsSoundHeap heap → trace ≡ inside.trace ++ line ∷ [] → line.number ≡ inside.attempts + 1 →
-    IsKept inside → IsKept (record inside { heap = heap; setting = setting; attempts = line.number; trace = trace })
-counted-kept inside heap setting trace line limit numbered sound more next kept = record {
-  sound = sound;
-  limit = limit ∙ kept.limit;
-  numbered = λ k h lt. omega (arith, numbered k h lt, next);
-  counted = next ∙ ap (λ n. n + 1) kept.counted ∙ sym (ap length more ∙ length-append inside.trace (line ∷ []));
-}
+pub counted-kept : (inside : Inside) (heap : LimitedHeap) (setting : Setting) (log : Log) (line : Attempt) → HasRoom inside.heap heap (end_of_line line) →
+    All (λ h. h.number ≤ inside.attempts + 1) (headers heap.row) → IsSoundHeap heap → log ≡ logged inside.log line → line.number ≡ inside.attempts + 1 →
+    IsKept inside → IsKept (record inside { heap = heap; setting = setting; attempts = line.number; log = log })
+counted-kept inside heap setting log line room numbered sound more next kept =
+    subst (λ (l : Log). IsKept (record inside { heap = heap; setting = setting; attempts = line.number; log = l })) (sym more) (record {
+      sound = sound;
+      limit = room.limit ∙ kept.limit;
+      numbered = λ k h lt. omega (arith, numbered k h lt, next);
+      counted = λ none. next ∙ lines_counted inside.log line inside.attempts kept.counted none;
+      untraced = no_lines inside.log line kept.untraced;
+      stepped = subst (λ (s : Shape). IsStepped (space_below (bound_below heap.limit) s) heap.held) (sym room.shape)
+          (subst (λ l. IsStepped (space_below (bound_below l) inside.heap.shape) heap.held) (sym room.limit) room.stepped);
+      reached = omega (arith, top_after inside.log.rises line, kept.reached, room.more, room.reaches);
+    })
 
 -- one that was granted
-pub granted-kept : (inside : Inside) (heap : LimitedHeap) (setting : Setting) (trace : List Attempt) (line : Attempt) (bytes : ℕ) (kind : Kind) (level : ℕ) →
-    heap ≡ heap_with inside.heap bytes kind line.number level → line.number ≡ inside.attempts + 1 → IsSoundHeap heap → trace ≡ inside.trace ++ line ∷ [] →
-    IsKept inside → IsKept (record inside { heap = heap; setting = setting; attempts = line.number; trace = trace })
-granted-kept inside heap setting trace line bytes kind level is next sound more kept =
-    counted-kept inside heap setting trace line (ap (λ (h : LimitedHeap). h.limit) is)
+pub granted-kept : (inside : Inside) (heap : LimitedHeap) (setting : Setting) (log : Log) (line : Attempt) (bytes : ℕ) (kind : Kind) (level : ℕ) →
+    heap ≡ heap_with inside.heap bytes kind line.number level → line.number ≡ inside.attempts + 1 → end_of_line line ≡ place_in inside.heap bytes + bytes →
+    IsSoundHeap heap → log ≡ logged inside.log line →
+    IsKept inside → IsKept (record inside { heap = heap; setting = setting; attempts = line.number; log = log })
+granted-kept inside heap setting log line bytes kind level is next end sound more kept =
+    let old = inside.heap in
+    let new : LimitedHeap = heap_with old bytes kind line.number level in
+    let sound' : IsSoundHeap new = subst IsSoundHeap is sound in
+    let covered : place_in old bytes + bytes ≤ new.committed =
+    inserted-has (λ h. end_of h ≤ new.committed) (fresh_cell (place_in old bytes) bytes kind line.number level) old.row sound'.within in
+    let room : HasRoom old new (end_of_line line) = record {
+      limit = refl;
+      shape = refl;
+      stepped = held-stepped (space_in old) old.held old.committed (place_in old bytes + bytes) kept.stepped kept.sound.covered;
+      more = omega arith;
+      reaches = omega (arith, end, covered, sound'.covered);
+    } in
+    counted-kept inside heap setting log line (subst (λ (h : LimitedHeap). HasRoom old h (end_of_line line)) (sym is) room)
     (subst (λ (h : LimitedHeap). All (λ g. g.number ≤ inside.attempts + 1) (headers h.row)) (sym is)
-    (All-heap_with (λ g. g.number ≤ inside.attempts + 1) inside.heap bytes kind line.number level (omega (arith, next)) (λ k h lt. omega (arith, kept.numbered k h lt))))
+    (All-heap_with (λ g. g.number ≤ inside.attempts + 1) old bytes kind line.number level (omega (arith, next)) (λ k h lt. omega (arith, kept.numbered k h lt))))
     sound more next kept
 
+-- what isn't granted ends nowhere
+pub no-end : (line : Attempt) → (line.answer ≡ Simulated) ⊎ (line.answer ≡ Refused) → end_of_line line ≡ 0
+no-end line (inl e) = ap (granted_end line) e
+no-end line (inr e) = ap (granted_end line) e
+
 -- one that was refused
-pub refused-kept : (inside : Inside) (setting : Setting) (trace : List Attempt) (line : Attempt) → trace ≡ inside.trace ++ line ∷ [] →
-    line.number ≡ inside.attempts + 1 → IsKept inside → IsKept (record inside { setting = setting; attempts = line.number; trace = trace })
-refused-kept inside setting trace line more next kept =
-    counted-kept inside inside.heap setting trace line refl (λ k h lt. omega (arith, kept.numbered k h lt)) kept.sound more next kept
+pub refused-kept : (inside : Inside) (setting : Setting) (log : Log) (line : Attempt) → log ≡ logged inside.log line →
+    line.number ≡ inside.attempts + 1 → (line.answer ≡ Simulated) ⊎ (line.answer ≡ Refused) → IsKept inside →
+    IsKept (record inside { setting = setting; attempts = line.number; log = log })
+refused-kept inside setting log line more next denied kept =
+    counted-kept inside inside.heap setting log line
+    (subst (HasRoom inside.heap inside.heap) (sym (no-end line denied)) (same-room inside.heap kept.stepped))
+    (λ k h lt. omega (arith, kept.numbered k h lt)) kept.sound more next kept
 
 -- what a result says beside its value
 pub on-ok : {T E : Type 0} (r : Result T E) (P : T → Type 0) (Q : Type 0) → IsOkAnd r P → OnOk r Q → Q
@@ -133,6 +214,4 @@ on-err (Err e) Q given q = q
 
 -- a compression
 pub compressed-kept : (inside : Inside) (heap : LimitedHeap) → heap ≡ heap_compressed inside.heap → IsSoundHeap heap → IsKept inside → IsKept (record inside { heap = heap })
-compressed-kept inside heap is sound kept =
-    heap-kept inside heap (ap (λ (h : LimitedHeap). h.limit) is)
-    (subst (λ (h : LimitedHeap). All (λ g. g.number ≤ inside.attempts) (headers h.row)) (sym is) kept.numbered) sound kept
+compressed-kept inside heap is sound kept = row-kept inside heap inside.heap.row _ is kept.numbered sound kept

@@ -4,3 +4,5 @@ pub mod Kept
 pub mod Leaks
 pub mod Longer
 pub mod Lowering
+pub mod Rises
+pub mod Room

@@ -1,4 +1,4 @@
 pub mod Debug
 pub mod Levels
-pub mod Lines
+pub mod Log
 pub mod Setting

@@ -1,16 +1,18 @@
-//! The debug heap: attempts, releases, marks, the script's own setting and notes. Headers and the words of payloads stand in
-//! `payloads`, the cells in the crate below.
+//! The debug heap: attempts, releases and marks. What is to fail stands in `failing`, notes in `notes`, headers and the
+//! words of payloads in `payloads`, and the cells in the crate below.
 
-ghost use Rattle.std.specs.Prelude.{◌≡◌, ◌≢◌, ◌+◌, ◌^◌, ◌<◌, ◌≤◌, ◌↔◌, false, None, Some, length, option_map, IfOk, IfErr, IfSome, IsOk, IsErr, IsOkAnd, IsSome, OnOk, OnErr};
-ghost use Rattle.wb_debug.specs.Lines.{DropsLast};
-ghost use Rattle.wb_model.specs.Debug.{IsSoundDebug, alloc_made, answer_in, check_all_refusal, check_refusal, debug_compressed, debug_without, first_debug, leaks_of_heap, trace_line, note_of_available, note_of_compress, note_of_heap, number_of_next, realloc_made, release_refusal, with_setting};
+ghost use Rattle.std.specs.Prelude.{◌≡◌, ◌≢◌, ◌+◌, ◌^◌, ◌<◌, ◌≤◌, ◌↔◌, [], false, true, None, Some, is_some, length, option_map, IfOk, IfErr, IfSome, IsOk, IsErr, IsOkAnd, IsSome, OnOk, OnErr};
+ghost use Rattle.wb_debug.specs.Log.{IsTakenBack};
+ghost use Rattle.wb_model.specs.Debug.{IsSoundDebug, alloc_made, answer_in, check_all_refusal, check_refusal, debug_without, first_debug, first_debug_of, leaks_of_heap, keeps_rises, trace_line, number_of_next, realloc_made, release_refusal};
 ghost use Rattle.wb_model.specs.Heap.{after_mark, after_mark_end, alloc_request, mark_end_refusal, realloc_request, request_at};
+ghost use Rattle.wb_model.specs.Rises.{first_rises};
 ghost use Rattle.wb_model.specs.Row.{cell_at, cell_length};
-ghost use Rattle.wb_model.specs.Rest.{SameSoFar};
-ghost use Rattle.wb_model.specs.Rules.{each, never, next};
 ghost use Rattle.wb_model.specs.Space.{is_shape};
+ghost use Rattle.wb_model.specs.declared.heap.Attempt.{Attempt};
+ghost use Rattle.wb_model.specs.declared.heap.Rule.TheVariants.{Unlimited};
 
 use crate::fault::DebugFault;
+use crate::log::Log;
 use crate::marks;
 use crate::marks::Levels;
 use crate::rules::{answer, cell_length, limit_under};
@@ -18,17 +20,18 @@ use crate::setting::Setting;
 use std::alloc::Global;
 use std::marker::Model;
 use wb_model::heap::{Answer, Attempt, Gave, Header, Kind, Panic, Ptr, Rule, Shape};
-use wb_model::items::Items;
 use wb_model::limits::CEILING;
 use wb_model::memory::NoMemory;
-use wb_model::run::{Leaks, Note, Trace};
+use wb_model::run::{Leaks, Trace};
+use wb_model::size::Rises;
 use wb_rheap::{Heap, HeapFault};
 
 /// A simulated heap that counts attempts, refuses those that are to fail, and checks nested marks.
 ///
 /// An attempt to get a cell has a number, from 1 on, also where it is refused; a granted cell bears it. Its place is
 /// chosen first. Then the script's own setting is asked, which counts the attempt; then the rule; then the ceiling.
-/// Each attempt that the ceiling doesn't cut adds its line to the trace.
+/// Each attempt that the ceiling doesn't cut adds its line to the trace; or, of a heap made by `new_rises`, the rise that
+/// it is.
 #[derive(Drop)]
 pub struct DebugHeap {
     pub(crate) alloc: Global,
@@ -40,7 +43,7 @@ pub struct DebugHeap {
     pub(crate) setting: Setting,
     /// How many attempts were made.
     pub(crate) attempts: u32,
-    pub(crate) trace: Trace,
+    pub(crate) log: Log,
 }
 
 impl Model for DebugHeap {
@@ -56,7 +59,7 @@ impl Model for DebugHeap {
 }
 
 impl DebugHeap {
-    /// A heap with no cell, before the first attempt.
+    /// A heap with no cell, before the first attempt, that keeps a line of each attempt.
     ///
     /// The rule's limit is in bytes. `BadShape` exactly where no heap may have the shape, and else `NoMemory` at worst, and
     /// not even that where the committed length is 0.
@@ -66,20 +69,20 @@ impl DebugHeap {
         ensures no_growth { (first_debug rule shape).committed ≡ 0 → result ≢ Err DebugFault.NoMemory }
         ensures sound { IfOk result IsSoundDebug }
     {
-        let heap = match Heap::new(alloc, limit_under(rule), shape) {
-            Ok(heap) => heap,
-            Err(HeapFault::BadShape) => return Err(DebugFault::BadShape),
-            Err(_) => return Err(NoMemory.into()),
-        };
-        Ok(DebugHeap {
-            alloc,
-            heap,
-            rule,
-            level: 0,
-            setting: Setting::Never,
-            attempts: 0,
-            trace: Items::new(alloc),
-        })
+        with_log(alloc, rule, shape, Log::of_lines(alloc))
+    }
+
+    /// A heap with no cell, without a limit, that keeps the rises alone: the attempts that were granted and end past all
+    /// granted before them. So an attempt that isn't a rise adds nothing.
+    ///
+    /// `BadShape` and `NoMemory` as in `new`.
+    pub fn new_rises(alloc: Global, shape: Shape) -> Result<DebugHeap, DebugFault>
+        ensures ok { IfOk result (λ heap. heap ≡ first_debug_of true Unlimited shape) }
+        ensures shape { (result ≡ Err DebugFault.BadShape) ↔ (is_shape shape ≡ false) }
+        ensures no_growth { (first_debug Unlimited shape).committed ≡ 0 → result ≢ Err DebugFault.NoMemory }
+        ensures sound { IfOk result IsSoundDebug }
+    {
+        with_log(alloc, Rule::Unlimited, shape, Log::of_rises(alloc))
     }
 
     /// The same heap with its attempts, its trace, its marks and the script's setting, in memory of its own: what is done to one
@@ -94,7 +97,7 @@ impl DebugHeap {
             level: self.level,
             setting: self.setting,
             attempts: self.attempts,
-            trace: self.trace.try_copy()?,
+            log: self.log.try_copy()?,
         })
     }
 
@@ -114,16 +117,41 @@ impl DebugHeap {
         self.attempts
     }
 
-    /// The attempts that were made, in order.
+    /// The attempts that were made, in order; empty where the rises are kept.
     pub fn trace(&self) -> &Trace
         ensures { result.now ≡ self.now.trace }
     {
-        &self.trace
+        self.log.trace()
     }
 
     /// The same, of a run that is over. Takes no memory.
     pub fn into_trace(self) -> Trace
         ensures { result ≡ self.trace }
+    {
+        self.into_log().into_trace()
+    }
+
+    /// The rises so far, in order, of a heap made by `new_rises`: those of the trace that a heap made by `new` would
+    /// hold.
+    pub fn rises(&self) -> &Rises
+        requires { IsSome self.now.rises }
+        ensures { Some result.now ≡ self.now.rises }
+    {
+        self.log.rises()
+    }
+
+    /// The same, of a run that is over. Takes no memory.
+    pub fn into_rises(self) -> Rises
+        requires { IsSome self.rises }
+        ensures { Some result ≡ self.rises }
+    {
+        self.into_log().into_rises()
+    }
+
+    /// What is kept of the attempts.
+    fn into_log(self) -> Log
+        ensures trace { result.trace ≡ self.trace }
+        ensures rises { result.rises ≡ self.rises }
     {
         let DebugHeap {
             alloc: _,
@@ -132,10 +160,35 @@ impl DebugHeap {
             level: _,
             setting: _,
             attempts: _,
-            trace,
+            log,
         } = self;
-        trace
+        log
     }
+}
+
+/// A heap with no cell that keeps this of its attempts.
+fn with_log(alloc: Global, rule: Rule, shape: Shape, log: Log) -> Result<DebugHeap, DebugFault>
+    requires trace { log.trace ≡ [] }
+    requires rises { log.rises ≡ first_rises (is_some log.rises) }
+    ensures ok { IfOk result (λ heap. heap ≡ first_debug_of (is_some log.rises) rule shape) }
+    ensures shape { (result ≡ Err DebugFault.BadShape) ↔ (is_shape shape ≡ false) }
+    ensures no_growth { (first_debug rule shape).committed ≡ 0 → result ≢ Err DebugFault.NoMemory }
+    ensures sound { IfOk result IsSoundDebug }
+{
+    let heap = match Heap::new(alloc, limit_under(rule), shape) {
+        Ok(heap) => heap,
+        Err(HeapFault::BadShape) => return Err(DebugFault::BadShape),
+        Err(_) => return Err(NoMemory.into()),
+    };
+    Ok(DebugHeap {
+        alloc,
+        heap,
+        rule,
+        level: 0,
+        setting: Setting::Never,
+        attempts: 0,
+        log,
+    })
 }
 
 /// Attempts to get a cell, and releases.
@@ -144,14 +197,16 @@ impl DebugHeap {
     ///
     /// `Denied` where the setting or the rule refuses it, which counts it. `Ceiling` where neither does and the cell
     /// would end past the ceiling: nothing is counted, and the heap is as it was; so it is on `NoMemory`, which never comes
-    /// in place of `Ceiling`. Source: Symbian OS v9 SDK reference, RHeap, for the grant and the refusal, and this project's
-    /// profile for their order.
+    /// in place of `Ceiling`, nor, where the rises are kept, of an attempt that isn't one. Source: Symbian OS v9 SDK
+    /// reference, RHeap, for the grant and the refusal, and this project's profile for their order.
     pub fn attempt_alloc(&mut self, bytes: u32, kind: Kind) -> Result<Gave, NoMemory>
         requires bytes { bytes ≤ CEILING }
         requires number { self.old.attempts + 1 < 2 ^ 32 }
         ensures gave { IfOk result (λ gave. gave ≡ (alloc_made self.old bytes kind).gave) }
         ensures made { OnOk result (self.new ≡ (alloc_made self.old bytes kind).debug) }
         ensures cut { answer_in self.old (alloc_request self.old.heap bytes) ≡ None → IsOk result }
+        ensures quiet { keeps_rises self.old ≡ true →
+            (alloc_made self.old bytes kind).debug.rises ≡ self.old.rises → IsOk result }
         ensures err { OnErr result (self.new ≡ self.old) }
         ensures sound { IsSoundDebug self.new }
     {
@@ -160,11 +215,11 @@ impl DebugHeap {
         let Some(line) = self.next_line(length, place) else {
             return Ok(Gave::Ceiling);
         };
-        self.trace.push(line)?;
+        let added = self.log.push(line)?;
         let gave = match line.answer {
             Answer::Granted => {
                 let granted = self.heap.alloc(length, kind, line.number, self.level);
-                granted_or_undone(granted, &mut self.trace)?
+                granted_or_undone(granted, &mut self.log, added)?
             }
             Answer::Simulated | Answer::Refused => Gave::Denied,
         };
@@ -189,6 +244,8 @@ impl DebugHeap {
         ensures made { OnOk result (IfSome (cell_at ptr self.old.heap.row) (λ c. self.new ≡ (realloc_made self.old c bytes).debug)) }
         ensures shorter { IfSome (cell_at ptr self.old.heap.row) (λ c. cell_length bytes ≤ c.head.length → IsOk result) }
         ensures cut { IfSome (cell_at ptr self.old.heap.row) (λ c. answer_in self.old (realloc_request self.old.heap c.head bytes) ≡ None → IsOk result) }
+        ensures quiet { keeps_rises self.old ≡ true → IfSome (cell_at ptr self.old.heap.row) (λ c.
+            (realloc_made self.old c bytes).debug.rises ≡ self.old.rises → IsOk result) }
         ensures err { OnErr result (self.new ≡ self.old) }
         ensures sound { IsSoundDebug self.new }
     {
@@ -205,11 +262,11 @@ impl DebugHeap {
         let Some(line) = self.next_line(length, place) else {
             return Ok(Gave::Ceiling);
         };
-        self.trace.push(line)?;
+        let added = self.log.push(line)?;
         let gave = match line.answer {
             Answer::Granted => {
                 let granted = self.heap.realloc(ptr, length, line.number);
-                granted_or_undone(granted, &mut self.trace)?
+                granted_or_undone(granted, &mut self.log, added)?
             }
             Answer::Simulated | Answer::Refused => Gave::Denied,
         };
@@ -259,17 +316,21 @@ impl DebugHeap {
 }
 
 /// What an attempt gives that the heap was asked to grant. Where the workbench's own memory ran out, it is no attempt:
-/// its line, the trace's last, is taken back.
-fn granted_or_undone(granted: Result<Ptr, HeapFault>, trace: &mut Trace) -> Result<Gave, NoMemory>
+/// what it added is taken back.
+fn granted_or_undone(
+    granted: Result<Ptr, HeapFault>,
+    log: &mut Log,
+    added: bool,
+) -> Result<Gave, NoMemory>
     ensures granted { IfOk result (λ gave. IsOkAnd granted (λ ptr. gave ≡ Gave.Granted ptr)) }
-    ensures kept { OnOk result (trace.new ≡ trace.old) }
+    ensures kept { OnOk result (log.new ≡ log.old) }
     ensures wanting { OnErr result (IsErr granted) }
-    ensures undone { OnErr result (DropsLast trace.old trace.new) }
+    ensures undone { OnErr result (IsTakenBack log.old added log.new) }
 {
     match granted {
         Ok(ptr) => Ok(Gave::Granted(ptr)),
         Err(_) => {
-            trace.pop();
+            log.take_back(added);
             Err(NoMemory)
         }
     }
@@ -326,78 +387,5 @@ impl DebugHeap {
         ensures fine { OnOk result (check_all_refusal self.now n ≡ None) }
     {
         marks::expect(&self.heap, Levels::All, n)
-    }
-}
-
-/// What is to fail besides: the rule, and the script's own setting, of which each call replaces what an earlier one set.
-impl DebugHeap {
-    /// Another rule from here on; the script's own setting and all else stay. Neither rule is a limit, and both refuse the same
-    /// of the attempts made so far, so that the heap is as if it had been made under the new one. Source: this project's
-    /// profile.
-    pub fn set_rule(&mut self, rule: Rule)
-        requires { SameSoFar rule self.old.rule self.old.attempts }
-        ensures set { self.new ≡ record self.old { rule = rule } }
-        ensures sound { IsSoundDebug self.new }
-    {
-        self.rule = rule;
-    }
-
-    /// The `n`-th next attempt is to fail, once; `n` counts from 1. Source: Symbian OS v9 SDK reference,
-    /// RHeap::EFailNext.
-    pub fn fail_next(&mut self, n: u32)
-        requires { 1 ≤ n }
-        ensures set { self.new ≡ with_setting self.old (next n) }
-        ensures sound { IsSoundDebug self.new }
-    {
-        self.setting = Setting::Next(n);
-    }
-
-    /// Every `n`-th attempt from now on is to fail; `n` counts from 1. Source: Symbian OS v9 SDK reference,
-    /// RHeap::EDeterministic.
-    pub fn fail_every(&mut self, n: u32)
-        requires { 1 ≤ n }
-        ensures set { self.new ≡ with_setting self.old (each n n) }
-        ensures sound { IsSoundDebug self.new }
-    {
-        self.setting = Setting::Each(n, n);
-    }
-
-    /// No attempt is to fail any more, but for what the rule says. Source: Symbian OS v9 SDK reference, RHeap::ENone.
-    pub fn fail_none(&mut self)
-        ensures set { self.new ≡ with_setting self.old never }
-        ensures sound { IsSoundDebug self.new }
-    {
-        self.setting = Setting::Never;
-    }
-}
-
-/// Notes of the heap; their lengths are in bytes.
-impl DebugHeap {
-    /// The number of live cells, their cell lengths together, and the committed length. Source: Symbian OS v9 SDK
-    /// reference, RHeap, and this project's profile for the committed length.
-    pub fn note_heap(&self) -> Note
-        ensures { result ≡ note_of_heap self.now }
-    {
-        let (count, total) = self.heap.alloc_size();
-        Note::Heap(count, total, self.heap.committed())
-    }
-
-    /// The free bytes below the committed length, and the longest run of them. Source: Symbian OS v9 SDK reference,
-    /// RHeap.
-    pub fn note_available(&self) -> Note
-        ensures { result ≡ note_of_available self.now }
-    {
-        let (total, longest) = self.heap.available();
-        Note::Available(total, longest)
-    }
-
-    /// Gives up committed length above the last live cell, and tells how much. Source: Symbian OS v9 SDK reference,
-    /// RHeap, and this project's profile for the lengths.
-    pub fn note_compress(&mut self) -> Note
-        ensures note { result ≡ note_of_compress self.old }
-        ensures fallen { self.new ≡ debug_compressed self.old }
-        ensures sound { IsSoundDebug self.new }
-    {
-        Note::Compress(self.heap.compress())
     }
 }

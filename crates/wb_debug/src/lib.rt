@@ -1,7 +1,8 @@
 //! The debug heap: a simulated heap that counts the attempts to get a cell, refuses those that are to fail, and checks
 //! nested marks.
 //!
-//! What an attempt asks stands in `setting` (the script's own) and `rules` (the run's), what a check counts in `marks`.
+//! What an attempt asks stands in `setting` (the script's own) and `rules` (the run's), what is kept of it in `log`, and
+//! what a check counts in `marks`.
 #![tactic(auto)]
 
 pub use debug_heap::DebugHeap;
@@ -9,10 +10,14 @@ pub use fault::DebugFault;
 pub use wb_model::heap::{Answer, Attempt, Gave, Header, Kind, Panic, Ptr, Rule, Shape};
 pub use wb_model::memory::NoMemory;
 pub use wb_model::run::{Leak, Leaks, Note, Trace};
+pub use wb_model::size::{Rise, Rises};
 
 pub mod debug_heap;
+mod failing;
 pub mod fault;
+mod log;
 mod marks;
+mod notes;
 mod payloads;
 mod rules;
 mod setting;

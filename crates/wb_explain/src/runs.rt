@@ -72,13 +72,6 @@ pub fn lengths_found(
     requires greatest { budget ≤ LARGEST_BUDGET }
 {
     let mut text = String::new(alloc);
-    let setting = Setting {
-        rule: Rule::Unlimited,
-        budget,
-        shape,
-    };
-    if let Some(seen) = watched(alloc, script, setting)? {
-        put_lengths(&mut text, file, &seen)?;
-    }
+    put_lengths(&mut text, file, script, budget, shape)?;
     Ok(text)
 }

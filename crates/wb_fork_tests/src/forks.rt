@@ -32,6 +32,8 @@ fn walk(alloc: Global, script: &Script, lead: &mut Machine) -> Result<Comparison
     requires script { IsTrue (is_script script.now) }
     requires rule { lead.old.rule ≡ Number 0 }
     requires first { lead.old.attempts ≡ 0 }
+    requires lines { lead.old.keeps_rises ≡ false }
+    ensures { lead.new.keeps_rises ≡ false }
 {
     let mut forks = 0;
     for _ in 0..MOST_TURNS {
@@ -61,6 +63,7 @@ fn is_fork_as_run(
     requires next { number ≡ lead.now.attempts + 1 }
     requires going { lead.now.over ≡ false }
     requires well { lead.now.failed ≡ false }
+    requires lines { lead.now.keeps_rises ≡ false }
 {
     let told = result_under(lead, Rule::Number(number))?;
     is_result(alloc, script, number, &told)

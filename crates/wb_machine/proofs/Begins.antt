@@ -1,5 +1,5 @@
 -- The turn that makes attempt 1 and begins `main`.
-use Rattle.std.proofs.Common.{◌≡◌, ◌≢◌, ℕ, true, false, List, [], ◌∷◌, ◌++◌, map, refl, ap, ◌∙◌, sym, subst, inl, Option, Some, None}
+use Rattle.std.proofs.Common.{◌≡◌, ◌≢◌, ℕ, Bool, true, false, List, [], ◌∷◌, ◌++◌, map, refl, ap, ◌∙◌, sym, subst, inl, Option, Some, None}
 use Rattle.std.proofs.Math.Path.{fun_ext}
 use Rattle.std.specs.Prelude.{min}
 use Rattle.wb_model.specs.declared.heap.Ptr.{Ptr}
@@ -18,13 +18,14 @@ use Rattle.wb_model.specs.LimitedHeap.{zero_words}
 use Rattle.wb_model.specs.declared.heap.Answer.{Answer}
 use Rattle.wb_model.specs.Row.{cell_length}
 use Rattle.wb_model.specs.Rules.{Request, refusal_of, unless_refused}
-use Rattle.wb_model.specs.Debug.{Debug, made_by, answer_in}
+use Rattle.wb_model.specs.Debug.{Debug, keeps_rises, made_by, answer_in}
+use Rattle.wb_model.specs.Rises.{first_rises}
 use Rattle.wb_model.specs.declared.run.Why.TheVariants.{Ceiling}
 use Rattle.wb_model.specs.Statements.{all}
 use Rattle.wb_model.specs.Meaning.{meaning_of}
 use Rattle.wb_model.specs.Account.{settled}
 use Rattle.wb_model.specs.Attempts.{allocate}
-use Rattle.wb_model.specs.Run.{main_trapped, in_main, started, process, result_of, run}
+use Rattle.wb_model.specs.Run.{main_trapped, in_main, started, process, whole_of, whole_run}
 use Rattle.wb_model.specs.Rest.{Fits, Pending, doing, main_catching, resumed, resume, left_to_do, rest}
 use Rattle.wb_machine.specs.declared.pieces.Ending.{Ending}
 use Rattle.wb_machine.specs.declared.pieces.Ending.TheVariants.{GoesOn, Cut, NoCleanup}
@@ -69,15 +70,15 @@ begun_rest : (r : Rule) (script : Script) (budget : ℕ) (h : RunState) (stateme
     statements ≡ (main_of script).statements →
     ((begun_by h (main_of script).locals gave).ending ≡ GoesOn → (callers : Values) → pending_in callers pieces ≡ doing in_main_frame (all statements) ∷ main_catching in_main_frame ∷ []) →
     rest_from script budget r (begun_by h (main_of script).locals gave).ending pieces (begun_by h (main_of script).locals gave).state
-    ≡ result_of (flow r (followed gave (started (meaning_of script budget) script) (state_of script h)) h)
+    ≡ whole_of (flow r (followed gave (started (meaning_of script budget) script) (state_of script h)) h)
 unfolding flow started and_then
 begun_rest r script budget h statements pieces G.Ceiling body is = rest_flow script budget r (Cut Ceiling) pieces h
 begun_rest r script budget h statements pieces (G.Granted cell) body is =
     let g : RunState = entered (record h { cleanup = cell }) (main_of script).locals in
     let st : State = record (state_of script h) { cleanup = cell } in
     rest_flow script budget r GoesOn pieces g
-    ∙ ap (λ (ps : List Pending). result_of (flow r (resume script budget ps goes_on (state_of script g)) g)) (is refl g.callers)
-    ∙ ap (λ p. result_of (flow r p g)) (main_begins script budget st statements body)
+    ∙ ap (λ (ps : List Pending). whole_of (flow r (resume script budget ps goes_on (state_of script g)) g)) (is refl g.callers)
+    ∙ ap (λ p. whole_of (flow r p g)) (main_begins script budget st statements body)
 begun_rest r script budget h statements pieces G.Denied body is = rest_flow script budget r NoCleanup pieces h
 
 -- under a rule that fits, attempt 1 is answered as under the machine's own
@@ -92,11 +93,11 @@ first_alike r h locals f = by (first_gave h) f
     by G.Ceiling f = f
 
 -- attempt 1 is counted under each rule: its cell ends below the ceiling
-first_counted : (own : Rule) (shape : Shape) → (first_made (first_state own shape)).debug.attempts ≡ 1
-first_counted own shape = by (refusal_of own 1 (cell_length first_bytes))
+first_counted : (b : Bool) (own : Rule) (shape : Shape) → (first_made (first_state b own shape)).debug.attempts ≡ 1
+first_counted b own shape = by (refusal_of own 1 (cell_length first_bytes))
   where
     d : Debug
-    d = (first_state own shape).debug
+    d = (first_state b own shape).debug
 
     t : Request
     t = alloc_request d.heap first_bytes
@@ -105,49 +106,49 @@ first_counted own shape = by (refusal_of own 1 (cell_length first_bytes))
     by None = refl
     by (Some a) = refl
 
-pub one_attempt : (h g : RunState) → h ≡ first_state h.debug.rule h.debug.shape → g.debug ≡ (first_made h).debug → g.debug.attempts ≡ 1
+pub one_attempt : (h g : RunState) → h ≡ first_state (keeps_rises h.debug) h.debug.rule h.debug.shape → g.debug ≡ (first_made h).debug → g.debug.attempts ≡ 1
 one_attempt h g start is =
-    ap (λ (d : Debug). d.attempts) is ∙ ap (λ (x : RunState). (first_made x).debug.attempts) start ∙ first_counted h.debug.rule h.debug.shape
+    ap (λ (d : Debug). d.attempts) is ∙ ap (λ (x : RunState). (first_made x).debug.attempts) start ∙ first_counted (keeps_rises h.debug) h.debug.rule h.debug.shape
 
 -- after the turn that begins a run its rest is the run
-rest_begun : (r own : Rule) (script : Script) (budget : ℕ) (shape : Shape) (statements : List Numbered) (pieces : List Piece) →
-    let h = first_state own shape in
+rest_begun : (b : Bool) (r own : Rule) (script : Script) (budget : ℕ) (shape : Shape) (statements : List Numbered) (pieces : List Piece) →
+    let h = first_state b own shape in
     let c = begun_carried h (main_of script).locals in
     Fits r own (is_stop c.ending) c.state.debug.attempts → statements ≡ (main_of script).statements →
     (c.ending ≡ GoesOn → (callers : Values) → pending_in callers pieces ≡ doing in_main_frame (all statements) ∷ main_catching in_main_frame ∷ []) →
-    rest_from script budget r c.ending pieces c.state ≡ run script r budget shape
+    rest_from script budget r c.ending pieces c.state ≡ whole_run b script r budget shape
 unfolding flow process
-rest_begun r own script budget shape statements pieces f body is =
-    let h : RunState = first_state own shape in
+rest_begun b r own script budget shape statements pieces f body is =
+    let h : RunState = first_state b own shape in
     let go : Option Ptr → State → Process = started (meaning_of script budget) script in
     let t = alloc_request h.debug.heap first_bytes in
     let fits = first_alike r h (main_of script).locals f in
     let limit = fits-limit r own _ _ f in
     begun_rest r script budget (after_first h) statements pieces (first_gave h) body is
-    ∙ ap result_of (
+    ∙ ap whole_of (
     ap (λ p. flow r p (after_first h)) (sym (and_then-ends (followed (first_gave h) go (state_of script (after_first h)))))
-    ∙ sym (allocated r script h first_bytes Cleanup none go ends (answer_in h.debug t) refl refl
+    ∙ sym (allocated r script h first_bytes Cleanup none go ends (answer_in h.debug t) refl
     (answered_alike r h.debug t (after_alloc h.debug.heap t Cleanup (zero_words t.length)) (answer_in h.debug t) refl fits) limit)
     ∙ ap (λ p. flow r p h) (and_then-ends (allocate first_bytes Cleanup none (state_of script h) go)))
-    ∙ ap (λ b. result_of (settled r (space_of r shape) (process script budget) (record { trace = []; notes = []; committed = min shape.min (bound_below b) }))) (sym limit)
+    ∙ ap (λ l. whole_of (settled r (space_of r shape) (process script budget) (record { attempts = 0; trace = []; rises = first_rises b; notes = []; committed = min shape.min (bound_below l) }))) (sym limit)
 
 -- the same of what a machine then holds
 pub run_begun : (r : Rule) (script : Script) (budget : ℕ) (h g : RunState) (ending : Ending) (statements : List Numbered) (pieces : List Piece) →
-    h ≡ first_state h.debug.rule h.debug.shape →
+    h ≡ first_state (keeps_rises h.debug) h.debug.rule h.debug.shape →
     ending ≡ (begun_carried h (main_of script).locals).ending → g ≡ (begun_carried h (main_of script).locals).state →
     Fits r h.debug.rule (is_stop ending) g.debug.attempts → statements ≡ (main_of script).statements →
     (ending ≡ GoesOn → (callers : Values) → pending_in callers pieces ≡ doing in_main_frame (all statements) ∷ main_catching in_main_frame ∷ []) →
-    rest_from script budget r ending pieces g ≡ run script r budget h.debug.shape
+    rest_from script budget r ending pieces g ≡ whole_run (keeps_rises h.debug) script r budget h.debug.shape
 run_begun r script budget h g ending statements pieces start ends_so holds f body is =
     let locals = (main_of script).locals in
     let own = h.debug.rule in
-    let first : RunState = first_state own h.debug.shape in
+    let first : RunState = first_state (keeps_rises h.debug) own h.debug.shape in
     let e : ending ≡ (begun_carried first locals).ending = ends_so ∙ ap (λ x. (begun_carried x locals).ending) start in
     let k : g ≡ (begun_carried first locals).state = holds ∙ ap (λ x. (begun_carried x locals).state) start in
     let f' : Fits r own (is_stop (begun_carried first locals).ending) (begun_carried first locals).state.debug.attempts =
     subst (λ (x : RunState). Fits r own (is_stop (begun_carried first locals).ending) x.debug.attempts) k (subst (λ x. Fits r own (is_stop x) g.debug.attempts) e f) in
     ap (λ x. rest_from script budget r x pieces g) e ∙ ap (λ x. rest_from script budget r (begun_carried first locals).ending pieces x) k
-    ∙ rest_begun r own script budget h.debug.shape statements pieces f' body (λ x. is (e ∙ x))
+    ∙ rest_begun (keeps_rises h.debug) r own script budget h.debug.shape statements pieces f' body (λ x. is (e ∙ x))
 
 -- the pieces of a run that was begun
 pub begun_pieces : (callers : Values) (before_it one two : List Piece) (code : Piece) → before_it ≡ [] → one ≡ before_it ++ MainTrap ∷ [] → two ≡ one ++ code ∷ [] →
@@ -157,11 +158,12 @@ begun_pieces callers before_it one two code e f g =
 
 -- before the first turn the rest is the run
 pub rest_first : (r : Rule) (script : Script) (budget : ℕ) (ending : Ending) (pieces : List Piece) (h : RunState) →
-    h ≡ first_state h.debug.rule h.debug.shape → limit_under r ≡ limit_under h.debug.rule → rest_at script budget r false ending pieces h ≡ run script r budget h.debug.shape
+    h ≡ first_state (keeps_rises h.debug) h.debug.rule h.debug.shape → limit_under r ≡ limit_under h.debug.rule → rest_at script budget r false ending pieces h ≡ whole_run (keeps_rises h.debug) script r budget h.debug.shape
 unfolding rest left_to_do
 rest_first r script budget ending pieces h start same =
-    ap (λ a. result_of (settled r (space_of r h.debug.shape) (process script budget) a))
-    (ap account_of start ∙ ap (λ b. record { trace = []; notes = []; committed = min h.debug.shape.min (bound_below b) }) (sym same))
+    ap (λ a. whole_of (settled r (space_of r h.debug.shape) (process script budget) a))
+    (ap account_of start
+    ∙ ap (λ l. record { attempts = 0; trace = []; rises = first_rises (keeps_rises h.debug); notes = []; committed = min h.debug.shape.min (bound_below l) }) (sym same))
 
 -- `main` begins where attempt 1 was granted
 pub granted_goes : (h : RunState) (locals : List Local) (gave : Gave) → is_granted gave ≡ true → (begun_by h locals gave).ending ≡ GoesOn

@@ -11,7 +11,7 @@ use Rattle.wb_machine.specs.declared.pieces.Ending.TheVariants.{GoesOn, Returns,
 use Rattle.wb_machine.specs.declared.pieces.Piece.{Piece}
 use Rattle.wb_machine.specs.RunState.{RunState}
 use Rattle.wb_machine.specs.Flow.{is_stop, is_over, rest_from}
-use Rattle.wb_machine.specs.Told.{leaks_at_end, told_by}
+use Rattle.wb_machine.specs.Told.{leaks_at_end, told_by, whole_by}
 use Rattle.wb_machine.proofs.Rows.{headers_read}
 
 -- only a run that ended by itself tells leaks
@@ -25,16 +25,16 @@ told_alike NoCleanup leaks h is = refl
 
 -- what a run tells that is over is what is left of it
 pub rest_over : (script : Script) (budget : ℕ) (r : Rule) (ending : Ending) (pieces : List Piece) (h : RunState) → is_over ending pieces ≡ true →
-    told_by ending (leaks_at_end h) h ≡ rest_from script budget r ending pieces h
+    whole_by ending (leaks_at_end h) h ≡ rest_from script budget r ending pieces h
 unfolding rest left_to_do resume
 rest_over script budget r GoesOn [] h e =
-    ap (λ hs. told_by GoesOn (map leak_of (cells_of_all_levels hs)) h) (sym (headers_read script h.debug.heap.row))
+    ap (λ hs. whole_by GoesOn (map leak_of (cells_of_all_levels hs)) h) (sym (headers_read script h.debug.heap.row))
 rest_over script budget r GoesOn (p ∷ ps) h e = cc
 rest_over script budget r (Returns q) [] h e =
-    ap (λ hs. told_by (Returns q) (map leak_of (cells_of_all_levels hs)) h) (sym (headers_read script h.debug.heap.row))
+    ap (λ hs. whole_by (Returns q) (map leak_of (cells_of_all_levels hs)) h) (sym (headers_read script h.debug.heap.row))
 rest_over script budget r (Returns q) (p ∷ ps) h e = cc
 rest_over script budget r (Leaves code) [] h e =
-    ap (λ hs. told_by (Leaves code) (map leak_of (cells_of_all_levels hs)) h) (sym (headers_read script h.debug.heap.row))
+    ap (λ hs. whole_by (Leaves code) (map leak_of (cells_of_all_levels hs)) h) (sym (headers_read script h.debug.heap.row))
 rest_over script budget r (Leaves code) (p ∷ ps) h e = cc
 rest_over script budget r (Panics p) pieces h e = refl
 rest_over script budget r (Cut why) pieces h e = refl

@@ -10,7 +10,7 @@ use Rattle.wb_model.specs.declared.script.Numbered.{Numbered}
 use Rattle.wb_model.specs.State.{null, number, leaves, Process, ends, and_then, on_plain_end, then_do, require, set_local}
 use Rattle.wb_model.specs.Statements.{all, turns, destroy_items, destroy_object, Where, trapped, done, plain}
 use Rattle.wb_model.specs.Meaning.{piece, meaning_of}
-use Rattle.wb_model.specs.Run.{main_trapped, result_of}
+use Rattle.wb_model.specs.Run.{main_trapped, whole_of}
 use Rattle.wb_model.specs.Rest.{doing, catching, caught, calling, main_catching, main_caught, after_frame, resumed, resume}
 use Rattle.wb_model.proofs.MeaningLemmas.{meaning_of-unfolds}
 use Rattle.wb_model.proofs.ResumeLemmas.{and_then-assoc}
@@ -48,7 +48,7 @@ module _ (script : Script) (budget : ℕ) (r : Rule) (pieces : List Piece) where
   unfolding and_then resume resumed on_plain_end piece
   fallen_code at [] GoesOn h going within none =
       rest_flow script budget r GoesOn pieces h
-      ∙ sym (ap (λ x. result_of (flow r (and_then x (resume script budget (pending_in h.callers pieces))) h)) (meaning_of-unfolds script budget at (all []) (state_of script h) within))
+      ∙ sym (ap (λ x. whole_of (flow r (and_then x (resume script budget (pending_in h.callers pieces))) h)) (meaning_of-unfolds script budget at (all []) (state_of script h) within))
   fallen_code at (s ∷ ss) GoesOn h going within none = absurd (no_turn (none refl))
   fallen_code at ss (Returns p) h going within none = rest_flow script budget r (Returns p) pieces h
   fallen_code at ss (Leaves code) h going within none = rest_flow script budget r (Leaves code) pieces h
@@ -61,7 +61,7 @@ module _ (script : Script) (budget : ℕ) (r : Rule) (pieces : List Piece) where
   unfolding and_then resume resumed on_plain_end piece
   fallen_turns at zero body GoesOn h going within none =
       rest_flow script budget r GoesOn pieces h
-      ∙ sym (ap (λ x. result_of (flow r (and_then x (resume script budget (pending_in h.callers pieces))) h)) (meaning_of-unfolds script budget at (turns zero body) (state_of script h) within))
+      ∙ sym (ap (λ x. whole_of (flow r (and_then x (resume script budget (pending_in h.callers pieces))) h)) (meaning_of-unfolds script budget at (turns zero body) (state_of script h) within))
   fallen_turns at (suc n) body GoesOn h going within none = absurd (no_turn (sym (turn_left n) ∙ none refl))
   fallen_turns at left body (Returns p) h going within none = rest_flow script budget r (Returns p) pieces h
   fallen_turns at left body (Leaves code) h going within none = rest_flow script budget r (Leaves code) pieces h
@@ -75,7 +75,7 @@ module _ (script : Script) (budget : ℕ) (r : Rule) (pieces : List Piece) where
   unfolding and_then resume resumed on_plain_end piece
   fallen_items at zero GoesOn h going within none =
       rest_flow script budget r GoesOn pieces h
-      ∙ sym (ap (λ x. result_of (flow r (and_then x (resume script budget (pending_in h.callers pieces))) h)) (meaning_of-unfolds script budget at (destroy_items zero) (state_of script h) within))
+      ∙ sym (ap (λ x. whole_of (flow r (and_then x (resume script budget (pending_in h.callers pieces))) h)) (meaning_of-unfolds script budget at (destroy_items zero) (state_of script h) within))
   fallen_items at (suc n) GoesOn h going within none = absurd (no_turn (sym (turn_left n) ∙ none refl))
   fallen_items at left (Returns p) h going within none = rest_flow script budget r (Returns p) pieces h
   fallen_items at left (Leaves code) h going within none = rest_flow script budget r (Leaves code) pieces h
@@ -99,14 +99,14 @@ module _ (script : Script) (budget : ℕ) (r : Rule) (pieces : List Piece) where
   unfolding and_then resume resumed trapped require flow
   trap_goes_on at x entry h g same is =
       ap (λ (y : RunState). rest_from script budget r GoesOn pieces y) is ∙ rest_flow script budget r GoesOn pieces (stored h x (number (pos 0)))
-      ∙ sym (ap (λ b. result_of (flow r (and_then (require b ITEMS_LEFT (state_of script h) (λ st. done (set_local st x (number (pos 0))))) (resume script budget (pending_in h.callers pieces))) h)) (eq-eqb (length h.items) entry same))
+      ∙ sym (ap (λ b. whole_of (flow r (and_then (require b ITEMS_LEFT (state_of script h) (λ st. done (set_local st x (number (pos 0))))) (resume script budget (pending_in h.callers pieces))) h)) (eq-eqb (length h.items) entry same))
 
   pub trap_items_left : (at : Where) (x entry : ℕ) (h : RunState) → (length h.items ≡ entry → ⊥) →
       rest_from script budget r (Panics ITEMS_LEFT) pieces h ≡ rest_under script budget r GoesOn (catching at x entry ∷ pending_in h.callers pieces) h
   unfolding and_then resume resumed trapped require
   trap_items_left at x entry h differ =
       rest_flow script budget r (Panics ITEMS_LEFT) pieces h
-      ∙ sym (ap (λ b. result_of (flow r (and_then (require b ITEMS_LEFT (state_of script h) (λ st. done (set_local st x (number (pos 0))))) (resume script budget (pending_in h.callers pieces))) h)) (ne_eqb (length h.items) entry differ))
+      ∙ sym (ap (λ b. whole_of (flow r (and_then (require b ITEMS_LEFT (state_of script h) (λ st. done (set_local st x (number (pos 0))))) (resume script budget (pending_in h.callers pieces))) h)) (ne_eqb (length h.items) entry differ))
 
   -- one that is left: its items are to be destroyed, and then its local gets the code
   pub trap_left : (at : Where) (x entry : ℕ) (code : ℤ) (new : List Piece) (h : RunState) →
@@ -115,7 +115,7 @@ module _ (script : Script) (budget : ℕ) (r : Rule) (pieces : List Piece) where
   unfolding and_then resume resumed trapped then_do on_plain_end
   trap_left at x entry code new h is =
       rest_known script budget r GoesOn new (doing at (destroy_items (length h.items - entry)) ∷ caught x code ∷ pending_in h.callers pieces) h is
-      ∙ ap (λ y. result_of (flow r y h)) (sym (and_then-assoc (meaning_of script budget at (destroy_items (length h.items - entry)) (state_of script h))
+      ∙ ap (λ y. whole_of (flow r y h)) (sym (and_then-assoc (meaning_of script budget at (destroy_items (length h.items - entry)) (state_of script h))
       (λ way st. on_plain_end way st (λ st. done (set_local st x (number code)))) (resume script budget (pending_in h.callers pieces))))
 
   pub trap_returns : (at : Where) (x entry : ℕ) (p : Ptr) (h : RunState) →
@@ -145,10 +145,10 @@ module _ (script : Script) (budget : ℕ) (r : Rule) (pieces : List Piece) where
   unfolding and_then resume resumed main_trapped require
   main_ends GoesOn h going never none =
       rest_flow script budget r GoesOn pieces h
-      ∙ sym (ap (λ b. result_of (flow r (and_then (require b ITEMS_LEFT (state_of script h) done) (resume script budget (pending_in h.callers pieces))) h)) (eq-eqb (length h.items) 0 none))
+      ∙ sym (ap (λ b. whole_of (flow r (and_then (require b ITEMS_LEFT (state_of script h) done) (resume script budget (pending_in h.callers pieces))) h)) (eq-eqb (length h.items) 0 none))
   main_ends (Returns p) h going never none =
       rest_flow script budget r GoesOn pieces h
-      ∙ sym (ap (λ b. result_of (flow r (and_then (require b ITEMS_LEFT (state_of script h) done) (resume script budget (pending_in h.callers pieces))) h)) (eq-eqb (length h.items) 0 none))
+      ∙ sym (ap (λ b. whole_of (flow r (and_then (require b ITEMS_LEFT (state_of script h) done) (resume script budget (pending_in h.callers pieces))) h)) (eq-eqb (length h.items) 0 none))
   main_ends (Leaves code) h going never none = absurd (never code refl)
   main_ends (Panics p) h going never none = cc
   main_ends (Cut why) h going never none = cc
@@ -159,10 +159,10 @@ module _ (script : Script) (budget : ℕ) (r : Rule) (pieces : List Piece) where
   unfolding and_then resume resumed main_trapped require
   main_items_left GoesOn h going never some =
       rest_flow script budget r (Panics ITEMS_LEFT) pieces h
-      ∙ sym (ap (λ b. result_of (flow r (and_then (require b ITEMS_LEFT (state_of script h) done) (resume script budget (pending_in h.callers pieces))) h)) (ne_eqb (length h.items) 0 some))
+      ∙ sym (ap (λ b. whole_of (flow r (and_then (require b ITEMS_LEFT (state_of script h) done) (resume script budget (pending_in h.callers pieces))) h)) (ne_eqb (length h.items) 0 some))
   main_items_left (Returns p) h going never some =
       rest_flow script budget r (Panics ITEMS_LEFT) pieces h
-      ∙ sym (ap (λ b. result_of (flow r (and_then (require b ITEMS_LEFT (state_of script h) done) (resume script budget (pending_in h.callers pieces))) h)) (ne_eqb (length h.items) 0 some))
+      ∙ sym (ap (λ b. whole_of (flow r (and_then (require b ITEMS_LEFT (state_of script h) done) (resume script budget (pending_in h.callers pieces))) h)) (ne_eqb (length h.items) 0 some))
   main_items_left (Leaves code) h going never some = absurd (never code refl)
   main_items_left (Panics p) h going never some = cc
   main_items_left (Cut why) h going never some = cc
@@ -176,7 +176,7 @@ module _ (script : Script) (budget : ℕ) (r : Rule) (pieces : List Piece) where
   main_left code left new h all_of is =
       rest_known script budget r GoesOn new (doing in_main_frame (destroy_items (length h.items)) ∷ main_caught code ∷ pending_in h.callers pieces) h
       (is ∙ ap (λ (n : ℕ). doing in_main_frame (destroy_items n) ∷ main_caught code ∷ pending_in h.callers pieces) all_of)
-      ∙ ap (λ y. result_of (flow r y h)) (sym (and_then-assoc (meaning_of script budget in_main_frame (destroy_items (length h.items)) (state_of script h))
+      ∙ ap (λ y. whole_of (flow r y h)) (sym (and_then-assoc (meaning_of script budget in_main_frame (destroy_items (length h.items)) (state_of script h))
       (λ way st. on_plain_end way st (λ st. ends (leaves code) st)) (resume script budget (pending_in h.callers pieces))))
 
   pub main_caught_goes_on : (code : ℤ) (h : RunState) → rest_from script budget r (Leaves code) pieces h ≡ rest_under script budget r GoesOn (main_caught code ∷ pending_in h.callers pieces) h
@@ -201,7 +201,7 @@ module _ (script : Script) (budget : ℕ) (r : Rule) (pieces : List Piece) where
       rest_known script budget r ending pieces ps g (ap (λ (callers : Values). pending_in callers pieces) made.keeps.callers)
       ∙ ap (λ e. rest_under script budget r e ps g) made.ends_so
       ∙ ap (λ (x : RunState). rest_under script budget r c.ending ps x) made.becomes
-      ∙ ap result_of (comes (resume script budget ps))
+      ∙ ap whole_of (comes (resume script budget ps))
 
   -- what follows a body
   followed_comes : (after : After) (result : Ptr) (h : RunState) → ComesTo r script h (after_frame (afterwards after) result (state_of script h)) (followed_carried h after result)

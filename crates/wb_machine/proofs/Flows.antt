@@ -1,5 +1,5 @@
 -- What attempts come to, from the state of a run on.
-use Rattle.std.proofs.Common.{◌≡◌, ℕ, ◌+◌, ◌-◌, true, false, List, refl, ap, ◌∙◌, sym, Option, Some, None}
+use Rattle.std.proofs.Common.{◌≡◌, ℕ, ◌-◌, true, false, List, refl, ap, ◌∙◌, sym, Option, Some, None}
 use Rattle.wb_model.specs.declared.heap.Ptr.{Ptr}
 use Rattle.wb_model.specs.declared.heap.Kind.{Kind}
 use Rattle.wb_model.specs.declared.heap.Kind.TheVariants.{Raw, Object, Text, Cleanup}
@@ -23,7 +23,7 @@ use Rattle.wb_model.specs.CellRow.{resized_words}
 use Rattle.wb_model.specs.LimitedHeap.{zero_words}
 use Rattle.wb_model.specs.Debug.{number_of_next, made_by, gave_of, shorter_made}
 use Rattle.wb_model.specs.Spelling.{read_as}
-use Rattle.wb_machine.specs.RunState.{RunState, HasLines, field_count, read_cell, read_row, read_heap, state_of, account_of, with_debug}
+use Rattle.wb_machine.specs.RunState.{RunState, field_count, read_cell, read_row, read_heap, state_of, account_of, with_debug}
 use Rattle.wb_machine.specs.Flow.{flow}
 use Rattle.wb_machine.proofs.Rows.{headers_read, read_inserted, read_without, read_resized}
 
@@ -47,12 +47,12 @@ pub record ReadsAs (script : Script) (after : ℕ → Answer → AfterAnswer (Li
 -- an attempt comes to what follows its answer, whatever state the ceiling shows
 pub attempted_or : (r : Rule) (script : Script) (h : RunState) (cut : State) (t : Request) (after : ℕ → Answer → AfterAnswer (List ℕ)) (read : ℕ → Answer → AfterAnswer Content)
     (go : Option Ptr → State → Process) (k : Way → State → Process) (o : Option Answer) →
-    HasLines h → ReadsAs script after read → answer_to r (number_of_next h.debug) t ≡ o → limit_under r ≡ limit_under h.debug.rule →
+    ReadsAs script after read → answer_to r (number_of_next h.debug) t ≡ o → limit_under r ≡ limit_under h.debug.rule →
     flow r (and_then (attempt t read cut (state_of script h) go) k) h
     ≡ flow r (and_then (followed_or cut (made_by h.debug t after o).gave go (state_of script (with_debug h (made_by h.debug t after o).debug))) k) (with_debug h (made_by h.debug t after o).debug)
 unfolding flow attempt and_then
-attempted_or r script h cut t after read go k o lines reads answer limit =
-    ap (λ m. G (m + 1) (answer_to r (m + 1) t)) (sym lines) ∙ ap F answer ∙ by o
+attempted_or r script h cut t after read go k o reads answer limit =
+    ap F answer ∙ by o
   where
     st : State
     st = state_of script h
@@ -99,11 +99,11 @@ as_followed script h t after go (Some w) = by (after (number_of_next h.debug) w)
 
 pub attempted : (r : Rule) (script : Script) (h : RunState) (t : Request) (after : ℕ → Answer → AfterAnswer (List ℕ)) (read : ℕ → Answer → AfterAnswer Content)
     (go : Option Ptr → State → Process) (k : Way → State → Process) (o : Option Answer) →
-    HasLines h → ReadsAs script after read → answer_to r (number_of_next h.debug) t ≡ o → limit_under r ≡ limit_under h.debug.rule →
+    ReadsAs script after read → answer_to r (number_of_next h.debug) t ≡ o → limit_under r ≡ limit_under h.debug.rule →
     flow r (and_then (attempt t read (state_of script h) (state_of script h) go) k) h
     ≡ flow r (and_then (followed (made_by h.debug t after o).gave go (state_of script (with_debug h (made_by h.debug t after o).debug))) k) (with_debug h (made_by h.debug t after o).debug)
-attempted r script h t after read go k o lines reads answer limit =
-    attempted_or r script h (state_of script h) t after read go k o lines reads answer limit
+attempted r script h t after read go k o reads answer limit =
+    attempted_or r script h (state_of script h) t after read go k o reads answer limit
     ∙ ap (λ p. flow r (and_then p k) (with_debug h (made_by h.debug t after o).debug)) (as_followed script h t after go o)
 
 -- the cell that a grant inserts
@@ -126,28 +126,28 @@ reads_alloc script heap t kind ws fresh is = record { heap = λ n a. row n a; gi
 
 -- an allocation of a cell that is to have these words comes to what follows its answer
 pub allocated_with : (r : Rule) (script : Script) (h : RunState) (bytes : ℕ) (kind : Kind) (ws : List ℕ) (fresh : Content) (go : Option Ptr → State → Process) (k : Way → State → Process) (o : Option Answer) →
-    HasLines h → read_as (field_count script) kind ws ≡ fresh → answer_to r (number_of_next h.debug) (alloc_request h.debug.heap bytes) ≡ o →
+    read_as (field_count script) kind ws ≡ fresh → answer_to r (number_of_next h.debug) (alloc_request h.debug.heap bytes) ≡ o →
     limit_under r ≡ limit_under h.debug.rule →
     let made = made_by h.debug (alloc_request h.debug.heap bytes) (after_alloc h.debug.heap (alloc_request h.debug.heap bytes) kind ws) o in
     flow r (and_then (allocate bytes kind fresh (state_of script h) go) k) h
     ≡ flow r (and_then (followed made.gave go (state_of script (with_debug h made.debug))) k) (with_debug h made.debug)
 unfolding allocate
-allocated_with r script h bytes kind ws fresh go k o lines is answer limit =
+allocated_with r script h bytes kind ws fresh go k o is answer limit =
     let t = alloc_request h.debug.heap bytes in
     let st = state_of script h in
     let same : alloc_request st.heap bytes ≡ t = ap (λ hs. record t { place = place_of hs (cell_length bytes) }) (headers_read script h.debug.heap.row) in
     ap (λ (t : Request). flow r (and_then (attempt t (after_alloc st.heap t kind fresh) st st go) k) h) same
-    ∙ attempted r script h t (after_alloc h.debug.heap t kind ws) (after_alloc st.heap t kind fresh) go k o lines (reads_alloc script h.debug.heap t kind ws fresh is) answer limit
+    ∙ attempted r script h t (after_alloc h.debug.heap t kind ws) (after_alloc st.heap t kind fresh) go k o (reads_alloc script h.debug.heap t kind ws fresh is) answer limit
 
 -- of one whose words are zeros
 pub allocated : (r : Rule) (script : Script) (h : RunState) (bytes : ℕ) (kind : Kind) (fresh : Content) (go : Option Ptr → State → Process) (k : Way → State → Process) (o : Option Answer) →
-    HasLines h → read_as (field_count script) kind (zero_words (cell_length bytes)) ≡ fresh → answer_to r (number_of_next h.debug) (alloc_request h.debug.heap bytes) ≡ o →
+    read_as (field_count script) kind (zero_words (cell_length bytes)) ≡ fresh → answer_to r (number_of_next h.debug) (alloc_request h.debug.heap bytes) ≡ o →
     limit_under r ≡ limit_under h.debug.rule →
     let t = alloc_request h.debug.heap bytes in
     let made = made_by h.debug t (after_alloc h.debug.heap t kind (zero_words t.length)) o in
     flow r (and_then (allocate bytes kind fresh (state_of script h) go) k) h
     ≡ flow r (and_then (followed made.gave go (state_of script (with_debug h made.debug))) k) (with_debug h made.debug)
-allocated r script h bytes kind fresh go k o lines is answer limit = allocated_with r script h bytes kind (zero_words (cell_length bytes)) fresh go k o lines is answer limit
+allocated r script h bytes kind fresh go k o is answer limit = allocated_with r script h bytes kind (zero_words (cell_length bytes)) fresh go k o is answer limit
 
 -- the words of a cell of another length read as what the content becomes
 abbrev pub ReadsResized : Script → Kind → ℕ → List ℕ → Type 0
@@ -192,32 +192,32 @@ reads_longer script heap c bytes t reads = record { heap = λ n a. row n a; give
 
 -- a reallocation to a longer cell comes to what follows its answer, whatever state the ceiling shows
 pub made_longer_or : (r : Rule) (script : Script) (h : RunState) (cut : State) (c : Cell (List ℕ)) (bytes : ℕ) (go : Option Ptr → State → Process) (k : Way → State → Process) (o : Option Answer) →
-    HasLines h → ReadsResized script c.head.kind bytes c.content → answer_to r (number_of_next h.debug) (realloc_request h.debug.heap c.head bytes) ≡ o → limit_under r ≡ limit_under h.debug.rule →
+    ReadsResized script c.head.kind bytes c.content → answer_to r (number_of_next h.debug) (realloc_request h.debug.heap c.head bytes) ≡ o → limit_under r ≡ limit_under h.debug.rule →
     let t = realloc_request h.debug.heap c.head bytes in
     let made = made_by h.debug t (after_realloc h.debug.heap t c.head (resized_words t.length c.content)) o in
     flow r (and_then (reallocate_longer true (read_cell script c) bytes cut (state_of script h) go) k) h
     ≡ flow r (and_then (followed_or cut made.gave go (state_of script (with_debug h made.debug))) k) (with_debug h made.debug)
 unfolding reallocate_longer
-made_longer_or r script h cut c bytes go k o lines reads answer limit =
+made_longer_or r script h cut c bytes go k o reads answer limit =
     let t = realloc_request h.debug.heap c.head bytes in
     let st = state_of script h in
     let content = resized (cell_length bytes - 16) (read_cell script c).content in
     let same : realloc_request st.heap c.head bytes ≡ t = ap (λ hs. record t { place = realloc_place hs c.head (cell_length bytes) }) (headers_read script h.debug.heap.row) in
     ap (λ (t : Request). flow r (and_then (attempt t (after_realloc st.heap t c.head content) cut st go) k) h) same
-    ∙ attempted_or r script h cut t (after_realloc h.debug.heap t c.head (resized_words t.length c.content)) (after_realloc st.heap t c.head content) go k o lines
+    ∙ attempted_or r script h cut t (after_realloc h.debug.heap t c.head (resized_words t.length c.content)) (after_realloc st.heap t c.head content) go k o
     (reads_longer script h.debug.heap c bytes t reads) answer limit
 
 -- the state that it shows is mostly the one before
 pub made_longer : (r : Rule) (script : Script) (h : RunState) (c : Cell (List ℕ)) (bytes : ℕ) (go : Option Ptr → State → Process) (k : Way → State → Process) (o : Option Answer) →
-    HasLines h → ReadsResized script c.head.kind bytes c.content → answer_to r (number_of_next h.debug) (realloc_request h.debug.heap c.head bytes) ≡ o → limit_under r ≡ limit_under h.debug.rule →
+    ReadsResized script c.head.kind bytes c.content → answer_to r (number_of_next h.debug) (realloc_request h.debug.heap c.head bytes) ≡ o → limit_under r ≡ limit_under h.debug.rule →
     let t = realloc_request h.debug.heap c.head bytes in
     let made = made_by h.debug t (after_realloc h.debug.heap t c.head (resized_words t.length c.content)) o in
     flow r (and_then (reallocate_longer true (read_cell script c) bytes (state_of script h) (state_of script h) go) k) h
     ≡ flow r (and_then (followed made.gave go (state_of script (with_debug h made.debug))) k) (with_debug h made.debug)
-made_longer r script h c bytes go k o lines reads answer limit =
+made_longer r script h c bytes go k o reads answer limit =
     let t = realloc_request h.debug.heap c.head bytes in
     let after = after_realloc h.debug.heap t c.head (resized_words t.length c.content) in
-    made_longer_or r script h (state_of script h) c bytes go k o lines reads answer limit
+    made_longer_or r script h (state_of script h) c bytes go k o reads answer limit
     ∙ ap (λ p. flow r (and_then p k) (with_debug h (made_by h.debug t after o).debug)) (as_followed script h t after go o)
 
 -- and one to a cell that isn't longer

@@ -22,7 +22,7 @@ use Rattle.wb_model.specs.Operands.{within, not_negative}
 use Rattle.wb_model.specs.Statements.{all, turns, destroy_items, destroy_object, Where, Layer, statement, choice, trapped, in_frame, plain, with_class, is_null, release, destroyed_item, destroyed_object}
 use Rattle.wb_model.specs.Bodies.{procedure_at, operation_at, class_at, no_body}
 use Rattle.wb_model.specs.Meaning.{meaning_of}
-use Rattle.wb_model.specs.Run.{result_of}
+use Rattle.wb_model.specs.Run.{whole_of}
 use Rattle.wb_model.specs.Rest.{Pending, Afterwards, nothing_more, gives_to, releases, doing, catching, calling, after_frame, resumed, resume}
 use Rattle.wb_model.proofs.ResumeLemmas.{and_then-assoc}
 use Rattle.wb_machine.specs.declared.pieces.Ending.TheVariants.{GoesOn, Panics}
@@ -47,8 +47,8 @@ module _ (script : Script) (budget : ℕ) (r : Rule) (at : Where) where
   unfolding resume resumed on_plain_end statement
   chosen_rest c first other part old new h is chosen ok =
       rest_on_top script budget r new old (doing at (all part)) h is
-      ∙ ap (λ (ss : List Numbered). result_of (flow r (resume script budget (doing at (all ss) ∷ pending_in h.callers old) goes_on (state_of script h)) h)) chosen
-      ∙ sym (ap (λ x. result_of (flow r (and_then x (resume script budget (pending_in h.callers old))) h))
+      ∙ ap (λ (ss : List Numbered). whole_of (flow r (resume script budget (doing at (all ss) ∷ pending_in h.callers old) goes_on (state_of script h)) h)) chosen
+      ∙ sym (ap (λ x. whole_of (flow r (and_then x (resume script budget (pending_in h.callers old))) h))
       (condition_is script h c (λ b. meaning_of script budget at (all (choice b first other)) (state_of script h)) ok))
 
   -- an `if` without an `else` has nothing to do where its condition doesn't hold
@@ -58,12 +58,12 @@ module _ (script : Script) (budget : ℕ) (r : Rule) (at : Where) where
   if_as_choice c first old h = refl
 
   turns_asked : (v : Number) (body : List Numbered) (old : List Piece) (h : RunState) (o : Option ℕ) → within MOST_TURNS (number_read h v) ≡ o →
-      result_of (flow r (and_then (with_some o NUMBER_OUT_OF_RANGE (state_of script h) (λ n. meaning_of script budget at (turns n body) (state_of script h))) (resume script budget (pending_in h.callers old))) h)
+      whole_of (flow r (and_then (with_some o NUMBER_OUT_OF_RANGE (state_of script h) (λ n. meaning_of script budget at (turns n body) (state_of script h))) (resume script budget (pending_in h.callers old))) h)
       ≡ rest_of_statement script budget r at (Statement-F.Repeat v body) old h
   unfolding statement
   turns_asked v body old h o e =
-      sym (ap (λ z. result_of (flow r (and_then (with_some (within MOST_TURNS z) NUMBER_OUT_OF_RANGE (state_of script h) (λ n. meaning_of script budget at (turns n body) (state_of script h))) (resume script budget (pending_in h.callers old))) h)) (number_is script h v)
-      ∙ ap (λ (x : Option ℕ). result_of (flow r (and_then (with_some x NUMBER_OUT_OF_RANGE (state_of script h) (λ n. meaning_of script budget at (turns n body) (state_of script h))) (resume script budget (pending_in h.callers old))) h)) e)
+      sym (ap (λ z. whole_of (flow r (and_then (with_some (within MOST_TURNS z) NUMBER_OUT_OF_RANGE (state_of script h) (λ n. meaning_of script budget at (turns n body) (state_of script h))) (resume script budget (pending_in h.callers old))) h)) (number_is script h v)
+      ∙ ap (λ (x : Option ℕ). whole_of (flow r (and_then (with_some x NUMBER_OUT_OF_RANGE (state_of script h) (λ n. meaning_of script budget at (turns n body) (state_of script h))) (resume script budget (pending_in h.callers old))) h)) e)
 
   pub turns_rest : (v : Number) (n : ℕ) (body : List Numbered) (old new : List Piece) (h : RunState) →
       pending_in h.callers new ≡ doing at (turns n body) ∷ pending_in h.callers old → within MOST_TURNS (number_read h v) ≡ Some n →
@@ -83,9 +83,9 @@ module _ (script : Script) (budget : ℕ) (r : Rule) (at : Where) where
   trap_rest x entry body old mid new h all_of is next =
       let n = length h.items in
       rest_on_top script budget r new mid (doing (record at { floor = n }) (all body)) h (next ∙ ap (λ (k : ℕ). doing (record at { floor = k }) (all body) ∷ pending_in h.callers mid) all_of)
-      ∙ ap (λ (ps : List Pending). result_of (flow r (resume script budget (doing (record at { floor = n }) (all body) ∷ ps) goes_on (state_of script h)) h))
+      ∙ ap (λ (ps : List Pending). whole_of (flow r (resume script budget (doing (record at { floor = n }) (all body) ∷ ps) goes_on (state_of script h)) h))
       (is ∙ ap (λ (k : ℕ). catching at x k ∷ pending_in h.callers old) all_of)
-      ∙ ap (λ y. result_of (flow r y h)) (sym (and_then-assoc (meaning_of script budget (record at { floor = n }) (all body) (state_of script h)) (trapped (meaning_of script budget) at x n)
+      ∙ ap (λ y. whole_of (flow r y h)) (sym (and_then-assoc (meaning_of script budget (record at { floor = n }) (all body) (state_of script h)) (trapped (meaning_of script budget) at x n)
       (resume script budget (pending_in h.callers old))))
 
   -- the destruction of the newest items, by their number
@@ -140,10 +140,10 @@ module _ (script : Script) (budget : ℕ) (r : Rule) (at : Where) where
       rest_known script budget r GoesOn new (doing below (all body.statements) ∷ calling (frame_with h.this h.locals) after ∷ pending_in h.callers old) g
       (next ∙ ap (λ (vs : Values). doing below (all body.statements) ∷ calling (frame_with h.this vs) after ∷ pending_in (take base g.callers) old) above
       ∙ ap (λ (vs : Values). doing below (all body.statements) ∷ calling (frame_with h.this h.locals) after ∷ pending_in vs old) under)
-      ∙ ap (λ (x : RunState). result_of (flow r (resume script budget (doing below (all body.statements) ∷ calling (frame_with h.this h.locals) after ∷ pending_in h.callers old) goes_on (state_of script x)) x)) is
-      ∙ ap (λ p. result_of (flow r p h))
+      ∙ ap (λ (x : RunState). whole_of (flow r (resume script budget (doing below (all body.statements) ∷ calling (frame_with h.this h.locals) after ∷ pending_in h.callers old) goes_on (state_of script x)) x)) is
+      ∙ ap (λ p. whole_of (flow r p h))
       (sym (and_then-assoc (M below (all body.statements) (state_of script inner)) (λ way st. then_go way (record st { frame = frame_with h.this h.locals })) rest))
-      ∙ sym (ap (λ t. result_of (flow r (and_then (require t TOO_MANY_FRAMES (state_of script h) (λ st. and_then (M below (all body.statements) (record st { frame = frame_with this (given ++ map initial body.locals) }))
+      ∙ sym (ap (λ t. whole_of (flow r (and_then (require t TOO_MANY_FRAMES (state_of script h) (λ st. and_then (M below (all body.statements) (record st { frame = frame_with this (given ++ map initial body.locals) }))
       (λ way last. then_go way (record last { frame = st.frame })))) rest) h)) (lt-ltb at.depth MOST_FRAMES shallow))
 
   -- one frame too many
@@ -155,7 +155,7 @@ module _ (script : Script) (budget : ℕ) (r : Rule) (at : Where) where
       let then_go = plain (after_frame after) in
       let rest = resume script budget (pending_in h.callers old) in
       rest_flow script budget r (Panics TOO_MANY_FRAMES) old h
-      ∙ sym (ap (λ t. result_of (flow r (and_then (require t TOO_MANY_FRAMES (state_of script h) (λ st. and_then (M below (all body.statements) (record st { frame = frame_with this (given ++ map initial body.locals) }))
+      ∙ sym (ap (λ t. whole_of (flow r (and_then (require t TOO_MANY_FRAMES (state_of script h) (λ st. and_then (M below (all body.statements) (record st { frame = frame_with this (given ++ map initial body.locals) }))
       (λ way last. then_go way (record last { frame = st.frame })))) rest) h)) (le-ltb at.depth MOST_FRAMES deep))
 
   -- what a call means, once its arguments are known

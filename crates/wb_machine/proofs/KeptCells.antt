@@ -81,8 +81,8 @@ unfolding alloc_raw
 alloc_made_kept r script h p x bytes f k =
     let t = alloc_request h.debug.heap bytes in
     let made : Made = alloc_made h.debug bytes Raw in
-    let fits : Fits r h.debug.rule (is_ceiling made.gave) made.debug.attempts = fits_made r h.debug.rule h p x made f.1 in
-    sym (allocated r script h bytes Raw (fresh_words bytes) (given_to p x) k (answer_in h.debug t) f.0 (read_fresh (field_count script) bytes)
+    let fits : Fits r h.debug.rule (is_ceiling made.gave) made.debug.attempts = fits_made r h.debug.rule h p x made f in
+    sym (allocated r script h bytes Raw (fresh_words bytes) (given_to p x) k (answer_in h.debug t) (read_fresh (field_count script) bytes)
     (answered_alike r h.debug t (after_alloc h.debug.heap t Raw (zero_words t.length)) (answer_in h.debug t) refl fits)
     (fits-limit r h.debug.rule _ _ fits)
     ∙ sym (given_kept r script (with_debug h made.debug) p x made.gave k))

@@ -199,12 +199,12 @@ module _ (r : Rule) (script : Script) (h : RunState) (item : Item) (ws : List �
   grows f now k =
       let t = realloc_request h.debug.heap c.head bytes in
       let after = after_realloc h.debug.heap t c.head (resized_words t.length c.content) in
-      let fits = fits_growth r script h item ws k t after (answer_in h.debug t) f.1 in
+      let fits = fits_growth r script h item ws k t after (answer_in h.debug t) f in
       let more = with_one_more h item in
       let st = state_of script more in
       let go : Cell Content → Process = λ d. reallocate_longer (nat_lt d.head.length (cell_length bytes)) d bytes (state_of script h) st after_growth in
       grown r script h item ws k t after (answer_in h.debug t) now
-      ∙ sym (made_longer_or r script more (state_of script h) c bytes after_growth k (answer_in h.debug t) f.0 unread
+      ∙ sym (made_longer_or r script more (state_of script h) c bytes after_growth k (answer_in h.debug t) unread
       (answered_alike r h.debug t after (answer_in h.debug t) refl fits) (fits-limit r h.debug.rule _ _ fits))
       ∙ ap (λ b. flow r (and_then (reallocate_longer b (read_cell script c) bytes (state_of script h) st after_growth) k) h) (sym longer)
       ∙ ap (λ o. flow r (and_then (with_some o NULL_OR_STALE st go) k) h) (sym (read_cell_at script h.cleanup h.debug.heap.row ∙ ap (option_map (read_cell script)) at.found))

@@ -47,7 +47,7 @@ unfolding statement flow and_then
 compress_kept script h ok r f rec at k =
     let d = h.debug in
     ap (λ (length : ℕ). settled r (space_of r d.shape) (k goes_on (state_of script h))
-    (record { trace = d.trace; notes = h.notes ++ Compress (d.committed - length) ∷ []; committed = length }))
-    (ap (λ b. compressed_to (space_below (bound_below b) d.shape) d.committed (top_of (headers d.heap.row))) (sym (fits-limit r d.rule _ _ f.1)))
+    (record { attempts = d.attempts; trace = d.trace; rises = d.rises; notes = h.notes ++ Compress (d.committed - length) ∷ []; committed = length }))
+    (ap (λ b. compressed_to (space_below (bound_below b) d.shape) d.committed (top_of (headers d.heap.row))) (sym (fits-limit r d.rule _ _ f)))
     ∙ ap (λ hs. settled r (space_of r d.shape) (k goes_on (state_of script h)) (noted (space_of r d.shape) (compress_note (top_of hs)) (account_of h)))
     (sym (headers_read script d.heap.row))

@@ -50,9 +50,9 @@ new_kept script h p class x ok r f rec at k =
     let t = alloc_request h.debug.heap bytes in
     let ws = new_words t.length class count in
     let made : Made = object_made h.debug class c in
-    let fits : Fits r h.debug.rule (is_ceiling made.gave) made.debug.attempts = fits_made r h.debug.rule h p x made f.1 in
+    let fits : Fits r h.debug.rule (is_ceiling made.gave) made.debug.attempts = fits_made r h.debug.rule h p x made f in
     let room : 2 + 2 * count ≤ t.length / 4 - 4 = omega arith in
-    sym (allocated_with r script h bytes (Object class) ws (fields (replicate count null)) (given_to p x) k (answer_in h.debug t) f.0 (ap fields (new-fields t.length class count room))
+    sym (allocated_with r script h bytes (Object class) ws (fields (replicate count null)) (given_to p x) k (answer_in h.debug t) (ap fields (new-fields t.length class count room))
     (answered_alike r h.debug t (after_alloc h.debug.heap t (Object class) ws) (answer_in h.debug t) refl fits)
     (fits-limit r h.debug.rule _ _ fits)
     ∙ sym (given_kept r script (with_debug h made.debug) p x made.gave k))

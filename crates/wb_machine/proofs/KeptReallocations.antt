@@ -43,8 +43,8 @@ pub resized_kept : (r : Rule) (script : Script) (h : RunState) (p : Pointer) (x 
 resized_kept r script h p x c bytes true reads f k =
     let t = realloc_request h.debug.heap c.head bytes in
     let made : Made = longer_made h.debug c bytes in
-    let fits : Fits r h.debug.rule (is_ceiling made.gave) made.debug.attempts = fits_made r h.debug.rule h p x made f.1 in
-    sym (made_longer r script h c bytes (given_to p x) k (answer_in h.debug t) f.0 reads
+    let fits : Fits r h.debug.rule (is_ceiling made.gave) made.debug.attempts = fits_made r h.debug.rule h p x made f in
+    sym (made_longer r script h c bytes (given_to p x) k (answer_in h.debug t) reads
     (answered_alike r h.debug t (after_realloc h.debug.heap t c.head (resized_words t.length c.content)) (answer_in h.debug t) refl fits) (fits-limit r h.debug.rule _ _ fits)
     ∙ sym (given_kept r script (with_debug h made.debug) p x made.gave k))
 resized_kept r script h p x c bytes false reads f k =

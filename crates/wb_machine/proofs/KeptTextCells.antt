@@ -55,8 +55,8 @@ new_text_made r script h p x None f k = refl
 new_text_made r script h p x (Some n) f k =
     let t = alloc_request h.debug.heap (4 + 2 * n) in
     let made : Made = alloc_made h.debug (4 + 2 * n) Text in
-    let fits : Fits r h.debug.rule (is_ceiling made.gave) made.debug.attempts = fits_made r h.debug.rule h p x made f.1 in
-    sym (allocated r script h (4 + 2 * n) Text (units []) (given_to p x) k (answer_in h.debug t) f.0 (read_empty script n)
+    let fits : Fits r h.debug.rule (is_ceiling made.gave) made.debug.attempts = fits_made r h.debug.rule h p x made f in
+    sym (allocated r script h (4 + 2 * n) Text (units []) (given_to p x) k (answer_in h.debug t) (read_empty script n)
     (answered_alike r h.debug t (after_alloc h.debug.heap t Text (zero_words t.length)) (answer_in h.debug t) refl fits)
     (fits-limit r h.debug.rule _ _ fits)
     ∙ sym (given_kept r script (with_debug h made.debug) p x made.gave k))

@@ -2,6 +2,7 @@ pub mod Asked
 pub mod AskedPieces
 pub mod Begins
 pub mod Buffers
+pub mod Copies
 pub mod Counted
 pub mod Destructions
 pub mod Ends
@@ -28,6 +29,7 @@ pub mod NothingAsked
 pub mod ObjectFields
 pub mod ObjectsMade
 pub mod Outcomes
+pub mod OverRuns
 pub mod PointerOperands
 pub mod Quiet
 pub mod ReadTexts

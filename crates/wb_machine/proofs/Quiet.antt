@@ -1,19 +1,19 @@
 -- What asks for no attempt and counts no step.
-use Rattle.std.proofs.Common.{◌≤◌, length, refl, ap, ◌∙◌, sym, subst, arith}
+use Rattle.std.proofs.Common.{◌≤◌, is_some, refl, ap, ◌∙◌, sym, subst, arith}
 use Rattle.wb_model.specs.declared.heap.Ptr.{Ptr}
 use Rattle.wb_machine.specs.RunState.{RunState}
 use Rattle.wb_machine.specs.Carried.{stepped}
 use Rattle.wb_machine.specs.Owed.{Stays, KeepsSteps, IsSameButFrames, IsQuiet}
 
 pub quiet_still : (h : RunState) → IsQuiet h h
-quiet_still h = record { rule = refl; shape = refl; attempts = refl; trace = refl; level = refl; cleanup = refl; steps = refl; items = omega arith; slots = refl; whole = λ script whole. whole }
+quiet_still h = record { rule = refl; shape = refl; attempts = refl; rises = refl; level = refl; cleanup = refl; steps = refl; items = omega arith; slots = refl; whole = λ script whole. whole }
 
 pub quiet_then : (h m g : RunState) → IsQuiet h m → IsQuiet m g → IsQuiet h g
 quiet_then h m g a b = record {
   rule = b.rule ∙ a.rule;
   shape = b.shape ∙ a.shape;
   attempts = b.attempts ∙ a.attempts;
-  trace = b.trace ∙ a.trace;
+  rises = b.rises ∙ a.rises;
   level = b.level ∙ a.level;
   cleanup = b.cleanup ∙ a.cleanup;
   steps = b.steps ∙ a.steps;
@@ -26,7 +26,7 @@ quiet_then h m g a b = record {
 pub frames_quiet : (h g : RunState) → IsSameButFrames h g → IsQuiet h g
 frames_quiet h g is =
     subst (λ (x : RunState). IsQuiet h x) (sym is)
-    (record { rule = refl; shape = refl; attempts = refl; trace = refl; level = refl; cleanup = refl; steps = refl; items = omega arith; slots = refl; whole = λ script whole. whole })
+    (record { rule = refl; shape = refl; attempts = refl; rises = refl; level = refl; cleanup = refl; steps = refl; items = omega arith; slots = refl; whole = λ script whole. whole })
 
 -- a turn that is quiet but for its step
 pub quiet_step : (h g : RunState) → IsQuiet (stepped h) g → Stays h g
@@ -35,7 +35,7 @@ quiet_step h g q = record {
   shape = q.shape;
   fewer = omega (arith, q.attempts);
   more = omega (arith, q.attempts);
-  lines = omega (arith, q.attempts, ap length q.trace);
+  kept = ap is_some q.rises;
   deeper = omega (arith, q.level);
   stack = λ has. subst (λ (p : Ptr). 1 ≤ p.number) (sym q.cleanup) has;
 }
@@ -48,7 +48,7 @@ quiet_keeps h g q = record {
     shape = q.shape;
     fewer = omega (arith, q.attempts);
     more = omega (arith, q.attempts);
-    lines = omega (arith, q.attempts, ap length q.trace);
+    kept = ap is_some q.rises;
     deeper = omega (arith, q.level);
     stack = λ has. subst (λ (p : Ptr). 1 ≤ p.number) (sym q.cleanup) has;
   };
@@ -61,7 +61,7 @@ stays_quiet h m g s q = record {
   shape = q.shape ∙ s.shape;
   fewer = omega (arith, q.attempts, s.fewer);
   more = omega (arith, q.attempts, s.more);
-  lines = omega (arith, q.attempts, ap length q.trace, s.lines);
+  kept = ap is_some q.rises ∙ s.kept;
   deeper = omega (arith, q.level, s.deeper);
   stack = λ has. subst (λ (p : Ptr). 1 ≤ p.number) (sym q.cleanup) (s.stack has);
 }

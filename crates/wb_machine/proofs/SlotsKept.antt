@@ -1,6 +1,7 @@
 -- The cleanup stack keeps a free slot while pieces are pending.
 use Rattle.std.proofs.Common.{◌≡◌, ℕ, ◌+◌, ◌-◌, ◌<◌, ◌≤◌, List, [], ◌∷◌, ◌++◌, true, false, length, take, length-take-le, inl, refl, sym, ap, ◌∙◌, subst, arith}
 use Rattle.std.specs.Prelude.{max}
+use Rattle.wb_model.specs.Debug.{keeps_rises}
 use Rattle.std.proofs.lemmas.Bool.{ltb-false}
 use Rattle.wb_model.specs.declared.heap.Ptr.{Ptr}
 use Rattle.wb_model.specs.declared.heap.Gave.{Gave}
@@ -18,7 +19,7 @@ use Rattle.wb_machine.specs.declared.pieces.Ending.TheVariants.{GoesOn, Returns,
 use Rattle.wb_machine.specs.declared.pieces.Piece.{Piece}
 use Rattle.wb_machine.specs.declared.pieces.Piece.TheVariants.{Code, Turns, Items, Object, Trap, Caught, MainTrap, MainCaught, Call}
 use Rattle.wb_machine.specs.declared.control.Control.{Control}
-use Rattle.wb_machine.specs.RunState.{RunState, HasLines, first_state, state_of, account_of, with_debug}
+use Rattle.wb_machine.specs.RunState.{RunState, first_state, state_of, account_of, with_debug}
 use Rattle.wb_machine.specs.Bodies.{without_newest}
 use Rattle.wb_machine.specs.Carried.{stepped, stored, entered, first_made, started_by, called_back}
 use Rattle.wb_machine.specs.Flow.{ended_by, flow, is_stop, needs_step, IsCarriedOut}
@@ -67,9 +68,9 @@ flowed_free : (least : ℕ) (p : Process) (h : RunState) → KeepsFree least p �
 unfolding flow
 flowed_free least p h keeps = settled-free least h.debug.rule (space_of h.debug.rule h.debug.shape) p (account_of h) keeps
 
-pub carried_free : (script : Script) (floor : ℕ) (layer : Layer) (h g : RunState) (ending : Ending) → HasLines h → IsCarriedOut script floor layer h ending g →
+pub carried_free : (script : Script) (floor : ℕ) (layer : Layer) (h g : RunState) (ending : Ending) → IsCarriedOut script floor layer h ending g →
     length h.items < h.slots → is_stop ending ≡ false → (h.slots ≤ g.slots) × (length g.items < g.slots + after_leave ending)
-carried_free script floor layer h g ending lines kept free going =
+carried_free script floor layer h g ending kept free going =
     shown_free script h.slots h g ending going (subst (λ s. ShownFree h.slots s.end s.state) (sym same) (flowed_free h.slots p h keeps))
   where
     at : Where
@@ -88,7 +89,7 @@ carried_free script floor layer h g ending lines kept free going =
     p = and_then (statement script idle at layer st) ends
 
     same : flow h.debug.rule (and_then (ended_by ending (state_of script g)) ends) g ≡ flow h.debug.rule p h
-    same = kept h.debug.rule (lines, inl refl) idle at refl ends
+    same = kept h.debug.rule (inl refl) idle at refl ends
 
     keeps : KeepsFree h.slots p
     keeps = and_then-free h.slots (statement script idle at layer st) ends (statement-free idle idles h.slots script at layer st (omega arith, free)) (λ w st e. e)
@@ -102,10 +103,10 @@ leave_off (Panics p) pieces = omega arith
 leave_off (Cut why) pieces = omega arith
 leave_off NoCleanup pieces = omega arith
 
-pub carried_room : (script : Script) (floor : ℕ) (layer : Layer) (pieces : List Piece) (h g : RunState) (ending : Ending) → HasLines h → IsCarriedOut script floor layer h ending g →
+pub carried_room : (script : Script) (floor : ℕ) (layer : Layer) (pieces : List Piece) (h g : RunState) (ending : Ending) → IsCarriedOut script floor layer h ending g →
     IsFree pieces h → HasRoom ending pieces g
-carried_room script floor layer pieces h g ending lines kept is going =
-    let left = carried_free script floor layer h g ending lines kept is.free going in
+carried_room script floor layer pieces h g ending kept is going =
+    let left = carried_free script floor layer h g ending kept is.free going in
     record {
       entered = omega (arith, is.entered, left.0);
       some = omega (arith, is.free, left.0);
@@ -242,7 +243,7 @@ started_items h (gave.Granted p) = (refl, refl)
 started_items h gave.Denied = (refl, refl)
 started_items h gave.Ceiling = (refl, refl)
 
-pub begun_room : (ending : Ending) (pieces : List Piece) (h m g : RunState) (locals : List Local) → h ≡ first_state h.debug.rule h.debug.shape →
+pub begun_room : (ending : Ending) (pieces : List Piece) (h m g : RunState) (locals : List Local) → h ≡ first_state (keeps_rises h.debug) h.debug.rule h.debug.shape →
     m ≡ started_by (with_debug h (first_made h).debug) (first_made h).gave → g ≡ entered m locals → slots_for_all pieces ≡ 0 → HasRoom ending pieces g
 begun_room ending pieces h m g locals start begun is none going =
     let of = started_items (with_debug h (first_made h).debug) (first_made h).gave in

@@ -1,11 +1,11 @@
 -- A push on the cleanup stack, as the state of a run sees it.
-use Rattle.std.proofs.Common.{◌≡◌, ℕ, ◌+◌, ◌*◌, ◌≤◌, List, Bool, true, false, cond, Some, Result, Ok, Err, OnOk, OnErr, refl, sym, ap, ◌∙◌, subst, arith, length}
+use Rattle.std.proofs.Common.{◌≡◌, ℕ, ◌+◌, ◌*◌, ◌≤◌, List, Bool, true, false, cond, Some, Result, Ok, Err, OnOk, OnErr, refl, sym, ap, ◌∙◌, subst, arith}
 use Rattle.wb_model.specs.declared.heap.Ptr.{Ptr}
 use Rattle.wb_model.specs.declared.heap.Gave.TheVariants as G
 use Rattle.wb_model.specs.declared.heap.Kind.TheVariants.{Text, Cleanup as CleanupKind}
 use Rattle.wb_model.specs.Row.{Cell, cell_at, headers}
 use Rattle.wb_model.specs.CellRow.{payload_of}
-use Rattle.wb_model.specs.Debug.{Debug, IsSoundDebug, debug_changed}
+use Rattle.wb_model.specs.Debug.{Debug, keeps_rises, IsSoundDebug, debug_changed}
 use Rattle.wb_model.proofs.Reallocations.{at-number, found-from, found-head}
 use Rattle.wb_model.proofs.TextCellsHeap.{found-changed}
 use Rattle.wb_cleanup.specs.declared.cleanup.Cleanup.{Cleanup}
@@ -65,12 +65,12 @@ made_stays stack h is = by (fills stack h.debug)
 
     by : (b : Bool) → Stays h (with_debug h (cond b (growth stack h.debug) (record { debug = h.debug; gave = G.Granted (cell_of stack) })).debug)
     by true = grown
-    by false = record { rule = refl; shape = refl; fewer = omega arith; more = omega arith; lines = refl; deeper = omega arith; stack = λ has. has }
+    by false = record { rule = refl; shape = refl; fewer = omega arith; more = omega arith; kept = refl; deeper = omega arith; stack = λ has. has }
 
 -- other words leave it too
 words_stay : (h : RunState) (m : Debug) (p : Ptr) (ws : List ℕ) → Stays h (with_debug h m) → Stays h (with_debug h (debug_changed m p ws))
 words_stay h m p ws stays =
-    record { rule = stays.rule; shape = stays.shape; fewer = stays.fewer; more = stays.more; lines = stays.lines; deeper = stays.deeper; stack = stays.stack }
+    record { rule = stays.rule; shape = stays.shape; fewer = stays.fewer; more = stays.more; kept = stays.kept; deeper = stays.deeper; stack = stays.stack }
 
 stays_as : (h g : RunState) (x : Debug) → g.debug ≡ x → HasStack g → Stays h (with_debug h x) → Stays h g
 stays_as h g x is has stays = record {
@@ -78,7 +78,7 @@ stays_as h g x is has stays = record {
   shape = ap (λ (y : Debug). y.shape) is ∙ stays.shape;
   fewer = subst (λ (y : Debug). h.debug.attempts ≤ y.attempts) (sym is) stays.fewer;
   more = subst (λ (y : Debug). y.attempts ≤ h.debug.attempts + 1) (sym is) stays.more;
-  lines = subst (λ (y : Debug). h.debug.attempts + length y.trace ≡ y.attempts + length h.debug.trace) (sym is) stays.lines;
+  kept = ap keeps_rises is ∙ stays.kept;
   deeper = subst (λ (y : Debug). y.heap.level ≤ h.debug.heap.level + 1) (sym is) stays.deeper;
   stack = λ held. has;
 }
@@ -104,4 +104,4 @@ keeps_pushed {X} {Y} r stack new h g is now sound cell steps callers ok err = re
     by (Ok x) ok err =
         stays_as h g _ ok has (words_stay h (push_made stack h.debug).debug (cell_of new) (payload_of (cell_of new) g.debug.heap.row) (made_stays stack h is))
     by (Err y) ok err =
-        stays_as h g _ err has (record { rule = refl; shape = refl; fewer = omega arith; more = omega arith; lines = refl; deeper = omega arith; stack = λ has. has })
+        stays_as h g _ err has (record { rule = refl; shape = refl; fewer = omega arith; more = omega arith; kept = refl; deeper = omega arith; stack = λ has. has })

@@ -1,6 +1,5 @@
 -- What an attempt leaves as it was.
-use Rattle.std.proofs.Common.{◌≡◌, ℕ, List, length-append, refl, ap, ◌∙◌, sym, subst, arith, Result, Ok, Err, OnOk, OnErr, IsSome, IfSome, Option, Some, None, Bool, true, false, cond}
-use Rattle.wb_model.specs.declared.heap.Attempt.{Attempt}
+use Rattle.std.proofs.Common.{◌≡◌, ℕ, List, refl, ap, ◌∙◌, sym, subst, arith, Result, Ok, Err, OnOk, OnErr, IsSome, IfSome, Option, Some, None, Bool, true, false, cond}
 use Rattle.wb_model.specs.declared.heap.Kind.{Kind}
 use Rattle.wb_model.specs.declared.heap.Answer.{Answer}
 use Rattle.wb_model.specs.declared.heap.Answer.TheVariants.{Granted, Simulated, Refused}
@@ -10,6 +9,8 @@ use Rattle.wb_model.specs.CellRow.{resized_words}
 use Rattle.wb_model.specs.Rules.{Request}
 use Rattle.wb_model.specs.Heap.{AfterAnswer, alloc_request, after_alloc, realloc_request, after_realloc}
 use Rattle.wb_model.specs.LimitedHeap.{zero_words}
+use Rattle.wb_model.specs.Account.{trace_line}
+use Rattle.wb_model.proofs.AccountLemmas.{rises-stay}
 use Rattle.wb_model.specs.Debug.{Debug, number_of_next, made_by, answer_in, alloc_made, longer_made, shorter_made, realloc_made}
 use Rattle.wb_machine.specs.RunState.{RunState, with_debug}
 use Rattle.wb_machine.specs.Owed.{Stays, KeepsCount}
@@ -17,13 +18,13 @@ use Rattle.wb_machine.specs.Owed.{Stays, KeepsCount}
 -- an attempt
 pub made_stays : (h : RunState) (t : Request) (after : ℕ → Answer → AfterAnswer (List ℕ)) → ((n : ℕ) (a : Answer) → (after n a).heap.level ≡ h.debug.heap.level) → (o : Option Answer) →
     Stays h (with_debug h (made_by h.debug t after o).debug)
-made_stays h t after same None = record { rule = refl; shape = refl; fewer = omega arith; more = omega arith; lines = refl; deeper = omega arith; stack = λ has. has }
+made_stays h t after same None = record { rule = refl; shape = refl; fewer = omega arith; more = omega arith; kept = refl; deeper = omega arith; stack = λ has. has }
 made_stays h t after same (Some a) = record {
   rule = refl;
   shape = refl;
   fewer = omega arith;
   more = omega arith;
-  lines = omega (arith, length-append {A = Attempt});
+  kept = rises-stay h.debug.rises (trace_line (number_of_next h.debug) t a);
   deeper = omega (arith, same (number_of_next h.debug) a);
   stack = λ has. has;
 }
@@ -56,7 +57,7 @@ pub called_keeps : {X Y : Type 0} (o : Result X Y) (h : RunState) (made d : Debu
 called_keeps (Ok x) h made d stays ok err = subst (λ (x : Debug). KeepsCount h (with_debug h x)) (sym ok) (record { steps = refl; stays = stays; callers = refl })
 called_keeps (Err e) h made d stays ok err =
     subst (λ (x : Debug). KeepsCount h (with_debug h x)) (sym err)
-    (record { steps = refl; stays = record { rule = refl; shape = refl; fewer = omega arith; more = omega arith; lines = refl; deeper = omega arith; stack = λ has. has }; callers = refl })
+    (record { steps = refl; stays = record { rule = refl; shape = refl; fewer = omega arith; more = omega arith; kept = refl; deeper = omega arith; stack = λ has. has }; callers = refl })
 
 realloc_after : (d : Debug) (t : Request) (c : Cell (List ℕ)) (n : ℕ) (a : Answer) → (after_realloc d.heap t c.head (resized_words t.length c.content) n a).heap.level ≡ d.heap.level
 realloc_after d t c n Granted = refl
@@ -72,7 +73,7 @@ realloc_stays h c bytes = by (nat_lt c.head.length (cell_length bytes))
 
     by : (b : Bool) → Stays h (with_debug h (cond b (longer_made h.debug c bytes) (shorter_made h.debug c bytes)).debug)
     by true = made_stays h t (after_realloc h.debug.heap t c.head (resized_words t.length c.content)) (realloc_after h.debug t c) (answer_in h.debug t)
-    by false = record { rule = refl; shape = refl; fewer = omega arith; more = omega arith; lines = refl; deeper = omega arith; stack = λ has. has }
+    by false = record { rule = refl; shape = refl; fewer = omega arith; more = omega arith; kept = refl; deeper = omega arith; stack = λ has. has }
 
 pub realloc_keeps : {X Y : Type 0} (o : Result X Y) (h : RunState) (d : Debug) (found : Option (Cell (List ℕ))) (bytes : ℕ) → IsSome found →
     OnOk o (IfSome found (λ c. d ≡ (realloc_made h.debug c bytes).debug)) → OnErr o (d ≡ h.debug) → KeepsCount h (with_debug h d)

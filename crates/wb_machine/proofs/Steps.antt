@@ -14,7 +14,7 @@ use Rattle.wb_model.specs.declared.script.Statement.TheViews.{out-Statement}
 use Rattle.wb_model.specs.State.{goes_on, and_then, then_do, with_some}
 use Rattle.wb_model.specs.Statements.{all, turns, destroy_items, destroy_object, newest, drop_newest, destroyed_item, with_class, Where, statement}
 use Rattle.wb_model.specs.Meaning.{begun, begun_if, meaning_of}
-use Rattle.wb_model.specs.Run.{result_of}
+use Rattle.wb_model.specs.Run.{whole_of}
 use Rattle.wb_model.specs.Rest.{Pending, doing, resume, left_to_do, rest}
 use Rattle.wb_model.proofs.ResumeLemmas.{resume-all, resume-turns}
 use Rattle.wb_machine.proofs.Destructions.{object_destroyed, resume_items, resume_object, item_there}
@@ -63,9 +63,9 @@ rest_stepped script budget r at s ss below mid new ending h g is within same =
     let layer = out-Statement s.statement in
     let M = meaning_of script budget in
     same
-    ∙ ap (λ (ps : List Pending). result_of (flow r (and_then (statement script M at layer (state_of script (stepped h))) (resume script budget ps)) (stepped h))) is
-    ∙ sym (ap (λ x. result_of (flow r x h)) (resume-all script budget at s ss (pending_in h.callers below) (state_of script h) (omega (arith, within)))
-    ∙ ap (λ b. result_of (flow r (begun_if b (state_of script h) (λ st. and_then (statement script M at layer st)
+    ∙ ap (λ (ps : List Pending). whole_of (flow r (and_then (statement script M at layer (state_of script (stepped h))) (resume script budget ps)) (stepped h))) is
+    ∙ sym (ap (λ x. whole_of (flow r x h)) (resume-all script budget at s ss (pending_in h.callers below) (state_of script h) (omega (arith, within)))
+    ∙ ap (λ b. whole_of (flow r (begun_if b (state_of script h) (λ st. and_then (statement script M at layer st)
     (resume script budget (doing at (all ss) ∷ pending_in h.callers below)))) h)) (lt-ltb h.steps budget within))
 
 -- a turn that begins a turn of a loop
@@ -75,10 +75,10 @@ pub rest_turned : (script : Script) (budget : ℕ) (r : Rule) (at : Where) (left
 unfolding flow begun begun_if
 rest_turned script budget r at left n body below mid new h is next count within =
     rest_on_top script budget r new mid (doing at (all body)) (stepped h) next
-    ∙ ap (λ (ps : List Pending). result_of (flow r (resume script budget (doing at (all body) ∷ ps) goes_on (state_of script (stepped h))) (stepped h))) is
-    ∙ sym (ap (λ (k : ℕ). result_of (flow r (resume script budget (doing at (turns k body) ∷ pending_in h.callers below) goes_on (state_of script h)) h)) count
-    ∙ ap (λ x. result_of (flow r x h)) (resume-turns script budget at n body (pending_in h.callers below) (state_of script h) (omega (arith, within)))
-    ∙ ap (λ b. result_of (flow r (begun_if b (state_of script h) (λ st. resume script budget (doing at (all body) ∷ doing at (turns n body) ∷ pending_in h.callers below) goes_on st)) h)) (lt-ltb h.steps budget within))
+    ∙ ap (λ (ps : List Pending). whole_of (flow r (resume script budget (doing at (all body) ∷ ps) goes_on (state_of script (stepped h))) (stepped h))) is
+    ∙ sym (ap (λ (k : ℕ). whole_of (flow r (resume script budget (doing at (turns k body) ∷ pending_in h.callers below) goes_on (state_of script h)) h)) count
+    ∙ ap (λ x. whole_of (flow r x h)) (resume-turns script budget at n body (pending_in h.callers below) (state_of script h) (omega (arith, within)))
+    ∙ ap (λ b. whole_of (flow r (begun_if b (state_of script h) (λ st. resume script budget (doing at (all body) ∷ doing at (turns n body) ∷ pending_in h.callers below) goes_on st)) h)) (lt-ltb h.steps budget within))
 
 -- a turn that destroys an item, or finds none
 pub rest_destroyed : (script : Script) (budget : ℕ) (r : Rule) (at : Where) (left n : ℕ) (item : Item) (below mid new : List Piece) (ending : Ending) (h g : RunState) →
@@ -91,11 +91,11 @@ rest_destroyed script budget r at left n item below mid new ending h g is count 
     let next = state_of script (stepped h) in
     let M = meaning_of script budget in
     same
-    ∙ ap (λ (ps : List Pending). result_of (flow r (and_then (destroyed_item script M at item (drop_newest 1 next)) (resume script budget ps)) h)) is
-    ∙ sym (ap (λ (k : ℕ). result_of (flow r (resume script budget (doing at (destroy_items k) ∷ pending_in h.callers below) goes_on st) h)) count
-    ∙ ap (λ x. result_of (flow r x h)) (resume_items script budget at n (pending_in h.callers below) st (omega (arith, within)))
-    ∙ ap (λ b. result_of (flow r (begun_if b st (λ st. and_then (with_some (newest st.items) POP_BELOW_TRAP st (λ item. then_do (destroyed_item script M at item (drop_newest 1 st)) (M at (destroy_items n)))) (resume script budget (pending_in h.callers below)))) h)) (lt-ltb h.steps budget within)
-    ∙ ap (λ x. result_of (flow r x h)) (item_there script budget at n item (newest h.items) (pending_in h.callers below) next there))
+    ∙ ap (λ (ps : List Pending). whole_of (flow r (and_then (destroyed_item script M at item (drop_newest 1 next)) (resume script budget ps)) h)) is
+    ∙ sym (ap (λ (k : ℕ). whole_of (flow r (resume script budget (doing at (destroy_items k) ∷ pending_in h.callers below) goes_on st) h)) count
+    ∙ ap (λ x. whole_of (flow r x h)) (resume_items script budget at n (pending_in h.callers below) st (omega (arith, within)))
+    ∙ ap (λ b. whole_of (flow r (begun_if b st (λ st. and_then (with_some (newest st.items) POP_BELOW_TRAP st (λ item. then_do (destroyed_item script M at item (drop_newest 1 st)) (M at (destroy_items n)))) (resume script budget (pending_in h.callers below)))) h)) (lt-ltb h.steps budget within)
+    ∙ ap (λ x. whole_of (flow r x h)) (item_there script budget at n item (newest h.items) (pending_in h.callers below) next there))
 
 pub rest_undestroyed : (script : Script) (budget : ℕ) (r : Rule) (at : Where) (left n : ℕ) (below new : List Piece) (h : RunState) →
     left ≡ suc n → h.steps < budget → newest h.items ≡ None →
@@ -106,10 +106,10 @@ rest_undestroyed script budget r at left n below new h count within none =
     let next = state_of script (stepped h) in
     let M = meaning_of script budget in
     rest_flow script budget r (Panics POP_BELOW_TRAP) new (without_newest (stepped h))
-    ∙ sym (ap (λ (k : ℕ). result_of (flow r (resume script budget (doing at (destroy_items k) ∷ pending_in h.callers below) goes_on st) h)) count
-    ∙ ap (λ x. result_of (flow r x h)) (resume_items script budget at n (pending_in h.callers below) st (omega (arith, within)))
-    ∙ ap (λ b. result_of (flow r (begun_if b st (λ st. and_then (with_some (newest st.items) POP_BELOW_TRAP st (λ item. then_do (destroyed_item script M at item (drop_newest 1 st)) (M at (destroy_items n)))) (resume script budget (pending_in h.callers below)))) h)) (lt-ltb h.steps budget within)
-    ∙ ap (λ (o : Option Item). result_of (flow r (and_then (with_some o POP_BELOW_TRAP next (λ item. then_do (destroyed_item script M at item (drop_newest 1 next)) (M at (destroy_items n)))) (resume script budget (pending_in h.callers below))) h)) none)
+    ∙ sym (ap (λ (k : ℕ). whole_of (flow r (resume script budget (doing at (destroy_items k) ∷ pending_in h.callers below) goes_on st) h)) count
+    ∙ ap (λ x. whole_of (flow r x h)) (resume_items script budget at n (pending_in h.callers below) st (omega (arith, within)))
+    ∙ ap (λ b. whole_of (flow r (begun_if b st (λ st. and_then (with_some (newest st.items) POP_BELOW_TRAP st (λ item. then_do (destroyed_item script M at item (drop_newest 1 st)) (M at (destroy_items n)))) (resume script budget (pending_in h.callers below)))) h)) (lt-ltb h.steps budget within)
+    ∙ ap (λ (o : Option Item). whole_of (flow r (and_then (with_some o POP_BELOW_TRAP next (λ item. then_do (destroyed_item script M at item (drop_newest 1 next)) (M at (destroy_items n)))) (resume script budget (pending_in h.callers below))) h)) none)
 
 -- a turn that begins the destruction of an object
 pub rest_unmade : (script : Script) (budget : ℕ) (r : Rule) (at : Where) (p : Ptr) (below new : List Piece) (ending : Ending) (h g : RunState) → h.steps < budget →
@@ -119,8 +119,8 @@ unfolding flow begun begun_if
 rest_unmade script budget r at p below new ending h g within same =
     let st = state_of script h in
     same
-    ∙ sym (ap (λ x. result_of (flow r x h)) (resume_object script budget at p (pending_in h.callers below) st (omega (arith, within)))
-    ∙ ap (λ b. result_of (flow r (begun_if b st (λ st. and_then (with_class st p (object_destroyed script budget at p st)) (resume script budget (pending_in h.callers below)))) h)) (lt-ltb h.steps budget within))
+    ∙ sym (ap (λ x. whole_of (flow r x h)) (resume_object script budget at p (pending_in h.callers below) st (omega (arith, within)))
+    ∙ ap (λ b. whole_of (flow r (begun_if b st (λ st. and_then (with_class st p (object_destroyed script budget at p st)) (resume script budget (pending_in h.callers below)))) h)) (lt-ltb h.steps budget within))
 
 -- at the budget the rest is a cut
 pub rest_cut : (script : Script) (budget : ℕ) (r : Rule) (ending : Ending) (pieces below : List Piece) (p : Piece) (h : RunState) →
@@ -136,9 +136,9 @@ rest_cut script budget r ending pieces below (Code standing statements) h goes w
         rest_flow script budget r (Cut Budget) pieces h
         ∙ sym (ap (λ x. rest_from script budget r x pieces h) goes
         ∙ rest_on_top script budget r pieces below (doing here (all statements.now)) h (pending_pushed h.callers below pieces (Code standing statements) was)
-        ∙ ap (λ (ss : List Numbered). result_of (flow r (resume script budget (doing here (all ss) ∷ pending_in h.callers below) goes_on (state_of script h)) h)) e
-        ∙ ap (λ x. result_of (flow r x h)) (resume-all script budget here s ss (pending_in h.callers below) (state_of script h) (omega (arith, at)))
-        ∙ ap (λ b. result_of (flow r (begun_if b (state_of script h) (λ st. and_then (statement script (meaning_of script budget) here (out-Statement s.statement) st)
+        ∙ ap (λ (ss : List Numbered). whole_of (flow r (resume script budget (doing here (all ss) ∷ pending_in h.callers below) goes_on (state_of script h)) h)) e
+        ∙ ap (λ x. whole_of (flow r x h)) (resume-all script budget here s ss (pending_in h.callers below) (state_of script h) (omega (arith, at)))
+        ∙ ap (λ b. whole_of (flow r (begun_if b (state_of script h) (λ st. and_then (statement script (meaning_of script budget) here (out-Statement s.statement) st)
         (resume script budget (doing here (all ss) ∷ pending_in h.callers below)))) h)) (le-ltb h.steps budget (omega (arith, at))))
 rest_cut script budget r ending pieces below (Turns standing left body) h goes was first at = by left refl
   where
@@ -151,9 +151,9 @@ rest_cut script budget r ending pieces below (Turns standing left body) h goes w
         rest_flow script budget r (Cut Budget) pieces h
         ∙ sym (ap (λ x. rest_from script budget r x pieces h) goes
         ∙ rest_on_top script budget r pieces below (doing here (turns left body.now)) h (pending_pushed h.callers below pieces (Turns standing left body) was)
-        ∙ ap (λ (k : ℕ). result_of (flow r (resume script budget (doing here (turns k body.now) ∷ pending_in h.callers below) goes_on (state_of script h)) h)) e
-        ∙ ap (λ x. result_of (flow r x h)) (resume-turns script budget here n body.now (pending_in h.callers below) (state_of script h) (omega (arith, at)))
-        ∙ ap (λ b. result_of (flow r (begun_if b (state_of script h) (λ st. resume script budget (doing here (all body.now) ∷ doing here (turns n body.now) ∷ pending_in h.callers below) goes_on st)) h))
+        ∙ ap (λ (k : ℕ). whole_of (flow r (resume script budget (doing here (turns k body.now) ∷ pending_in h.callers below) goes_on (state_of script h)) h)) e
+        ∙ ap (λ x. whole_of (flow r x h)) (resume-turns script budget here n body.now (pending_in h.callers below) (state_of script h) (omega (arith, at)))
+        ∙ ap (λ b. whole_of (flow r (begun_if b (state_of script h) (λ st. resume script budget (doing here (all body.now) ∷ doing here (turns n body.now) ∷ pending_in h.callers below) goes_on st)) h))
         (le-ltb h.steps budget (omega (arith, at))))
 rest_cut script budget r ending pieces below (Items standing left) h goes was first at = by left refl
   where
@@ -166,16 +166,16 @@ rest_cut script budget r ending pieces below (Items standing left) h goes was fi
         rest_flow script budget r (Cut Budget) pieces h
         ∙ sym (ap (λ x. rest_from script budget r x pieces h) goes
         ∙ rest_on_top script budget r pieces below (doing here (destroy_items left)) h (pending_pushed h.callers below pieces (Items standing left) was)
-        ∙ ap (λ (k : ℕ). result_of (flow r (resume script budget (doing here (destroy_items k) ∷ pending_in h.callers below) goes_on (state_of script h)) h)) e
-        ∙ ap (λ x. result_of (flow r x h)) (resume_items script budget here n (pending_in h.callers below) (state_of script h) (omega (arith, at)))
-        ∙ ap (λ b. result_of (flow r (begun_if b (state_of script h) (λ st. and_then (with_some (newest st.items) POP_BELOW_TRAP st (λ item. then_do (destroyed_item script (meaning_of script budget) here item (drop_newest 1 st))
+        ∙ ap (λ (k : ℕ). whole_of (flow r (resume script budget (doing here (destroy_items k) ∷ pending_in h.callers below) goes_on (state_of script h)) h)) e
+        ∙ ap (λ x. whole_of (flow r x h)) (resume_items script budget here n (pending_in h.callers below) (state_of script h) (omega (arith, at)))
+        ∙ ap (λ b. whole_of (flow r (begun_if b (state_of script h) (λ st. and_then (with_some (newest st.items) POP_BELOW_TRAP st (λ item. then_do (destroyed_item script (meaning_of script budget) here item (drop_newest 1 st))
         (meaning_of script budget here (destroy_items n)))) (resume script budget (pending_in h.callers below)))) h)) (le-ltb h.steps budget (omega (arith, at))))
 rest_cut script budget r ending pieces below (Object standing p) h goes was first at =
     rest_flow script budget r (Cut Budget) pieces h
     ∙ sym (ap (λ x. rest_from script budget r x pieces h) goes
     ∙ rest_on_top script budget r pieces below (doing (where_of standing) (destroy_object p)) h (pending_pushed h.callers below pieces (Object standing p) was)
-    ∙ ap (λ x. result_of (flow r x h)) (resume_object script budget (where_of standing) p (pending_in h.callers below) (state_of script h) (omega (arith, at)))
-    ∙ ap (λ b. result_of (flow r (begun_if b (state_of script h) (λ st. and_then (with_class st p (object_destroyed script budget (where_of standing) p st)) (resume script budget (pending_in h.callers below)))) h)) (le-ltb h.steps budget (omega (arith, at))))
+    ∙ ap (λ x. whole_of (flow r x h)) (resume_object script budget (where_of standing) p (pending_in h.callers below) (state_of script h) (omega (arith, at)))
+    ∙ ap (λ b. whole_of (flow r (begun_if b (state_of script h) (λ st. and_then (with_class st p (object_destroyed script budget (where_of standing) p st)) (resume script budget (pending_in h.callers below)))) h)) (le-ltb h.steps budget (omega (arith, at))))
 rest_cut script budget r ending pieces below (Trap standing x entry) h goes was first at = cc
 rest_cut script budget r ending pieces below (Caught x code) h goes was first at = cc
 rest_cut script budget r ending pieces below MainTrap h goes was first at = cc

@@ -22,7 +22,7 @@ use Rattle.wb_model.specs.Throughout.{SuitsKind, HoldsItsKind}
 use Rattle.wb_model.specs.State.{State, stops, ends, is_cut, Process, and_then}
 use Rattle.wb_model.specs.Statements.{Layer, Meaning, Where, is_null, statement}
 use Rattle.wb_model.specs.Space.{space_of}
-use Rattle.wb_model.specs.Debug.{Debug, made_by, answer_in, number_of_next, alloc_made, with_row}
+use Rattle.wb_model.specs.Debug.{Debug, keeps_rises, made_by, answer_in, number_of_next, alloc_made, with_row}
 use Rattle.wb_model.proofs.AlikeLemmas.{Keeps, AlikeAll, and_then-alike}
 use Rattle.wb_model.proofs.AlikeStatements.{statement-alike}
 use Rattle.wb_model.proofs.KeptCells.{AreOfKind, found-cell, kinds}
@@ -31,7 +31,7 @@ use Rattle.wb_model.proofs.ThroughoutLemmas.{settled-shows}
 use Rattle.wb_objects.specs.Objects.{is_of_class, words_of_cell, HasField}
 use Rattle.wb_machine.specs.declared.pieces.Ending.{Ending}
 use Rattle.wb_machine.specs.declared.pieces.Ending.TheVariants.{GoesOn, Returns, Leaves, Panics, Cut, NoCleanup}
-use Rattle.wb_machine.specs.RunState.{RunState, HasLines, first_state, state_of, account_of, with_debug, field_count, read_cell, read_row}
+use Rattle.wb_machine.specs.RunState.{RunState, first_state, state_of, account_of, with_debug, field_count, read_cell, read_row}
 use Rattle.wb_machine.specs.Bodies.{without_newest}
 use Rattle.wb_machine.specs.Carried.{stepped, first_bytes, first_made, started_by, free_carried, released_found, panicked, gone_on}
 use Rattle.wb_machine.specs.Flow.{ended_by, flow, IsCarriedOut}
@@ -89,10 +89,10 @@ shown script h g NoCleanup = refl
 
 -- A statement that was carried out leaves what the definitions leave, and in every state that these show the cells hold what
 -- their kinds hold.
-pub carried_whole : (script : Script) (floor : ℕ) (layer : Layer) (h g : RunState) (ending : Ending) → HasLines h → IsCarriedOut script floor layer h ending g →
+pub carried_whole : (script : Script) (floor : ℕ) (layer : Layer) (h g : RunState) (ending : Ending) → IsCarriedOut script floor layer h ending g →
     StaysWhole script h g
 unfolding flow
-carried_whole script floor layer h g ending lines kept whole =
+carried_whole script floor layer h g ending kept whole =
     subst (λ (st : State). AreOfKind script st.heap) (sym same) kinds_there.1
   where
     at : Where
@@ -108,7 +108,7 @@ carried_whole script floor layer h g ending lines kept whole =
     p = and_then (statement script idle at layer st) ends
 
     same : state_of script g ≡ (flow h.debug.rule p h).state
-    same = sym (shown script h g ending) ∙ ap (λ s. s.state) (kept h.debug.rule (lines, inl refl) idle at refl ends)
+    same = sym (shown script h g ending) ∙ ap (λ s. s.state) (kept h.debug.rule (inl refl) idle at refl ends)
 
     idles : AlikeAll (kinds script) idle idle
     idles ns at p st f = (refl, f)
@@ -149,7 +149,7 @@ started_debug h (gave.Granted p) = refl
 started_debug h gave.Denied = refl
 started_debug h gave.Ceiling = refl
 
-pub started_whole : (script : Script) (h g : RunState) → h ≡ first_state h.debug.rule h.debug.shape → g ≡ started_by (with_debug h (first_made h).debug) (first_made h).gave →
+pub started_whole : (script : Script) (h g : RunState) → h ≡ first_state (keeps_rises h.debug) h.debug.rule h.debug.shape → g ≡ started_by (with_debug h (first_made h).debug) (first_made h).gave →
     AreWhole script g.debug.heap.row
 started_whole script h g start is =
     let none : AreWhole script h.debug.heap.row = subst (λ (x : RunState). AreWhole script x.debug.heap.row) (sym start) (All-nil _) in
@@ -169,7 +169,7 @@ free_quiet h p = by (is_null p)
       rule = refl;
       shape = refl;
       attempts = refl;
-      trace = refl;
+      rises = refl;
       level = refl;
       cleanup = refl;
       steps = refl;

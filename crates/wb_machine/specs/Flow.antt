@@ -2,7 +2,6 @@
 use Rattle.std.specs.Prelude.{◌≡◌, ℕ, ◌+◌, List, [], ◌∷◌, ◌++◌, Bool, true, false, not, nat_lt, ◌||◌, slice_get, reverse, length, take, drop, Option, None}
 use Rattle.wb_model.specs.declared.heap.Ptr.{Ptr}
 use Rattle.wb_model.specs.declared.heap.Rule.{Rule}
-use Rattle.wb_model.specs.declared.run.RunResult.{RunResult}
 use Rattle.wb_model.specs.declared.run.Why.TheVariants.{Ceiling}
 use Rattle.wb_model.specs.declared.script.Script.{Script}
 use Rattle.wb_model.specs.declared.script.Body.{Body}
@@ -13,7 +12,8 @@ use Rattle.wb_model.specs.Space.{space_of}
 use Rattle.wb_model.specs.State.{State, Frame, Way, goes_on, returns, leaves, panics, is_cut, no_cleanup, Process, ends, stops, and_then}
 use Rattle.wb_model.specs.Statements.{all, turns, destroy_items, destroy_object, Where, Layer, Meaning, statement, in_frame, plain}
 use Rattle.wb_model.specs.Meaning.{meaning_of}
-use Rattle.wb_model.specs.Run.{result_of}
+use Rattle.wb_model.specs.Debug.{keeps_rises}
+use Rattle.wb_model.specs.Run.{WholeRun, whole_of}
 use Rattle.wb_model.specs.Account.{Settled, settled}
 use Rattle.wb_model.specs.Rest.{Fits, Afterwards, nothing_more, gives_to, releases, after_frame, Pending, doing, catching, caught, calling, main_catching, main_caught, Progress, not_begun, going, has_stopped, resume, rest}
 use Rattle.wb_machine.specs.declared.pieces.Ending.{Ending}
@@ -23,7 +23,7 @@ use Rattle.wb_machine.specs.declared.pieces.Piece.TheVariants.{Code, Turns, Item
 use Rattle.wb_machine.specs.declared.pieces.After.{After}
 use Rattle.wb_machine.specs.declared.pieces.After.TheVariants.{Nothing, Gives, Releases}
 use Rattle.wb_machine.specs.declared.pieces.Standing.{Standing}
-use Rattle.wb_machine.specs.RunState.{Values, RunState, HasLines, first_state, state_of, account_of}
+use Rattle.wb_machine.specs.RunState.{Values, RunState, first_state, state_of, account_of}
 
 -- `main` stands in the first frame, over no items
 abbrev pub in_main_frame : Where
@@ -193,9 +193,9 @@ flow r p h = settled r (space_of r h.debug.shape) p (account_of h)
 abbrev pub IsSameFlow : Rule → Process → RunState → Process → RunState → Type 0
 IsSameFlow r p h q g = (k : Way → State → Process) → flow r (and_then p k) h ≡ flow r (and_then q k) g
 
--- a rule fits what a statement left that ended so, from a state whose attempts have their lines
+-- a rule fits what a statement left that ended so
 abbrev pub FitsStep : Rule → RunState → Ending → RunState → Type 0
-FitsStep r h ending g = HasLines h × Fits r h.debug.rule (is_stop ending) g.debug.attempts
+FitsStep r h ending g = Fits r h.debug.rule (is_stop ending) g.debug.attempts
 
 -- a statement was carried out that ended so and left this state, wherever it stands: under each rule that fits, it comes to what it means
 abbrev pub IsCarriedAnywhere : Script → Layer → RunState → Ending → RunState → Type 0
@@ -210,38 +210,38 @@ IsCarriedOut script floor layer h ending g =
     IsSameFlow r (ended_by ending (state_of script g)) g (statement script rec at layer (state_of script h)) h
 
 -- what is left of a run that was begun gives this under a rule
-abbrev pub rest_from : Script → ℕ → Rule → Ending → List Piece → RunState → RunResult
+abbrev pub rest_from : Script → ℕ → Rule → Ending → List Piece → RunState → WholeRun
 rest_from script budget r ending pieces h =
     rest script budget h.debug.shape r (progress_by ending (pending_in h.callers pieces) (state_of script h)) (account_of h)
 
 -- the same of a run that may not have begun
-abbrev pub rest_at : Script → ℕ → Rule → Bool → Ending → List Piece → RunState → RunResult
+abbrev pub rest_at : Script → ℕ → Rule → Bool → Ending → List Piece → RunState → WholeRun
 rest_at script budget r begun ending pieces h =
     rest script budget h.debug.shape r (progress_of begun ending (pending_in h.callers pieces) (state_of script h)) (account_of h)
 
 -- what a process gives under a rule, and then the pieces
-abbrev pub rest_after : Script → ℕ → Rule → Process → List Piece → RunState → RunResult
-rest_after script budget r p pieces h = result_of (flow r (and_then p (resume script budget (pending_in h.callers pieces))) h)
+abbrev pub rest_after : Script → ℕ → Rule → Process → List Piece → RunState → WholeRun
+rest_after script budget r p pieces h = whole_of (flow r (and_then p (resume script budget (pending_in h.callers pieces))) h)
 
 -- the same of a statement that begins
-abbrev pub rest_of_statement : Script → ℕ → Rule → Where → Layer → List Piece → RunState → RunResult
+abbrev pub rest_of_statement : Script → ℕ → Rule → Where → Layer → List Piece → RunState → WholeRun
 rest_of_statement script budget r at layer pieces h = rest_after script budget r (statement script (meaning_of script budget) at layer (state_of script h)) pieces h
 
 -- the same of a body that begins in a frame of its own
-abbrev pub rest_of_body : Script → ℕ → Rule → Where → Ptr → Values → Body → Afterwards → List Piece → RunState → RunResult
+abbrev pub rest_of_body : Script → ℕ → Rule → Where → Ptr → Values → Body → Afterwards → List Piece → RunState → WholeRun
 rest_of_body script budget r at this given body after pieces h =
     rest_after script budget r (in_frame (meaning_of script budget) at this given body (state_of script h) (plain (after_frame after))) pieces h
 
 -- the same of a piece
-abbrev pub rest_of_piece : Script → ℕ → Rule → Pending → List Piece → RunState → RunResult
-rest_of_piece script budget r p pieces h = result_of (flow r (resume script budget (p ∷ pending_in h.callers pieces) goes_on (state_of script h)) h)
+abbrev pub rest_of_piece : Script → ℕ → Rule → Pending → List Piece → RunState → WholeRun
+rest_of_piece script budget r p pieces h = whole_of (flow r (resume script budget (p ∷ pending_in h.callers pieces) goes_on (state_of script h)) h)
 
 -- the same of pieces under one that ended so
-abbrev pub rest_under : Script → ℕ → Rule → Ending → List Pending → RunState → RunResult
-rest_under script budget r ending pending h = result_of (flow r (and_then (ended_by ending (state_of script h)) (resume script budget pending)) h)
+abbrev pub rest_under : Script → ℕ → Rule → Ending → List Pending → RunState → WholeRun
+rest_under script budget r ending pending h = whole_of (flow r (and_then (ended_by ending (state_of script h)) (resume script budget pending)) h)
 
 -- nothing is done yet, and nothing is to do
 pub record IsFirst (ending : Ending) (pieces : List Piece) (h : RunState) : Type 0 where
   pub goes_on : ending ≡ GoesOn
   pub nothing : pieces ≡ []
-  pub start : h ≡ first_state h.debug.rule h.debug.shape
+  pub start : h ≡ first_state (keeps_rises h.debug) h.debug.rule h.debug.shape

@@ -4,6 +4,7 @@ pub mod Carried
 pub mod CarriedCleanup
 pub mod CarriedObjects
 pub mod CarriedTexts
+pub mod Fault
 pub mod Flow
 pub mod RunState
 pub mod StateView

@@ -1,5 +1,6 @@
 -- What each method owes that carries out a statement, or a part of one.
 use Rattle.std.specs.Prelude.{◌≡◌, ◌+◌, ◌^◌, ◌<◌, ◌≤◌, length}
+use Rattle.wb_model.specs.Debug.{keeps_rises}
 use Rattle.wb_machine.specs.declared.pieces.Ending.{Ending}
 use Rattle.wb_model.specs.declared.script.Script.{Script}
 use Rattle.wb_machine.specs.RunState.{RunState}
@@ -20,8 +21,8 @@ pub record Stays (before after : RunState) : Type 0 where
   pub shape : after.debug.shape ≡ before.debug.shape
   pub fewer : before.debug.attempts ≤ after.debug.attempts
   pub more : after.debug.attempts ≤ before.debug.attempts + 1
-  -- each attempt has a line of the trace
-  pub lines : before.debug.attempts + length after.debug.trace ≡ after.debug.attempts + length before.debug.trace
+  -- a line of each attempt is kept, or the rises, as before
+  pub kept : keeps_rises after.debug ≡ keeps_rises before.debug
   pub deeper : after.debug.heap.level ≤ before.debug.heap.level + 1
   -- a stack stays once it is there
   pub stack : HasStack before → HasStack after
@@ -52,7 +53,7 @@ pub record IsQuiet (before after : RunState) : Type 0 where
   pub rule : after.debug.rule ≡ before.debug.rule
   pub shape : after.debug.shape ≡ before.debug.shape
   pub attempts : after.debug.attempts ≡ before.debug.attempts
-  pub trace : after.debug.trace ≡ before.debug.trace
+  pub rises : after.debug.rises ≡ before.debug.rises
   pub level : after.debug.heap.level ≡ before.debug.heap.level
   pub cleanup : after.cleanup ≡ before.cleanup
   pub steps : after.steps ≡ before.steps

@@ -1,5 +1,5 @@
 -- The state of a run as a machine keeps it, and which state and account of the definitions that is.
-use Rattle.std.specs.Prelude.{◌≡◌, ℕ, pos, List, [], map, length, slice_get, unwrap_or}
+use Rattle.std.specs.Prelude.{ℕ, pos, Bool, List, [], map, length, slice_get, unwrap_or}
 use Rattle.wb_model.specs.declared.heap.Ptr.{Ptr}
 use Rattle.wb_model.specs.declared.heap.Item.{Item}
 use Rattle.wb_model.specs.declared.heap.Rule.{Rule}
@@ -12,7 +12,7 @@ use Rattle.wb_model.specs.Heap.{Heap}
 use Rattle.wb_model.specs.State.{Content, Value, number, State, null}
 use Rattle.wb_model.specs.Bodies.{class_at, procedure_at}
 use Rattle.wb_model.specs.Account.{Account}
-use Rattle.wb_model.specs.Debug.{Debug, first_debug}
+use Rattle.wb_model.specs.Debug.{Debug, first_debug_of}
 use Rattle.wb_model.specs.Spelling.{read_as}
 
 -- the locals of a body, by their index
@@ -33,9 +33,9 @@ pub record RunState : Type 0 where
   pub notes : List Note
   pub steps : ℕ
 
--- nothing is done yet
-abbrev pub first_state : Rule → Shape → RunState
-first_state rule shape = record { debug = first_debug rule shape; cleanup = null; items = []; slots = 8; this = null; locals = []; callers = []; lines = []; notes = []; steps = 0 }
+-- nothing is done yet; a line of each attempt is kept, or the rises alone
+abbrev pub first_state : Bool → Rule → Shape → RunState
+first_state measuring rule shape = record { debug = first_debug_of measuring rule shape; cleanup = null; items = []; slots = 8; this = null; locals = []; callers = []; lines = []; notes = []; steps = 0 }
 
 -- the body of `main`
 abbrev pub main_of : Script → Body
@@ -70,7 +70,7 @@ state_of script h = record {
 
 -- and the account
 abbrev pub account_of : RunState → Account
-account_of h = record { trace = h.debug.trace; notes = h.notes; committed = h.debug.committed }
+account_of h = record { attempts = h.debug.attempts; trace = h.debug.trace; rises = h.debug.rises; notes = h.notes; committed = h.debug.committed }
 
 -- the same with another debug heap
 abbrev pub with_debug : RunState → Debug → RunState
@@ -79,7 +79,3 @@ with_debug h debug = record h { debug = debug }
 -- a local; out of range it reads as the number 0
 abbrev pub value_in : Values → ℕ → Value
 value_in locals i = unwrap_or (slice_get locals i) (number (pos 0))
-
--- each attempt that was made has its line in the trace
-abbrev pub HasLines : RunState → Type 0
-HasLines h = h.debug.attempts ≡ length h.debug.trace

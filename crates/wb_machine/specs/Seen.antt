@@ -1,8 +1,9 @@
 -- What callers see of a machine.
-use Rattle.std.specs.Prelude.{ℕ, Bool, ◌&&◌, Option, nat_lt, unwrap_or, if◌then◌else◌}
+use Rattle.std.specs.Prelude.{ℕ, Bool, true, false, ◌&&◌, Option, None, nat_lt, unwrap_or, if◌then◌else◌}
 use Rattle.wb_model.specs.declared.heap.Rule.{Rule}
 use Rattle.wb_model.specs.declared.heap.Shape.{Shape}
 use Rattle.wb_model.specs.declared.script.Script.{Script}
+use Rattle.wb_model.specs.Run.{WholeRun, whole_run}
 
 pub record Seen : Type 0 where
   pub script : Script
@@ -28,6 +29,31 @@ pub record Seen : Type 0 where
   pub asks : Bool
   -- its memory ran out
   pub failed : Bool
+  -- it keeps the rises, in the place of a line for each attempt
+  pub keeps_rises : Bool
+
+-- before the first turn
+abbrev pub seen_at_start : Bool → Script → Rule → ℕ → Shape → Seen
+seen_at_start keeps_rises script rule budget shape = record {
+  script = script;
+  rule = rule;
+  budget = budget;
+  shape = shape;
+  attempts = 0;
+  steps = 0;
+  line = 0;
+  next = None;
+  begun = false;
+  over = false;
+  met_ceiling = false;
+  asks = true;
+  failed = false;
+  keeps_rises = keeps_rises;
+}
+
+-- what the whole run comes to
+abbrev pub whole_run_of : Seen → WholeRun
+whole_run_of m = whole_run m.keeps_rises m.script m.rule m.budget m.shape
 
 -- The line of the statement begun last, after a turn from here. The first turn begins no statement, and none is begun where the
 -- budget is used up.

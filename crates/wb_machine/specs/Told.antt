@@ -5,6 +5,7 @@ use Rattle.wb_model.specs.declared.run.Outcome.{Outcome}
 use Rattle.wb_model.specs.declared.run.Outcome.TheVariants as outcomes
 use Rattle.wb_model.specs.declared.run.RunResult.{RunResult}
 use Rattle.wb_model.specs.Debug.{leaks_of_heap}
+use Rattle.wb_model.specs.Run.{WholeRun}
 use Rattle.wb_machine.specs.declared.pieces.Ending.{Ending}
 use Rattle.wb_machine.specs.declared.pieces.Ending.TheVariants.{GoesOn, Returns, Leaves, Panics, Cut, NoCleanup}
 use Rattle.wb_machine.specs.RunState.{RunState}
@@ -23,3 +24,7 @@ outcome_by NoCleanup leaks = outcomes.NoCleanup
 
 abbrev pub told_by : Ending → List Leak → RunState → RunResult
 told_by ending leaks h = record { outcome = outcome_by ending leaks; trace = h.debug.trace; lines = h.lines; notes = h.notes; steps = h.steps }
+
+-- the same with how many attempts were made, and the rises where they are kept
+abbrev pub whole_by : Ending → List Leak → RunState → WholeRun
+whole_by ending leaks h = record { result = told_by ending leaks h; attempts = h.debug.attempts; rises = h.debug.rises }

@@ -2,12 +2,12 @@
 use Rattle.std.specs.Prelude.{◌≡◌, ◌⊎◌, ◌+◌, ◌≤◌, Bool, true, false, not, ◌&&◌}
 use Rattle.wb_model.specs.declared.limits.TheConstants.{LARGEST_BUDGET}
 use Rattle.wb_model.specs.declared.heap.Rule.{Rule}
-use Rattle.wb_model.specs.declared.run.RunResult.{RunResult}
 use Rattle.wb_model.specs.Sound.{is_script}
-use Rattle.wb_model.specs.Run.{run}
+use Rattle.wb_model.specs.Debug.{keeps_rises}
+use Rattle.wb_model.specs.Run.{WholeRun, whole_run}
 use Rattle.wb_model.specs.Rest.{Fits, Progress, next_line}
 use Rattle.wb_machine.specs.declared.machine.Machine.TheInside.{Inside}
-use Rattle.wb_machine.specs.RunState.{HasLines, state_of}
+use Rattle.wb_machine.specs.RunState.{state_of}
 use Rattle.wb_machine.specs.Asks.{asks_next}
 use Rattle.wb_machine.specs.ObjectInvariant.{AreWhole}
 use Rattle.wb_machine.specs.Owed.{HasStack}
@@ -38,10 +38,11 @@ seen m = record {
   met_ceiling = has_met_ceiling m.control.ending;
   asks = not m.failed && asks_next m.script.now m.budget (progress_in m);
   failed = m.failed;
+  keeps_rises = keeps_rises m.state.debug;
 }
 
 -- Rest: what the pending pieces give from the state on
-abbrev pub rest_in : Rule → Inside → RunResult
+abbrev pub rest_in : Rule → Inside → WholeRun
 rest_in r m = rest_at m.script.now m.budget r m.begun m.control.ending m.control.pieces.items m.state
 
 -- a machine whose memory hasn't run out
@@ -50,7 +51,6 @@ pub record IsSound (m : Inside) : Type 0 where
   pub small : m.budget ≤ LARGEST_BUDGET
   pub within : m.state.steps ≤ m.budget
   pub counted : m.state.debug.attempts ≤ m.state.steps + 1
-  pub lines : HasLines m.state
   -- each mark took a step
   pub level : m.state.debug.heap.level ≤ m.state.steps
   pub first : m.begun ≡ false → IsFirst m.control.ending m.control.pieces.items m.state
@@ -69,7 +69,8 @@ pub record IsSound (m : Inside) : Type 0 where
 
 -- under each rule that fits, the rest is the run under that rule
 abbrev pub Keeps : Inside → Type 0
-Keeps m = (r : Rule) → Fits r m.state.debug.rule (has_ended m) m.state.debug.attempts → rest_in r m ≡ run m.script.now r m.budget m.state.debug.shape
+Keeps m = (r : Rule) → Fits r m.state.debug.rule (has_ended m) m.state.debug.attempts →
+    rest_in r m ≡ whole_run (keeps_rises m.state.debug) m.script.now r m.budget m.state.debug.shape
 
 -- what each machine keeps, unless its memory ran out
 pub record IsMachine (m : Inside) : Type 0 where

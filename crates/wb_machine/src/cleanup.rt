@@ -9,6 +9,7 @@ ghost use Rattle.wb_model.specs.Statements.{newest};
 ghost use Rattle.wb_cleanup.specs.Pushes.{pushed_by};
 ghost use Rattle.wb_cleanup.specs.Stacks.{expected_refusal, pop_refusal};
 ghost use Rattle.wb_machine.specs.RunState.{first_state, with_debug};
+ghost use Rattle.wb_model.specs.Debug.{keeps_rises};
 ghost use Rattle.wb_machine.specs.Carried.{first_made, started_by, is_granted, number_read, pointer_read};
 ghost use Rattle.wb_machine.specs.CarriedCleanup.{IsPushed, IsStackThere, growth_made, is_filled, pop_check_carried, pop_within, push_carried, without_newest};
 ghost use Rattle.wb_machine.specs.Owed.{CarriesOut, HasStack, KeepsCount, MayAttempt, Stays};
@@ -25,7 +26,8 @@ use wb_model::script::{Number, Pointer, Script};
 impl State {
     /// Attempt 1, for the stack's cell. Answers whether it was granted.
     pub fn start(&mut self) -> Result<bool, NoMemory>
-        requires { self.old ≡ first_state self.old.debug.rule self.old.debug.shape }
+        requires { self.old
+            ≡ first_state (keeps_rises self.old.debug) self.old.debug.rule self.old.debug.shape }
         ensures started { OnOk result (self.new ≡ started_by (with_debug self.old (first_made self.old).debug) (first_made self.old).gave) }
         ensures granted { IfOk result (λ granted. granted ≡ is_granted (first_made self.old).gave) }
         ensures uncut { OnOk result ((first_made self.old).gave ≢ Ceiling) }

@@ -6,12 +6,13 @@ ghost use Rattle.wb_model.specs.Sound.{is_script};
 ghost use Rattle.wb_model.specs.Statements.{all, turns};
 ghost use Rattle.wb_model.specs.Bodies.{procedure_at};
 ghost use Rattle.wb_model.specs.Rest.{doing, first_line, Fits};
-ghost use Rattle.wb_model.specs.Run.{run};
+ghost use Rattle.wb_model.specs.Debug.{keeps_rises};
+ghost use Rattle.wb_model.specs.Run.{whole_run};
 ghost use Rattle.wb_model.specs.declared.heap.Rule.{Rule};
 ghost use Rattle.wb_model.specs.declared.run.Why.TheVariants.{Budget};
 ghost use Rattle.wb_model.specs.declared.script.Script.{Script};
 ghost use Rattle.wb_machine.specs.declared.pieces.Ending.TheVariants.{GoesOn, Cut};
-ghost use Rattle.wb_machine.specs.RunState.{RunState, HasLines, first_state, state_of};
+ghost use Rattle.wb_machine.specs.RunState.{RunState, first_state, state_of};
 ghost use Rattle.wb_machine.specs.Flow.{where_of, pending_in, is_stop, is_over, has_met_ceiling, progress_by, progress_of, AreOwn, AreSound, IsReady, IsFirst, rest_from, rest_of_piece, rest_at};
 ghost use Rattle.wb_machine.specs.Asks.{asks_next, MakesAsked};
 ghost use Rattle.wb_machine.specs.Carried.{stepped};
@@ -119,9 +120,11 @@ impl<'a> Control<'a> {
         requires script { IsTrue (is_script script.now) }
         requires pieces { self.old.pieces.items ≡ [] }
         requires ending { self.old.ending ≡ GoesOn }
-        requires start { state.old ≡ first_state state.old.debug.rule state.old.debug.shape }
+        requires start { state.old
+            ≡ first_state (keeps_rises state.old.debug) state.old.debug.rule state.old.debug.shape }
         ensures kept { OnOk result ((r : Rule) (budget : ℕ) → Fits r state.old.debug.rule (is_stop self.new.ending) state.new.debug.attempts →
-            rest_from script.now budget r self.new.ending self.new.pieces.items state.new ≡ run script.now r budget state.old.debug.shape) }
+            rest_from script.now budget r self.new.ending self.new.pieces.items state.new
+            ≡ whole_run (keeps_rises state.old.debug) script.now r budget state.old.debug.shape) }
         ensures sound { OnOk result (AreSound script.now self.new.pieces.items) }
         ensures stays { Stays state.old state.new }
         ensures level { OnOk result (state.new.debug.heap.level ≡ 0) }
@@ -157,7 +160,6 @@ impl<'a> Control<'a> {
         requires own { AreOwn script.now (first.now ∷ rest.now) }
         requires sound { AreSound script.now self.old.pieces.items }
         requires number { MayAttempt state.old }
-        requires lines { HasLines state.old }
         requires level { state.old.debug.heap.level + 1 < 2 ^ 32 }
         requires free { IsFree self.old.pieces.items state.old }
         requires stack { HasStack state.old }
@@ -213,7 +215,6 @@ impl<'a> Control<'a> {
         requires ready { IsReady self.old.ending self.old.pieces.items }
         requires sound { AreSound script.now self.old.pieces.items }
         requires number { MayAttempt state.old }
-        requires lines { HasLines state.old }
         requires level { state.old.debug.heap.level + 1 < 2 ^ 32 }
         requires room { HasRoom self.old.ending self.old.pieces.items state.old }
         requires stack { HasStack state.old }
@@ -288,7 +289,6 @@ impl<'a> Control<'a> {
         requires small { budget ≤ LARGEST_BUDGET }
         requires within { state.old.steps ≤ budget }
         requires counted { state.old.debug.attempts ≤ state.old.steps + 1 }
-        requires lines { HasLines state.old }
         requires level { state.old.debug.heap.level ≤ state.old.steps }
         requires whole { AreWhole script.now state.old.debug.heap.row }
         ensures kept { OnOk result ((r : Rule) → Fits r state.old.debug.rule (is_over self.new.ending self.new.pieces.items) state.new.debug.attempts →

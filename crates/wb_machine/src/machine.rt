@@ -1,50 +1,33 @@
 //! The machine that callers see, and a whole run. What a turn does stands in `control`.
 
-ghost use Rattle.std.specs.Prelude.{◌≡◌, ◌+◌, ◌≤◌, ◌↔◌, None, true, false, length, min, is_err, IsTrue, IfOk, IsOk, OnOk, OnErr};
+ghost use Rattle.std.specs.Prelude.{◌≡◌, ◌+◌, ◌≤◌, ◌↔◌, true, false, length, min, is_err, IsTrue, IfOk, IsOk, OnOk, OnErr};
 ghost use Rattle.wb_model.specs.Sound.{is_script};
 ghost use Rattle.wb_model.specs.Rest.{SameSoFar};
 ghost use Rattle.wb_model.specs.Space.{is_shape};
-ghost use Rattle.wb_model.specs.Run.{run};
+ghost use Rattle.wb_model.specs.Debug.{keeps_rises};
+ghost use Rattle.wb_model.specs.Run.{rises_told, run};
+ghost use Rattle.wb_model.specs.declared.heap.Rule.TheVariants.{Unlimited};
 ghost use Rattle.wb_model.specs.declared.run.Outcome.TheVariants.{Cut};
 ghost use Rattle.wb_model.specs.declared.run.Why.TheVariants.{Ceiling};
 ghost use Rattle.wb_machine.specs.declared.machine.Turn.TheVariants.{GoesOn, Ended};
-ghost use Rattle.wb_machine.specs.declared.machine.RunFault.TheVariants.{BadShape};
+ghost use Rattle.wb_machine.specs.declared.fault.RunFault.TheVariants.{BadShape};
 ghost use Rattle.wb_machine.specs.Flow.{is_stop};
-ghost use Rattle.wb_machine.specs.Seen.{line_after};
+ghost use Rattle.wb_machine.specs.RunState.{first_state};
+ghost use Rattle.wb_machine.specs.Seen.{line_after, seen_at_start, whole_run_of};
 ghost use Rattle.wb_machine.specs.Told.{leaks_at_end};
 
 use crate::control::Control;
+use crate::fault::RunFault;
 use crate::pieces::Ending;
 use crate::state::State;
 use std::alloc::Global;
 use std::marker::Model;
-use wb_debug::fault::DebugFault;
 use wb_model::heap::{Rule, Shape};
 use wb_model::items::Items;
 use wb_model::limits::LARGEST_BUDGET;
 use wb_model::memory::NoMemory;
-use wb_model::run::{Leaks, RunResult};
+use wb_model::run::{Leaks, RisesResult, RunResult};
 use wb_model::script::Script;
-
-/// Why a run gives no result.
-#[derive(Clone, Copy, Debug, PartialEq, Eq)]
-pub enum RunFault {
-    /// The workbench's own memory ran out. This is never a refusal of the simulated heap.
-    NoMemory = 1,
-    /// A minimum length or a growth step that no heap may have.
-    BadShape = 2,
-}
-
-impl From<NoMemory> for RunFault {
-    ghost use Rattle.std.specs.Prelude.{◌≡◌};
-    ghost use Rattle.wb_machine.specs.declared.machine.RunFault.TheVariants as faults;
-
-    ghost from_gives = { λ _ fault. fault ≡ faults.NoMemory };
-
-    fn from(_error: NoMemory) -> RunFault {
-        RunFault::NoMemory
-    }
-}
 
 /// What a turn leaves.
 #[derive(Clone, Copy, Debug, PartialEq, Eq)]
@@ -84,7 +67,7 @@ impl<'a> Model for Machine<'a> {
 }
 
 impl<'a> Machine<'a> {
-    /// A machine at the start of a run: no attempt is made yet.
+    /// A machine at the start of a run: no attempt is made yet. It keeps a line of each attempt.
     ///
     /// The budget counts steps. The shape's lengths are bytes. `BadShape` comes exactly where the shape is
     /// none that a heap may have, and before `NoMemory`.
@@ -99,36 +82,29 @@ impl<'a> Machine<'a> {
         requires least { 1 ≤ budget }
         requires greatest { budget ≤ LARGEST_BUDGET }
         ensures shape { (result ≡ Err RunFault.BadShape) ↔ (is_shape shape ≡ false) }
-        ensures seen { IfOk result (λ m. m ≡ record {
-          script = script.now;
-          rule = rule;
-          budget = budget;
-          shape = shape;
-          attempts = 0;
-          steps = 0;
-          line = 0;
-          next = None;
-          begun = false;
-          over = false;
-          met_ceiling = false;
-          asks = true;
-          failed = false;
-        }) }
+        ensures seen { IfOk result (λ m. m ≡ seen_at_start false script.now rule budget shape) }
     {
-        let state = match State::new(alloc, rule, shape) {
-            Ok(state) => state,
-            Err(DebugFault::BadShape) => return Err(RunFault::BadShape),
-            Err(DebugFault::NoMemory) => return Err(NoMemory.into()),
-        };
-        Ok(Machine {
-            script,
-            budget,
-            begun: false,
-            control: Control::new(alloc),
-            state,
-            leaks: Items::new(alloc),
-            failed: false,
-        })
+        Ok(at_start(alloc, script, budget, State::new(alloc, rule, shape)?))
+    }
+
+    /// A machine at the start of a run without a limit, which keeps the rises alone: the attempts that were granted and end
+    /// past all granted before them.
+    ///
+    /// The budget counts steps. The shape's lengths are bytes. `BadShape` comes exactly where the shape is none that a heap
+    /// may have, and before `NoMemory`.
+    pub fn new_rises(
+        alloc: Global,
+        script: &'a Script,
+        budget: u32,
+        shape: Shape,
+    ) -> Result<Machine<'a>, RunFault>
+        requires script { IsTrue (is_script script.now) }
+        requires least { 1 ≤ budget }
+        requires greatest { budget ≤ LARGEST_BUDGET }
+        ensures shape { (result ≡ Err RunFault.BadShape) ↔ (is_shape shape ≡ false) }
+        ensures seen { IfOk result (λ m. m ≡ seen_at_start true script.now Unlimited budget shape) }
+    {
+        Ok(at_start(alloc, script, budget, State::new_rises(alloc, shape)?))
     }
 
     /// Takes the next turn.
@@ -143,6 +119,7 @@ impl<'a> Machine<'a> {
         ensures script { self.new.script ≡ self.old.script }
         ensures rule { self.new.rule ≡ self.old.rule }
         ensures budget { self.new.budget ≡ self.old.budget }
+        ensures kept { self.new.keeps_rises ≡ self.old.keeps_rises }
         ensures shape { self.new.shape ≡ self.old.shape }
         ensures begun { OnOk result (self.new.begun ≡ true) }
         ensures first { OnOk result (self.old.begun ≡ false → self.new.steps ≡ 0) }
@@ -198,8 +175,9 @@ impl<'a> Machine<'a> {
     }
 
     /// Goes on under another rule. Neither is a limit, and both refuse the same of the attempts made so far: so the run comes to
-    /// what it would have come to under the new rule from its start on.
+    /// what it would have come to under the new rule from its start on. The machine keeps a line of each attempt.
     pub fn set_rule(&mut self, rule: Rule)
+        requires lines { self.old.keeps_rises ≡ false }
         requires same { SameSoFar rule self.old.rule self.old.attempts }
         requires going { self.old.over ≡ false }
         requires well { self.old.failed ≡ false }
@@ -240,25 +218,52 @@ impl<'a> Machine<'a> {
         self.control.line()
     }
 
-    /// Takes all turns that are left. An Ok is what the run comes to under the machine's rule: exactly what the definitions say of
-    /// a whole run.
-    pub fn run_to_end(mut self) -> Result<RunResult, NoMemory>
-        ensures { IfOk result (λ told. told ≡ run self.entry.script self.entry.rule self.entry.budget self.entry.shape) }
+    /// Takes all turns that are left, unless memory has run out.
+    fn take_all_turns(&mut self) -> Result<(), NoMemory>
+        ensures script { self.new.script ≡ self.old.script }
+        ensures rule { self.new.rule ≡ self.old.rule }
+        ensures budget { self.new.budget ≡ self.old.budget }
+        ensures shape { self.new.shape ≡ self.old.shape }
+        ensures kept { self.new.keeps_rises ≡ self.old.keeps_rises }
+        ensures over { OnOk result (self.new.over ≡ true) }
+        ensures well { OnOk result (self.new.failed ≡ false) }
     {
         if self.failed {
             return Err(NoMemory);
         }
         while let Turn::GoesOn = self.step()? {}
-        Ok(self.result())
+        Ok(())
+    }
+
+    /// Takes all turns that are left. An Ok is what the run comes to under the machine's rule: exactly what the definitions
+    /// say of a whole run, but without a trace where the machine keeps the rises.
+    pub fn run_to_end(mut self) -> Result<RunResult, NoMemory>
+        ensures { IfOk result (λ told. told
+            ≡ (whole_run_of self.entry).result) }
+    {
+        self.take_all_turns()?;
+        Ok(self.into_result())
     }
 
     /// What the run tells, once it is over: exactly what the definitions say of the script, the rule, the
-    /// budget and the shape. Its trace has a line for each attempt.
+    /// budget and the shape. Its trace has a line for each attempt. The machine is one made by `new`.
     pub fn result(self) -> RunResult
         requires over { self.over ≡ true }
         requires well { self.failed ≡ false }
+        requires lines { self.keeps_rises ≡ false }
         ensures told { result ≡ run self.entry.script self.entry.rule self.entry.budget self.entry.shape }
         ensures attempts { length result.trace ≡ self.entry.attempts }
+        ensures ceiling { (self.entry.met_ceiling ≡ true) ↔ (result.outcome ≡ Cut Ceiling) }
+    {
+        self.into_result()
+    }
+
+    /// The same of every machine; the trace is empty where the rises are kept.
+    fn into_result(self) -> RunResult
+        requires over { self.over ≡ true }
+        requires well { self.failed ≡ false }
+        ensures told { result ≡ (whole_run_of self.entry).result }
+        ensures attempts { (whole_run_of self.entry).attempts ≡ self.entry.attempts }
         ensures ceiling { (self.entry.met_ceiling ≡ true) ↔ (result.outcome ≡ Cut Ceiling) }
     {
         let Machine {
@@ -271,6 +276,48 @@ impl<'a> Machine<'a> {
             failed: _,
         } = self;
         state.finish(control.ending(), leaks)
+    }
+
+    /// Returns the outcome, the rises and the steps of a run that is over, of a machine made by `new_rises`: those of what
+    /// the definitions say of a whole run.
+    pub fn rises_result(self) -> RisesResult
+        requires over { self.over ≡ true }
+        requires well { self.failed ≡ false }
+        requires rises { self.keeps_rises ≡ true }
+        ensures { result
+            ≡ rises_told (run self.entry.script self.entry.rule self.entry.budget self.entry.shape) }
+    {
+        let Machine {
+            script: _,
+            budget: _,
+            begun: _,
+            control,
+            state,
+            leaks,
+            failed: _,
+        } = self;
+        state.finish_rises(control.ending(), leaks)
+    }
+}
+
+/// A machine over a state in which nothing is done yet.
+fn at_start<'a>(alloc: Global, script: &'a Script, budget: u32, state: State) -> Machine<'a>
+    requires script { IsTrue (is_script script.now) }
+    requires greatest { budget ≤ LARGEST_BUDGET }
+    requires least { 1 ≤ budget }
+    requires start { state
+        ≡ first_state (keeps_rises state.debug) state.debug.rule state.debug.shape }
+    ensures { result ≡ seen_at_start (keeps_rises state.debug) script.now state.debug.rule budget
+        state.debug.shape }
+{
+    Machine {
+        script,
+        budget,
+        begun: false,
+        control: Control::new(alloc),
+        state,
+        leaks: Items::new(alloc),
+        failed: false,
     }
 }
 
@@ -306,4 +353,26 @@ pub fn run(
 {
     let machine = Machine::new(alloc, script, rule, budget, shape)?;
     Ok(machine.run_to_end()?)
+}
+
+/// A whole run without a limit, of which the rises are kept and no trace, so that an attempt that isn't a rise adds
+/// nothing.
+///
+/// An Ok is exactly what the definitions say of the script, the budget (in steps) and the shape (in bytes); a run that is
+/// cut is an outcome. `BadShape` comes exactly where the shape is none that a heap may have, and before `NoMemory`.
+pub fn run_rises(
+    alloc: Global,
+    script: &Script,
+    budget: u32,
+    shape: Shape,
+) -> Result<RisesResult, RunFault>
+    requires script { IsTrue (is_script script.now) }
+    requires least { 1 ≤ budget }
+    requires greatest { budget ≤ LARGEST_BUDGET }
+    ensures ran { IfOk result (λ told. told ≡ rises_told (run script.now Unlimited budget shape)) }
+    ensures shape { (result ≡ Err RunFault.BadShape) ↔ (is_shape shape ≡ false) }
+{
+    let mut machine = Machine::new_rises(alloc, script, budget, shape)?;
+    machine.take_all_turns()?;
+    Ok(machine.rises_result())
 }

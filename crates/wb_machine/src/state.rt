@@ -1,9 +1,11 @@
 //! What all bodies of a script share. What each statement does with it stands in files by subject, and what
 //! is still to do in `control`.
 
-ghost use Rattle.std.specs.Prelude.{◌≡◌, ◌+◌, ◌^◌, ◌<◌, ◌↔◌, [], length, false, IfOk, OnOk, IsTrue};
+ghost use Rattle.std.specs.Prelude.{◌≡◌, ◌+◌, ◌^◌, ◌<◌, ◌↔◌, [], length, false, true, IfOk, OnOk, IsSome, IsTrue, Some};
 ghost use Rattle.std.specs.List.{list_all};
+ghost use Rattle.wb_model.specs.Debug.{first_debug_of, keeps_rises};
 ghost use Rattle.wb_model.specs.Rest.{SameSoFar};
+ghost use Rattle.wb_model.specs.declared.heap.Rule.TheVariants.{Unlimited};
 ghost use Rattle.wb_model.specs.Space.{is_shape};
 ghost use Rattle.wb_model.specs.State.{null};
 ghost use Rattle.wb_machine.specs.RunState.{first_state};
@@ -26,7 +28,7 @@ use wb_model::heap::{Ptr, Rule, Shape};
 use wb_model::items::Items;
 use wb_model::memory::NoMemory;
 use wb_model::printed_line::copy_of_lines;
-use wb_model::run::{Leaks, Lines, Notes, Outcome, RunResult};
+use wb_model::run::{Leaks, Lines, Notes, Outcome, RisesResult, RunResult};
 use wb_model::script::{Holder, Local, Number, Pointer, Script};
 
 /// What all bodies share.
@@ -58,21 +60,20 @@ impl Model for State {
 }
 
 impl State {
-    /// The state before the first attempt.
+    /// The state before the first attempt, of a run that keeps a line of each attempt.
     pub fn new(alloc: Global, rule: Rule, shape: Shape) -> Result<State, DebugFault>
-        ensures ok { IfOk result (λ state. state ≡ first_state rule shape) }
+        ensures ok { IfOk result (λ state. state ≡ first_state false rule shape) }
         ensures shape { (result ≡ Err DebugFault.BadShape) ↔ (is_shape shape ≡ false) }
     {
-        let heap = DebugHeap::new(alloc, rule, shape)?;
-        Ok(State {
-            heap,
-            cleanup: None,
-            this: NULL,
-            locals: Locals::new(alloc),
-            lines: Items::new(alloc),
-            notes: Items::new(alloc),
-            steps: 0,
-        })
+        Ok(over_heap(alloc, DebugHeap::new(alloc, rule, shape)?))
+    }
+
+    /// The same without a limit, of a run that keeps the rises alone.
+    pub fn new_rises(alloc: Global, shape: Shape) -> Result<State, DebugFault>
+        ensures ok { IfOk result (λ state. state ≡ first_state true Unlimited shape) }
+        ensures shape { (result ≡ Err DebugFault.BadShape) ↔ (is_shape shape ≡ false) }
+    {
+        Ok(over_heap(alloc, DebugHeap::new_rises(alloc, shape)?))
     }
 
     /// The same state, in memory of its own: what is done to one changes nothing in the other.
@@ -92,7 +93,8 @@ impl State {
 
     /// Another rule from here on, which refuses the same of the attempts made so far; neither is a limit.
     pub fn set_rule(&mut self, rule: Rule)
-        requires { SameSoFar rule self.old.debug.rule self.old.debug.attempts }
+        requires lines { keeps_rises self.old.debug ≡ false }
+        requires same { SameSoFar rule self.old.debug.rule self.old.debug.attempts }
         ensures { self.new ≡ record self.old { debug = record self.old.debug { rule = rule } } }
     {
         self.heap.set_rule(rule);
@@ -229,6 +231,29 @@ impl State {
         self.heap.leaks()
     }
 
+    /// What a run tells that kept the rises, by how it ended and by its leaks.
+    pub fn finish_rises(self, ending: Ending, leaks: Leaks) -> RisesResult
+        requires { IsSome self.debug.rises }
+        ensures outcome { result.outcome ≡ outcome_by ending leaks }
+        ensures rises { Some result.rises ≡ self.debug.rises }
+        ensures steps { result.steps ≡ self.steps }
+    {
+        let State {
+            heap,
+            cleanup: _,
+            this: _,
+            locals: _,
+            lines: _,
+            notes: _,
+            steps,
+        } = self;
+        RisesResult {
+            outcome: outcome_by(ending, leaks),
+            rises: heap.into_rises(),
+            steps,
+        }
+    }
+
     /// What a run tells, by how it ended and by its leaks.
     pub fn finish(self, ending: Ending, leaks: Leaks) -> RunResult
         ensures { result ≡ told_by ending leaks self }
@@ -249,6 +274,22 @@ impl State {
             notes,
             steps,
         }
+    }
+}
+
+/// A state over a heap of which nothing was asked yet.
+fn over_heap(alloc: Global, heap: DebugHeap) -> State
+    requires { heap ≡ first_debug_of (keeps_rises heap) heap.rule heap.shape }
+    ensures { result ≡ first_state (keeps_rises heap) heap.rule heap.shape }
+{
+    State {
+        heap,
+        cleanup: None,
+        this: NULL,
+        locals: Locals::new(alloc),
+        lines: Items::new(alloc),
+        notes: Items::new(alloc),
+        steps: 0,
     }
 }
 

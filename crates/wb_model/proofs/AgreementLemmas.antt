@@ -12,9 +12,12 @@ use Rattle.wb_model.specs.declared.script.Script.{Script}
 use Rattle.wb_model.specs.Rules.{refusal_of, unless_refused, answer_to, Request}
 use Rattle.wb_model.specs.State.{is_cut, State, Query, heap_note, available_note, compress_note, Process, ends, stops, asks, notes}
 use Rattle.wb_model.specs.Space.{Space, space_below, bound_below, limit_under, space_of}
-use Rattle.wb_model.specs.Account.{stopped, Account, Settled, settled, on_answer, recorded, noted, next_number}
+use Rattle.wb_model.specs.declared.size.Rise.{Rise}
+use Rattle.wb_model.specs.Account.{stopped, Account, Settled, settled, on_answer, recorded, noted, next_number, trace_line}
+use Rattle.wb_model.specs.Rises.{trace_with}
 use Rattle.wb_model.specs.Run.{process, before, result_of, outcome_of}
 use Rattle.wb_model.specs.Agreement.{RefusesAtLeast, IsNoLimit, IsSameRun, PartsAt, Agrees}
+use Rattle.wb_model.proofs.AccountLemmas.{KeepsLines, before-lines, recorded-trace, recorded-lines, noted-lines}
 
 -- a note leaves the trace
 noted-trace : (space : Space) (q : Query) (a : Account) → (noted space q a).trace ≡ a.trace
@@ -33,8 +36,13 @@ extends_self xs = record { more = []; is = sym (append-nil xs) }
 extends_on : (xs ys zs : List Attempt) → Extends xs ys → Extends ys zs → Extends xs zs
 extends_on xs ys zs p q = record { more = p.more ++ q.more; is = q.is ∙ ap (λ l. l ++ q.more) p.is ∙ append_assoc xs p.more q.more }
 
+-- or stays, where the rises are kept
 recorded_extends : (space : Space) (n : ℕ) (t : Request) (w : Answer) (a : Account) → Extends a.trace (recorded space n t w a).trace
-recorded_extends space n t w a = record { more = record { number = n; length = t.length; place = t.place; answer = w } ∷ []; is = refl }
+recorded_extends space n t w a = by a.rises
+  where
+    by : (o : Option (List Rise)) → Extends a.trace (trace_with o a.trace (trace_line n t w))
+    by None = record { more = trace_line n t w ∷ []; is = refl }
+    by (Some rs) = extends_self a.trace
 
 pub settled_extends : (rule : Rule) (space : Space) (p : Process) (a : Account) → Extends a.trace (settled rule space p a).account.trace
 settled_extends rule space (ends way st) a = extends_self a.trace
@@ -114,9 +122,14 @@ pub record Same (x_space y_space : Space) (a b : Account) (x y : Settled) : Type
 abbrev Law : Rule → Rule → Space → Space → Account → Account → Settled → Settled → Type 0
 Law r s x_space y_space a b x y = Same x_space y_space a b x y ⊎ PartsAt r s x.account.trace y.account.trace
 
--- accounts with the same trace
-same_number : (a b : Account) → b.trace ≡ a.trace → next_number b ≡ next_number a
-same_number a b e = ap (λ l. length l + 1) e
+-- accounts that keep the same lines
+pub record SameLines (a b : Account) : Type 0 where
+  pub one : KeepsLines a
+  pub other : KeepsLines b
+  pub trace : b.trace ≡ a.trace
+
+same_number : (a b : Account) → SameLines a b → next_number b ≡ next_number a
+same_number a b e = omega (arith, e.one.lines, e.other.lines, ap length e.trace)
 
 -- what a process comes to after an answer
 abbrev after : Rule → Space → Request → (ℕ → Answer → Process) → Account → ℕ → Answer → Settled
@@ -125,17 +138,23 @@ after rule space t go a n w = settled rule space (go n w) (recorded space n t w 
 abbrev cut_at : State → Account → Settled
 cut_at st a = record { end = stopped (is_cut Ceiling); state = st; account = a }
 
-recorded_trace : (x_space y_space : Space) (n : ℕ) (t : Request) (w : Answer) (a b : Account) → b.trace ≡ a.trace →
-    (recorded y_space n t w b).trace ≡ (recorded x_space n t w a).trace
-recorded_trace x_space y_space n t w a b e = ap (λ l. l ++ record { number = n; length = t.length; place = t.place; answer = w } ∷ []) e
+recorded_same : (x_space y_space : Space) (t : Request) (w : Answer) (a b : Account) → SameLines a b →
+    SameLines (recorded x_space (next_number a) t w a) (recorded y_space (next_number a) t w b)
+recorded_same x_space y_space t w a b e =
+    let n = next_number a in
+    record {
+      one = recorded-lines x_space t w a e.one;
+      other = subst (λ m. KeepsLines (recorded y_space m t w b)) (same_number a b e) (recorded-lines y_space t w b e.other);
+      trace = recorded-trace y_space n t w b e.other.no_rises ∙ ap (λ l. l ++ trace_line n t w ∷ []) e.trace ∙ sym (recorded-trace x_space n t w a e.one.no_rises);
+    }
 
 -- the answers differ: the traces part here
 parts : (r s : Rule) (x_space y_space : Space) (t : Request) (go : ℕ → Answer → Process) (a b : Account) (v w : Answer) →
-    b.trace ≡ a.trace → w ≢ v → Parting r s (next_number a) (t.place + t.length) v w →
+    SameLines a b → w ≢ v → Parting r s (next_number a) (t.place + t.length) v w →
     PartsAt r s (after r x_space t go a (next_number a) v).account.trace (after s y_space t go b (next_number a) w).account.trace
 parts r s x_space y_space t go a b v w e ne parting =
     let n = next_number a in
-    let line : Answer → Attempt = λ u. record { number = n; length = t.length; place = t.place; answer = u } in
+    let line : Answer → Attempt = λ u. trace_line n t u in
     let x = settled_extends r x_space (go n v) (recorded x_space n t v a) in
     let y = settled_extends s y_space (go n w) (recorded y_space n t w b) in
     record {
@@ -144,9 +163,10 @@ parts r s x_space y_space t go a b v w e ne parting =
       other = line w;
       after_one = x.more;
       after_other = y.more;
-      is_one = x.is ∙ append_assoc a.trace (line v ∷ []) x.more;
-      is_other = y.is ∙ append_assoc b.trace (line w ∷ []) y.more ∙ ap (λ l. l ++ line w ∷ y.more) e;
-      counted = refl;
+      is_one = x.is ∙ ap (λ l. l ++ x.more) (recorded-trace x_space n t v a e.one.no_rises) ∙ append_assoc a.trace (line v ∷ []) x.more;
+      is_other = y.is ∙ ap (λ l. l ++ y.more) (recorded-trace y_space n t w b e.other.no_rises) ∙ append_assoc b.trace (line w ∷ []) y.more
+          ∙ ap (λ l. l ++ line w ∷ y.more) e.trace;
+      counted = ap (λ m. m + 1) e.one.lines;
       number = refl;
       length = refl;
       place = refl;
@@ -155,12 +175,16 @@ parts r s x_space y_space t go a b v w e ne parting =
       answer = ne;
     }
 
-pub agree : (r s : Rule) (x_space y_space : Space) → RefusesAtLeast r s → (p : Process) (a b : Account) → b.trace ≡ a.trace →
+pub agree : (r s : Rule) (x_space y_space : Space) → RefusesAtLeast r s → (p : Process) (a b : Account) → SameLines a b →
     (settled r x_space p a).end ≢ stopped (is_cut Ceiling) → Law r s x_space y_space a b (settled r x_space p a) (settled s y_space p b)
-agree r s x_space y_space h (ends way st) a b e not = inl (record { end = refl; state = refl; trace = e; account = λ _ ab. ab })
-agree r s x_space y_space h (stops stop st) a b e not = inl (record { end = refl; state = refl; trace = e; account = λ _ ab. ab })
+agree r s x_space y_space h (ends way st) a b e not = inl (record { end = refl; state = refl; trace = e.trace; account = λ _ ab. ab })
+agree r s x_space y_space h (stops stop st) a b e not = inl (record { end = refl; state = refl; trace = e.trace; account = λ _ ab. ab })
 agree r s x_space y_space h (notes q p) a b e not =
-    let e' = noted-trace y_space q b ∙ e ∙ sym (noted-trace x_space q a) in
+    let e' : SameLines (noted x_space q a) (noted y_space q b) = record {
+      one = noted-lines x_space q a e.one;
+      other = noted-lines y_space q b e.other;
+      trace = noted-trace y_space q b ∙ e.trace ∙ sym (noted-trace x_space q a);
+    } in
     noted_too (agree r s x_space y_space h p (noted x_space q a) (noted y_space q b) e' not)
   where
     noted_too : {x y : Settled} → Law r s x_space y_space (noted x_space q a) (noted y_space q b) x y → Law r s x_space y_space a b x y
@@ -177,7 +201,7 @@ agree r s x_space y_space h (asks t cut go) a b e not =
     (on_answer (answer_to s m t) (cut_at cut b) (after s y_space t go b m)) in
     subst P (sym (same_number a b e))
     (told (answer_to r n t) (answer_to s n t) refl refl (not_cut r s h n (omega arith) t)
-    (λ w. agree r s x_space y_space h (go n w) (recorded x_space n t w a) (recorded y_space n t w b) (recorded_trace x_space y_space n t w a b e)) not)
+    (λ w. agree r s x_space y_space h (go n w) (recorded x_space n t w a) (recorded y_space n t w b) (recorded_same x_space y_space t w a b e)) not)
   where
     n : ℕ
     n = next_number a
@@ -211,7 +235,8 @@ agree r s x_space y_space h (asks t cut go) a b e not =
 -- the law, of whole runs
 pub rules_agree-law : (script : Script) (budget : ℕ) (shape : Shape) (r s : Rule) → Agrees script budget shape r s
 rules_agree-law script budget shape r s h not =
-    of_run (agree r s (space_of r shape) (space_of s shape) h (process script budget) (before (space_of r shape)) (before (space_of s shape)) refl
+    of_run (agree r s (space_of r shape) (space_of s shape) h (process script budget) (before (space_of r shape)) (before (space_of s shape))
+    (record { one = before-lines (space_of r shape); other = before-lines (space_of s shape); trace = refl })
     (λ e. not (ap (λ w. outcome_of w (settled r (space_of r shape) (process script budget) (before (space_of r shape))).state) e)))
   where
     x : Settled

@@ -1,3 +1,4 @@
+pub mod AccountLemmas
 pub mod AgreementLemmas
 pub mod AlikeLemmas
 pub mod AlikePieces

@@ -1,6 +1,6 @@
 -- Every state that a run shows has cells in a row, and printed lines of printable ASCII, for every script: the induction over
 -- what is still to do, at these facts.
-use Rattle.std.proofs.Common.{◌≡◌, ℕ, suc, ◌+◌, ◌≤◌, arith, List, [], ◌∷◌, length, length-append, refl, sym, subst, Option, Some, None}
+use Rattle.std.proofs.Common.{◌≡◌, ℕ, suc, ◌+◌, ◌≤◌, arith, List, [], ◌∷◌, length, refl, subst, Option, Some, None}
 use Rattle.std.specs.Prelude.{ℤ, All}
 use Rattle.std.proofs.lemmas.List.Elements.{All-nil, All-push, All-filter}
 use Rattle.wb_model.specs.declared.heap.Ptr.{Ptr}
@@ -23,6 +23,7 @@ use Rattle.wb_model.specs.Run.{start, main_trapped, in_main, started, process, b
 use Rattle.wb_model.specs.Printable.{ArePrintable}
 use Rattle.wb_model.specs.Throughout.{Throughout, AreCellsAfter, AreLeaksAfter}
 use Rattle.wb_model.specs.Traces.{TellsSettings}
+use Rattle.wb_model.proofs.AccountLemmas.{before-lines, settled-keeps}
 use Rattle.wb_model.proofs.AlikeLemmas.{Lasting, Shows, Fine, Keeps, Alike, AlikeAll, and_then-alike, then_do-alike, require-alike, allocate-alike}
 use Rattle.wb_model.proofs.AlikePieces.{between, shows_weaker, meaning_within-alike}
 use Rattle.wb_model.proofs.MeaningLemmas.{anything}
@@ -104,21 +105,18 @@ pub process-tells : (script : Script) (budget : ℕ) → TellsSettings (process 
 process-tells script budget = tells (between (anything script) 0 budget) [] (process script budget) (process-keeps (anything script) budget tt tt)
 
 -- the state in which a run ends or stops
-settled-holds : (P : ℕ → State → Type 0) (rule : Rule) (space : Space) (p : Process) (a : Account) → Throughout P (length a.trace) p →
-    P (length (settled rule space p a).account.trace) (settled rule space p a).state
+settled-holds : (P : ℕ → State → Type 0) (rule : Rule) (space : Space) (p : Process) (a : Account) → Throughout P a.attempts p →
+    P (settled rule space p a).account.attempts (settled rule space p a).state
 settled-holds P rule space (ends way st) a h = h
 settled-holds P rule space (stops stop st) a h = h
 settled-holds P rule space (asks t cut go) a h =
-    told (answer_to rule (next_number a) t) (λ w.
-    let more = recorded space (next_number a) t w a in
-    let longer : length a.trace + 1 ≡ length more.trace = sym (length-append a.trace _) in
-    settled-holds P rule space (go (next_number a) w) more (subst (λ m. Throughout P m (go (next_number a) w)) longer (h.1 w)))
+    told (answer_to rule (next_number a) t) (λ w. settled-holds P rule space (go (next_number a) w) (recorded space (next_number a) t w a) (h.1 w))
   where
     told : (o : Option Answer) →
-        ((w : Answer) → P (length (settled rule space (go (next_number a) w) (recorded space (next_number a) t w a)).account.trace)
+        ((w : Answer) → P (settled rule space (go (next_number a) w) (recorded space (next_number a) t w a)).account.attempts
         (settled rule space (go (next_number a) w) (recorded space (next_number a) t w a)).state) →
-        P (length (on_answer o (record { end = stopped (is_cut Ceiling); state = cut; account = a })
-        (λ w. settled rule space (go (next_number a) w) (recorded space (next_number a) t w a))).account.trace)
+        P (on_answer o (record { end = stopped (is_cut Ceiling); state = cut; account = a })
+        (λ w. settled rule space (go (next_number a) w) (recorded space (next_number a) t w a))).account.attempts
         (on_answer o (record { end = stopped (is_cut Ceiling); state = cut; account = a })
         (λ w. settled rule space (go (next_number a) w) (recorded space (next_number a) t w a))).state
     told None rest = h.0
@@ -126,9 +124,9 @@ settled-holds P rule space (asks t cut go) a h =
 settled-holds P rule space (notes q p) a h = by q (λ q. settled-holds P rule space p (noted space q a))
   where
     by : (q : Query) →
-        ((q : Query) → Throughout P (length (noted space q a).trace) p →
-        P (length (settled rule space p (noted space q a)).account.trace) (settled rule space p (noted space q a)).state) →
-        P (length (settled rule space p (noted space q a)).account.trace) (settled rule space p (noted space q a)).state
+        ((q : Query) → Throughout P (noted space q a).attempts p →
+        P (settled rule space p (noted space q a)).account.attempts (settled rule space p (noted space q a)).state) →
+        P (settled rule space p (noted space q a)).account.attempts (settled rule space p (noted space q a)).state
     by (heap_note count total) rest = rest (heap_note count total) h.1
     by (available_note row) rest = rest (available_note row) h.1
     by (compress_note top) rest = rest (compress_note top) h.1
@@ -158,7 +156,9 @@ run-leaks script budget shape rule left leaks = by last.end
     last = settled rule (space_of rule shape) (process script budget) (before (space_of rule shape))
 
     is : AreCellsAfter script (length last.account.trace) last.state.heap.row
-    is = settled-holds (HasCells script) rule (space_of rule shape) (process script budget) (before (space_of rule shape)) (process-throughout script budget)
+    is =
+        subst (λ n. AreCellsAfter script n last.state.heap.row) (settled-keeps rule (space_of rule shape) (process script budget) _ (before-lines (space_of rule shape))).lines
+        (settled-holds (HasCells script) rule (space_of rule shape) (process script budget) (before (space_of rule shape)) (process-throughout script budget))
 
     by : (end : End) → outcome_of end last.state ≡ Ended left leaks → AreLeaksAfter (length last.account.trace) leaks
     by (over way) e = record {

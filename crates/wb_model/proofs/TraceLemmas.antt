@@ -1,5 +1,5 @@
 -- Each line of a run's trace is that of an attempt which the run asked for, answered by the script's own setting or the rule.
-use Rattle.std.proofs.Common.{◌≡◌, ◌≢◌, ℕ, zero, suc, ◌+◌, ◌<◌, ◌≤◌, inl, inr, arith, Bool, true, false, List, [], ◌∷◌, ◌++◌, length, length-append, append-nil, append_assoc, refl, sym, ◌∙◌, ap, subst, Option, Some, None, cond}
+use Rattle.std.proofs.Common.{◌≡◌, ◌≢◌, ℕ, zero, suc, ◌+◌, ◌<◌, ◌≤◌, inl, inr, arith, Bool, true, false, List, [], ◌∷◌, ◌++◌, length, append-nil, append_assoc, refl, sym, ◌∙◌, ap, subst, Option, Some, None, cond}
 use Rattle.std.specs.Prelude.{nat_eq, nat_lt, slice_get}
 use Rattle.std.proofs.lemmas.Bool.{eqb-true, ltb-true, ltb-false}
 use Rattle.wb_model.specs.declared.limits.TheConstants.{CEILING}
@@ -14,9 +14,9 @@ use Rattle.wb_model.specs.declared.script.Script.{Script}
 use Rattle.wb_model.specs.Rules.{refusal_of, unless_refused, answer_to, Request}
 use Rattle.wb_model.specs.State.{is_cut, Query, heap_note, available_note, compress_note, Process, ends, stops, asks, notes}
 use Rattle.wb_model.specs.Space.{Space, space_of}
-use Rattle.wb_model.specs.Account.{stopped, Account, settled, on_answer, recorded, noted, next_number}
-use Rattle.wb_model.specs.Debug.{trace_line}
+use Rattle.wb_model.specs.Account.{stopped, Account, settled, on_answer, recorded, noted, next_number, trace_line}
 use Rattle.wb_model.specs.Run.{process, before, run, granted_end, highest_end, required}
+use Rattle.wb_model.proofs.AccountLemmas.{KeepsLines, before-lines, recorded-trace, recorded-lines, noted-lines}
 use Rattle.wb_model.specs.Traces.{asked_before, asked_for, end_of_attempt, IsLine, AreAnsweredLines}
 
 -- what a rule refuses, by the answer
@@ -64,9 +64,6 @@ line-is rule made asked w = due asked.due refl
         record { number = refl; length = refl; place = refl; granted = λ g. cc; refused = λ r. cc; simulated = λ s. inl d; due = λ _. simulated }
     due false d e = left (refusal_of rule (made + 1) end) refl d e
 
-zero_add : (n : ℕ) → 0 + n ≡ n
-zero_add n = omega arith
-
 -- one more line
 lines_push : (rule : Rule) (made : ℕ) (qs : List Request) (ts : List Attempt) (asked : Request) (t : Attempt) → AreAnsweredLines rule made qs ts →
     IsLine rule (made + length ts) asked t → AreAnsweredLines rule made (qs ++ asked ∷ []) (ts ++ t ∷ [])
@@ -77,34 +74,36 @@ lines_push rule made (q ∷ qs) (u ∷ ts) asked t are is =
     let z : made + length (u ∷ ts) ≡ made + 1 + length ts = omega arith in
     (are.0, lines_push rule (made + 1) qs ts asked t are.1 (subst (λ m. IsLine rule m asked t) z is))
 
-settled-lines : (rule : Rule) (space : Space) (p : Process) (a : Account) (qs : List Request) → AreAnsweredLines rule 0 qs a.trace →
-    AreAnsweredLines rule 0 (qs ++ asked_for rule (length a.trace) p) (settled rule space p a).account.trace
-settled-lines rule space (ends way st) a qs are = subst (λ l. AreAnsweredLines rule 0 l a.trace) (sym (append-nil qs)) are
-settled-lines rule space (stops stop st) a qs are = subst (λ l. AreAnsweredLines rule 0 l a.trace) (sym (append-nil qs)) are
-settled-lines rule space (asks t cut go) a qs are =
-    told (answer_to rule (next_number a) t) refl (λ w e.
-    let grown = recorded space (next_number a) t w a in
-    let longer : length grown.trace ≡ length a.trace + 1 = length-append a.trace (trace_line (next_number a) t w ∷ []) in
-    subst (λ l. AreAnsweredLines rule 0 l (settled rule space (go (next_number a) w) grown).account.trace) (append_assoc qs (t ∷ []) (asked_for rule (next_number a) (go (next_number a) w)))
-    (subst (λ m. AreAnsweredLines rule 0 ((qs ++ t ∷ []) ++ asked_for rule m (go (next_number a) w)) (settled rule space (go (next_number a) w) grown).account.trace) longer
-    (settled-lines rule space (go (next_number a) w) grown (qs ++ t ∷ [])
-    (lines_push rule 0 qs a.trace t (trace_line (next_number a) t w) are
-    (subst (λ m. IsLine rule m t (trace_line (next_number a) t w)) (sym (zero_add (length a.trace))) (line-is rule (length a.trace) t w e))))))
+settled-lines : (rule : Rule) (space : Space) (p : Process) (a : Account) (qs : List Request) → KeepsLines a → AreAnsweredLines rule 0 qs a.trace →
+    AreAnsweredLines rule 0 (qs ++ asked_for rule a.attempts p) (settled rule space p a).account.trace
+settled-lines rule space (ends way st) a qs k are = subst (λ l. AreAnsweredLines rule 0 l a.trace) (sym (append-nil qs)) are
+settled-lines rule space (stops stop st) a qs k are = subst (λ l. AreAnsweredLines rule 0 l a.trace) (sym (append-nil qs)) are
+settled-lines rule space (asks t cut go) a qs k are =
+    told (answer_to rule n t) refl (λ w e.
+    let grown = recorded space n t w a in
+    let line = trace_line n t w in
+    let at : a.attempts ≡ 0 + length a.trace = omega (arith, k.lines) in
+    subst (λ l. AreAnsweredLines rule 0 l (settled rule space (go n w) grown).account.trace) (append_assoc qs (t ∷ []) (asked_for rule n (go n w)))
+    (settled-lines rule space (go n w) grown (qs ++ t ∷ []) (recorded-lines space t w a k)
+    (subst (AreAnsweredLines rule 0 (qs ++ t ∷ [])) (sym (recorded-trace space n t w a k.no_rises))
+    (lines_push rule 0 qs a.trace t line are (subst (λ m. IsLine rule m t line) at (line-is rule a.attempts t w e))))))
   where
-    told : (o : Option Answer) → answer_to rule (next_number a) t ≡ o →
-        ((w : Answer) → answer_to rule (next_number a) t ≡ Some w →
-        AreAnsweredLines rule 0 (qs ++ t ∷ asked_for rule (next_number a) (go (next_number a) w)) (settled rule space (go (next_number a) w) (recorded space (next_number a) t w a)).account.trace) →
-        AreAnsweredLines rule 0 (qs ++ asked_before o t (λ w. asked_for rule (next_number a) (go (next_number a) w)))
-        (on_answer o (record { end = stopped (is_cut Ceiling); state = cut; account = a })
-        (λ w. settled rule space (go (next_number a) w) (recorded space (next_number a) t w a))).account.trace
+    n : ℕ
+    n = next_number a
+
+    told : (o : Option Answer) → answer_to rule n t ≡ o →
+        ((w : Answer) → answer_to rule n t ≡ Some w →
+        AreAnsweredLines rule 0 (qs ++ t ∷ asked_for rule n (go n w)) (settled rule space (go n w) (recorded space n t w a)).account.trace) →
+        AreAnsweredLines rule 0 (qs ++ asked_before o t (λ w. asked_for rule n (go n w)))
+        (on_answer o (record { end = stopped (is_cut Ceiling); state = cut; account = a }) (λ w. settled rule space (go n w) (recorded space n t w a))).account.trace
     told None e h = subst (λ l. AreAnsweredLines rule 0 l a.trace) (sym (append-nil qs)) are
     told (Some w) e h = h w e
-settled-lines rule space (notes q p) a qs are = by q (λ q. settled-lines rule space p (noted space q a) qs)
+settled-lines rule space (notes q p) a qs k are = by q (λ q. settled-lines rule space p (noted space q a) qs (noted-lines space q a k))
   where
     by : (q : Query) →
         ((q : Query) → AreAnsweredLines rule 0 qs (noted space q a).trace →
-        AreAnsweredLines rule 0 (qs ++ asked_for rule (length (noted space q a).trace) p) (settled rule space p (noted space q a)).account.trace) →
-        AreAnsweredLines rule 0 (qs ++ asked_for rule (length a.trace) p) (settled rule space p (noted space q a)).account.trace
+        AreAnsweredLines rule 0 (qs ++ asked_for rule (noted space q a).attempts p) (settled rule space p (noted space q a)).account.trace) →
+        AreAnsweredLines rule 0 (qs ++ asked_for rule a.attempts p) (settled rule space p (noted space q a)).account.trace
     by (heap_note count total) h = h (heap_note count total) are
     by (available_note row) h = h (available_note row) are
     by (compress_note top) h = h (compress_note top) are
@@ -112,7 +111,7 @@ settled-lines rule space (notes q p) a qs are = by q (λ q. settled-lines rule s
 -- of whole runs
 pub run-lines : (script : Script) (budget : ℕ) (shape : Shape) (rule : Rule) →
     AreAnsweredLines rule 0 (asked_for rule 0 (process script budget)) (run script rule budget shape).trace
-run-lines script budget shape rule = settled-lines rule (space_of rule shape) (process script budget) (before (space_of rule shape)) [] tt
+run-lines script budget shape rule = settled-lines rule (space_of rule shape) (process script budget) (before (space_of rule shape)) [] (before-lines (space_of rule shape)) tt
 
 -- without a limit no line is refused
 pub unlimited_refuses_none : (made : ℕ) (asked : Request) (t : Attempt) → IsLine Unlimited made asked t → t.answer ≢ Refused

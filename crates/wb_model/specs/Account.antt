@@ -1,5 +1,6 @@
--- The part of a run that reads the rule: the trace, the notes and the committed length; and how a process ends under a rule.
-use Rattle.std.specs.Prelude.{ℕ, ◌+◌, ◌-◌, List, [], ◌∷◌, ◌++◌, Option, Some, None, sum, length}
+-- The part of a run that reads the rule: what is kept of its attempts, the notes and the committed length; and how a process ends
+-- under a rule.
+use Rattle.std.specs.Prelude.{ℕ, ◌+◌, ◌-◌, List, [], ◌∷◌, ◌++◌, Option, Some, None, sum}
 use Rattle.wb_model.specs.declared.heap.Rule.{Rule}
 use Rattle.wb_model.specs.declared.heap.Answer.{Answer}
 use Rattle.wb_model.specs.declared.heap.Answer.TheVariants.{Granted}
@@ -7,13 +8,19 @@ use Rattle.wb_model.specs.declared.heap.Attempt.{Attempt}
 use Rattle.wb_model.specs.declared.run.Note.{Note}
 use Rattle.wb_model.specs.declared.run.Note.TheVariants.{Heap, Available, Compress}
 use Rattle.wb_model.specs.declared.run.Why.TheVariants.{Ceiling}
+use Rattle.wb_model.specs.declared.size.Rise.{Rise}
+use Rattle.wb_model.specs.Rises.{rises_with, trace_with}
 use Rattle.wb_model.specs.Rules.{Request, answer_to}
 use Rattle.wb_model.specs.Space.{Space, committed_by, compressed_to, free_runs, longest}
 use Rattle.wb_model.specs.State.{Query, heap_note, available_note, compress_note, Way, Stop, is_cut, State, Process, ends, stops, asks, notes}
 
 -- what the rule and the shape decide of a run
 pub record Account : Type 0 where
+  -- how many attempts were made
+  pub attempts : ℕ
+  -- their lines, or none where the rises are kept in their place
   pub trace : List Attempt
+  pub rises : Option (List Rise)
   pub notes : List Note
   pub committed : ℕ
 
@@ -32,13 +39,19 @@ committed_after space t _ committed = committed
 
 -- attempts count from 1
 abbrev pub next_number : Account → ℕ
-next_number a = length a.trace + 1
+next_number a = a.attempts + 1
 
--- an attempt that was answered adds its line
+-- the line of an attempt that was answered
+abbrev pub trace_line : ℕ → Request → Answer → Attempt
+trace_line number t answer = record { number = number; length = t.length; place = t.place; answer = answer }
+
+-- an attempt that was answered adds its line, or the rise that it is
 abbrev pub recorded : Space → ℕ → Request → Answer → Account → Account
 recorded space number t answer a =
     record a {
-      trace = a.trace ++ record { number = number; length = t.length; place = t.place; answer = answer } ∷ [];
+      attempts = number;
+      trace = trace_with a.rises a.trace (trace_line number t answer);
+      rises = rises_with a.rises (trace_line number t answer);
       committed = committed_after space t answer a.committed;
     }
 

@@ -1,6 +1,6 @@
--- The debug heap: cells of words with levels, the script's own setting, a rule, how many attempts were made, and their trace;
--- and what each of its calls makes of it and gives.
-use Rattle.std.specs.Prelude.{◌≡◌, ℕ, ◌+◌, ◌-◌, ◌%◌, ◌≤◌, List, [], ◌∷◌, ◌++◌, Option, Some, None, All, true, length, nat_lt, sum, map, if◌then◌else◌}
+-- The debug heap: cells of words with levels, the script's own setting, a rule, how many attempts were made, and their trace, or the
+-- rises alone; and what each of its calls makes of it and gives.
+use Rattle.std.specs.Prelude.{◌≡◌, ℕ, ◌+◌, ◌-◌, ◌%◌, ◌≤◌, List, [], Option, Some, None, is_some, All, Bool, true, false, length, nat_lt, sum, map, if◌then◌else◌}
 use Rattle.wb_model.specs.declared.heap.TheConstants.Panic.{BAD_CELL}
 use Rattle.wb_model.specs.declared.heap.Ptr.{Ptr}
 use Rattle.wb_model.specs.declared.heap.Header.{Header}
@@ -15,12 +15,15 @@ use Rattle.wb_model.specs.declared.heap.Panic.{Panic}
 use Rattle.wb_model.specs.declared.run.Leak.{Leak}
 use Rattle.wb_model.specs.declared.run.Note.{Note}
 use Rattle.wb_model.specs.declared.run.Note.TheVariants as N
+use Rattle.wb_model.specs.declared.size.Rise.{Rise}
 use Rattle.wb_model.specs.Row.{Cell, IsRow, headers, cell_at, cell_length, pointer_to, end_of, without, top_of, total_length}
 use Rattle.wb_model.specs.CellRow.{with_payload, resized_words}
 use Rattle.wb_model.specs.Rules.{Setting, never, Request, answer_to}
 use Rattle.wb_model.specs.Heap.{Heap, AfterAnswer, alloc_request, after_alloc, realloc_request, after_realloc, shortened, cells_of_level, cells_of_all_levels, checked}
 use Rattle.wb_model.specs.Space.{Space, space_of, limit_under, compressed_to, free_runs, longest, is_shape}
+pub use Rattle.wb_model.specs.Account.{trace_line}
 use Rattle.wb_model.specs.Account.{committed_after}
+use Rattle.wb_model.specs.Rises.{first_rises, rises_above, rises_with, trace_with}
 use Rattle.wb_model.specs.LimitedHeap.{IsFilled, zero_words}
 use Rattle.wb_model.specs.Run.{leak_of}
 use Rattle.wb_model.specs.Statements.{is_null}
@@ -34,7 +37,9 @@ pub record Debug : Type 0 where
   pub committed : ℕ
   -- how many attempts were made
   pub attempts : ℕ
+  -- their lines, or none where the rises are kept in their place
   pub trace : List Attempt
+  pub rises : Option (List Rise)
 
 abbrev pub row_of : Debug → List (Cell (List ℕ))
 row_of d = d.heap.row
@@ -42,16 +47,28 @@ row_of d = d.heap.row
 abbrev pub space_under : Debug → Space
 space_under d = space_of d.rule d.shape
 
--- before attempt 1
-abbrev pub first_debug : Rule → Shape → Debug
-first_debug rule shape = record {
+-- before attempt 1, of a heap that keeps a line of each attempt, or the rises alone
+abbrev pub first_debug_of : Bool → Rule → Shape → Debug
+first_debug_of keeps_rises rule shape = record {
   heap = record { row = []; level = 0; setting = never };
   rule = rule;
   shape = shape;
   committed = (space_of rule shape).least;
   attempts = 0;
   trace = [];
+  rises = first_rises keeps_rises;
 }
+
+abbrev pub first_debug : Rule → Shape → Debug
+first_debug rule shape = first_debug_of false rule shape
+
+-- the same heap, with the rises in the trace's place
+abbrev pub with_rises : Debug → Debug
+with_rises d = record d { trace = []; rises = Some (rises_above 0 d.trace) }
+
+-- whether the rises are kept in the trace's place
+abbrev pub keeps_rises : Debug → Bool
+keeps_rises d = is_some d.rises
 
 -- attempts count from 1
 abbrev pub number_of_next : Debug → ℕ
@@ -62,13 +79,13 @@ pub record Made : Type 0 where
   pub debug : Debug
   pub gave : Gave
 
+-- the same of the heap with the rises in the trace's place
+abbrev pub made_with_rises : Made → Made
+made_with_rises made = record made { debug = with_rises made.debug }
+
 abbrev pub gave_of : Option Ptr → Gave
 gave_of (Some p) = Granted p
 gave_of None = Denied
-
--- one more line of the trace
-abbrev pub trace_line : ℕ → Request → Answer → Attempt
-trace_line number t answer = record { number = number; length = t.length; place = t.place; answer = answer }
 
 -- what an answer makes of it; without one the ceiling cuts the run, and nothing is counted
 abbrev pub made_by : Debug → Request → (ℕ → Answer → AfterAnswer (List ℕ)) → Option Answer → Made
@@ -78,7 +95,8 @@ made_by d t after (Some answer) = record {
     heap = (after (number_of_next d) answer).heap;
     committed = committed_after (space_under d) t answer d.committed;
     attempts = number_of_next d;
-    trace = d.trace ++ trace_line (number_of_next d) t answer ∷ [];
+    trace = trace_with d.rises d.trace (trace_line (number_of_next d) t answer);
+    rises = rises_with d.rises (trace_line (number_of_next d) t answer);
   };
   gave = gave_of (after (number_of_next d) answer).given;
 }
@@ -174,11 +192,12 @@ pub record IsLiveIn (d : Debug) (h : Header) : Type 0 where
   pub counted : h.number ≤ d.attempts
   pub within : end_of h ≤ limit_under d.rule
 
--- what holds of every debug heap: its cells are a row, each of an attempt that was made, their payloads fill them, and each
--- attempt has its line
+-- what holds of every debug heap: its cells are a row, each of an attempt that was made, their payloads fill them, and each attempt
+-- has its line, unless the rises are kept
 pub record IsSoundDebug (d : Debug) : Type 0 where
   pub row : IsRow (headers d.heap.row)
   pub filled : All IsFilled d.heap.row
   pub live : All (IsLiveIn d) (headers d.heap.row)
-  pub attempts : d.attempts ≡ length d.trace
+  pub attempts : keeps_rises d ≡ false → d.attempts ≡ length d.trace
+  pub untraced : keeps_rises d ≡ true → d.trace ≡ []
   pub shape : is_shape d.shape ≡ true

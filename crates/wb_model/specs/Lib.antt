@@ -25,6 +25,7 @@ pub mod Quiet
 pub mod Reading
 pub mod Resolved
 pub mod Rest
+pub mod Rises
 pub mod Row
 pub mod Rules
 pub mod Run

@@ -3,7 +3,6 @@ use Rattle.std.specs.Prelude.{◌≡◌, ◌⊎◌, ℕ, ℤ, ◌≤◌, Bool, t
 use Rattle.wb_model.specs.declared.heap.Ptr.{Ptr}
 use Rattle.wb_model.specs.declared.heap.Rule.{Rule}
 use Rattle.wb_model.specs.declared.heap.Shape.{Shape}
-use Rattle.wb_model.specs.declared.run.RunResult.{RunResult}
 use Rattle.wb_model.specs.declared.script.Script.{Script}
 use Rattle.wb_model.specs.Rules.{refusal_of}
 use Rattle.wb_model.specs.Space.{space_of}
@@ -11,7 +10,7 @@ use Rattle.wb_model.specs.State.{State, Frame, number, pointer, Way, leaves, Sto
 use Rattle.wb_model.specs.Statements.{Piece, all, Where, done, plain, release, trapped}
 use Rattle.wb_model.specs.Meaning.{piece, meaning_of}
 use Rattle.wb_model.specs.Account.{Account, settled}
-use Rattle.wb_model.specs.Run.{main_trapped, process, result_of}
+use Rattle.wb_model.specs.Run.{main_trapped, process, WholeRun, whole_of}
 use Rattle.wb_model.specs.Agreement.{IsNoLimit}
 
 -- what follows a frame
@@ -69,8 +68,8 @@ left_to_do script budget (going ps way st) = resume script budget ps way st
 left_to_do script budget (has_stopped stop st) = stops stop st
 
 -- what is left to do gives this under a rule, after what the account has so far
-unfoldable pub rest : Script → ℕ → Shape → Rule → Progress → Account → RunResult
-rest script budget shape rule progress a = result_of (settled rule (space_of rule shape) (left_to_do script budget progress) a)
+unfoldable pub rest : Script → ℕ → Shape → Rule → Progress → Account → WholeRun
+rest script budget shape rule progress a = whole_of (settled rule (space_of rule shape) (left_to_do script budget progress) a)
 
 abbrev pub has_ended : Progress → Bool
 has_ended not_begun = false

@@ -1,5 +1,5 @@
 -- A whole run, which runs are bad, and what heap length a run needs.
-use Rattle.std.specs.Prelude.{ℤ, ℕ, ◌+◌, List, [], ◌∷◌, Bool, true, false, nat_eq, nat_lt, if◌then◌else◌, Option, Some, None, map, length, max}
+use Rattle.std.specs.Prelude.{ℤ, ℕ, List, [], ◌∷◌, Bool, true, false, nat_eq, nat_lt, if◌then◌else◌, Option, Some, None, map, length}
 use Rattle.wb_model.specs.declared.heap.TheConstants.Panic.{ITEMS_LEFT}
 use Rattle.wb_model.specs.declared.heap.Ptr.{Ptr}
 use Rattle.wb_model.specs.declared.heap.Rule.{Rule}
@@ -7,16 +7,16 @@ use Rattle.wb_model.specs.declared.heap.Rule.TheVariants.{Unlimited}
 use Rattle.wb_model.specs.declared.heap.Shape.{Shape}
 use Rattle.wb_model.specs.declared.heap.Header.{Header}
 use Rattle.wb_model.specs.declared.heap.Kind.TheVariants.{Cleanup}
-use Rattle.wb_model.specs.declared.heap.Answer.{Answer}
-use Rattle.wb_model.specs.declared.heap.Answer.TheVariants.{Granted}
-use Rattle.wb_model.specs.declared.heap.Attempt.{Attempt}
 use Rattle.wb_model.specs.declared.run.Leak.{Leak}
 use Rattle.wb_model.specs.declared.run.Outcome.{Outcome}
 use Rattle.wb_model.specs.declared.run.Outcome.TheVariants.{Ended, Panicked, NoCleanup, Cut}
+use Rattle.wb_model.specs.declared.run.RisesResult.{RisesResult}
 use Rattle.wb_model.specs.declared.run.RunResult.{RunResult}
 use Rattle.wb_model.specs.declared.script.Script.{Script}
 use Rattle.wb_model.specs.declared.size.Rise.{Rise}
 use Rattle.wb_model.specs.Row.{headers}
+pub use Rattle.wb_model.specs.Rises.{granted_end, end_of_line, highest_end, rises_above}
+use Rattle.wb_model.specs.Rises.{first_rises}
 use Rattle.wb_model.specs.Rules.{never}
 use Rattle.wb_model.specs.Heap.{cells_of_all_levels}
 use Rattle.wb_model.specs.State.{State, none, require, Way, goes_on, returns, leaves, panics, is_cut, no_cleanup, Process, ends, stops, and_then, then_do, null, initial}
@@ -85,14 +85,38 @@ result_of s = record {
   steps = s.state.steps;
 }
 
--- the account before attempt 1
+-- the account before attempt 1, of a run that keeps the rises alone, or a line of each attempt
+abbrev pub before_of : Bool → Space → Account
+before_of keeps_rises space = record { attempts = 0; trace = []; rises = first_rises keeps_rises; notes = []; committed = space.least }
+
 abbrev pub before : Space → Account
-before space = record { trace = []; notes = []; committed = space.least }
+before space = before_of false space
 
 -- the run of a script under a rule
 abbrev pub run : Script → Rule → ℕ → Shape → RunResult
 run script rule budget shape =
     result_of (settled rule (space_of rule shape) (process script budget) (before (space_of rule shape)))
+
+-- what a run comes to: its result, how many attempts it made, and the rises where they are kept in the trace's place
+pub record WholeRun : Type 0 where
+  pub result : RunResult
+  pub attempts : ℕ
+  pub rises : Option (List Rise)
+
+abbrev pub whole_of : Settled → WholeRun
+whole_of s = record { result = result_of s; attempts = s.account.attempts; rises = s.account.rises }
+
+abbrev pub whole_run : Bool → Script → Rule → ℕ → Shape → WholeRun
+whole_run keeps_rises script rule budget shape =
+    whole_of (settled rule (space_of rule shape) (process script budget) (before_of keeps_rises (space_of rule shape)))
+
+-- what a run comes to that keeps the rises, from what one with lines tells
+abbrev pub run_with_rises : RunResult → WholeRun
+run_with_rises told = record { result = record told { trace = [] }; attempts = length told.trace; rises = Some (rises_above 0 told.trace) }
+
+-- what is told of a run that keeps the rises
+abbrev pub rises_told : RunResult → RisesResult
+rises_told told = record { outcome = told.outcome; rises = rises_above 0 told.trace; steps = told.steps }
 
 -- what a sweep looks for: a panic, or a leak at the end; a leave alone is fine, and so is a run without its cleanup stack
 abbrev pub is_bad_outcome : Outcome → Bool
@@ -105,26 +129,9 @@ is_bad_outcome (Cut why) = false
 abbrev pub is_bad : RunResult → Bool
 is_bad r = is_bad_outcome r.outcome
 
-abbrev pub granted_end : Attempt → Answer → ℕ
-granted_end t Granted = t.place + t.length
-granted_end t _ = 0
-
-abbrev pub end_of_line : Attempt → ℕ
-end_of_line t = granted_end t t.answer
-
-abbrev pub highest_end : List Attempt → ℕ
-highest_end [] = 0
-highest_end (t ∷ ts) = max (end_of_line t) (highest_end ts)
-
 -- the greatest end of a granted line without a limit
 abbrev pub required : Script → ℕ → Shape → ℕ
 required script budget shape = highest_end (run script Unlimited budget shape).trace
-
--- the grants that made the heap longer than a length and than all before them
-abbrev pub rises_above : ℕ → List Attempt → List Rise
-rises_above top [] = []
-rises_above top (t ∷ ts) =
-    if nat_lt top (end_of_line t) then record { number = t.number; top = end_of_line t } ∷ rises_above (end_of_line t) ts else rises_above top ts
 
 abbrev pub rises : Script → ℕ → Shape → List Rise
 rises script budget shape = rises_above 0 (run script Unlimited budget shape).trace

@@ -1,14 +1,16 @@
 //! Laws of the definitions. Each is the contract of a function that does nothing, so that the gate proves it.
 
-ghost use Rattle.std.specs.Prelude.{◌≡◌, ◌≢◌, ℕ, ℤ, ◌+◌, ◌-◌, ◌%◌, ◌<◌, ◌≤◌, ◌↔◌, List, Option, Some, None, IsTrue, nat_eq, length, take, drop, slice_get, slice_index, All};
+ghost use Rattle.std.specs.Prelude.{◌≡◌, ◌≢◌, ℕ, ℤ, ◌+◌, ◌-◌, ◌%◌, ◌<◌, ◌≤◌, ◌↔◌, List, Option, Some, None, false, true, [], IsTrue, nat_eq, length, take, drop, slice_get, slice_index, All};
 ghost use Rattle.wb_model.specs.Agreement.{Agrees, RefusesAtLeast, RefusesNoGrant, IsSameRun, IsSameButNotes};
 ghost use Rattle.wb_model.specs.Sizes.{first_refusal, NoneIsRefused, IsFirstRefused, IsGreatestEnd, IsTable};
 ghost use Rattle.wb_model.specs.FreeSlots.{HasFreeSlot, WhereverItGoesOn};
 ghost use Rattle.wb_model.specs.Throughout.{Throughout, AreCellsAfter, AreLeaksAfter};
 ghost use Rattle.wb_model.specs.Rest.{Unfolds};
-ghost use Rattle.wb_model.specs.Row.{IsSpacedFrom, IsLeastPlace, place_of, top_of};
+ghost use Rattle.wb_model.specs.Row.{Cell, IsSpacedFrom, IsLeastPlace, place_of, top_of};
 ghost use Rattle.wb_model.specs.Rules.{next, each, is_due, after_attempts};
-ghost use Rattle.wb_model.specs.Run.{process, run, highest_end, required, rises, refused_at};
+ghost use Rattle.wb_model.specs.Debug.{Debug, alloc_made, first_debug, first_debug_of, keeps_rises, made_with_rises, realloc_made, with_rises};
+ghost use Rattle.wb_model.specs.Rises.{top_of_rises};
+ghost use Rattle.wb_model.specs.Run.{process, run, run_with_rises, whole_run, highest_end, required, rises, rises_above, refused_at};
 ghost use Rattle.wb_model.specs.Space.{AreFreeRuns, free_runs};
 ghost use Rattle.wb_model.specs.Sweeps.{run_at, AreAllFine, IsLeastUnfine, least_bad_or_cut};
 ghost use Rattle.wb_model.specs.Texts.{units_of_part};
@@ -22,6 +24,7 @@ ghost use Rattle.wb_model.specs.Traces.{asked_for, AreAnsweredLines, TellsSettin
 ghost use Rattle.wb_model.specs.declared.limits.TheConstants.{CEILING};
 ghost use Rattle.wb_model.specs.declared.heap.Attempt.{Attempt};
 ghost use Rattle.wb_model.specs.declared.heap.Header.{Header};
+ghost use Rattle.wb_model.specs.declared.heap.Kind.{Kind};
 ghost use Rattle.wb_model.specs.declared.heap.Ptr.{Ptr};
 ghost use Rattle.wb_model.specs.declared.heap.Rule.{Rule};
 ghost use Rattle.wb_model.specs.declared.heap.Rule.TheVariants.{Unlimited, Limit, Number};
@@ -80,6 +83,20 @@ pub fn traces_are_measured()
     ensures refused { (trace : List Attempt) (number : ℕ) → (first_refusal trace ≡ Some number) ↔ IsFirstRefused trace number }
     ensures none { (trace : List Attempt) → (first_refusal trace ≡ None) ↔ NoneIsRefused trace }
     ensures end { (trace : List Attempt) → IsGreatestEnd trace (highest_end trace) }
+{}
+
+/// A run that keeps the rises alone is the run that keeps a line of each attempt: but for its trace it comes to the
+/// same, with as many attempts, and the rises that it keeps are those of that trace. So is a debug heap, at first and
+/// after each attempt. The last rise's top is the greatest end of a granted line.
+pub fn rises_are_kept()
+    ensures runs { (script : Script) (budget : ℕ) (shape : Shape) (r : Rule) →
+        whole_run true script r budget shape ≡ run_with_rises (run script r budget shape) }
+    ensures first { (shape : Shape) → first_debug_of true Unlimited shape ≡ with_rises (first_debug Unlimited shape) }
+    ensures allocations { (d : Debug) (bytes : ℕ) (kind : Kind) → keeps_rises d ≡ false →
+        alloc_made (with_rises d) bytes kind ≡ made_with_rises (alloc_made d bytes kind) }
+    ensures reallocations { (d : Debug) (c : Cell (List ℕ)) (bytes : ℕ) → keeps_rises d ≡ false →
+        realloc_made (with_rises d) c bytes ≡ made_with_rises (realloc_made d c bytes) }
+    ensures top { (trace : List Attempt) → top_of_rises (rises_above 0 trace) ≡ highest_end trace }
 {}
 
 /// What a heap of each length refuses first, where the ceiling doesn't cut the run without a limit: the attempt that the

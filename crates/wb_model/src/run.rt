@@ -3,6 +3,7 @@
 use crate::heap::{Attempt, Panic};
 use crate::items::Items;
 use crate::printed_line::Line;
+use crate::size::Rises;
 
 /// Why a run was cut.
 #[derive(Clone, Copy, Debug, PartialEq, Eq)]
@@ -62,5 +63,13 @@ pub struct RunResult {
     pub trace: Trace,
     pub lines: Lines,
     pub notes: Notes,
+    pub steps: u32,
+}
+
+/// The result of a run without a limit that kept its rises and no trace. Steps are counted from 0; tops are in bytes.
+#[derive(Debug, Drop)]
+pub struct RisesResult {
+    pub outcome: Outcome,
+    pub rises: Rises,
     pub steps: u32,
 }

@@ -1,8 +1,26 @@
 //! How long a heap a script needs.
 
+ghost use Rattle.std.specs.Prelude.{◌≡◌};
+ghost use Rattle.wb_model.specs.Rises.{top_of_rises};
+
+use crate::items::Items;
+
 /// A grant that made the heap longer than every grant before it. The top is where its cell ends, in bytes.
 #[derive(Clone, Copy, Debug, PartialEq, Eq)]
 pub struct Rise {
     pub number: u32,
     pub top: u32,
+}
+
+/// The rises of a run, in order.
+pub type Rises = Items<Rise>;
+
+/// The top of the last rise, in bytes; 0 if there is none. Of the rises of a run this is the greatest end of a grant.
+pub fn top_of_rises(rises: &Rises) -> u32
+    ensures { result ≡ top_of_rises rises.now }
+{
+    match rises.as_slice().last() {
+        Some(rise) => rise.top,
+        None => 0,
+    }
 }

@@ -4,12 +4,14 @@ use Rattle.std.specs.Prelude.{◌↔◌}
 use Rattle.wb_model.specs.declared.heap.Rule.TheVariants.{Unlimited}
 use Rattle.wb_model.specs.declared.heap.Shape.{Shape}
 use Rattle.wb_model.specs.declared.run.Outcome.TheVariants.{Cut}
-use Rattle.wb_model.specs.declared.run.RunResult.{RunResult}
+use Rattle.wb_model.specs.declared.run.RisesResult.{RisesResult}
 use Rattle.wb_model.specs.declared.run.Why.{Why}
 use Rattle.wb_model.specs.declared.run.Why.TheVariants.{Ceiling}
 use Rattle.wb_model.specs.declared.script.Script.{Script}
-use Rattle.wb_model.specs.Run.{run, required, rises, highest_end, rises_above, first_rise_above, refused_at}
+use Rattle.wb_model.specs.Run.{run, rises_told, required, rises, first_rise_above, refused_at}
+use Rattle.wb_model.specs.Rises.{top_of_rises}
 use Rattle.wb_model.specs.Sizes.{refused_first, IsTable}
+use Rattle.wb_model.proofs.AccountLemmas.{top-highest}
 use Rattle.wb_model.proofs.SizeLemmas.{limit_refuses_first, refused_at-none, limits_have_table}
 use Rattle.wb_size.specs.declared.sizing.Sizing.{Sizing}
 use Rattle.wb_size.specs.Sizing.{refusal_in, IsSizing}
@@ -18,12 +20,12 @@ some_or_none : (o : Option ℕ) → (o ≡ None → ⊥) → IsSome o
 some_or_none None h = absurd (h refl)
 some_or_none (Some n) h = refl
 
-pub sized : (script : Script) (budget : ℕ) (shape : Shape) (told : RunResult) (sizing : Sizing) → told ≡ run script Unlimited budget shape →
-    ((why : Why) → told.outcome ≢ Cut why) → sizing.required ≡ highest_end told.trace → sizing.rises ≡ rises_above 0 told.trace → IsSizing script budget shape sizing
-sized script budget shape told sizing ran uncut long table =
-    let open_run : (why : Why) → (run script Unlimited budget shape).outcome ≢ Cut why = λ why e. uncut why (ap (λ r. r.outcome) ran ∙ e) in
-    let needed : sizing.required ≡ required script budget shape = long ∙ ap (λ r. highest_end r.trace) ran in
-    let risen : sizing.rises ≡ rises script budget shape = table ∙ ap (λ r. rises_above 0 r.trace) ran in
+pub sized : (script : Script) (budget : ℕ) (shape : Shape) (told : RisesResult) (sizing : Sizing) → told ≡ rises_told (run script Unlimited budget shape) →
+    ((why : Why) → told.outcome ≢ Cut why) → sizing ≡ record { required = top_of_rises told.rises; rises = told.rises } → IsSizing script budget shape sizing
+sized script budget shape told sizing ran uncut is =
+    let open_run : (why : Why) → (run script Unlimited budget shape).outcome ≢ Cut why = λ why e. uncut why (ap (λ (r : RisesResult). r.outcome) ran ∙ e) in
+    let needed : sizing.required ≡ required script budget shape = ap (λ (s : Sizing). s.required) is ∙ ap (λ (r : RisesResult). top_of_rises r.rises) ran ∙ top-highest (run script Unlimited budget shape).trace in
+    let risen : sizing.rises ≡ rises script budget shape = ap (λ (s : Sizing). s.rises) is ∙ ap (λ (r : RisesResult). r.rises) ran in
     let told_by : (length : ℕ) → refusal_in sizing length ≡ refused_at script budget shape length = λ length. ap (first_rise_above length) risen in
     let first : (length : ℕ) → refused_first script budget shape length ≡ refusal_in sizing length =
     λ length. limit_refuses_first script budget shape length (open_run Ceiling) ∙ sym (told_by length) in

@@ -1,6 +1,6 @@
 -- The fault that a run's fault is.
-use Rattle.wb_machine.specs.declared.machine.RunFault.{RunFault}
-use Rattle.wb_machine.specs.declared.machine.RunFault.TheVariants as runs
+use Rattle.wb_machine.specs.declared.fault.RunFault.{RunFault}
+use Rattle.wb_machine.specs.declared.fault.RunFault.TheVariants as runs
 use Rattle.wb_size.specs.declared.fault.SizeFault.{SizeFault}
 use Rattle.wb_size.specs.declared.fault.SizeFault.TheVariants.{BadShape, NoMemory}
 

@@ -7,10 +7,10 @@ pub mod sizing;
 
 pub use fault::SizeFault;
 pub use measure::size;
-pub use sizing::{Rises, Sizing};
+pub use sizing::Sizing;
 pub use wb_machine::RunFault;
-pub use wb_model::heap::{Attempt, Shape};
+pub use wb_model::heap::Shape;
 pub use wb_model::memory::NoMemory;
 pub use wb_model::run::Why;
 pub use wb_model::script::Script;
-pub use wb_model::size::Rise;
+pub use wb_model::size::{Rise, Rises};

@@ -10,11 +10,12 @@ use wb_model::memory::NoMemory;
 use wb_model::run::RunResult;
 
 /// What a run under way comes to under another rule, which refuses the same of the attempts made so far; neither is a limit. A
-/// copy goes on to its end, and the run itself stays as it is.
+/// copy goes on to its end, and the run itself stays as it is. The machine is one made by `Machine::new`.
 pub fn result_under(lead: &Machine, rule: Rule) -> Result<RunResult, NoMemory>
     requires same { SameSoFar rule lead.now.rule lead.now.attempts }
     requires going { lead.now.over ≡ false }
     requires well { lead.now.failed ≡ false }
+    requires lines { lead.now.keeps_rises ≡ false }
     ensures { IfOk result (λ told. told ≡ run lead.now.script rule lead.now.budget lead.now.shape) }
 {
     let mut fork = lead.try_copy()?;

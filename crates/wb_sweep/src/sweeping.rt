@@ -55,6 +55,7 @@ fn found_among(lead: &mut Machine, last: u32) -> Result<Option<Found>, SweepFaul
     requires rule { lead.old.rule ≡ Number 0 }
     requires first { (lead.old.begun ≡ false) × (lead.old.attempts ≡ 0) × (lead.old.steps ≡ 0) }
     requires well { lead.old.failed ≡ false }
+    requires lines { lead.old.keeps_rises ≡ false }
     requires last { last ≡ length (run_at lead.old.script lead.old.budget lead.old.shape 0).trace }
     requires fine { is_fine (run_at lead.old.script lead.old.budget lead.old.shape 0) ≡ true }
     ensures fine { IfOk result (λ found. found ≡ None →

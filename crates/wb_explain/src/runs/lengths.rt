@@ -1,73 +1,109 @@
-//! What is said of the table of lengths: which line makes each attempt that a shorter heap refuses first.
+//! What is said of the table of lengths: which line makes each attempt that a shorter heap refuses first. The run is made
+//! twice: once for its rises, and once more up to the last of them that is told. Neither keeps a trace.
+
+ghost use Rattle.std.specs.Prelude.{◌≤◌, IsTrue};
+ghost use Rattle.wb_model.specs.Sound.{is_script};
 
 use crate::runs::counts::plural;
 use crate::runs::script_file::ScriptFile;
-use crate::runs::watch::Seen;
-use std::alloc::AllocError;
-use wb_model::heap::{Answer, Attempt};
-use wb_model::run::Outcome;
+use std::alloc::{AllocError, Global};
+use wb_machine::{Machine, RunFault, run_rises};
+use wb_model::heap::Shape;
+use wb_model::limits::LARGEST_BUDGET;
+use wb_model::memory::NoMemory;
+use wb_model::run::{Outcome, RisesResult};
+use wb_model::script::Script;
+use wb_model::size::Rise;
 
 /// The most rows that are told.
-const MOST_ROWS: u32 = 20;
+const MOST_ROWS: usize = 20;
 
-/// The rows that were told so far, and where the next one begins.
-#[derive(Clone, Copy)]
-struct Rows {
-    from: u32,
-    told: u32,
+/// Says of each row of the table which line makes its attempt, unless the run is cut, or no heap may have the shape.
+pub fn put_lengths(
+    text: &mut String,
+    file: ScriptFile<'_>,
+    script: &Script,
+    budget: u32,
+    shape: Shape,
+) -> Result<(), NoMemory>
+    requires script { IsTrue (is_script script.now) }
+    requires least { 1 ≤ budget }
+    requires greatest { budget ≤ LARGEST_BUDGET }
+{
+    let alloc = *text.allocator();
+    match run_rises(alloc, script, budget, shape) {
+        Ok(told) => put_rises(text, file, script, budget, shape, &told),
+        Err(RunFault::BadShape) => Ok(()),
+        Err(RunFault::NoMemory) => Err(NoMemory),
+    }
 }
 
-/// Says of each row of the table which line makes its attempt, unless the run was cut.
-pub fn put_lengths(text: &mut String, file: ScriptFile<'_>, seen: &Seen) -> Result<(), AllocError> {
-    if let Outcome::Cut(_) = seen.result.outcome {
+fn put_rises(
+    text: &mut String,
+    file: ScriptFile<'_>,
+    script: &Script,
+    budget: u32,
+    shape: Shape,
+    told: &RisesResult,
+) -> Result<(), NoMemory>
+    requires script { IsTrue (is_script script.now) }
+    requires least { 1 ≤ budget }
+    requires greatest { budget ≤ LARGEST_BUDGET }
+{
+    if let Outcome::Cut(_) = told.outcome {
         return Ok(());
     }
-    let name = file.name;
-    write!(text, "{name}: what shorter heaps refuse first\n")?;
-    let mut rows = Rows { from: 0, told: 0 };
-    for attempt in seen.result.trace.as_slice() {
-        put_row(text, file, &mut rows, *attempt, seen)?;
+    let alloc = *text.allocator();
+    match Machine::new_rises(alloc, script, budget, shape) {
+        Ok(mut machine) => put_rows(text, file, &mut machine, budget, told.rises.as_slice()),
+        Err(RunFault::BadShape) => Ok(()),
+        Err(RunFault::NoMemory) => Err(NoMemory),
     }
-    let more = rows.told.saturating_sub(MOST_ROWS);
+}
+
+/// The rows, by a machine that goes on from one of their attempts to the next.
+fn put_rows(
+    text: &mut String,
+    file: ScriptFile<'_>,
+    machine: &mut Machine<'_>,
+    budget: u32,
+    rises: &[Rise],
+) -> Result<(), NoMemory> {
+    write!(text, "{}: what shorter heaps refuse first\n", file.name)?;
+    let mut from = 0;
+    for rise in rises.iter().take(MOST_ROWS) {
+        go_to_attempt(machine, budget, rise.number)?;
+        put_row(text, file, from, rise.number, machine.line())?;
+        from = rise.top;
+    }
+    let more = rises.len().saturating_sub(MOST_ROWS);
     if more == 0 {
         return Ok(());
     }
-    let s = plural(i64::from(more));
-    write!(text, "    and {more} row{s} more\n")
+    let s = plural(i64::try_from(more).unwrap_or(i64::MAX));
+    write!(text, "    and {more} row{s} more\n")?;
+    Ok(())
 }
 
-/// The row of an attempt, where its cell ended past all before it.
+/// Takes turns until the attempt with this number is made, at most one for each step of the budget and the first.
+fn go_to_attempt(machine: &mut Machine<'_>, budget: u32, number: u32) -> Result<(), NoMemory> {
+    for _ in 0..=budget {
+        if machine.attempts() >= number {
+            break;
+        }
+        machine.step()?;
+    }
+    Ok(())
+}
+
+/// The row of an attempt, by the line that made it; 0 of the first, which no line makes.
 fn put_row(
-    text: &mut String,
-    file: ScriptFile<'_>,
-    rows: &mut Rows,
-    attempt: Attempt,
-    seen: &Seen,
-) -> Result<(), AllocError> {
-    let top = attempt.place.saturating_add(attempt.length);
-    if attempt.answer != Answer::Granted || top <= rows.from {
-        return Ok(());
-    }
-    let from = rows.from;
-    rows.from = top;
-    rows.told = rows.told.saturating_add(1);
-    if rows.told > MOST_ROWS {
-        return Ok(());
-    }
-    put_maker(text, file, from, attempt.number, seen)
-}
-
-fn put_maker(
     text: &mut String,
     file: ScriptFile<'_>,
     from: u32,
     number: u32,
-    seen: &Seen,
+    line: u32,
 ) -> Result<(), AllocError> {
-    let line = match seen.attempt(number) {
-        Some((_, maker)) => maker.line,
-        None => 0,
-    };
     if line == 0 {
         return write!(
             text,

@@ -150,7 +150,7 @@ pub fn watched(alloc: Global, script: &Script, setting: Setting) -> Result<Optio
         Err(RunFault::NoMemory) => return Err(NoMemory),
     };
     watch(&mut machine, &mut lines, budget)?;
-    finished(machine, lines)
+    Ok(Some(finished(machine, lines)?))
 }
 
 /// Lets the machine take its turns, at most one for each step of the budget, the first, and the one that ends the run.
@@ -170,13 +170,10 @@ fn take_turn(machine: &mut Machine<'_>, lines: &mut Lines) -> Result<Turn, NoMem
     Ok(turn)
 }
 
-/// What the run tells, where it is over; one turn more says so and changes nothing.
-fn finished(mut machine: Machine<'_>, lines: Lines) -> Result<Option<Seen>, NoMemory> {
-    match machine.step()? {
-        Turn::Ended => Ok(Some(Seen {
-            result: machine.result(),
-            lines,
-        })),
-        Turn::GoesOn => Ok(None),
-    }
+/// The result of a run whose turns were watched. Those left, if any, are taken unwatched.
+fn finished(machine: Machine<'_>, lines: Lines) -> Result<Seen, NoMemory> {
+    Ok(Seen {
+        result: machine.run_to_end()?,
+        lines,
+    })
 }

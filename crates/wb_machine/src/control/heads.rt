@@ -15,7 +15,6 @@ ghost use Rattle.wb_machine.specs.PointerOperands.{first_refusal, of_condition, 
 ghost use Rattle.wb_machine.specs.Flow.{where_of, afterwards, AreOwn, IsOwn, AreSound, FitsStep, rest_from, rest_of_statement, rest_of_body};
 ghost use Rattle.wb_machine.specs.ObjectInvariant.{StaysWhole};
 ghost use Rattle.wb_machine.specs.SlotInvariant.{slots_for_all, IsFree, HasRoom};
-ghost use Rattle.wb_machine.specs.RunState.{HasLines};
 ghost use Rattle.wb_machine.specs.Owed.{HasStack, MayAttempt, KeepsSteps, IsQuiet};
 
 use crate::arguments::Handed;
@@ -257,10 +256,8 @@ impl<'a> Control<'a> {
             ≡ rest_of_statement script.now budget r (where_of at) (out-Statement statement.now) self.old.pieces.items state.old) }
         ensures sound { OnOk result (AreSound script.now self.new.pieces.items) }
         ensures keeps { KeepsSteps state.old state.new }
-        ensures whole { OnOk result (HasLines state.old →
-            StaysWhole script.now state.old state.new) }
-        ensures room { OnOk result (HasLines state.old →
-            HasRoom self.new.ending self.new.pieces.items state.new) }
+        ensures whole { OnOk result (StaysWhole script.now state.old state.new) }
+        ensures room { OnOk result (HasRoom self.new.ending self.new.pieces.items state.new) }
         ensures line { self.new.line ≡ self.old.line }
     {
         match statement {
@@ -321,10 +318,8 @@ impl<'a> Control<'a> {
             ≡ rest_of_statement script.now budget r (where_of at) (out-Statement statement.now) self.old.pieces.items state.old) }
         ensures sound { OnOk result (AreSound script.now self.new.pieces.items) }
         ensures keeps { KeepsSteps state.old state.new }
-        ensures whole { OnOk result (HasLines state.old →
-            StaysWhole script.now state.old state.new) }
-        ensures room { OnOk result (HasLines state.old →
-            HasRoom self.new.ending self.new.pieces.items state.new) }
+        ensures whole { OnOk result (StaysWhole script.now state.old state.new) }
+        ensures room { OnOk result (HasRoom self.new.ending self.new.pieces.items state.new) }
         ensures line { self.new.line ≡ self.old.line }
     {
         match state.operands_refused(statement) {

@@ -1,4 +1,4 @@
-use Rattle.std.proofs.Common.{◌≡◌, ◌≤◌}
+use Rattle.std.proofs.Common.{◌≡◌, ◌≤◌, false}
 use Rattle.wb_model.specs.declared.heap.Rule.TheVariants.{Number}
 use Rattle.wb_fork_tests.proofs.forks.walk.Given as goal
 
@@ -8,4 +8,5 @@ invariant-loop l =
     record {
       rule : l.lead.rule ≡ Number 0;
       few : l.lead.attempts ≤ l.counter;
+      lines : l.lead.keeps_rises ≡ false;
     }

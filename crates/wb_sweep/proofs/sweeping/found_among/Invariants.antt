@@ -14,6 +14,7 @@ invariant-loop-lead l =
       within : l.lead.steps ≤ l.fn.lead.budget;
       first : l.lead.begun ≡ false → l.lead.steps ≡ 0;
       well : l.lead.failed ≡ false;
+      lines : l.lead.keeps_rises ≡ false;
       fine : AreFineBelow (run_at l.fn.lead.script l.fn.lead.budget l.fn.lead.shape) (l.lead.attempts + 1);
     }
 

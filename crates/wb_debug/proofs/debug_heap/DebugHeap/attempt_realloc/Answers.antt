@@ -1,14 +1,14 @@
-use Rattle.std.proofs.Common.{◌≡◌, IfSome, refl, ap, subst, sym, ◌∙◌, arith}
+use Rattle.std.proofs.Common.{◌≡◌, IfSome, IsOk, true, refl, ap, subst, sym, ◌∙◌, arith}
 use Rattle.wb_model.specs.declared.heap.Attempt.{Attempt}
 use Rattle.wb_model.specs.declared.heap.Gave.{Gave}
-use Rattle.wb_model.specs.Debug.{Debug, IsSoundDebug, realloc_made}
+use Rattle.wb_model.specs.Debug.{Debug, IsSoundDebug, keeps_rises, realloc_made}
 use Rattle.wb_model.specs.Row.{cell_at}
 use Rattle.wb_model.specs.Rules.{after_attempt}
 use Rattle.wb_debug.specs.declared.debug_heap.DebugHeap.TheInside.{Inside}
 use Rattle.wb_debug.specs.Debug.{debug_of, IsKept}
 use Rattle.wb_debug.specs.Setting.{setting_of}
 use Rattle.wb_debug.proofs.Kept.{kept-sound, set-kept, refused-kept, on-ok, on-err, ok-value}
-use Rattle.wb_debug.proofs.Longer.{IsAsked, asked, granted-debug, granted-gave, denied-debug, denied-gave, grown-kept, shortened-kept}
+use Rattle.wb_debug.proofs.Longer.{IsAsked, asked, granted-debug, granted-gave, denied-debug, denied-gave, grown-kept, grown-quiet, shortened-kept}
 use Rattle.wb_debug.proofs.debug_heap.DebugHeap.attempt_realloc.Goals.{in-Granted+in_ok-gave-in-Granted, in-Simulated}
 use Rattle.wb_debug.proofs.debug_heap.DebugHeap.attempt_realloc.Goals as goal
 
@@ -23,15 +23,29 @@ returns-then-length-cell-clause-sound c = kept-sound _ (invariant_of-self c)
 pub returns-in_default-clause-sound : goal.returns-in_default-clause-sound
 returns-in_default-clause-sound c = subst IsSoundDebug c.self.view_is (kept-sound c.self.inside c.self.invariant)
 
-pub returns-in_err-push-clause-sound : goal.returns-in_err-push-clause-sound
-returns-in_err-push-clause-sound c =
-    kept-sound _ (set-kept c.self.inside c.self.inside.heap c.self.inside.level c.self.inside.setting c.push.new.self refl c.in_err-push.ensures.unchanged c.self.invariant)
+pub returns-in_err-added-clause-sound : goal.returns-in_err-added-clause-sound
+returns-in_err-added-clause-sound c =
+    kept-sound _ (set-kept c.self.inside c.self.inside.heap c.self.inside.level c.self.inside.setting c.push.new.self refl c.in_err-added.ensures.err c.self.invariant)
 
 pub returns-in_err-gave-in-Granted-clause-sound : goal.returns-in_err-gave-in-Granted-clause-sound
 returns-in_err-gave-in-Granted-clause-sound c =
-    kept-sound _ (set-kept c.self.inside c.realloc-granted.new.self c.self.inside.level c.self.inside.setting c.granted_or_undone.new.trace
+    kept-sound _ (set-kept c.self.inside c.realloc-granted.new.self c.self.inside.level c.self.inside.setting c.granted_or_undone.new.log
     (on-err c.realloc-granted.result _ c.in_err-gave-in-Granted.ensures.wanting c.realloc-granted.ensures.err)
-    (c.in_err-gave-in-Granted.ensures.undone c.self.inside.trace c.in-Some.line c.in_ok-push.ensures.pushed) c.self.invariant)
+    (c.in_err-gave-in-Granted.ensures.undone c.self.inside.log c.in-Some.line c.in_ok-added.ensures.pushed (sym c.in_ok-added.ensures.added)) c.self.invariant)
+
+pub returns-in_err-gave-in-Granted-clause-quiet : goal.returns-in_err-gave-in-Granted-clause-quiet
+returns-in_err-gave-in-Granted-clause-quiet c =
+    let inside = c.self.inside in
+    let Quiet : Debug → Type 0 = λ d. keeps_rises d ≡ true →
+    IfSome (cell_at c.args.ptr d.heap.row) (λ x. (realloc_made d x c.args.bytes).debug.rises ≡ d.rises → IsOk c.from_residual-in_err-gave-in-Granted.result) in
+    let is = asked inside c.args.self.now c.args.ptr c.unwrap-cell.result c.args.bytes c.cell_length-length.result c.place_for_realloc-place.result c.in-Some.line
+    c.self.view_is (sym c.header.ensures.header ∙ c.unwrap-cell.ensures) c.cell_length-length.ensures.exact (omega (arith, c.if-length-cell.false))
+    c.place_for_realloc-place.ensures.place c.in-Some.ensures.answer c.in-Some.ensures.line in
+    subst Quiet c.self.view_is (λ measuring.
+    subst (λ o. IfSome o (λ x. (realloc_made (debug_of inside) x c.args.bytes).debug.rises ≡ inside.log.rises → IsOk c.from_residual-in_err-gave-in-Granted.result)) (sym is.found) (λ same.
+    absurd (grown-quiet inside c.args.ptr c.args.bytes c.cell_length-length.result c.in-Some.line c.realloc-granted.result is c.in-Granted.is measuring same
+    c.in_err-gave-in-Granted.ensures.wanting c.realloc-granted.ensures.no_other (λ e. c.realloc-granted.ensures.bad.0 e) (λ e. c.realloc-granted.ensures.short.0 e)
+    c.realloc-granted.ensures.no_growth c.self.invariant)))
 
 -- what was asked, and what was answered
 asked-for : (c : goal.After-self-2-1) → IsAsked c.self.inside c.args.ptr c.args.bytes c.cell_length-length.result c.in-Some.line
@@ -46,12 +60,12 @@ invariant_of-self-2 c =
       | in-Granted+in_ok-gave-in-Granted w ↦
           subst (λ (x : Inside). IsKept (record x { setting = c.counted-self-inside.result; attempts = c.in-Some.line.number })) (sym w.self-inside-is)
           (grown-kept c.self.inside c.args.ptr c.args.bytes c.cell_length-length.result c.in-Some.line w.realloc-granted.new.self
-          c.counted-self-inside.result w.granted_or_undone.new.trace (asked-for c)
+          c.counted-self-inside.result w.granted_or_undone.new.log (asked-for c) w.in-Granted.is
           (on-ok w.realloc-granted.result _ _ w.in_ok-gave-in-Granted.ensures.granted w.realloc-granted.ensures.done) w.realloc-granted.ensures.sound
-          (w.in_ok-gave-in-Granted.ensures.kept ∙ c.in_ok-push.ensures.pushed) c.self.invariant)
+          (w.in_ok-gave-in-Granted.ensures.kept ∙ c.in_ok-added.ensures.pushed) c.self.invariant)
       | in-Simulated w ↦
           subst (λ (x : Inside). IsKept (record x { setting = c.counted-self-inside.result; attempts = c.in-Some.line.number })) (sym w.self-inside-is)
-          (refused-kept c.self.inside c.counted-self-inside.result c.push.new.self c.in-Some.line c.in_ok-push.ensures.pushed (ap (λ (a : Attempt). a.number) (asked-for c).added) c.self.invariant)
+          (refused-kept c.self.inside c.counted-self-inside.result c.push.new.self c.in-Some.line c.in_ok-added.ensures.pushed (ap (λ (a : Attempt). a.number) (asked-for c).added) w.in-Simulated.is c.self.invariant)
     ]
 
 pub returns-clause-sound : goal.returns-clause-sound
@@ -79,12 +93,12 @@ returns-clause-made c =
     (elim c.match-line.branch [
       | in-Granted+in_ok-gave-in-Granted w ↦
           subst P (sym w.self-inside-is) (granted-debug c.self.inside c.args.ptr c.args.bytes c.cell_length-length.result c.in-Some.line
-          w.realloc-granted.new.self c.counted-self-inside.result w.granted_or_undone.new.trace (asked-for c) w.in-Granted.is
+          w.realloc-granted.new.self c.counted-self-inside.result w.granted_or_undone.new.log (asked-for c) w.in-Granted.is
           (on-ok w.realloc-granted.result _ _ w.in_ok-gave-in-Granted.ensures.granted w.realloc-granted.ensures.done)
-          (w.in_ok-gave-in-Granted.ensures.kept ∙ c.in_ok-push.ensures.pushed)
+          (w.in_ok-gave-in-Granted.ensures.kept ∙ c.in_ok-added.ensures.pushed)
           (c.counted-self-inside.ensures ∙ ap (λ (i : Inside). after_attempt (setting_of i.setting)) w.self-inside-is) c.self.invariant)
       | in-Simulated w ↦
           subst P (sym w.self-inside-is) (denied-debug c.self.inside c.args.ptr c.args.bytes c.cell_length-length.result c.in-Some.line
-          c.counted-self-inside.result c.push.new.self (asked-for c) w.in-Simulated.is c.in_ok-push.ensures.pushed
+          c.counted-self-inside.result c.push.new.self (asked-for c) w.in-Simulated.is c.in_ok-added.ensures.pushed
           (c.counted-self-inside.ensures ∙ ap (λ (i : Inside). after_attempt (setting_of i.setting)) w.self-inside-is))
     ])

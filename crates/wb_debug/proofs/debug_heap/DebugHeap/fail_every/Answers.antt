@@ -5,4 +5,4 @@ use Rattle.wb_debug.proofs.debug_heap.DebugHeap.fail_every.Goals as goal
 
 pub returns-clause-sound : goal.returns-clause-sound
 returns-clause-sound c =
-    kept-sound _ (set-kept c.self.inside c.self.inside.heap c.self.inside.level (Each c.args.n c.args.n) c.self.inside.trace refl refl c.self.invariant)
+    kept-sound _ (set-kept c.self.inside c.self.inside.heap c.self.inside.level (Each c.args.n c.args.n) c.self.inside.log refl refl c.self.invariant)

@@ -5,4 +5,4 @@ use Rattle.wb_debug.proofs.debug_heap.DebugHeap.fail_none.Goals as goal
 
 pub returns-clause-sound : goal.returns-clause-sound
 returns-clause-sound c =
-    kept-sound _ (set-kept c.self.inside c.self.inside.heap c.self.inside.level Never c.self.inside.trace refl refl c.self.invariant)
+    kept-sound _ (set-kept c.self.inside c.self.inside.heap c.self.inside.level Never c.self.inside.log refl refl c.self.invariant)

@@ -9,7 +9,7 @@ use Rattle.wb_model.specs.declared.script.Argument.{Argument}
 use Rattle.wb_model.specs.Statements.{Layer}
 use Rattle.wb_model.specs.Bodies.{procedure_at}
 use Rattle.wb_model.specs.Meaning.{meaning_of}
-use Rattle.wb_model.specs.Run.{result_of}
+use Rattle.wb_model.specs.Run.{whole_of}
 use Rattle.wb_model.specs.Rest.{nothing_more, gives_to, resume}
 use Rattle.wb_machine.proofs.Steps.{rest_known}
 use Rattle.wb_machine.specs.RunState.{Values}
@@ -74,11 +74,11 @@ returns-in_ok-self-in_default c =
       kept = λ r budget f.
           rest_known script budget r c.in_ok-self-in_default.field-0 pieces (pending_in c.args.state.now.callers pieces) c.carry_out.new.self
           (ap (λ (callers : Values). pending_in callers pieces) c.in_ok-self-in_default.ensures.keeps.callers)
-          ∙ ap result_of (c.in_ok-self-in_default.ensures.kept r f (meaning_of script budget) (where_of c.args.at) refl (resume script budget (pending_in c.args.state.now.callers pieces)));
+          ∙ ap whole_of (c.in_ok-self-in_default.ensures.kept r f (meaning_of script budget) (where_of c.args.at) refl (resume script budget (pending_in c.args.state.now.callers pieces)));
       sound = c.requires.sound;
       keeps = record { steps = c.in_ok-self-in_default.ensures.keeps.steps; stays = c.in_ok-self-in_default.ensures.keeps.stays };
-      room = λ lines. carried_room script c.args.at.floor (out-Statement c.args.statement.now) pieces c.args.state.now c.carry_out.new.self c.in_ok-self-in_default.field-0 lines c.in_ok-self-in_default.ensures.kept c.requires.free;
-      whole = λ lines. carried_whole script c.args.at.floor (out-Statement c.args.statement.now) c.args.state.now c.carry_out.new.self c.in_ok-self-in_default.field-0 lines c.in_ok-self-in_default.ensures.kept;
+      room = carried_room script c.args.at.floor (out-Statement c.args.statement.now) pieces c.args.state.now c.carry_out.new.self c.in_ok-self-in_default.field-0 c.in_ok-self-in_default.ensures.kept c.requires.free;
+      whole = carried_whole script c.args.at.floor (out-Statement c.args.statement.now) c.args.state.now c.carry_out.new.self c.in_ok-self-in_default.field-0 c.in_ok-self-in_default.ensures.kept;
       line = refl;
     }
 
@@ -160,51 +160,51 @@ returns-in-CallTo-clause-sound c =
     c.requires.sound)
 
 pub returns-in-Construct-clause-whole : goal.returns-in-Construct-clause-whole
-returns-in-Construct-clause-whole c = on_ok_anyhow c.begin_construct.result (λ lines. c.begin_construct.ensures.quiet.whole c.args.script.now)
+returns-in-Construct-clause-whole c = on_ok_anyhow c.begin_construct.result (c.begin_construct.ensures.quiet.whole c.args.script.now)
 
 pub returns-in-Call-clause-whole : goal.returns-in-Call-clause-whole
-returns-in-Call-clause-whole c = on_ok_anyhow c.begin_body.result (λ lines. c.begin_body.ensures.quiet.whole c.args.script.now)
+returns-in-Call-clause-whole c = on_ok_anyhow c.begin_body.result (c.begin_body.ensures.quiet.whole c.args.script.now)
 
 pub returns-in-CallTo-clause-whole : goal.returns-in-CallTo-clause-whole
-returns-in-CallTo-clause-whole c = on_ok_anyhow c.begin_body-in-CallTo.result (λ lines. c.begin_body-in-CallTo.ensures.quiet.whole c.args.script.now)
+returns-in-CallTo-clause-whole c = on_ok_anyhow c.begin_body-in-CallTo.result (c.begin_body-in-CallTo.ensures.quiet.whole c.args.script.now)
 
 pub returns-in-If-clause-room : goal.returns-in-If-clause-room
 returns-in-If-clause-room c =
-    on_ok_then c.begin_if.result c.begin_if.ensures.slots (λ slots lines.
+    on_ok_then c.begin_if.result c.begin_if.ensures.slots (λ slots.
     still_room c.begin_if.new.self.ending c.args.self.now.pieces.items c.begin_if.new.self.pieces.items c.args.state.now c.requires.free slots)
 
 pub returns-in-IfElse-clause-room : goal.returns-in-IfElse-clause-room
 returns-in-IfElse-clause-room c =
-    on_ok_then c.begin_if-in-IfElse.result c.begin_if-in-IfElse.ensures.slots (λ slots lines.
+    on_ok_then c.begin_if-in-IfElse.result c.begin_if-in-IfElse.ensures.slots (λ slots.
     still_room c.begin_if-in-IfElse.new.self.ending c.args.self.now.pieces.items c.begin_if-in-IfElse.new.self.pieces.items c.args.state.now c.requires.free slots)
 
 pub returns-in-Repeat-clause-room : goal.returns-in-Repeat-clause-room
 returns-in-Repeat-clause-room c =
-    on_ok_then c.begin_repeat.result c.begin_repeat.ensures.slots (λ slots lines.
+    on_ok_then c.begin_repeat.result c.begin_repeat.ensures.slots (λ slots.
     still_room c.begin_repeat.new.self.ending c.args.self.now.pieces.items c.begin_repeat.new.self.pieces.items c.args.state.now c.requires.free slots)
 
 pub returns-in-PopDestroy-clause-room : goal.returns-in-PopDestroy-clause-room
 returns-in-PopDestroy-clause-room c =
-    on_ok_then c.begin_pop.result c.begin_pop.ensures.slots (λ slots lines.
+    on_ok_then c.begin_pop.result c.begin_pop.ensures.slots (λ slots.
     still_room c.begin_pop.new.self.ending c.args.self.now.pieces.items c.begin_pop.new.self.pieces.items c.args.state.now c.requires.free slots)
 
 pub returns-in-Trap-clause-room : goal.returns-in-Trap-clause-room
 returns-in-Trap-clause-room c =
     let h = c.args.state.now in
-    on_ok_then c.begin_trap.result c.begin_trap.ensures.slots (λ slots lines.
+    on_ok_then c.begin_trap.result c.begin_trap.ensures.slots (λ slots.
     free_room c.begin_trap.new.self.ending c.args.self.now.pieces.items c.begin_trap.new.self.pieces.items h h c.requires.free slots (omega arith) refl)
 
 pub returns-in-Construct-clause-room : goal.returns-in-Construct-clause-room
 returns-in-Construct-clause-room c =
-    on_ok_then c.begin_construct.result c.begin_construct.ensures.slots (λ slots lines.
+    on_ok_then c.begin_construct.result c.begin_construct.ensures.slots (λ slots.
     quiet_room c.begin_construct.new.self.ending c.args.self.now.pieces.items c.begin_construct.new.self.pieces.items c.args.state.now c.begin_construct.new.state c.requires.free slots c.begin_construct.ensures.quiet)
 
 pub returns-in-Call-clause-room : goal.returns-in-Call-clause-room
 returns-in-Call-clause-room c =
-    on_ok_then c.begin_body.result c.begin_body.ensures.slots (λ slots lines.
+    on_ok_then c.begin_body.result c.begin_body.ensures.slots (λ slots.
     quiet_room c.begin_body.new.self.ending c.args.self.now.pieces.items c.begin_body.new.self.pieces.items c.args.state.now c.begin_body.new.state c.requires.free slots c.begin_body.ensures.quiet)
 
 pub returns-in-CallTo-clause-room : goal.returns-in-CallTo-clause-room
 returns-in-CallTo-clause-room c =
-    on_ok_then c.begin_body-in-CallTo.result c.begin_body-in-CallTo.ensures.slots (λ slots lines.
+    on_ok_then c.begin_body-in-CallTo.result c.begin_body-in-CallTo.ensures.slots (λ slots.
     quiet_room c.begin_body-in-CallTo.new.self.ending c.args.self.now.pieces.items c.begin_body-in-CallTo.new.self.pieces.items c.args.state.now c.begin_body-in-CallTo.new.state c.requires.free slots c.begin_body-in-CallTo.ensures.quiet)

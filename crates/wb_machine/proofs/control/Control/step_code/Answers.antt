@@ -1,6 +1,6 @@
 use Rattle.std.proofs.Common.{ap, ◌∙◌, sym, subst, arith}
 use Rattle.wb_model.specs.declared.script.Statement.TheViews.{out-Statement}
-use Rattle.wb_machine.specs.RunState.{RunState, HasLines}
+use Rattle.wb_machine.specs.RunState.{RunState}
 use Rattle.wb_machine.specs.declared.pieces.Piece.TheVariants.{Code}
 use Rattle.wb_machine.specs.Flow.{where_of, FitsStep, rest_of_statement}
 use Rattle.wb_machine.proofs.Outcomes.{on_ok_then}
@@ -27,13 +27,13 @@ returns-clause-kept c =
     let h = c.args.state.now in
     rest_stepped script budget r (where_of c.args.at) c.args.first.now c.args.rest.now c.args.self.now.pieces.items mid c.begin_unless_refused.new.self.pieces.items
     c.begin_unless_refused.new.self.ending h c.begin_unless_refused.new.state (pending_pushed h.callers c.args.self.now.pieces.items mid (Code c.args.at c.args.rest) c.in_ok-push.ensures.pieces) within
-    (kept r budget (subst (λ (x : RunState). FitsStep r x c.begin_unless_refused.new.self.ending c.begin_unless_refused.new.state) (sym c.tick.ensures) (c.requires.lines, f))
+    (kept r budget (subst (λ (x : RunState). FitsStep r x c.begin_unless_refused.new.self.ending c.begin_unless_refused.new.state) (sym c.tick.ensures) f)
     ∙ ap (λ (x : RunState). rest_of_statement script budget r (where_of c.args.at) (out-Statement c.args.first.now.statement) mid x) c.tick.ensures))
 
 pub returns-clause-whole : goal.returns-clause-whole
 returns-clause-whole c =
     on_ok_then c.begin_unless_refused.result c.begin_unless_refused.ensures.whole (λ stays whole.
-    stays (subst HasLines (sym c.tick.ensures) c.requires.lines) (stepped_whole c.args.script.now c.args.state.now c.tick.new.self c.tick.ensures whole))
+    stays (stepped_whole c.args.script.now c.args.state.now c.tick.new.self c.tick.ensures whole))
 
 pub begin_unless_refused-requires-clause-free : goal.begin_unless_refused-requires-clause-free
 begin_unless_refused-requires-clause-free c =
@@ -41,4 +41,4 @@ begin_unless_refused-requires-clause-free c =
 
 pub returns-clause-room : goal.returns-clause-room
 returns-clause-room c =
-    on_ok_then c.begin_unless_refused.result c.begin_unless_refused.ensures.room (λ room. room (subst HasLines (sym c.tick.ensures) c.requires.lines))
+    on_ok_then c.begin_unless_refused.result c.begin_unless_refused.ensures.room (λ room. room)

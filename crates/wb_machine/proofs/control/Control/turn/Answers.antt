@@ -1,8 +1,8 @@
-use Rattle.std.proofs.Common.{◌≡◌, ℕ, ◌+◌, ◌<◌, ◌≤◌, inl, inr, refl, ap, ◌∙◌, sym, subst, arith, Bool, true, false, length}
+use Rattle.std.proofs.Common.{◌≡◌, ℕ, ◌+◌, ◌<◌, ◌≤◌, inl, inr, refl, ap, ◌∙◌, sym, subst, arith, Bool, true, false}
 use Rattle.wb_model.specs.declared.heap.Rule.{Rule}
-use Rattle.wb_model.specs.declared.run.RunResult.{RunResult}
 use Rattle.wb_model.specs.declared.script.Script.{Script}
 use Rattle.wb_model.specs.Rest.{Fits}
+use Rattle.wb_model.specs.Run.{WholeRun}
 use Rattle.wb_machine.specs.declared.control.Control.{Control}
 use Rattle.wb_machine.specs.RunState.{RunState, state_of}
 use Rattle.wb_machine.specs.Asks.{asks_next, MakesAsked}
@@ -37,7 +37,7 @@ returns-clause-whole c =
     ])
 
 -- a fact of what one of the branches made
-moved_on : (script : Script) (budget : ℕ) (r own : Rule) (made mid : Control) (st g : RunState) (told : RunResult) → mid ≡ made → g ≡ st →
+moved_on : (script : Script) (budget : ℕ) (r own : Rule) (made mid : Control) (st g : RunState) (told : WholeRun) → mid ≡ made → g ≡ st →
     Fits r own (is_stop mid.ending) g.debug.attempts →
     (Fits r own (is_stop made.ending) st.debug.attempts → rest_from script budget r made.ending made.pieces.items st ≡ told) →
     rest_from script budget r mid.ending mid.pieces.items g ≡ told
@@ -120,14 +120,12 @@ returns-clause-asked c =
           let stays = w.in_ok-step.ensures.stays in
           let made = ap (λ (x : RunState). x.debug.attempts) w.state-is in
           let taken = ap (λ (x : RunState). x.steps) w.state-is in
-          let traced = ap (λ (x : RunState). length x.debug.trace) w.state-is in
           let steps : g.steps ≤ h.steps + 1 = omega (arith, taken, w.in_ok-step.ensures.steps) in
           let same = c.in_ok-settle.ensures.kept script own (h.steps + 1) steps
           ∙ moved_on script (h.steps + 1) own own w.step.new.self mid w.step.new.state g _ w.self-is w.state-is (inl refl) (λ f'. w.in_ok-step.ensures.kept own (h.steps + 1) (omega arith) f') in
           subst (λ b. MakesAsked (asks b) (has_met_ceiling next) h.debug.attempts after.debug.attempts) (sym w.if-not-begun.false)
           (made_as_asked script budget own old.ending next old.pieces.items c.settle.new.self.pieces.items h after (c.requires.later w.if-not-begun.false) c.requires.sound c.in_ok-settle.ensures.settled
-          less (omega (arith, quiet.steps, taken, w.in_ok-step.ensures.steps)) c.requires.lines (omega (arith, quiet.attempts, made, stays.lines, c.requires.lines, ap length quiet.trace, traced))
-          (omega (arith, quiet.attempts, made, stays.more)) same)
+          less (omega (arith, quiet.steps, taken, w.in_ok-step.ensures.steps)) (omega (arith, quiet.attempts, made, stays.more)) same)
       | else-not-begun+else-steps-budget w ↦
           let at : h.steps ≡ budget = omega (arith, w.if-steps-budget.false, w.steps.ensures, c.requires.within) in
           let none : asks true ≡ false = settled_cut script budget old.ending old.pieces.items h (inr (c.requires.later w.if-not-begun.false)) at in

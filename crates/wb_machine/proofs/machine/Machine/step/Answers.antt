@@ -1,7 +1,8 @@
-use Rattle.std.proofs.Common.{◌≡◌, ap, ◌∙◌, sym, subst, arith, Bool, true, false}
+use Rattle.std.proofs.Common.{◌≡◌, ap, ◌∙◌, sym, subst, Bool, true, false}
 use Rattle.wb_model.specs.Rest.{Fits}
 use Rattle.std.specs.Prelude.{not, ◌&&◌}
-use Rattle.wb_model.specs.Run.{run}
+use Rattle.wb_model.specs.Debug.{keeps_rises}
+use Rattle.wb_model.specs.Run.{whole_run}
 use Rattle.wb_machine.specs.Asks.{asks_next}
 use Rattle.wb_machine.specs.Flow.{is_stop, is_over, pending_in, progress_of}
 use Rattle.wb_machine.specs.RunState.{state_of}
@@ -28,7 +29,6 @@ invariant_of-self-2 c =
         small = old.small;
         within = turn.within;
         counted = turn.counted;
-        lines = omega (arith, turn.stays.lines, old.lines);
         level = turn.level;
         first = λ e. cc;
         settled = λ e. turn.settled;
@@ -43,7 +43,8 @@ invariant_of-self-2 c =
           let f' = subst (λ own. Fits r own (is_over c.turn.new.self.ending c.turn.new.self.pieces.items) c.turn.new.state.debug.attempts) turn.stays.rule f in
           turn.kept r f'
           ∙ c.self.invariant.keeps c.if-self.false r (fits-before r m.state.debug.rule (has_ended m) _ m.state.debug.attempts c.turn.new.state.debug.attempts (λ e. going) turn.stays.fewer f')
-          ∙ ap (run m.script.now r m.budget) (sym turn.stays.shape);
+          ∙ ap (λ b. whole_run b m.script.now r m.budget m.state.debug.shape) (sym turn.stays.kept)
+          ∙ ap (whole_run (keeps_rises c.turn.new.state.debug) m.script.now r m.budget) (sym turn.stays.shape);
     }
 
 -- a run that is over asks for nothing

@@ -1,0 +1,194 @@
+//! Attempts on a heap that keeps the rises alone. One that isn't a rise needs no memory: so it is granted or denied at
+//! once, whichever allocation is refused.
+
+ghost use Rattle.std.specs.Prelude.{◌≡◌, ◌+◌, ◌^◌, ◌<◌, ◌≤◌, true, IfOk, IsSome};
+ghost use Rattle.wb_model.specs.Debug.{keeps_rises};
+ghost use Rattle.wb_model.specs.Row.{cell_at};
+
+use crate::stop::Stop;
+use std::alloc::Global;
+use wb_debug::DebugHeap;
+use wb_model::heap::{Gave, Kind, Ptr, Shape};
+use wb_model::limits::CEILING;
+use wb_model::memory::NoMemory;
+
+/// A call of a heap.
+#[derive(Clone, Copy)]
+enum Call {
+    /// An attempt to get a cell for so many bytes.
+    Alloc(u32),
+    /// The place and the number of a cell, and the bytes that it is to have.
+    Realloc(u32, u32, u32),
+    /// The place and the number of a cell that is released.
+    Free(u32, u32),
+    /// Every attempt with a multiple of this number fails from here on.
+    FailEvery(u32),
+}
+
+/// The heap begins without memory, so that the first attempt asks for it.
+const SHAPE: Shape = Shape { min: 0, step: 64 };
+
+/// Cells at the top, in a hole and past the top, attempts that are simulated, and cells that become longer at their place
+/// and elsewhere, and shorter.
+static CALLS: [Call; 21] = [
+    Call::Alloc(128),
+    Call::FailEvery(2),
+    Call::Alloc(16),
+    Call::Alloc(16),
+    Call::Free(144, 2),
+    Call::Alloc(16),
+    Call::Alloc(16),
+    Call::Alloc(40),
+    Call::Alloc(400),
+    Call::Realloc(176, 6, 8),
+    Call::Realloc(176, 6, 40),
+    Call::Alloc(400),
+    Call::Realloc(176, 6, 90),
+    Call::Free(144, 4),
+    Call::Alloc(16),
+    Call::Alloc(16),
+    Call::Free(0, 1),
+    Call::Realloc(144, 12, 40),
+    Call::Realloc(144, 12, 40),
+    Call::Alloc(200),
+    Call::Alloc(200),
+];
+
+/// Makes the calls of the table, and tells the rises then.
+pub(crate) fn make_attempts(rt: &HostRuntime) -> Result<(), Stop> {
+    let mut heap = new_heap(rt.alloc())?;
+    make_calls(rt, &mut heap)
+}
+
+/// A heap without a cell, asked for once more where memory ran out.
+fn new_heap(alloc: Global) -> Result<DebugHeap, NoMemory>
+    ensures { IfOk result (λ heap. keeps_rises heap ≡ true) }
+{
+    match DebugHeap::new_rises(alloc, SHAPE) {
+        Ok(heap) => Ok(heap),
+        Err(_) => DebugHeap::new_rises(alloc, SHAPE).map_err(|_| NoMemory),
+    }
+}
+
+fn make_calls(rt: &HostRuntime, heap: &mut DebugHeap) -> Result<(), Stop>
+    requires { keeps_rises heap.old ≡ true }
+{
+    for call in &CALLS {
+        match *call {
+            Call::Alloc(bytes) => alloc(rt, heap, bytes)?,
+            Call::Realloc(place, number, bytes) => {
+                realloc(rt, heap, Ptr { place, number }, bytes)?
+            }
+            Call::Free(place, number) => release(heap, Ptr { place, number }),
+            Call::FailEvery(n) => fail_every(heap, n),
+        }
+    }
+    for rise in heap.rises().as_slice() {
+        println!(rt; "  rise {} to {}", rise.number, rise.top)?;
+    }
+    Ok(())
+}
+
+/// An attempt to get a cell, made once more where it found no memory.
+fn alloc(rt: &HostRuntime, heap: &mut DebugHeap, bytes: u32) -> Result<(), Stop>
+    requires { keeps_rises heap.old ≡ true }
+    ensures { keeps_rises heap.new ≡ true }
+{
+    let before = heap.rises().len();
+    let (gave, found) = match attempt(heap, bytes) {
+        Ok(gave) => (gave, true),
+        Err(_) => (attempt(heap, bytes)?, false),
+    };
+    tell(rt, heap, "alloc", bytes, gave, before, found)
+}
+
+/// An attempt to give a cell another length, made once more where it found no memory.
+fn realloc(rt: &HostRuntime, heap: &mut DebugHeap, ptr: Ptr, bytes: u32) -> Result<(), Stop>
+    requires { keeps_rises heap.old ≡ true }
+    ensures { keeps_rises heap.new ≡ true }
+{
+    let before = heap.rises().len();
+    let (gave, found) = match reattempt(heap, ptr, bytes) {
+        Ok(gave) => (gave, true),
+        Err(_) => (reattempt(heap, ptr, bytes)?, false),
+    };
+    tell(rt, heap, "realloc", bytes, gave, before, found)
+}
+
+/// Tells what an attempt gave. One that found no memory at first and isn't a rise is told as that.
+fn tell(
+    rt: &HostRuntime,
+    heap: &DebugHeap,
+    call: &str,
+    bytes: u32,
+    gave: Gave,
+    before: usize,
+    found: bool,
+) -> Result<(), Stop>
+    requires { keeps_rises heap.now ≡ true }
+{
+    let is_rise = heap.rises().len() > before;
+    if !found && !is_rise {
+        println!(rt; "{call} {bytes} isn't a rise, and found no memory")?;
+    }
+    let told = match gave {
+        Gave::Granted(cell) => {
+            print!(rt; "{call} {bytes}: cell {} at {}", cell.number, cell.place)
+        }
+        Gave::Denied => print!(rt; "{call} {bytes}: denied"),
+        Gave::Ceiling => print!(rt; "{call} {bytes}: past the ceiling"),
+    };
+    told?;
+    println!(rt;
+        ", attempts {}, rise {is_rise}, trace {}",
+        heap.attempts(),
+        heap.trace().len()
+    )?;
+    Ok(())
+}
+
+/// The attempt to get a cell itself.
+fn attempt(heap: &mut DebugHeap, bytes: u32) -> Result<Gave, NoMemory>
+    ensures { keeps_rises heap.new ≡ keeps_rises heap.old }
+{
+    if heap.attempts() == u32::MAX || bytes > CEILING {
+        return Err(NoMemory);
+    }
+    heap.attempt_alloc(bytes, Kind::Raw)
+}
+
+/// The attempt to give a cell another length itself.
+fn reattempt(heap: &mut DebugHeap, ptr: Ptr, bytes: u32) -> Result<Gave, NoMemory>
+    ensures { keeps_rises heap.new ≡ keeps_rises heap.old }
+{
+    if heap.attempts() == u32::MAX || bytes > CEILING || heap.header(ptr).is_none() {
+        return Err(NoMemory);
+    }
+    reattempt_live(heap, ptr, bytes)
+}
+
+/// The same of a live cell.
+fn reattempt_live(heap: &mut DebugHeap, ptr: Ptr, bytes: u32) -> Result<Gave, NoMemory>
+    requires live { IsSome (cell_at ptr heap.old.heap.row) }
+    requires bytes { bytes ≤ CEILING }
+    requires number { heap.old.attempts + 1 < 2 ^ 32 }
+    ensures { keeps_rises heap.new ≡ keeps_rises heap.old }
+{
+    heap.attempt_realloc(ptr, bytes)
+}
+
+/// Releases a cell, where the pointer names one.
+fn release(heap: &mut DebugHeap, ptr: Ptr)
+    ensures { keeps_rises heap.new ≡ keeps_rises heap.old }
+{
+    let _ = heap.release(ptr);
+}
+
+/// Sets what is to fail from here on.
+fn fail_every(heap: &mut DebugHeap, n: u32)
+    ensures { keeps_rises heap.new ≡ keeps_rises heap.old }
+{
+    if n > 0 {
+        heap.fail_every(n);
+    }
+}

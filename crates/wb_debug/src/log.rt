@@ -1,0 +1,159 @@
+//! What a heap keeps of its attempts: a line of each, or the rises alone. How an attempt is answered is not known here.
+
+ghost use Rattle.std.specs.Prelude.{◌≡◌, ◌<◌, ◌^◌, false, true, IfOk, IsOk, OnOk, OnErr, IsSome, Some};
+ghost use Rattle.wb_model.specs.Rises.{end_of_line};
+ghost use Rattle.wb_model.specs.Traces.{end_of_attempt};
+ghost use Rattle.wb_debug.specs.Log.{IsTakenBack, adds, first_log, logged, top_in};
+
+use std::alloc::Global;
+use std::marker::Model;
+use wb_model::heap::{Answer, Attempt};
+use wb_model::items::Items;
+use wb_model::memory::NoMemory;
+use wb_model::run::Trace;
+use wb_model::size::{Rise, Rises, top_of_rises};
+
+/// What is kept of the attempts that were made.
+#[derive(Drop)]
+pub struct Log {
+    /// Empty where the rises are kept.
+    trace: Trace,
+    rises: Option<Rises>,
+}
+
+impl Model for Log {
+    ghost use Rattle.wb_debug.specs.Log as log;
+
+    ghost Value = { log.Log };
+
+    ghost view = { λ inside. record { trace = inside.trace; rises = inside.rises } };
+}
+
+impl Log {
+    /// A line of each attempt is kept.
+    pub fn of_lines(alloc: Global) -> Log
+        ensures { result ≡ first_log false }
+    {
+        Log {
+            trace: Items::new(alloc),
+            rises: None,
+        }
+    }
+
+    /// The rises alone are kept.
+    pub fn of_rises(alloc: Global) -> Log
+        ensures { result ≡ first_log true }
+    {
+        Log {
+            trace: Items::new(alloc),
+            rises: Some(Items::new(alloc)),
+        }
+    }
+
+    /// The same, in memory of its own.
+    pub fn try_copy(&self) -> Result<Log, NoMemory>
+        ensures { IfOk result (λ copy. copy ≡ self.now) }
+    {
+        let trace = self.trace.try_copy()?;
+        let rises = match &self.rises {
+            Some(rises) => Some(rises.try_copy()?),
+            None => None,
+        };
+        Ok(Log { trace, rises })
+    }
+
+    /// The lines that are kept.
+    pub fn trace(&self) -> &Trace
+        ensures { result.now ≡ self.now.trace }
+    {
+        &self.trace
+    }
+
+    /// The same, of a run that is over.
+    pub fn into_trace(self) -> Trace
+        ensures { result ≡ self.trace }
+    {
+        let Log { trace, rises: _ } = self;
+        trace
+    }
+
+    /// The rises that are kept.
+    pub fn rises(&self) -> &Rises
+        requires { IsSome self.now.rises }
+        ensures { Some result.now ≡ self.now.rises }
+    {
+        self.rises.as_ref().unwrap()
+    }
+
+    /// The same, of a run that is over.
+    pub fn into_rises(self) -> Rises
+        requires { IsSome self.rises }
+        ensures { Some result ≡ self.rises }
+    {
+        let Log { trace: _, rises } = self;
+        rises.unwrap()
+    }
+
+    /// One more attempt. Returns whether it added its line, or the rise that it is; one that adds nothing never fails. On
+    /// `Err` nothing has changed.
+    pub fn push(&mut self, line: Attempt) -> Result<bool, NoMemory>
+        requires { end_of_attempt line < 2 ^ 32 }
+        ensures pushed { OnOk result (self.new ≡ logged self.old line) }
+        ensures added { IfOk result (λ added. added ≡ adds self.old line) }
+        ensures quiet { adds self.old line ≡ false → IsOk result }
+        ensures err { OnErr result (self.new ≡ self.old) }
+    {
+        let last = self.top();
+        let Some(rises) = &mut self.rises else {
+            self.trace.push(line)?;
+            return Ok(true);
+        };
+        let top = end_of_grant(line);
+        if top <= last {
+            return Ok(false);
+        }
+        rises.push(Rise {
+            number: line.number,
+            top,
+        })?;
+        Ok(true)
+    }
+
+    /// Takes back what the last attempt added, where it added anything.
+    pub fn take_back(&mut self, added: bool)
+        ensures { IsTakenBack self.old added self.new }
+    {
+        if !added {
+            return;
+        }
+        match &mut self.rises {
+            Some(rises) => {
+                rises.pop();
+            }
+            None => {
+                self.trace.pop();
+            }
+        }
+    }
+
+    /// The end of the last rise, in bytes; 0 before the first, and where lines are kept.
+    fn top(&self) -> u32
+        ensures { result ≡ top_in self.now.rises }
+    {
+        let Some(rises) = &self.rises else {
+            return 0;
+        };
+        top_of_rises(rises)
+    }
+}
+
+/// Where the cell of a granted attempt ends, in bytes; 0 of another.
+fn end_of_grant(line: Attempt) -> u32
+    requires { end_of_attempt line < 2 ^ 32 }
+    ensures { result ≡ end_of_line line }
+{
+    match line.answer {
+        Answer::Granted => line.place + line.length,
+        Answer::Simulated | Answer::Refused => 0,
+    }
+}

@@ -1,0 +1,43 @@
+use Rattle.std.proofs.Common.{◌≡◌, ◌↔◌, ap, ◌∙◌, sym, subst, refl, Bool, true, List}
+use Rattle.wb_model.specs.declared.run.Leak.{Leak}
+use Rattle.wb_model.specs.declared.run.Outcome.TheVariants as outcomes
+use Rattle.wb_model.specs.declared.run.RunResult.{RunResult}
+use Rattle.wb_model.specs.declared.run.Why.TheVariants.{Budget, Ceiling}
+use Rattle.wb_model.specs.Run.{WholeRun}
+use Rattle.wb_machine.specs.declared.pieces.Ending.{Ending}
+use Rattle.wb_machine.specs.declared.pieces.Ending.TheVariants.{GoesOn, Returns, Leaves, Panics, Cut, NoCleanup}
+use Rattle.wb_machine.specs.Flow.{has_met_ceiling}
+use Rattle.wb_machine.specs.Seen.{Seen}
+use Rattle.wb_machine.specs.Told.{outcome_by, told_by}
+use Rattle.wb_machine.proofs.OverRuns.{run_over}
+use Rattle.wb_machine.proofs.machine.Machine.into_result.Goals as goal
+
+pub returns-clause-told : goal.returns-clause-told
+returns-clause-told c =
+    let m = c.self.inside in
+    c.finish.ensures ∙ ap (λ e. told_by e m.leaks m.state) c.ending.ensures
+    ∙ ap (λ (x : WholeRun). x.result) (run_over m c.args.self c.self.view_is c.self.invariant c.requires.over c.requires.well)
+
+pub returns-clause-attempts : goal.returns-clause-attempts
+returns-clause-attempts c =
+    let s = c.args.self in
+    sym (ap (λ (x : WholeRun). x.attempts) (run_over c.self.inside s c.self.view_is c.self.invariant c.requires.over c.requires.well))
+    ∙ ap (λ (x : Seen). x.attempts) c.self.view_is
+
+-- how it ended is what is told
+tells_ceiling : (ending : Ending) (leaks : List Leak) → (has_met_ceiling ending ≡ true) ↔ (outcome_by ending leaks ≡ outcomes.Cut Ceiling)
+tells_ceiling GoesOn leaks = (λ e. cc, λ e. cc)
+tells_ceiling (Returns p) leaks = (λ e. cc, λ e. cc)
+tells_ceiling (Leaves code) leaks = (λ e. cc, λ e. cc)
+tells_ceiling (Panics p) leaks = (λ e. cc, λ e. cc)
+tells_ceiling (Cut Budget) leaks = (λ e. cc, λ e. cc)
+tells_ceiling (Cut Ceiling) leaks = (λ e. refl, λ e. refl)
+tells_ceiling NoCleanup leaks = (λ e. cc, λ e. cc)
+
+pub returns-clause-ceiling : goal.returns-clause-ceiling
+returns-clause-ceiling c =
+    let ending = c.self.inside.control.ending in
+    let is : (has_met_ceiling ending ≡ true) ↔ (c.finish.result.outcome ≡ outcomes.Cut Ceiling) =
+    subst (λ (x : RunResult). (has_met_ceiling ending ≡ true) ↔ (x.outcome ≡ outcomes.Cut Ceiling)) (sym (c.finish.ensures ∙ ap (λ e. told_by e c.self.inside.leaks c.self.inside.state) c.ending.ensures))
+    (tells_ceiling ending c.self.inside.leaks) in
+    subst (λ (b : Bool). (b ≡ true) ↔ (c.finish.result.outcome ≡ outcomes.Cut Ceiling)) (ap (λ (s : Seen). s.met_ceiling) c.self.view_is) is

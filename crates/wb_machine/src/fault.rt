@@ -1,0 +1,38 @@
+//! Why a run gives no result.
+
+use wb_debug::fault::DebugFault;
+use wb_model::memory::NoMemory;
+
+/// Why a run gives no result.
+#[derive(Clone, Copy, Debug, PartialEq, Eq)]
+pub enum RunFault {
+    /// The workbench's own memory ran out. This is never a refusal of the simulated heap.
+    NoMemory = 1,
+    /// A minimum length or a growth step that no heap may have.
+    BadShape = 2,
+}
+
+impl From<NoMemory> for RunFault {
+    ghost use Rattle.std.specs.Prelude.{◌≡◌};
+    ghost use Rattle.wb_machine.specs.declared.fault.RunFault.TheVariants as faults;
+
+    ghost from_gives = { λ _ fault. fault ≡ faults.NoMemory };
+
+    fn from(_error: NoMemory) -> RunFault {
+        RunFault::NoMemory
+    }
+}
+
+impl From<DebugFault> for RunFault {
+    ghost use Rattle.std.specs.Prelude.{◌≡◌};
+    ghost use Rattle.wb_machine.specs.Fault.{fault_of};
+
+    ghost from_gives = { λ fault given. given ≡ fault_of fault };
+
+    fn from(fault: DebugFault) -> RunFault {
+        match fault {
+            DebugFault::BadShape => RunFault::BadShape,
+            DebugFault::NoMemory => RunFault::NoMemory,
+        }
+    }
+}
