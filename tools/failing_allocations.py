@@ -9,7 +9,8 @@ asked to `check` the file. For each number up to that of its last allocation the
 these runs must write the report that it writes with enough memory and end with its status, or write the line `no memory` and end with 4,
 or end with 4 before anything is read, where the command line itself finds no memory, and write nothing; nothing else may come of it.
 Standard error must have what it has with enough memory, or nothing, or that there is no memory for the command; or less: where no memory
-was left to find what raised a panic, the same panic of the same line with what holds of all such panics.
+was left to find what raised a panic, the same panic of the same line with what holds of all such panics. Some of the runs that write
+`no memory` are made once more with a standard output that takes nothing, and must then end with 5.
 
 With `--same` the program is given no words and no input, and is one that makes a call once more where it found no memory. So where a
 single allocation fails, it must write exactly what it writes with enough memory, and end with its status. In the other two ways it may
@@ -33,6 +34,7 @@ from crates import processors
 
 SOURCE = Path(__file__).resolve().parent / "failing_allocation.c"
 WAYS = ("once", "from", "each")
+NOT_WRITTEN = 5
 # which panic a line of an explanation is about, before it says what raised it
 PANIC = re.compile(rb".*:\d+: panic [A-Z]+ [0-9a-f]+: \w+: ")
 
@@ -78,13 +80,28 @@ class Trial:
         self.words = arguments.read_text().splitlines() if is_case else ["check", str(script)]
         self.given = script.read_bytes() if is_case else b""
 
+    def world(self, how: str, fail_at: int) -> dict[str, str]:
+        """The environment in which the allocation with this number fails in this way; none does at 0."""
+        return dict(os.environ, LD_PRELOAD=str(self.library), FAIL_AT=str(fail_at), FAIL_HOW=how)
+
     def run(self, how: str, fail_at: int) -> Answer:
-        """What comes of a run whose allocation with this number fails in this way; none does at 0."""
-        world = dict(os.environ, LD_PRELOAD=str(self.library), FAIL_AT=str(fail_at), FAIL_HOW=how)
+        """What comes of a run whose allocation with this number fails in this way."""
+        world = self.world(how, fail_at)
         if not fail_at:
             world["COUNT_TO"] = str(self.count)
         ran = subprocess.run([self.program, *self.words], env=world, input=self.given, capture_output=True)
         return Answer(ran.stdout, ran.stderr, ran.returncode)
+
+    def unwritten(self, how: str, fail_at: int) -> int:
+        """The status of the same run where standard output takes nothing."""
+        with open("/dev/full", "wb") as full:
+            words = [self.program, *self.words]
+            return subprocess.run(words, env=self.world(how, fail_at), input=self.given, stdout=full, stderr=subprocess.DEVNULL).returncode
+
+    def asked_again(self, wanted: list[int]) -> set[int]:
+        """Which of the runs that ended for want of memory are made with a standard output that takes nothing."""
+        # all write the same line
+        return {wanted[at] for at in (0, len(wanted) // 2, -1)} if wanted else set()
 
     def wants(self, answer: Answer, plain: Answer) -> bool:
         """Whether a run ended for want of memory."""
@@ -105,13 +122,19 @@ class Trial:
         last = int(self.count.read_text())
         wanting = 0
         for how in WAYS:
-            was_read = False
+            was_read, wanted = False, []
             for number in range(1, last + 1):
                 answer = self.run(how, number)
                 was_read |= answer == NO_MEMORY
-                wanting += self.wants(answer, plain)
+                if self.wants(answer, plain):
+                    wanted.append(number)
                 if not self.is_fine(how, answer, plain, was_read):
                     return f"{how} {number} of {last}: status {answer.status}, {self.shown(answer, plain)}", last, wanting
+            wanting += len(wanted)
+            for number in self.asked_again(wanted):
+                status = self.unwritten(how, number)
+                if status != NOT_WRITTEN:
+                    return f"{how} {number} of {last}: status {status} where standard output takes nothing", last, wanting
         return None, last, wanting
 
 
@@ -121,6 +144,10 @@ class SameTrial(Trial):
     def __init__(self, program: Path, room: Path) -> None:
         self.program, self.library, self.count = program, room / "failing_allocation.so", room / f"{program.stem}.count"
         self.words, self.given = [], b""
+
+    def asked_again(self, wanted: list[int]) -> set[int]:
+        # it ends with 4 whether its last line is written or not
+        return set()
 
     def wants(self, answer: Answer, plain: Answer) -> bool:
         return stops_early(answer, plain)
