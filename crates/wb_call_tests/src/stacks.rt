@@ -41,7 +41,7 @@ impl Model for Stacked {
 
 /// Pushes items, and tells those that stand on the stack then, the newest first.
 pub(crate) fn push_items(rt: &HostRuntime) -> Result<(), Stop> {
-    let mut stacked = begun(rt.alloc())?;
+    let mut stacked = empty_stack(rt.alloc())?;
     push_and_take(rt, &mut stacked)
 }
 
@@ -55,7 +55,7 @@ fn push_and_take(rt: &HostRuntime, stacked: &mut Stacked) -> Result<(), Stop> {
 }
 
 /// The empty stack of a heap.
-fn begun(alloc: Global) -> Result<Stacked, NoMemory> {
+fn empty_stack(alloc: Global) -> Result<Stacked, NoMemory> {
     let Ok(mut heap) = DebugHeap::new(alloc, Rule::Unlimited, SHAPE) else {
         return Err(NoMemory);
     };

@@ -47,7 +47,7 @@ fn alloc(rt: &HostRuntime, heap: &mut DebugHeap, bytes: u32) -> Result<Ptr, Stop
 
 /// A text that grows in the hole, then moves behind the live cell, is denied more, and shrinks.
 fn grow_text(rt: &HostRuntime, heap: &mut DebugHeap) -> Result<(), Stop> {
-    let text = made(rt, heap, 4)?;
+    let text = new_text(rt, heap, 4)?;
     let _ = set_length(heap, text, 3);
     let text = remade(rt, heap, text, 20)?;
     let text = remade(rt, heap, text, 90)?;
@@ -60,7 +60,7 @@ fn grow_text(rt: &HostRuntime, heap: &mut DebugHeap) -> Result<(), Stop> {
 }
 
 /// A new text for `n` units.
-fn made(rt: &HostRuntime, heap: &mut DebugHeap, n: u32) -> Result<Ptr, Stop>
+fn new_text(rt: &HostRuntime, heap: &mut DebugHeap, n: u32) -> Result<Ptr, Stop>
     requires { n ≤ MOST_UNITS }
     ensures { IfOk result (λ ptr. IsTextAt ptr heap.new) }
 {

@@ -21,7 +21,7 @@ fn main(rt: HostRuntime) -> ExitCode {
 
 /// Says what was found.
 fn say(rt: &HostRuntime) -> io::Result<ExitCode> {
-    match compared(rt)? {
+    match compare_input(rt)? {
         Some(Comparison::Same(forks)) => {
             println!(rt;
                 "{forks} forks, each as its run, and as many copies, each apart from its source"
@@ -41,7 +41,7 @@ fn say(rt: &HostRuntime) -> io::Result<ExitCode> {
 }
 
 /// What was found of the script on standard input.
-fn compared(rt: &HostRuntime) -> io::Result<Option<Comparison>> {
+fn compare_input(rt: &HostRuntime) -> io::Result<Option<Comparison>> {
     let mut bytes = Vec::new(rt.alloc());
     rt.stdin().read_to_end(&mut bytes)?;
     Ok(compare(rt.alloc(), &bytes))
