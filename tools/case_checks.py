@@ -88,7 +88,13 @@ CASES = [
     (SCRIPT, "needed 144\n", "size", "`needed` is not known as the first word of a size text"),
     (SCRIPT, "required 144\nup 0 refuses 1\nenough from 144\n", "size", "`up` is not known as the first word of a row of lengths"),
     (SCRIPT, "tries 1\nnumber none\n", "sweep", "`tries` is not known as the first word of a sweep text"),
-    (SCRIPT, REPORT, "run --every 2", "`--every` is not known as an option"),
+    (SCRIPT, REPORT, "run --every 2", "1 theorems"),
+    (SCRIPT, "attempts 1\nevery none\n", "sweep --every", "1 theorems"),
+    (SCRIPT, "attempts 1\nnumber none\n", "sweep --every", "`number` is not known as the second line of this sweep's text"),
+    (SCRIPT, "attempts 1\nevery none\n", "sweep", "`every` is not known as the second line of this sweep's text"),
+    (SCRIPT, '{"lines":["attempts 1","every none"],"version":2}', "sweep --every --json", "1 theorems"),
+    (SCRIPT, '{"lines":["attempts 1","every none"],"version":1}', "sweep --every --json", "`1` is not known as the version of a JSON report"),
+    (SCRIPT, REPORT, "run --some 2", "`--some` is not known as an option"),
     (SCRIPT, REPORT, "walk", "`walk` is not known as a task"),
 ]
 

@@ -459,12 +459,15 @@ def arguments_of(words: list[str]) -> tuple[argparse.Namespace, list[str]]:
     defaults = {"limit": None, "fail": None, "budget": 10000, "min": 4096, "step": 4096}
     for name, default in defaults.items():
         parser.add_argument("--" + name, type=int, default=default)
+    # a number of `run`, and a flag of the others
+    every = {"type": int} if words[:1] == ["run"] else {"action": "store_true"}
+    parser.add_argument("--every", **every)
     parser.add_argument("--json", action="store_true")
     try:
         known, files = parser.parse_known_args(words)
     except argparse.ArgumentError as error:
         raise UnknownWord(" ".join(words), "arguments", f"{error}; read them in `arguments_of`") from error
-    among(("run", *CLAIMS), known.task, "a task", "give it a function in CLAIMS")
+    among(("run", "size", *CLAIMS), known.task, "a task", "give it a function in CLAIMS")
     for word in [*(it for it in files if it.startswith("-")), *files[1:]]:
         raise UnknownWord(word, "an option", "add it to `arguments_of`, and what it changes to `theorem`")
     return known, files
@@ -472,7 +475,7 @@ def arguments_of(words: list[str]) -> tuple[argparse.Namespace, list[str]]:
 
 def rule_of(a: argparse.Namespace) -> str:
     """The rule that the arguments ask for."""
-    given = [(a.limit, f"R.Limit {a.limit}"), (a.fail, f"R.Number {a.fail}")]
+    given = [(a.limit, f"R.Limit {a.limit}"), (a.fail, f"R.Number {a.fail}"), (a.every, f"R.Every {a.every}")]
     return next((rule for value, rule in given if value is not None), "R.Unlimited")
 
 
@@ -483,6 +486,13 @@ class Case:
     script: str
     arguments: argparse.Namespace
     report: list[str]
+
+
+def lines_of_object(text: str) -> list[str]:
+    """The lines that a JSON report holds."""
+    report = json.loads(text)
+    among(("2",), str(report["version"]), "the version of a JSON report", "read its form in `lines_of_object`")
+    return report["lines"]
 
 
 def case_at(path: Path, most_steps: int) -> Case | str:
@@ -496,10 +506,14 @@ def case_at(path: Path, most_steps: int) -> Case | str:
         return "not accepted"
     a, files = arguments_of(given.read_text().split())
     script = TOP / files[0] if files else path
-    report = json.loads(told.read_text())["lines"] if a.json else told.read_text().removesuffix("\n").split("\n")
+    report = lines_of_object(told.read_text()) if a.json else told.read_text().removesuffix("\n").split("\n")
     if a.task == "run" and int(report[-1].removeprefix("steps ")) > most_steps:
         return f"more than {most_steps} steps"
     return Case(script.read_bytes().decode(), a, report)
+
+
+# The failures that a sweep tries, by the word of the line that names the one it found.
+FAILURES = {"number": "Single", "every": "Every"}
 
 
 def size_claims(script: str, given: str, report: list[str]) -> list[str]:
@@ -511,25 +525,27 @@ def size_claims(script: str, given: str, report: list[str]) -> list[str]:
     return [f"required {script} {given} ≡ {required}", f"rises {script} {given} ≡ {rises_term(report)}"]
 
 
-def sweep_claims(script: str, given: str, report: list[str]) -> list[str]:
-    """What a sweep text says of a script under a budget and a shape."""
-    least = f"least_bad_or_cut {script} {given}"
+def sweep_claims(script: str, given: str, report: list[str], tried: str) -> list[str]:
+    """What a sweep text says of a script under a budget and a shape, where the failures of this word were tried."""
+    failures = FAILURES[tried]
+    least, runs = f"least_bad_or_cut {failures} {script} {given}", f"runs_of {failures} {script} {given}"
     if report[0].startswith("cut "):
         _, number, why = report[0].split(" ")
-        return [f"{least} ≡ Some {number}", f"(run_at {script} {given} {number}).outcome ≡ {cut_term(why)}"]
+        return [f"{least} ≡ Some {number}", f"({runs} {number}).outcome ≡ {cut_term(why)}"]
     (first, made), (second, number) = report[0].split(" "), report[1].split(" ")
     among(("attempts",), first, "the first word of a sweep text", "read it in `sweep_claims`")
-    among(("number",), second, "the second line of a sweep text", "read it in `sweep_claims`")
-    attempts = [f"length (run_at {script} {given} 0).trace ≡ {made}"]
+    among((tried,), second, "the second line of this sweep's text", "read it in `sweep_claims`")
+    attempts = [f"length ({runs} 0).trace ≡ {made}"]
     if number == "none":
         return [*attempts, f"{least} ≡ None"]
-    return [*attempts, f"{least} ≡ Some {number}", f"run_at {script} {given} {number} ≡ {run_term(report[2:])}"]
+    return [*attempts, f"{least} ≡ Some {number}", f"{runs} {number} ≡ {run_term(report[2:])}"]
 
 
-def check_claims(script: str, given: str, report: list[str]) -> list[str]:
+def check_claims(script: str, given: str, report: list[str], tried: str) -> list[str]:
     """What a check text says: a size text, and a sweep text where the size wasn't cut."""
     swept = next((at for at, line in enumerate(report) if at > 0 and line.split(" ")[0] in ("attempts", "cut")), len(report))
-    return size_claims(script, given, report[:swept]) + (sweep_claims(script, given, report[swept:]) if swept < len(report) else [])
+    rest = report[swept:]
+    return size_claims(script, given, report[:swept]) + (sweep_claims(script, given, rest, tried) if rest else [])
 
 
 def run_claims(script: str, rule: str, given: str, report: list[str]) -> list[str]:
@@ -537,8 +553,8 @@ def run_claims(script: str, rule: str, given: str, report: list[str]) -> list[st
     return [f"{apply('run', script, rule)} {given} ≡ {run_term(report)}"]
 
 
-# What the texts of the tasks without a rule say.
-CLAIMS = {"size": size_claims, "sweep": sweep_claims, "check": check_claims}
+# What the texts of the tasks that try failures say.
+CLAIMS = {"sweep": sweep_claims, "check": check_claims}
 
 # Folders of cases that are left out. Tables of small cases are no `.oom` files, and so are left out too.
 LEFT_OUT = {
@@ -553,8 +569,10 @@ def theorem(name: str, case: Case) -> str:
     given = f"{a.budget} (shaped {a.min} {a.step})"
     if a.task == "run":
         claims = run_claims(script, rule_of(a), given, case.report)
+    elif a.task == "size":
+        claims = size_claims(script, given, case.report)
     else:
-        claims = CLAIMS[a.task](script, given, case.report)
+        claims = CLAIMS[a.task](script, given, case.report, "every" if a.every else "number")
     claim, proof = claims[0], "refl"
     if len(claims) > 1:
         claim, proof = " × ".join(f"({claim})" for claim in claims), f"({', '.join(['refl'] * len(claims))})"
@@ -568,7 +586,7 @@ def theorem(name: str, case: Case) -> str:
 
 # What is named from the crate's declared types.
 DECLARED = """
-heap.Rule.TheVariants as R; heap.Panic.TheVariants as P; script.Holder.TheVariants as H; heap.Shape.{Shape}; heap.Answer.{Answer};
+failures.Failures.TheVariants.{Single, Every}; heap.Rule.TheVariants as R; heap.Panic.TheVariants as P; script.Holder.TheVariants as H; heap.Shape.{Shape}; heap.Answer.{Answer};
 heap.Answer.TheVariants.{Granted, Simulated, Refused}; heap.Attempt.{Attempt}; run.Note.TheVariants.{Heap, Available, Compress};
 run.Why.TheVariants.{Budget, Ceiling}; run.Outcome.TheVariants.{Ended, Panicked, NoCleanup, Cut}; script.Script.{Script};
 script.Body.{Body}; size.Rise.{Rise}; script.Parameter.TheVariants as Par; script.Local.TheVariants.{OfPointer, OfNumber, OfBuffer, OfView}; script.Pointer.TheVariants.{Held, Field};
@@ -607,7 +625,7 @@ def head(crate: Path) -> str:
         shut += [f"{specs}.{file.stem}.{name}" for name in re.findall(r"^unfoldable pub (\S+)", file.read_text(), re.M)]
     uses = ["Rattle.std.specs.Prelude.{◌≡◌, refl, ℕ, pos, negsuc, List, [], ◌∷◌, length, Some, None, map}"]
     uses += [f"{specs}.declared.{use.strip()}" for use in DECLARED.split(";")]
-    uses += [f"{specs}.Run.{{run, required, rises}}", f"{specs}.Sweeps.{{run_at, least_bad_or_cut}}", "Rattle.std.specs.Fmt.{digits}"]
+    uses += [f"{specs}.Run.{{run, required, rises}}", f"{specs}.Sweeps.{{runs_of, least_bad_or_cut}}", "Rattle.std.specs.Fmt.{digits}"]
     lines = ["-- Worked cases, each by computing: the definitions give what the files of cases/ say. Written by tools/cases_to_theorems.py;",
              "-- edit nothing here.", *(f"use {use}" for use in uses)]
     lines += ["", "-- what a run computes through", "unfoldable everything : Unit {0}"]

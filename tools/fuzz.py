@@ -4,8 +4,8 @@
     tools/fuzz.py PROGRAM [--scripts N] [--seed N] [--keep FOLDER]
 
 Each script is made of worked cases by a few changes: lines are dropped, doubled, moved, or taken from another script; words are put
-in the place of others; bytes are cut off, changed or put in. `check` with a small budget must answer each with a status from 0 to 3
-within a second. A script that it answers otherwise is kept in the folder, and named. The last line is `N passed, M failed`.
+in the place of others; bytes are cut off, changed or put in. `check` with a small budget, of each second script with `--every`, must
+answer each with a status from 0 to 3 within a second. A script that it answers otherwise is kept in the folder, and named. The last line is `N passed, M failed`.
 """
 
 import argparse
@@ -90,7 +90,8 @@ def share_of(seed: int, program: Path, keep: Path) -> tuple[int, list[str], dict
     for number in range(SHARE):
         text = damaged(chance, scripts, words)
         try:
-            ran = subprocess.run([program, "check", "--budget", "200"], input=text, capture_output=True, timeout=1)
+            words = ["check", "--budget", "200", *(["--every"] if number % 2 else [])]
+            ran = subprocess.run([program, *words], input=text, capture_output=True, timeout=1)
             status, fault = ran.returncode, None if 0 <= ran.returncode <= 3 else f"status {ran.returncode}, {ran.stdout[:80]!r}"
         except subprocess.TimeoutExpired:
             status, fault = -1, "no answer within a second"

@@ -17,9 +17,10 @@ from crates import NOT_BUILT, PROGRAM, PROGRAM_CRATE, ROOT, Crates, is_being_bui
 
 NAME = "workbench"
 
-# the commands that read a script, and the options that take a further word
+# the commands that read a script, and the options that take a further word; `--every` does so of `run` alone
 COMMANDS = {"run", "size", "sweep", "check"}
 WITH_VALUE = {"--min", "--step", "--budget", "--limit", "--fail"}
+OF_RUN = {"--every"}
 
 # the program reads one byte more than the longest script has
 LONGEST_INPUT = 65_537
@@ -50,8 +51,9 @@ def why_not_built(crates: Crates) -> str:
 def script_in(words: list[str]) -> str | None:
     """The word that names the script, if one does."""
     rest = iter(words[1:])
+    with_value = WITH_VALUE | OF_RUN if words[:1] == ["run"] else WITH_VALUE
     for word in rest:
-        if word in WITH_VALUE:
+        if word in with_value:
             next(rest, None)
         elif word == "--":
             return next(rest, None)

@@ -15,11 +15,14 @@ use wb_model::script::Script;
 use wb_objects::make;
 
 /// The classes of which objects are made, by their indexes.
-const MADE: [u16; 5] = [0, 1, 0, 1, 1];
+const MADE: [u16; 6] = [0, 1, 0, 1, 1, 0];
+
+/// Every third of them is refused: a call that is made once more is one attempt.
+const RULE: Rule = Rule::Every(3);
 
 /// Makes objects, and tells all that the heap shows then.
 pub(crate) fn make_objects(rt: &HostRuntime, script: &Script) -> Result<(), Stop> {
-    let Ok(mut heap) = DebugHeap::new(rt.alloc(), Rule::Number(3), SHAPE) else {
+    let Ok(mut heap) = DebugHeap::new(rt.alloc(), RULE, SHAPE) else {
         return Err(Stop::NoMemory);
     };
     make_and_show(rt, &mut heap, script)

@@ -1,20 +1,18 @@
 -- What `resize` leaves: the cells round the one that has another length, and the free cell behind it.
-use Rattle.std.proofs.Common.{◌≡◌, ◌≢◌, ℕ, ◌+◌, ◌-◌, ◌*◌, ◌/◌, ◌%◌, ◌<◌, ◌≤◌, ◌⊎◌, inl, inr, List, [], ◌∷◌, ◌++◌, length, slice_set, slice_index, None, Bool, true, false, cond, take, drop, map, replicate, refl, sym, ◌∙◌, ap, subst, arith, zero-add, add-zero, add_assoc, append_assoc, length-append, AllPairs}
+use Rattle.std.proofs.Common.{◌≡◌, ◌≢◌, ℕ, ◌+◌, ◌-◌, ◌*◌, ◌/◌, ◌%◌, ◌≤◌, ◌⊎◌, inl, inr, List, [], ◌∷◌, ◌++◌, length, slice_set, slice_index, None, Bool, true, false, cond, drop, replicate, refl, sym, ◌∙◌, ap, subst, arith, zero-add, add-zero, append_assoc, length-append}
 use Rattle.std.specs.Prelude.{nat_eq}
 use Rattle.std.specs.List.{replace_range}
-use Rattle.std.proofs.lemmas.List.{append-nil, length-take, length-drop, length-replicate, length-set, replicate-append-replicate, take-append-drop, take_all, drop_all, set_at}
-use Rattle.std.proofs.lemmas.Bool.{eq-eqb, eqb-true, ne_eqb, and_parts, cases_lt}
+use Rattle.std.proofs.lemmas.List.{append-nil, length-drop, length-replicate, length-set, replicate-append-replicate, set_at}
 use Rattle.wb_model.specs.declared.heap.Ptr.{Ptr}
-use Rattle.wb_model.specs.declared.heap.Kind.{Kind}
-use Rattle.wb_model.specs.Row.{Cell, headers, is_at, cell_at}
+use Rattle.wb_model.specs.Row.{Cell, headers, cell_at}
 use Rattle.wb_model.specs.Spelling.{spelled}
-use Rattle.wb_model.specs.CellRow.{FitsInPlace, Clears, resized_words, resized_cell, with_length}
+use Rattle.wb_model.specs.CellRow.{FitsInPlace, resized_words, with_length}
 use Rattle.wb_cells.specs.FreeList.{NO_PLACE}
 use Rattle.wb_cells.specs.Holes.{end_at, hole_past, closed_words, closed_ends}
 use Rattle.wb_cells.specs.declared.free_list.Hole.{Hole}
 use Rattle.wb_cells.specs.declared.free_list.Neighbours.{Neighbours}
 use Rattle.wb_cells.specs.Inside.{IsLaid}
-use Rattle.wb_cells.specs.Segments.{Segment, live, free, state_of, total, first_free, words_of, cell_from, row_from, starts_of, AreWhole, BeginsLive, AreMerged}
+use Rattle.wb_cells.specs.Segments.{Segment, live, free, state_of, total, first_free, words_of, row_from, starts_of, AreWhole, BeginsLive, AreMerged}
 use Rattle.wb_cells.proofs.Words.{replace_range-inside}
 use Rattle.wb_cells.proofs.Laying.{spelled-laid, total-append, first_free-append, words_of-append, starts_of-append, length-starts_of, whole_front, whole_back, whole_both}
 use Rattle.wb_cells.proofs.Changing.{IsCell, valid, next, past, before, length-before, payload_within}
@@ -23,7 +21,6 @@ use Rattle.wb_cells.proofs.Rooms.{merged_both}
 use Rattle.wb_cells.proofs.Merging.{IsUp, last_free-live}
 use Rattle.wb_cells.proofs.Giving.{IsHollow, rounds_of, is_up, hole_start}
 use Rattle.wb_cells.proofs.Closing.{IsClosed, closed_hole, closed_above}
-use Rattle.wb_cells.proofs.Levels.{apart-same}
 use Rattle.wb_cells.proofs.Behind.{length_word}
 use Rattle.wb_cells.proofs.Lengths.{apart-length, length-resized, with_length-split, parted_room, fits_past, fits_below, length-replace_range}
 

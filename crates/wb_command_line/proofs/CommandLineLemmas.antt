@@ -98,7 +98,7 @@ pub level_meaning : (s : Subcommand) (name word : Text) (rest : List Text) → I
 level_meaning s name word rest is met =
     ap (λ (w : Walk). entered app w.stopped) (level_walk s.name word rest met)
     ∙ ap (option_map (λ (x : Shape). (x.name, rows_after x.rules [] rest))) is.found
-    ∙ ap (λ called. Some (called, rows_after (level_of s).rules [] rest)) (level_name s.name s.takes_rule)
+    ∙ ap (λ called. Some (called, rows_after (level_of s).rules [] rest)) (level_name s.name s.takes)
 
 -- words that stop at no subcommand are refused where one of them fails
 top_fails : (name : Text) (words : List Text) → Fails (walk_fault top names (walk_from nothing_held) words) (walk_passes top names (walk_from nothing_held) words)
@@ -174,7 +174,7 @@ one_is_met (name ∷ word ∷ rest) e = elim (named_by word) [
     is_one = is;
     rows = _;
     meaning = level_meaning s name word rest is met;
-    passed = level_passed (level_of s) rest (level_single s.name s.takes_rule) (level_once s.name s.takes_rule) (sym (level_faults s name word rest is met) ∙ e);
+    passed = level_passed (level_of s) rest (level_single s.name s.takes) (level_once s.name s.takes) (sym (level_faults s name word rest is met) ∙ e);
   }
   | help_command none met ↦ absurd ((none_named_fails name word rest none).fault e)
   | other none met ↦ absurd ((none_named_fails name word rest none).fault e)

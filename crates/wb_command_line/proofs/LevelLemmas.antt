@@ -1,11 +1,13 @@
--- The options of a subcommand, whatever its name, with those of a rule and without.
+-- The options of a subcommand, whatever its name and whatever it takes.
 use Rattle.std.proofs.Common.{◌≡◌, ◌||◌, ℕ, Bool, cond, inl, inr, true, false, refl, List, [], ◌∷◌, Some, None, codes, true≢false}
 use Rattle.std.specs.Prelude.{◌==◌}
 use Rattle.std.specs.Str.{bytes_eq}
 use Rattle.clap.specs.Simple.{filled}
 use Rattle.clap.specs.Walk.{Row, Rule, Text, arg_by_index, arg_by_long, arg_by_short}
-use Rattle.wb_command_line.specs.CommandLine.{budget_option, fail_option, json_flag, level, limit_option, min_option, run_level, step_option}
+use Rattle.wb_command_line.specs.CommandLine.{budget_option, every_option, fail_option, joined_level, json_flag, level, limit_option, min_option, rates_flag, step_option}
 use Rattle.wb_command_line.specs.Passed.{IsIn, RowsPass}
+use Rattle.wb_command_line.specs.declared.command_line.parser.Takes.{Takes}
+use Rattle.wb_command_line.specs.declared.command_line.parser.Takes.TheVariants as taking
 use Rattle.wb_command_line.specs.WordByWord.{is_option, option_names}
 use Rattle.wb_command_line.proofs.PassedRows.{are_single}
 use Rattle.wb_command_line.proofs.PassedValues.{IsOnly, only}
@@ -13,17 +15,20 @@ use Rattle.wb_command_line.proofs.RefusalLemmas.{help}
 
 -- ---- settings
 
-pub level_name : (name : Text) (takes_rule : Bool) → (level name takes_rule).name ≡ name
-level_name name true = refl
-level_name name false = refl
+pub level_name : (name : Text) (takes : Takes) → (level name takes).name ≡ name
+level_name name taking.Rule = refl
+level_name name taking.Failures = refl
+level_name name taking.Neither = refl
 
-pub level_single : (name : Text) (takes_rule : Bool) → are_single (level name takes_rule).rules ≡ true
-level_single name true = refl
-level_single name false = refl
+pub level_single : (name : Text) (takes : Takes) → are_single (level name takes).rules ≡ true
+level_single name taking.Rule = refl
+level_single name taking.Failures = refl
+level_single name taking.Neither = refl
 
-pub level_once : (name : Text) (takes_rule : Bool) → (level name takes_rule).args_override_self ≡ false
-level_once name true = refl
-level_once name false = refl
+pub level_once : (name : Text) (takes : Takes) → (level name takes).args_override_self ≡ false
+level_once name taking.Rule = refl
+level_once name taking.Failures = refl
+level_once name taking.Neither = refl
 
 -- ---- flags
 
@@ -33,54 +38,82 @@ first_false true b e = absurd (true≢false e)
 first_false false b e = (refl, e)
 
 -- a name that is no option's is help's or none
-pub level_long : (called : Text) (takes_rule : Bool) (name : Text) → is_option (option_names takes_rule) name ≡ false
-    → arg_by_long (level called takes_rule).rules name ≡ cond (bytes_eq (codes "help") name || false) (Some help) None
-level_long called true name e =
+pub level_long : (called : Text) (takes : Takes) (name : Text) → is_option (option_names takes) name ≡ false
+    → arg_by_long (level called takes).rules name ≡ cond (bytes_eq (codes "help") name || false) (Some help) None
+level_long called taking.Rule name e =
     let limit = first_false (bytes_eq (codes "limit") name) _ e in
     let fail = first_false (bytes_eq (codes "fail") name) _ limit.1 in
-    let budget = first_false (bytes_eq (codes "budget") name) _ fail.1 in
+    let every = first_false (bytes_eq (codes "every") name) _ fail.1 in
+    let budget = first_false (bytes_eq (codes "budget") name) _ every.1 in
     let min = first_false (bytes_eq (codes "min") name) _ budget.1 in
     let step = first_false (bytes_eq (codes "step") name) _ min.1 in
     let json = first_false (bytes_eq (codes "json") name) _ step.1 in
-    rw (limit.0, fail.0, budget.0, min.0, step.0, json.0) refl
-level_long called false name e =
+    rw (limit.0, fail.0, every.0, budget.0, min.0, step.0, json.0) refl
+level_long called taking.Failures name e =
+    let every = first_false (bytes_eq (codes "every") name) _ e in
+    let budget = first_false (bytes_eq (codes "budget") name) _ every.1 in
+    let min = first_false (bytes_eq (codes "min") name) _ budget.1 in
+    let step = first_false (bytes_eq (codes "step") name) _ min.1 in
+    let json = first_false (bytes_eq (codes "json") name) _ step.1 in
+    rw (every.0, budget.0, min.0, step.0, json.0) refl
+level_long called taking.Neither name e =
     let budget = first_false (bytes_eq (codes "budget") name) _ e in
     let min = first_false (bytes_eq (codes "min") name) _ budget.1 in
     let step = first_false (bytes_eq (codes "step") name) _ min.1 in
     let json = first_false (bytes_eq (codes "json") name) _ step.1 in
     rw (budget.0, min.0, step.0, json.0) refl
 
-pub level_short : (called : Text) (takes_rule : Bool) (x : ℕ) → arg_by_short (level called takes_rule).rules x ≡ cond ((104 == x) || false) (Some help) None
-level_short called true x = refl
-level_short called false x = refl
+pub level_short : (called : Text) (takes : Takes) (x : ℕ) → arg_by_short (level called takes).rules x ≡ cond ((104 == x) || false) (Some help) None
+level_short called taking.Rule x = refl
+level_short called taking.Failures x = refl
+level_short called taking.Neither x = refl
 
 -- a file, and no second one
-pub level_second : (called : Text) (takes_rule : Bool) → arg_by_index (level called takes_rule).rules 2 ≡ None
-level_second called true = refl
-level_second called false = refl
+pub level_second : (called : Text) (takes : Takes) → arg_by_index (level called takes).rules 2 ≡ None
+level_second called taking.Rule = refl
+level_second called taking.Failures = refl
+level_second called taking.Neither = refl
 
 -- ---- rows that passed
 
--- those of a level without a rule are of the level with every option
-without_rule_in : (a : Rule) → IsIn a (level [] false).rules → IsIn a run_level.rules
-without_rule_in a (inl file) = inl file
-without_rule_in a (inr rest) = inr (inr (inr rest))
+-- the options of a level are among those of all
+own_rule_in : (a : Rule) → IsIn a (level [] taking.Rule).rules → IsIn a joined_level.rules
+own_rule_in a (inl file) = inl file
+own_rule_in a (inr (inl limit)) = inr (inl limit)
+own_rule_in a (inr (inr (inl fail))) = inr (inr (inl fail))
+own_rule_in a (inr (inr (inr (inl every)))) = inr (inr (inr (inl every)))
+own_rule_in a (inr (inr (inr (inr shared)))) = inr (inr (inr (inr (inr shared))))
+
+failures_in : (a : Rule) → IsIn a (level [] taking.Failures).rules → IsIn a joined_level.rules
+failures_in a (inl file) = inl file
+failures_in a (inr rest) = inr (inr (inr (inr rest)))
+
+shared_in : (a : Rule) → IsIn a (level [] taking.Neither).rules → IsIn a joined_level.rules
+shared_in a (inl file) = inl file
+shared_in a (inr shared) = inr (inr (inr (inr (inr shared))))
 
 wider_rows : (c d : List Rule) → ((a : Rule) → IsIn a c → IsIn a d) → (rows : List Row) → RowsPass c rows → RowsPass d rows
 wider_rows c d wide [] passed = tt
 wider_rows c d wide (r ∷ rs) passed = ((passed.0.0, wide passed.0.0 passed.0.1, passed.0.2), wider_rows c d wide rs passed.1)
 
-pub level_wide : (called : Text) (takes_rule : Bool) (rows : List Row) → RowsPass (level called takes_rule).rules rows → RowsPass run_level.rules rows
-level_wide called true rows passed = passed
-level_wide called false rows passed = wider_rows (level [] false).rules run_level.rules without_rule_in rows passed
+pub level_wide : (called : Text) (takes : Takes) (rows : List Row) → RowsPass (level called takes).rules rows → RowsPass joined_level.rules rows
+level_wide called taking.Rule rows passed = wider_rows (level [] taking.Rule).rules joined_level.rules own_rule_in rows passed
+level_wide called taking.Failures rows passed = wider_rows (level [] taking.Failures).rules joined_level.rules failures_in rows passed
+level_wide called taking.Neither rows passed = wider_rows (level [] taking.Neither).rules joined_level.rules shared_in rows passed
 
--- ---- its options
+-- ---- the options of all levels
 
 abbrev pub limit_rule : Rule
 limit_rule = filled limit_option
 
 abbrev pub fail_rule : Rule
 fail_rule = filled fail_option
+
+abbrev pub every_rule : Rule
+every_rule = filled every_option
+
+abbrev pub rates_rule : Rule
+rates_rule = filled rates_flag
 
 abbrev pub budget_rule : Rule
 budget_rule = filled budget_option
@@ -95,20 +128,26 @@ abbrev pub json_rule : Rule
 json_rule = filled json_flag
 
 -- no other argument has their names
-pub only_limit : IsOnly run_level.rules (codes "limit") limit_rule
-only_limit = only run_level.rules (codes "limit") limit_rule refl
+pub only_limit : IsOnly joined_level.rules (codes "limit") limit_rule
+only_limit = only joined_level.rules (codes "limit") limit_rule refl
 
-pub only_fail : IsOnly run_level.rules (codes "fail") fail_rule
-only_fail = only run_level.rules (codes "fail") fail_rule refl
+pub only_fail : IsOnly joined_level.rules (codes "fail") fail_rule
+only_fail = only joined_level.rules (codes "fail") fail_rule refl
 
-pub only_budget : IsOnly run_level.rules (codes "budget") budget_rule
-only_budget = only run_level.rules (codes "budget") budget_rule refl
+pub only_every : IsOnly joined_level.rules (codes "every") every_rule
+only_every = only joined_level.rules (codes "every") every_rule refl
 
-pub only_min : IsOnly run_level.rules (codes "min") min_rule
-only_min = only run_level.rules (codes "min") min_rule refl
+pub only_rates : IsOnly joined_level.rules (codes "rates") rates_rule
+only_rates = only joined_level.rules (codes "rates") rates_rule refl
 
-pub only_step : IsOnly run_level.rules (codes "step") step_rule
-only_step = only run_level.rules (codes "step") step_rule refl
+pub only_budget : IsOnly joined_level.rules (codes "budget") budget_rule
+only_budget = only joined_level.rules (codes "budget") budget_rule refl
 
-pub only_json : IsOnly run_level.rules (codes "json") json_rule
-only_json = only run_level.rules (codes "json") json_rule refl
+pub only_min : IsOnly joined_level.rules (codes "min") min_rule
+only_min = only joined_level.rules (codes "min") min_rule refl
+
+pub only_step : IsOnly joined_level.rules (codes "step") step_rule
+only_step = only joined_level.rules (codes "step") step_rule refl
+
+pub only_json : IsOnly joined_level.rules (codes "json") json_rule
+only_json = only joined_level.rules (codes "json") json_rule refl

@@ -8,7 +8,8 @@ use Rattle.std.specs.Str.Parse.{ParsesUnsigned}
 use Rattle.clap.specs.Values.{Accepts, IsSignedIn, read_as, reading_of}
 use Rattle.clap.specs.Lexer.{without_minus}
 use Rattle.clap.specs.Facts.{parser_of_value}
-use Rattle.clap.specs.Walk.{Rule}
+use Rattle.clap.specs.Takes.{value_passes}
+use Rattle.clap.specs.Walk.{Rule, reading_by}
 use Rattle.clap.specs.Words.{App, HasMatchesOf, ReadsOne, Row, Text, fault_of, first_of, is_simple, is_simple_and_free, one_of, one_text, rows_of, subcommand_name_of, subcommand_of, subcommand_rows, subcommand_rows_of}
 use Rattle.clap.specs.declared.builder.value_parser.ValueParser.{ValueParser}
 use Rattle.clap.specs.declared.builder.value_parser.ValueParser.TheVariants.{Signed}
@@ -22,16 +23,16 @@ use Rattle.clap.proofs.WalkLemmas.{one_text-rows}
 use Rattle.wb_model.specs.declared.limits.TheConstants.{CEILING, LARGEST_BUDGET, LARGEST_MINIMUM, SMALLEST_STEP, LARGEST_STEP}
 use Rattle.wb_model.specs.declared.heap.Shape.{Shape}
 use Rattle.wb_command_line.specs.Command.{is_sixteenfold}
-use Rattle.wb_command_line.specs.CommandLine.{command_line, run_level}
+use Rattle.wb_command_line.specs.CommandLine.{command_line, joined_level}
 use Rattle.wb_command_line.specs.Fault.{IsAfterUsage, IsFaultOf, IsFaultOfOptions}
-use Rattle.wb_command_line.specs.Spelled.{IsMeantBy, IsSpelledBy, command_of, decimal, doubles, flag_of, number_of, spell_both, spelled}
+use Rattle.wb_command_line.specs.Spelled.{IsMeantBy, IsSpelledBy, are_several, command_of, decimal, doubles, flag_of, gives_several, number_of, rule_by, rule_of, spell_both, spelled}
 use Rattle.wb_command_line.specs.Subcommands.{Subcommand, subcommand_named}
 use Rattle.wb_command_line.specs.declared.command.Command.{Command}
 use Rattle.wb_command_line.specs.declared.command.CommandFault.{CommandFault}
 use Rattle.wb_command_line.specs.declared.command.CommandFault.TheVariants.{Usage, Both, NoMemory}
 use Rattle.wb_command_line.specs.declared.command.CommandFault.TheVariants as F
 use Rattle.wb_command_line.proofs.CommandLineLemmas.{one_is_met, text_is}
-use Rattle.wb_command_line.proofs.LevelLemmas.{budget_rule, fail_rule, json_rule, level_wide, limit_rule, min_rule, only_budget, only_fail, only_json, only_limit, only_min, only_step, step_rule}
+use Rattle.wb_command_line.proofs.LevelLemmas.{budget_rule, every_rule, fail_rule, json_rule, level_wide, limit_rule, min_rule, only_budget, only_every, only_fail, only_json, only_limit, only_min, only_rates, only_step, rates_rule, step_rule}
 use Rattle.wb_command_line.specs.Passed.{RowsPass}
 use Rattle.wb_command_line.proofs.PassedValues.{IsOnly, PassedAs, first_passed}
 
@@ -44,7 +45,7 @@ pub record MeetsParse (words : List Text) (m : ArgMatches) : Type 0 where
   pub rows : List Row
   pub by_words : subcommand_of command_line words ≡ Some (subcommand.name, rows)
   pub by_parse : subcommand_rows_of m ≡ Some (subcommand.name, rows)
-  pub passed : RowsPass run_level.rules rows
+  pub passed : RowsPass joined_level.rules rows
 
 pub meets_parse : (words : List Text) (a : App) (m : ArgMatches) → a ≡ command_line → (is_simple_and_free a ≡ true → fault_of a words ≡ []) → HasMatchesOf a words m → MeetsParse words m
 meets_parse words a m line no_fault matches =
@@ -56,7 +57,7 @@ meets_parse words a m line no_fault matches =
       rows = met.rows;
       by_words = met.meaning;
       by_parse = (matches (ap is_simple line)).1 ∙ ap (λ b. subcommand_of b words) line ∙ met.meaning;
-      passed = level_wide met.subcommand.name met.subcommand.takes_rule met.rows met.passed;
+      passed = level_wide met.subcommand.name met.subcommand.takes met.rows met.passed;
     }
 
 named_rows : {Z : Type 0} (o : Option (Box SubCommand Z)) → option_map (λ b. (out-SubCommand (box_value b)).name.now) o ≡ option_map (λ (p : Text × List Row). p.0) (subcommand_rows o)
@@ -70,7 +71,7 @@ name_met words m met = named_rows (out-ArgMatches m).subcommand ∙ ap (option_m
 pub record IsParsed (words : List Text) (m : ArgMatches) (name : Text) (rows : List Row) : Type 0 where
   pub faultless : fault_of command_line words ≡ []
   pub named : IsSome (subcommand_named name)
-  pub passed : RowsPass run_level.rules rows
+  pub passed : RowsPass joined_level.rules rows
   pub meaning : spelled words ≡ command_of (name, rows)
   pub doubled : spell_both words ≡ doubles name rows
 
@@ -85,7 +86,7 @@ is_parsed words m met name rows is_name are_rows =
     record {
       faultless = met.faultless;
       named = subst (λ t. IsSome (subcommand_named t)) called (rw met.named refl);
-      passed = subst (RowsPass run_level.rules) are met.passed;
+      passed = subst (RowsPass joined_level.rules) are met.passed;
       meaning = ap (option_and_then command_of) both;
       doubled = ap (λ (o : Option (Text × List Row)). option_map_or (λ p. doubles p.0 p.1) o false) both;
     }
@@ -118,6 +119,12 @@ pub record IsNumberOf (id : Text) (rows : List Row) (low high : ℕ) (r : Option
   pub is : r ≡ number_of id rows
   pub within : IfSome r (λ n. (low ≤ n) × (n ≤ high))
 
+-- of the three that give a rule
+pub record IsRuleRead (rows : List Row) (l n r : Option ℕ) : Type 0 where
+  pub limit : IsNumberOf (codes "limit") rows 0 CEILING l
+  pub number : IsNumberOf (codes "fail") rows 0 CEILING n
+  pub rate : IsNumberOf (codes "every") rows 0 CEILING r
+
 module _ (E : Type 0) (G : List ℕ → Result ℕ E → Type 0) (parses : (u : List ℕ) (x : Result ℕ E) → G u x → ParsesUnsigned 32 10 u x) where
   read_is_decimal : (u : Text) (n : ℕ) → G u (Ok n) → n ≡ decimal u
   read_is_decimal u n g = (parses u (Ok n) g).1
@@ -149,46 +156,81 @@ module _ (E : Type 0) (G : List ℕ → Result ℕ E → Type 0) (parses : (u : 
 
   -- of each option
   abbrev OptionRead : Text → ℕ → ℕ → Type 0
-  OptionRead id low high = (f : Found) (r : Option ℕ) → RowsPass run_level.rules (rows_of f)
+  OptionRead id low high = (f : Found) (r : Option ℕ) → RowsPass joined_level.rules (rows_of f)
       → (one_text f id ≡ None → r ≡ None) → ((t : Text) → one_text f id ≡ Some t → ReadsOne G t r) → IsNumberOf id (rows_of f) low high r
 
   pub limit_is : OptionRead (codes "limit") 0 CEILING
-  limit_is f r passed = number_is run_level.rules (codes "limit") limit_rule 0 CEILING f r refl (omega arith) only_limit passed
+  limit_is f r passed = number_is joined_level.rules (codes "limit") limit_rule 0 CEILING f r refl (omega arith) only_limit passed
 
   pub fail_is : OptionRead (codes "fail") 0 CEILING
-  fail_is f r passed = number_is run_level.rules (codes "fail") fail_rule 0 CEILING f r refl (omega arith) only_fail passed
+  fail_is f r passed = number_is joined_level.rules (codes "fail") fail_rule 0 CEILING f r refl (omega arith) only_fail passed
+
+  pub every_is : OptionRead (codes "every") 0 CEILING
+  every_is f r passed = number_is joined_level.rules (codes "every") every_rule 0 CEILING f r refl (omega arith) only_every passed
 
   pub budget_is : OptionRead (codes "budget") 1 LARGEST_BUDGET
-  budget_is f r passed = number_is run_level.rules (codes "budget") budget_rule 1 LARGEST_BUDGET f r refl (omega arith) only_budget passed
+  budget_is f r passed = number_is joined_level.rules (codes "budget") budget_rule 1 LARGEST_BUDGET f r refl (omega arith) only_budget passed
 
   pub min_is : OptionRead (codes "min") 0 LARGEST_MINIMUM
-  min_is f r passed = number_is run_level.rules (codes "min") min_rule 0 LARGEST_MINIMUM f r refl (omega arith) only_min passed
+  min_is f r passed = number_is joined_level.rules (codes "min") min_rule 0 LARGEST_MINIMUM f r refl (omega arith) only_min passed
 
   pub step_is : OptionRead (codes "step") SMALLEST_STEP LARGEST_STEP
-  step_is f r passed = number_is run_level.rules (codes "step") step_rule SMALLEST_STEP LARGEST_STEP f r refl (omega arith) only_step passed
+  step_is f r passed = number_is joined_level.rules (codes "step") step_rule SMALLEST_STEP LARGEST_STEP f r refl (omega arith) only_step passed
 
--- what stands for the flag is `true` or `false`, where anything does
-pub json_is : (f : Found) (r : Bool) → RowsPass run_level.rules (rows_of f) → (one_text f (codes "json") ≡ None → r ≡ false)
-    → (one_text f (codes "json") ≡ Some (codes "true") → r ≡ true) → (one_text f (codes "json") ≡ Some (codes "false") → r ≡ false)
-    → r ≡ flag_of (codes "json") (rows_of f)
-json_is f r passed none set unset = go (first_of (codes "json") (rows_of f)) (first_passed run_level.rules (codes "json") json_rule (rows_of f) only_json passed)
+  -- of the options that give a rule
+  pub rule_read : (f : Found) (limit number rate : Option ℕ) → RowsPass joined_level.rules (rows_of f)
+      → (one_text f (codes "limit") ≡ None → limit ≡ None) → ((t : Text) → one_text f (codes "limit") ≡ Some t → ReadsOne G t limit)
+      → (one_text f (codes "fail") ≡ None → number ≡ None) → ((t : Text) → one_text f (codes "fail") ≡ Some t → ReadsOne G t number)
+      → (one_text f (codes "every") ≡ None → rate ≡ None) → ((t : Text) → one_text f (codes "every") ≡ Some t → ReadsOne G t rate)
+      → IsRuleRead (rows_of f) limit number rate
+  rule_read f limit number rate passed no_limit a_limit no_number a_number no_rate a_rate = record {
+    limit = limit_is f limit passed no_limit a_limit;
+    number = fail_is f number passed no_number a_number;
+    rate = every_is f rate passed no_rate a_rate;
+  }
+
+-- the rule that is spelled, by what is there of the three, and whether more than one is
+module _ {rows : List Row} {limit number rate l n r : Option ℕ} (read : IsRuleRead rows limit number rate) (is_limit : limit ≡ l) (is_number : number ≡ n) (is_rate : rate ≡ r) where
+  pub rule_as : rule_by l n r ≡ rule_of rows
+  rule_as = λ i. rule_by ((sym is_limit ∙ read.limit.is) i) ((sym is_number ∙ read.number.is) i) ((sym is_rate ∙ read.rate.is) i)
+
+  pub several_as : gives_several rows ≡ are_several l n r
+  several_as = λ i. are_several ((sym read.limit.is ∙ is_limit) i) ((sym read.number.is ∙ is_number) i) ((sym read.rate.is ∙ is_rate) i)
+
+-- what stands for a flag is `true` or `false`, where anything does
+flag_is : (id : Text) (a : Rule) → IsOnly joined_level.rules id a → ((t : Text) → value_passes a t ≡ true → (bytes_eq t (codes "true") || bytes_eq t (codes "false")) ≡ true) → reading_by a ≡ reading_by json_rule
+    → (f : Found) (r : Bool) → RowsPass joined_level.rules (rows_of f) → (one_text f id ≡ None → r ≡ false)
+    → (one_text f id ≡ Some (codes "true") → r ≡ true) → (one_text f id ≡ Some (codes "false") → r ≡ false)
+    → r ≡ flag_of id (rows_of f)
+flag_is id a only is_flag reads f r passed none set unset = go (first_of id (rows_of f)) (first_passed joined_level.rules id a (rows_of f) only passed)
   where
-    told : (o : Option Text) (b : Bool) → one_of (codes "json") (rows_of f) ≡ o → option_map_or (bytes_eq (codes "true")) o false ≡ b
-        → (one_text f (codes "json") ≡ o → r ≡ b) → r ≡ flag_of (codes "json") (rows_of f)
-    told o b read means gives = gives (one_text-rows f (codes "json") ∙ read) ∙ sym means ∙ ap (λ x. option_map_or (bytes_eq (codes "true")) x false) (sym read)
+    told : (o : Option Text) (b : Bool) → one_of id (rows_of f) ≡ o → option_map_or (bytes_eq (codes "true")) o false ≡ b
+        → (one_text f id ≡ o → r ≡ b) → r ≡ flag_of id (rows_of f)
+    told o b read means gives = gives (one_text-rows f id ∙ read) ∙ sym means ∙ ap (λ x. option_map_or (bytes_eq (codes "true")) x false) (sym read)
 
-    given : (t : Text) → one_of (codes "json") (rows_of f) ≡ Some t → (bytes_eq t (codes "true") || bytes_eq t (codes "false")) ≡ true
-        → r ≡ flag_of (codes "json") (rows_of f)
+    given : (t : Text) → one_of id (rows_of f) ≡ Some t → (bytes_eq t (codes "true") || bytes_eq t (codes "false")) ≡ true
+        → r ≡ flag_of id (rows_of f)
     given t read accepted = by (bytes_eq t (codes "true")) refl
       where
-        by : (b : Bool) → bytes_eq t (codes "true") ≡ b → r ≡ flag_of (codes "json") (rows_of f)
+        by : (b : Bool) → bytes_eq t (codes "true") ≡ b → r ≡ flag_of id (rows_of f)
         by true is = told (Some (codes "true")) true (read ∙ ap (λ x. Some x) (text_is t (codes "true") is)) refl set
         by false isnt = told (Some (codes "false")) false (read ∙ ap (λ x. Some x) (text_is t (codes "false") (rw isnt at accepted))) refl unset
 
-    go : (o : Option Text) → MatchOption o (one_of (codes "json") (rows_of f) ≡ None) (λ t. PassedAs json_rule t (one_of (codes "json") (rows_of f)))
-        → r ≡ flag_of (codes "json") (rows_of f)
+    go : (o : Option Text) → MatchOption o (one_of id (rows_of f) ≡ None) (λ t. PassedAs a t (one_of id (rows_of f)))
+        → r ≡ flag_of id (rows_of f)
     go None absent = told None false absent refl none
-    go (Some t) p = given t p.as_read p.passed
+    go (Some t) p = given t (p.as_read ∙ ap (λ h. Some (read_as h t)) reads) (is_flag t p.passed)
+
+-- of each flag
+abbrev FlagRead : Text → Type 0
+FlagRead id = (f : Found) (r : Bool) → RowsPass joined_level.rules (rows_of f) → (one_text f id ≡ None → r ≡ false)
+    → (one_text f id ≡ Some (codes "true") → r ≡ true) → (one_text f id ≡ Some (codes "false") → r ≡ false) → r ≡ flag_of id (rows_of f)
+
+pub json_is : FlagRead (codes "json")
+json_is = flag_is (codes "json") json_rule only_json (λ t passed. passed) refl
+
+pub rates_is : FlagRead (codes "rates")
+rates_is = flag_is (codes "rates") rates_rule only_rates (λ t passed. passed) refl
 
 -- the number of an option, or the default, in its range
 pub record IsGivenOr (id : Text) (rows : List Row) (low high default n : ℕ) : Type 0 where

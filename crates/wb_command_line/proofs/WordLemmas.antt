@@ -1,5 +1,5 @@
 -- Which words clap takes where none of them is an option, word by word.
-use Rattle.std.proofs.Common.{◌≡◌, ◌∙◌, ◌<◌, ◌&&◌, ℕ, Bool, not, true, false, suc, refl, sym, ap, subst, arith, List, [], ◌∷◌, ◌++◌, length, Option, Some, None, codes, true≢false, eqb-true}
+use Rattle.std.proofs.Common.{◌≡◌, ◌∙◌, ◌<◌, ◌&&◌, ℕ, Bool, not, true, false, suc, refl, sym, ap, ap₂, subst, arith, List, [], ◌∷◌, ◌++◌, length, Option, Some, None, codes, true≢false, eqb-true}
 use Rattle.std.specs.Prelude.{◌==◌, encode_utf8, option_and_then, option_map, slice_get}
 use Rattle.std.specs.Str.{IsUtf8, chars, encode_utf8_all}
 use Rattle.std.proofs.lemmas.Str.{IsUtf8-past_char, encode_ascii, encodes-chars}
@@ -10,11 +10,16 @@ use Rattle.clap.specs.Walk.{Held, Row, Text, Walk, idle, nothing_held, rows_afte
 use Rattle.clap.specs.Kinds.{Kinds}
 use Rattle.clap.specs.Faults.{defaults_fault, level_fault, turn_fault, walk_fault}
 use Rattle.clap.specs.Takes.{level_passes, turn_passes, walk_passes}
+use Rattle.wb_model.specs.declared.failures.Failures.{Failures}
+use Rattle.wb_model.specs.declared.failures.Failures.TheVariants.{Single}
+use Rattle.wb_model.specs.declared.heap.Rule.{Rule}
 use Rattle.wb_model.specs.declared.heap.Rule.TheVariants.{Unlimited}
 use Rattle.wb_command_line.specs.CommandLine.{level, level_of}
-use Rattle.wb_command_line.specs.Spelled.{command_of, command_with, doubles, gives_both, rule_of, task_of}
+use Rattle.wb_command_line.specs.Spelled.{command_of, command_with, doubles, failures_of, gives_several, rule_of, takes_rule, task_of}
 use Rattle.wb_command_line.specs.Subcommands.{Subcommand, subcommand_named}
 use Rattle.wb_command_line.specs.declared.command.Task.{Task}
+use Rattle.wb_command_line.specs.declared.command_line.parser.Takes.{Takes}
+use Rattle.wb_command_line.specs.declared.command_line.parser.Takes.TheVariants as taking
 use Rattle.wb_command_line.specs.WordByWord.{AreRead, AreReadAfter, AreRefused, AreTaken, file_named, has_no_option, is_flag, is_option, is_separator, names_option, option_names, plain_command}
 use Rattle.wb_command_line.proofs.CommandLineLemmas.{IsSubcommand, help_command, level_faults, level_meaning, level_takes, name_fails, named_by, names, no_words_fail, none_named_fails, one, other, text_is, trailing_walk}
 use Rattle.wb_command_line.proofs.LevelLemmas.{level_long, level_second, level_short}
@@ -38,7 +43,7 @@ first_char bytes text some = go (chars bytes) (encodes-chars bytes text)
     go [] e = let none : [] ≡ bytes = e in absurd (omega (arith, ap length none))
     go (c ∷ cs) e = (c, refl)
 
-flag_turn : (called : Text) (b : Bool) (position : ℕ) (f : Text) (h : Held) → IsUtf8 f → is_separator f ≡ false → is_flag f ≡ true → names_option (option_names b) f ≡ false
+flag_turn : (called : Text) (b : Takes) (position : ℕ) (f : Text) (h : Held) → IsUtf8 f → is_separator f ≡ false → is_flag f ≡ true → names_option (option_names b) f ≡ false
     → TurnFails (level called b) (is_option (option_names b)) (level_long called b) (level_short called b) position f (unskipped h)
 flag_turn called b position [] h text no_separator flag no_option = absurd (true≢false (sym flag))
 flag_turn called b position (x ∷ []) h text no_separator flag no_option = absurd (true≢false (sym flag))
@@ -55,74 +60,100 @@ flag_turn called b position (x ∷ y ∷ ys) h text no_separator flag no_option 
         short_turn (level called b) (is_option (option_names b)) (level_long called b) (level_short called b) position (x ∷ y ∷ ys) (y ∷ ys) h first.0 no_separator (rw (is, is_second) refl) (rw (is, is_second) refl) first.1
 
 -- the words after it are taken, and name this file
-record Reads (called : Text) (b : Bool) (rest : List Text) (file : Option Text) : Type 0 where
+record Reads (called : Text) (b : Takes) (rest : List Text) (file : Option Text) : Type 0 where
   taken : level_passes (level called b) [] nothing_held rest false ≡ true
   faultless : level_fault (level called b) [] nothing_held rest false [] ≡ []
-  one_rule : gives_both (rows_after (level called b).rules [] rest) ≡ false
+  one_rule : gives_several (rows_after (level called b).rules [] rest) ≡ false
   rule : rule_of (rows_after (level called b).rules [] rest) ≡ Unlimited
+  failures : failures_of (rows_after (level called b).rules [] rest) ≡ Single
   meaning : (task : Task) → command_with (rows_after (level called b).rules [] rest) task ≡ plain_command task file
 
 -- they are refused
-abbrev FailsAt : Text → Bool → List Text → Type 0
+abbrev FailsAt : Text → Takes → List Text → Type 0
 FailsAt called b rest = Fails (level_fault (level called b) [] nothing_held rest false []) (level_passes (level called b) [] nothing_held rest false)
 
-below_fails : (called : Text) (b : Bool) (rest : List Text) → Fails (walk_fault (level called b) [] (walk_from nothing_held) rest) (walk_passes (level called b) [] (walk_from nothing_held) rest)
+below_fails : (called : Text) (b : Takes) (rest : List Text) → Fails (walk_fault (level called b) [] (walk_from nothing_held) rest) (walk_passes (level called b) [] (walk_from nothing_held) rest)
     → FailsAt called b rest
 below_fails called b rest f = level_fails (level called b) [] rest false [] true f
 
-reads_none : (called : Text) (b : Bool) → Reads called b [] None
+reads_none : (called : Text) (b : Takes) → Reads called b [] None
 unfolding defaults_fault walk_fault walk_passes walked
-reads_none called true = record { taken = refl; faultless = refl; one_rule = refl; rule = refl; meaning = λ task. refl }
-reads_none called false = record { taken = refl; faultless = refl; one_rule = refl; rule = refl; meaning = λ task. refl }
+reads_none called taking.Rule = record { taken = refl; faultless = refl; one_rule = refl; rule = refl; failures = refl; meaning = λ task. refl }
+reads_none called taking.Failures = record { taken = refl; faultless = refl; one_rule = refl; rule = refl; failures = refl; meaning = λ task. refl }
+reads_none called taking.Neither = record { taken = refl; faultless = refl; one_rule = refl; rule = refl; failures = refl; meaning = λ task. refl }
 
-reads_separator : (called : Text) (b : Bool) → Reads called b (codes "--" ∷ []) None
+reads_separator : (called : Text) (b : Takes) → Reads called b (codes "--" ∷ []) None
 unfolding defaults_fault walk_fault walk_passes walked
-reads_separator called true = record { taken = refl; faultless = refl; one_rule = refl; rule = refl; meaning = λ task. refl }
-reads_separator called false = record { taken = refl; faultless = refl; one_rule = refl; rule = refl; meaning = λ task. refl }
+reads_separator called taking.Rule = record { taken = refl; faultless = refl; one_rule = refl; rule = refl; failures = refl; meaning = λ task. refl }
+reads_separator called taking.Failures = record { taken = refl; faultless = refl; one_rule = refl; rule = refl; failures = refl; meaning = λ task. refl }
+reads_separator called taking.Neither = record { taken = refl; faultless = refl; one_rule = refl; rule = refl; failures = refl; meaning = λ task. refl }
 
-reads_after_separator : (called : Text) (b : Bool) (f : Text) → Reads called b (codes "--" ∷ f ∷ []) (Some f)
+reads_after_separator : (called : Text) (b : Takes) (f : Text) → Reads called b (codes "--" ∷ f ∷ []) (Some f)
 unfolding defaults_fault walk_fault walk_passes walked
-reads_after_separator called true f = record { taken = refl; faultless = refl; one_rule = refl; rule = refl; meaning = λ task. refl }
-reads_after_separator called false f = record { taken = refl; faultless = refl; one_rule = refl; rule = refl; meaning = λ task. refl }
+reads_after_separator called taking.Rule f = record { taken = refl; faultless = refl; one_rule = refl; rule = refl; failures = refl; meaning = λ task. refl }
+reads_after_separator called taking.Failures f = record { taken = refl; faultless = refl; one_rule = refl; rule = refl; failures = refl; meaning = λ task. refl }
+reads_after_separator called taking.Neither f = record { taken = refl; faultless = refl; one_rule = refl; rule = refl; failures = refl; meaning = λ task. refl }
 
 abbrev none_found : Kinds
 none_found = []
 
-reads_file : (called : Text) (b : Bool) (f : Text) → is_separator f ≡ false → is_flag f ≡ false → Reads called b (f ∷ []) (Some f)
+reads_file : (called : Text) (b : Takes) (f : Text) → is_separator f ≡ false → is_flag f ≡ false → Reads called b (f ∷ []) (Some f)
 unfolding defaults_fault walk_fault walk_passes walked
-reads_file called true f no_separator is_plain =
+reads_file called taking.Rule f no_separator is_plain =
     let none = no_flag f is_plain in record {
       taken = rw (no_separator, none.0, none.1) (refl {a = true});
       faultless = rw (no_separator, none.0, none.1) (refl {a = none_found});
       one_rule = rw (no_separator, none.0, none.1) (refl {a = false});
       rule = rw (no_separator, none.0, none.1) (refl {a = Unlimited});
+      failures = rw (no_separator, none.0, none.1) (refl {a = Single});
       meaning = λ task. rw (no_separator, none.0, none.1) (refl {a = plain_command task (Some f)});
     }
-reads_file called false f no_separator is_plain =
+reads_file called taking.Failures f no_separator is_plain =
     let none = no_flag f is_plain in record {
       taken = rw (no_separator, none.0, none.1) (refl {a = true});
       faultless = rw (no_separator, none.0, none.1) (refl {a = none_found});
       one_rule = rw (no_separator, none.0, none.1) (refl {a = false});
       rule = rw (no_separator, none.0, none.1) (refl {a = Unlimited});
+      failures = rw (no_separator, none.0, none.1) (refl {a = Single});
+      meaning = λ task. rw (no_separator, none.0, none.1) (refl {a = plain_command task (Some f)});
+    }
+reads_file called taking.Neither f no_separator is_plain =
+    let none = no_flag f is_plain in record {
+      taken = rw (no_separator, none.0, none.1) (refl {a = true});
+      faultless = rw (no_separator, none.0, none.1) (refl {a = none_found});
+      one_rule = rw (no_separator, none.0, none.1) (refl {a = false});
+      rule = rw (no_separator, none.0, none.1) (refl {a = Unlimited});
+      failures = rw (no_separator, none.0, none.1) (refl {a = Single});
       meaning = λ task. rw (no_separator, none.0, none.1) (refl {a = plain_command task (Some f)});
     }
 
-reads_before_separator : (called : Text) (b : Bool) (f : Text) → is_separator f ≡ false → is_flag f ≡ false → Reads called b (f ∷ codes "--" ∷ []) (Some f)
+reads_before_separator : (called : Text) (b : Takes) (f : Text) → is_separator f ≡ false → is_flag f ≡ false → Reads called b (f ∷ codes "--" ∷ []) (Some f)
 unfolding defaults_fault walk_fault walk_passes walked
-reads_before_separator called true f no_separator is_plain =
+reads_before_separator called taking.Rule f no_separator is_plain =
     let none = no_flag f is_plain in record {
       taken = rw (no_separator, none.0, none.1) (refl {a = true});
       faultless = rw (no_separator, none.0, none.1) (refl {a = none_found});
       one_rule = rw (no_separator, none.0, none.1) (refl {a = false});
       rule = rw (no_separator, none.0, none.1) (refl {a = Unlimited});
+      failures = rw (no_separator, none.0, none.1) (refl {a = Single});
       meaning = λ task. rw (no_separator, none.0, none.1) (refl {a = plain_command task (Some f)});
     }
-reads_before_separator called false f no_separator is_plain =
+reads_before_separator called taking.Failures f no_separator is_plain =
     let none = no_flag f is_plain in record {
       taken = rw (no_separator, none.0, none.1) (refl {a = true});
       faultless = rw (no_separator, none.0, none.1) (refl {a = none_found});
       one_rule = rw (no_separator, none.0, none.1) (refl {a = false});
       rule = rw (no_separator, none.0, none.1) (refl {a = Unlimited});
+      failures = rw (no_separator, none.0, none.1) (refl {a = Single});
+      meaning = λ task. rw (no_separator, none.0, none.1) (refl {a = plain_command task (Some f)});
+    }
+reads_before_separator called taking.Neither f no_separator is_plain =
+    let none = no_flag f is_plain in record {
+      taken = rw (no_separator, none.0, none.1) (refl {a = true});
+      faultless = rw (no_separator, none.0, none.1) (refl {a = none_found});
+      one_rule = rw (no_separator, none.0, none.1) (refl {a = false});
+      rule = rw (no_separator, none.0, none.1) (refl {a = Unlimited});
+      failures = rw (no_separator, none.0, none.1) (refl {a = Single});
       meaning = λ task. rw (no_separator, none.0, none.1) (refl {a = plain_command task (Some f)});
     }
 
@@ -136,39 +167,42 @@ given f trailing = record {
   stopped = None;
 }
 
-file_walk : (called : Text) (b : Bool) (f : Text) → is_separator f ≡ false → is_flag f ≡ false → walked (level called b).rules [] (walk_from nothing_held) f ≡ given f false
+file_walk : (called : Text) (b : Takes) (f : Text) → is_separator f ≡ false → is_flag f ≡ false → walked (level called b).rules [] (walk_from nothing_held) f ≡ given f false
 unfolding walked
-file_walk called true f no_separator is_plain = let none = no_flag f is_plain in rw (no_separator, none.0, none.1) refl
-file_walk called false f no_separator is_plain = let none = no_flag f is_plain in rw (no_separator, none.0, none.1) refl
+file_walk called taking.Rule f no_separator is_plain = let none = no_flag f is_plain in rw (no_separator, none.0, none.1) refl
+file_walk called taking.Failures f no_separator is_plain = let none = no_flag f is_plain in rw (no_separator, none.0, none.1) refl
+file_walk called taking.Neither f no_separator is_plain = let none = no_flag f is_plain in rw (no_separator, none.0, none.1) refl
 
-trailing_walked : (called : Text) (b : Bool) (f : Text) → walked (level called b).rules [] trailing_walk f ≡ given f true
+trailing_walked : (called : Text) (b : Takes) (f : Text) → walked (level called b).rules [] trailing_walk f ≡ given f true
 unfolding walked
-trailing_walked called true f = refl
-trailing_walked called false f = refl
+trailing_walked called taking.Rule f = refl
+trailing_walked called taking.Failures f = refl
+trailing_walked called taking.Neither f = refl
 
-flag_fails : (called : Text) (b : Bool) (f : Text) (rest : List Text) → IsUtf8 f → is_separator f ≡ false → is_flag f ≡ true → names_option (option_names b) f ≡ false → FailsAt called b (f ∷ rest)
+flag_fails : (called : Text) (b : Takes) (f : Text) (rest : List Text) → IsUtf8 f → is_separator f ≡ false → is_flag f ≡ true → names_option (option_names b) f ≡ false → FailsAt called b (f ∷ rest)
 flag_fails called b f rest text no_separator flag no_option =
     below_fails called b (f ∷ rest) (turn_first (level called b) [] (walk_from nothing_held) f rest (flag_turn called b 1 f nothing_held text no_separator flag no_option))
 
 -- a second file
-second_file : (called : Text) (b : Bool) (f g : Text) (rest : List Text) → is_separator f ≡ false → is_flag f ≡ false → is_separator g ≡ false → names_option (option_names b) g ≡ false → FailsAt called b (f ∷ g ∷ rest)
+second_file : (called : Text) (b : Takes) (f g : Text) (rest : List Text) → is_separator f ≡ false → is_flag f ≡ false → is_separator g ≡ false → names_option (option_names b) g ≡ false → FailsAt called b (f ∷ g ∷ rest)
 second_file called b f g rest no_separator is_plain file no_option = below_fails called b (f ∷ g ∷ rest) (turn_second (level called b) [] (walk_from nothing_held) f (g ∷ rest)
     (rw (file_walk called b f no_separator is_plain) (turn_first (level called b) [] (given f false) g rest
     (word_fails (level called b) (is_option (option_names b)) (level_long called b) (level_short called b) 2 (level_second called b) g (given f false).held file no_option))))
 
 -- a word more after a file and `--`
-third_turn : (called : Text) (b : Bool) (f k : Text) → Fails (turn_fault (level called b) [] (given f true) k) (turn_passes (level called b) [] (given f true) k)
-third_turn called true f k = record { fault = has_kind _ _; test = refl }
-third_turn called false f k = record { fault = has_kind _ _; test = refl }
+third_turn : (called : Text) (b : Takes) (f k : Text) → Fails (turn_fault (level called b) [] (given f true) k) (turn_passes (level called b) [] (given f true) k)
+third_turn called taking.Rule f k = record { fault = has_kind _ _; test = refl }
+third_turn called taking.Failures f k = record { fault = has_kind _ _; test = refl }
+third_turn called taking.Neither f k = record { fault = has_kind _ _; test = refl }
 
-after_separator_file : (called : Text) (b : Bool) (f k : Text) (rest : List Text) → FailsAt called b (codes "--" ∷ f ∷ k ∷ rest)
+after_separator_file : (called : Text) (b : Takes) (f k : Text) (rest : List Text) → FailsAt called b (codes "--" ∷ f ∷ k ∷ rest)
 unfolding walked
 after_separator_file called b f k rest = below_fails called b (codes "--" ∷ f ∷ k ∷ rest)
     (turn_second (level called b) [] (walk_from nothing_held) (codes "--") (f ∷ k ∷ rest)
     (turn_second (level called b) [] trailing_walk f (k ∷ rest)
     (rw (trailing_walked called b f) (turn_first (level called b) [] (given f true) k rest (third_turn called b f k)))))
 
-after_file_separator : (called : Text) (b : Bool) (f k : Text) (rest : List Text) → is_separator f ≡ false → is_flag f ≡ false → FailsAt called b (f ∷ codes "--" ∷ k ∷ rest)
+after_file_separator : (called : Text) (b : Takes) (f k : Text) (rest : List Text) → is_separator f ≡ false → is_flag f ≡ false → FailsAt called b (f ∷ codes "--" ∷ k ∷ rest)
 unfolding walked
 after_file_separator called b f k rest no_separator is_plain = below_fails called b (f ∷ codes "--" ∷ k ∷ rest)
     (turn_second (level called b) [] (walk_from nothing_held) f (codes "--" ∷ k ∷ rest)
@@ -176,7 +210,7 @@ after_file_separator called b f k rest no_separator is_plain = below_fails calle
     (turn_second (level called b) [] (given f false) (codes "--") (k ∷ rest) (turn_first (level called b) [] (given f true) k rest (third_turn called b f k)))))
 
 -- words without options, after a first that is not `--`
-after_first : (b : Bool) (f : Text) (rest : List Text) → is_separator f ≡ false → has_no_option (option_names b) (f ∷ rest) ≡ true
+after_first : (b : Takes) (f : Text) (rest : List Text) → is_separator f ≡ false → has_no_option (option_names b) (f ∷ rest) ≡ true
     → (names_option (option_names b) f ≡ false) × (has_no_option (option_names b) rest ≡ true)
 after_first b f rest isnt e = go (names_option (option_names b) f) refl (rw isnt at e)
   where
@@ -186,7 +220,7 @@ after_first b f rest isnt e = go (names_option (option_names b) f) refl (rw isnt
     go false is h = (is, rw is at h)
 
 -- which words after it are taken
-level_reads : (called : Text) (b : Bool) (rest : List Text) → All IsUtf8 rest → has_no_option (option_names b) rest ≡ true → MatchOption (file_named rest) (FailsAt called b rest) (Reads called b rest)
+level_reads : (called : Text) (b : Takes) (rest : List Text) → All IsUtf8 rest → has_no_option (option_names b) rest ≡ true → MatchOption (file_named rest) (FailsAt called b rest) (Reads called b rest)
 level_reads called b [] texts none = reads_none called b
 level_reads called b (f ∷ []) texts none = go (is_separator f) refl (is_flag f) refl
   where
@@ -223,29 +257,30 @@ module _ (s : Subcommand) (is : IsSubcommand s) (name word : Text) (rest : List 
   abbrev rows : List Row
   rows = rows_after (level_of s).rules [] rest
 
-  spelled_task : rule_of rows ≡ Unlimited → task_of s.name rows ≡ Some (s.task Unlimited)
-  spelled_task unlimited = ap (option_map (λ (x : Subcommand). x.task (rule_of rows))) is.named ∙ ap (λ rule. Some (s.task rule)) unlimited
+  spelled_task : rule_of rows ≡ Unlimited → failures_of rows ≡ Single → task_of s.name rows ≡ Some (s.task Unlimited Single)
+  spelled_task unlimited single = ap (option_map (λ (x : Subcommand). x.task (rule_of rows) (failures_of rows))) is.named
+      ∙ ap₂ (λ (rule : Rule) (failures : Failures). Some (s.task rule failures)) unlimited single
 
-  taken_words : (file : Option Text) → Reads s.name s.takes_rule rest file → AreTaken all_words (plain_command (s.task Unlimited) file)
+  taken_words : (file : Option Text) → Reads s.name s.takes rest file → AreTaken all_words (plain_command (s.task Unlimited Single) file)
   taken_words file r = record {
     taken = level_takes s name word rest is met ∙ r.taken;
     spell = record {
       faultless = level_faults s name word rest is met ∙ r.faultless;
       one_rule = ap (λ (o : Option (Text × List Row)). option_map_or (λ p. doubles p.0 p.1) o false) (level_meaning s name word rest is met)
-          ∙ ap (λ both. option_map_or (λ x. x.takes_rule) (subcommand_named s.name) false && both) r.one_rule ∙ and_false _;
-      meaning = ap (option_and_then command_of) (level_meaning s name word rest is met) ∙ ap (option_map (command_with rows)) (spelled_task r.rule)
-          ∙ ap (λ x. Some x) (r.meaning (s.task Unlimited));
+          ∙ ap (λ both. option_map_or (λ x. takes_rule x.takes) (subcommand_named s.name) false && both) r.one_rule ∙ and_false _;
+      meaning = ap (option_and_then command_of) (level_meaning s name word rest is met) ∙ ap (option_map (command_with rows)) (spelled_task r.rule r.failures)
+          ∙ ap (λ x. Some x) (r.meaning (s.task Unlimited Single));
     };
   }
 
-  refused_words : FailsAt s.name s.takes_rule rest → AreRefused all_words
+  refused_words : FailsAt s.name s.takes rest → AreRefused all_words
   refused_words f = record { refused = level_takes s name word rest is met ∙ f.test; faulty = λ e. f.fault (sym (level_faults s name word rest is met) ∙ e) }
 
   read_after : All IsUtf8 rest → AreReadAfter s all_words rest
-  read_after texts none = go (file_named rest) (level_reads s.name s.takes_rule rest texts none)
+  read_after texts none = go (file_named rest) (level_reads s.name s.takes rest texts none)
     where
-      go : (o : Option (Option Text)) → MatchOption o (FailsAt s.name s.takes_rule rest) (Reads s.name s.takes_rule rest)
-          → MatchOption o (AreRefused all_words) (λ file. AreTaken all_words (plain_command (s.task Unlimited) file))
+      go : (o : Option (Option Text)) → MatchOption o (FailsAt s.name s.takes rest) (Reads s.name s.takes rest)
+          → MatchOption o (AreRefused all_words) (λ file. AreTaken all_words (plain_command (s.task Unlimited Single) file))
       go None f = refused_words f
       go (Some file) r = taken_words file r
 

@@ -6,8 +6,10 @@ use Rattle.clap.specs.Kinds.{Kinds}
 use Rattle.clap.specs.Takes.{flags_pass, takes, walk_passes}
 use Rattle.clap.specs.Walk.{Text, bundle_met, walked}
 use Rattle.clap.specs.declared.error.kind.ErrorKind.TheVariants.{ArgumentConflict, InvalidValue, TooManyValues, UnknownArgument, ValueValidation}
+use Rattle.wb_model.specs.declared.failures.Failures.TheVariants.{Single}
+use Rattle.wb_model.specs.declared.failures.Failures.TheVariants as failures
 use Rattle.wb_model.specs.declared.heap.Rule.{Rule}
-use Rattle.wb_model.specs.declared.heap.Rule.TheVariants.{Limit, Number, Unlimited}
+use Rattle.wb_model.specs.declared.heap.Rule.TheVariants.{Every, Limit, Number, Unlimited}
 use Rattle.wb_command_line.specs.CommandLine.{command_line}
 use Rattle.wb_command_line.specs.Spelled.{spell_both, spelled}
 use Rattle.wb_command_line.specs.declared.command.Command.{Command}
@@ -31,7 +33,7 @@ record Spell (words : List Text) (command : Command) : Type 0 where
   one_rule : spell_both (all_words words) ≡ false
   meaning : spelled (all_words words) ≡ Some command
 
--- clap takes them, but they give both a limit and a number
+-- clap takes them, but they give more than one of a limit, a number and a rate
 record Double (words : List Text) : Type 0 where
   taken : takes command_line (all_words words) ≡ true
   faultless : fault_of command_line (all_words words) ≡ []
@@ -104,15 +106,15 @@ size-with-all : Spell (codes "size" ∷ codes "--step=32" ∷ codes "a.oom" ∷ 
 unfolding walked walk_passes walk_fault defaults_fault
 size-with-all = record { taken = refl; faultless = refl; one_rule = refl; meaning = refl }
 
-sweep-with-a-budget : Spell (codes "sweep" ∷ codes "--budget" ∷ codes "+0500" ∷ []) (command_with Sweep 500 4096 4096 None)
+sweep-with-a-budget : Spell (codes "sweep" ∷ codes "--budget" ∷ codes "+0500" ∷ []) (command_with (Sweep Single) 500 4096 4096 None)
 unfolding walked walk_passes walk_fault defaults_fault
 sweep-with-a-budget = record { taken = refl; faultless = refl; one_rule = refl; meaning = refl }
 
-check-with-a-shape : Spell (codes "check" ∷ codes "--min=256" ∷ codes "--step" ∷ codes "64" ∷ codes "--" ∷ codes "check" ∷ []) (command_with Check 10000 256 64 (Some (codes "check")))
+check-with-a-shape : Spell (codes "check" ∷ codes "--min=256" ∷ codes "--step" ∷ codes "64" ∷ codes "--" ∷ codes "check" ∷ []) (command_with (Check Single) 10000 256 64 (Some (codes "check")))
 unfolding walked walk_passes walk_fault defaults_fault
 check-with-a-shape = record { taken = refl; faultless = refl; one_rule = refl; meaning = refl }
 
-json-alone : Spell (codes "check" ∷ codes "--json" ∷ []) (record (command_with Check 10000 4096 4096 None) { json = true })
+json-alone : Spell (codes "check" ∷ codes "--json" ∷ []) (record (command_with (Check Single) 10000 4096 4096 None) { json = true })
 unfolding walked walk_passes walk_fault defaults_fault
 json-alone = record { taken = refl; faultless = refl; one_rule = refl; meaning = refl }
 
@@ -124,7 +126,51 @@ json-as-a-file : Spell (codes "size" ∷ codes "--" ∷ codes "--json" ∷ []) (
 unfolding walked walk_passes walk_fault defaults_fault
 json-as-a-file = record { taken = refl; faultless = refl; one_rule = refl; meaning = refl }
 
--- ---- words that give both a limit and a number
+rate-apart : Spell (codes "run" ∷ codes "--every" ∷ codes "3" ∷ []) (run_with (Every 3) 4096 4096 None)
+unfolding walked walk_passes walk_fault defaults_fault
+rate-apart = record { taken = refl; faultless = refl; one_rule = refl; meaning = refl }
+
+rate-zero : Spell (codes "run" ∷ codes "--every=0" ∷ []) (run_with (Every 0) 4096 4096 None)
+unfolding walked walk_passes walk_fault defaults_fault
+rate-zero = record { taken = refl; faultless = refl; one_rule = refl; meaning = refl }
+
+greatest-rate : Spell (codes "run" ∷ codes "--every" ∷ codes "16777216" ∷ []) (run_with (Every 16777216) 4096 4096 None)
+unfolding walked walk_passes walk_fault defaults_fault
+greatest-rate = record { taken = refl; faultless = refl; one_rule = refl; meaning = refl }
+
+rate-around-a-file : Spell (codes "run" ∷ codes "--step=32" ∷ codes "a.oom" ∷ codes "--every" ∷ codes "2" ∷ codes "--min" ∷ codes "0" ∷ []) (run_with (Every 2) 0 32 (Some (codes "a.oom")))
+unfolding walked walk_passes walk_fault defaults_fault
+rate-around-a-file = record { taken = refl; faultless = refl; one_rule = refl; meaning = refl }
+
+sweep-of-one-attempt : Spell (codes "sweep" ∷ []) (command_with (Sweep Single) 10000 4096 4096 None)
+unfolding walked walk_passes walk_fault defaults_fault
+sweep-of-one-attempt = record { taken = refl; faultless = refl; one_rule = refl; meaning = refl }
+
+check-of-one-attempt : Spell (codes "check" ∷ []) (command_with (Check Single) 10000 4096 4096 None)
+unfolding walked walk_passes walk_fault defaults_fault
+check-of-one-attempt = record { taken = refl; faultless = refl; one_rule = refl; meaning = refl }
+
+sweep-of-rates : Spell (codes "sweep" ∷ codes "--every" ∷ []) (command_with (Sweep failures.Every) 10000 4096 4096 None)
+unfolding walked walk_passes walk_fault defaults_fault
+sweep-of-rates = record { taken = refl; faultless = refl; one_rule = refl; meaning = refl }
+
+check-of-rates : Spell (codes "check" ∷ codes "--every" ∷ []) (command_with (Check failures.Every) 10000 4096 4096 None)
+unfolding walked walk_passes walk_fault defaults_fault
+check-of-rates = record { taken = refl; faultless = refl; one_rule = refl; meaning = refl }
+
+sweep-of-rates-on-a-file : Spell (codes "sweep" ∷ codes "--every" ∷ codes "3" ∷ []) (command_with (Sweep failures.Every) 10000 4096 4096 (Some (codes "3")))
+unfolding walked walk_passes walk_fault defaults_fault
+sweep-of-rates-on-a-file = record { taken = refl; faultless = refl; one_rule = refl; meaning = refl }
+
+check-of-rates-with-all : Spell (codes "check" ∷ codes "--budget=500" ∷ codes "a.oom" ∷ codes "--every" ∷ codes "--min" ∷ codes "0" ∷ codes "--step=32" ∷ []) (command_with (Check failures.Every) 500 0 32 (Some (codes "a.oom")))
+unfolding walked walk_passes walk_fault defaults_fault
+check-of-rates-with-all = record { taken = refl; faultless = refl; one_rule = refl; meaning = refl }
+
+rates-as-a-file : Spell (codes "sweep" ∷ codes "--" ∷ codes "--every" ∷ []) (command_with (Sweep Single) 10000 4096 4096 (Some (codes "--every")))
+unfolding walked walk_passes walk_fault defaults_fault
+rates-as-a-file = record { taken = refl; faultless = refl; one_rule = refl; meaning = refl }
+
+-- ---- words that give more than one of a limit, a number and a rate
 
 limit-and-number : Double (codes "run" ∷ codes "--limit" ∷ codes "5" ∷ codes "--fail" ∷ codes "5" ∷ [])
 unfolding walked walk_passes walk_fault defaults_fault
@@ -138,6 +184,30 @@ both-and-a-bad-shape : Double (codes "run" ∷ codes "--min" ∷ codes "8" ∷ c
 unfolding walked walk_passes walk_fault defaults_fault
 both-and-a-bad-shape = record { taken = refl; faultless = refl; doubled = refl }
 
+limit-and-rate : Double (codes "run" ∷ codes "--limit" ∷ codes "1" ∷ codes "--every" ∷ codes "3" ∷ [])
+unfolding walked walk_passes walk_fault defaults_fault
+limit-and-rate = record { taken = refl; faultless = refl; doubled = refl }
+
+rate-and-limit : Double (codes "run" ∷ codes "--every=5" ∷ codes "a.oom" ∷ codes "--limit=5" ∷ [])
+unfolding walked walk_passes walk_fault defaults_fault
+rate-and-limit = record { taken = refl; faultless = refl; doubled = refl }
+
+number-and-rate : Double (codes "run" ∷ codes "--fail" ∷ codes "2" ∷ codes "--every" ∷ codes "2" ∷ [])
+unfolding walked walk_passes walk_fault defaults_fault
+number-and-rate = record { taken = refl; faultless = refl; doubled = refl }
+
+rate-and-number : Double (codes "run" ∷ codes "--every=0" ∷ codes "--fail=0" ∷ [])
+unfolding walked walk_passes walk_fault defaults_fault
+rate-and-number = record { taken = refl; faultless = refl; doubled = refl }
+
+all-three : Double (codes "run" ∷ codes "--limit" ∷ codes "7" ∷ codes "--fail" ∷ codes "7" ∷ codes "--every" ∷ codes "7" ∷ [])
+unfolding walked walk_passes walk_fault defaults_fault
+all-three = record { taken = refl; faultless = refl; doubled = refl }
+
+two-rules-and-a-bad-shape : Double (codes "run" ∷ codes "--min" ∷ codes "8" ∷ codes "--every" ∷ codes "1" ∷ codes "--fail=2" ∷ [])
+unfolding walked walk_passes walk_fault defaults_fault
+two-rules-and-a-bad-shape = record { taken = refl; faultless = refl; doubled = refl }
+
 -- ---- words that are refused
 
 past-the-greatest-limit : Fail (codes "run" ∷ codes "--limit" ∷ codes "16777217" ∷ []) (ValueValidation ∷ [])
@@ -147,6 +217,26 @@ past-the-greatest-limit = record { refused = refl; fault = refl }
 past-the-greatest-number : Fail (codes "run" ∷ codes "--fail" ∷ codes "16777217" ∷ []) (ValueValidation ∷ [])
 unfolding walked walk_passes walk_fault defaults_fault flags_fault flags_pass bundle_met chars
 past-the-greatest-number = record { refused = refl; fault = refl }
+
+past-the-greatest-rate : Fail (codes "run" ∷ codes "--every" ∷ codes "16777217" ∷ []) (ValueValidation ∷ [])
+unfolding walked walk_passes walk_fault defaults_fault flags_fault flags_pass bundle_met chars
+past-the-greatest-rate = record { refused = refl; fault = refl }
+
+rate-without-its-number : Fail (codes "run" ∷ codes "--every" ∷ []) (InvalidValue ∷ [])
+unfolding walked walk_passes walk_fault defaults_fault flags_fault flags_pass bundle_met chars
+rate-without-its-number = record { refused = refl; fault = refl }
+
+rate-twice : Fail (codes "run" ∷ codes "--every" ∷ codes "1" ∷ codes "--every" ∷ codes "1" ∷ []) (ArgumentConflict ∷ [])
+unfolding walked walk_passes walk_fault defaults_fault flags_fault flags_pass bundle_met chars
+rate-twice = record { refused = refl; fault = refl }
+
+rate-below-zero : Fail (codes "run" ∷ codes "--every=-1" ∷ []) (ValueValidation ∷ [])
+unfolding walked walk_passes walk_fault defaults_fault flags_fault flags_pass bundle_met chars
+rate-below-zero = record { refused = refl; fault = refl }
+
+limit-and-a-rate-out-of-range : Fail (codes "run" ∷ codes "--limit" ∷ codes "5" ∷ codes "--every=16777217" ∷ []) (ValueValidation ∷ [])
+unfolding walked walk_passes walk_fault defaults_fault flags_fault flags_pass bundle_met chars
+limit-and-a-rate-out-of-range = record { refused = refl; fault = refl }
 
 both-and-one-out-of-range : Fail (codes "run" ∷ codes "--limit" ∷ codes "5" ∷ codes "--fail" ∷ codes "16777217" ∷ []) (ValueValidation ∷ [])
 unfolding walked walk_passes walk_fault defaults_fault flags_fault flags_pass bundle_met chars
@@ -184,7 +274,7 @@ below-zero : Fail (codes "run" ∷ codes "--limit" ∷ codes "-1" ∷ []) (Unkno
 unfolding walked walk_passes walk_fault defaults_fault flags_fault flags_pass bundle_met chars
 below-zero = record { refused = refl; fault = refl }
 
-before-another-option : Fail (codes "run" ∷ codes "--limit=5" ∷ codes "--every=1" ∷ []) (UnknownArgument ∷ [])
+before-another-option : Fail (codes "run" ∷ codes "--limit=5" ∷ codes "--other=1" ∷ []) (UnknownArgument ∷ [])
 unfolding walked walk_passes walk_fault defaults_fault flags_fault flags_pass bundle_met chars
 before-another-option = record { refused = refl; fault = refl }
 
@@ -204,6 +294,26 @@ json-with-a-value : Fail (codes "run" ∷ codes "--json=yes" ∷ []) (TooManyVal
 unfolding walked walk_passes walk_fault defaults_fault flags_fault flags_pass bundle_met chars
 json-with-a-value = record { refused = refl; fault = refl }
 
+rates-with-a-value : Fail (codes "sweep" ∷ codes "--every=3" ∷ []) (TooManyValues ∷ [])
+unfolding walked walk_passes walk_fault defaults_fault flags_fault flags_pass bundle_met chars
+rates-with-a-value = record { refused = refl; fault = refl }
+
+rates-of-a-check-with-a-value : Fail (codes "check" ∷ codes "--every=3" ∷ []) (TooManyValues ∷ [])
+unfolding walked walk_passes walk_fault defaults_fault flags_fault flags_pass bundle_met chars
+rates-of-a-check-with-a-value = record { refused = refl; fault = refl }
+
+rates-twice : Fail (codes "check" ∷ codes "--every" ∷ codes "--every" ∷ []) (ArgumentConflict ∷ [])
+unfolding walked walk_passes walk_fault defaults_fault flags_fault flags_pass bundle_met chars
+rates-twice = record { refused = refl; fault = refl }
+
+rates-by-their-id : Fail (codes "sweep" ∷ codes "--rates" ∷ []) (UnknownArgument ∷ [])
+unfolding walked walk_passes walk_fault defaults_fault flags_fault flags_pass bundle_met chars
+rates-by-their-id = record { refused = refl; fault = refl }
+
+rates-of-a-run : Fail (codes "run" ∷ codes "--rates" ∷ []) (UnknownArgument ∷ [])
+unfolding walked walk_passes walk_fault defaults_fault flags_fault flags_pass bundle_met chars
+rates-of-a-run = record { refused = refl; fault = refl }
+
 limit-of-a-size : Fail (codes "size" ∷ codes "--limit" ∷ codes "5" ∷ []) (UnknownArgument ∷ [])
 unfolding walked walk_passes walk_fault defaults_fault flags_fault flags_pass bundle_met chars
 limit-of-a-size = record { refused = refl; fault = refl }
@@ -215,3 +325,11 @@ number-of-a-sweep = record { refused = refl; fault = refl }
 limit-and-number-of-a-check : Fail (codes "check" ∷ codes "--fail=5" ∷ codes "--limit=5" ∷ []) (UnknownArgument ∷ [])
 unfolding walked walk_passes walk_fault defaults_fault flags_fault flags_pass bundle_met chars
 limit-and-number-of-a-check = record { refused = refl; fault = refl }
+
+rates-of-a-size : Fail (codes "size" ∷ codes "--every" ∷ []) (UnknownArgument ∷ [])
+unfolding walked walk_passes walk_fault defaults_fault flags_fault flags_pass bundle_met chars
+rates-of-a-size = record { refused = refl; fault = refl }
+
+rate-of-a-size : Fail (codes "size" ∷ codes "--every=3" ∷ []) (UnknownArgument ∷ [])
+unfolding walked walk_passes walk_fault defaults_fault flags_fault flags_pass bundle_met chars
+rate-of-a-size = record { refused = refl; fault = refl }

@@ -2,20 +2,21 @@
 use Rattle.std.specs.Prelude.{Bool, true, ◌&&◌, ◌%◌, nat_eq, nat_le}
 use Rattle.wb_model.specs.Space.{is_shape}
 use Rattle.wb_model.specs.declared.limits.TheConstants.{CEILING, LARGEST_BUDGET}
-use Rattle.wb_model.specs.declared.heap.Rule.TheVariants.{Limit, Number, Unlimited}
+use Rattle.wb_model.specs.declared.heap.Rule.TheVariants.{Every, Limit, Number, Unlimited}
 use Rattle.wb_model.specs.declared.heap.Shape.{Shape}
 use Rattle.wb_command_line.specs.declared.command.Command.{Command}
 use Rattle.wb_command_line.specs.declared.command.Task.{Task}
 use Rattle.wb_command_line.specs.declared.command.Task.TheVariants.{Run, Size, Sweep, Check}
 
--- a limit, or the number of an attempt, is no greater than the greatest length of a heap
+-- a limit, the number of an attempt, or a rate is no greater than the greatest length of a heap
 abbrev pub is_in_range : Task → Bool
 is_in_range (Run Unlimited) = true
 is_in_range (Run (Limit l)) = nat_le l CEILING
 is_in_range (Run (Number n)) = nat_le n CEILING
+is_in_range (Run (Every n)) = nat_le n CEILING
 is_in_range Size = true
-is_in_range Sweep = true
-is_in_range Check = true
+is_in_range (Sweep failures) = true
+is_in_range (Check failures) = true
 
 -- the minimum length and the step are multiples of 16
 abbrev pub is_sixteenfold : Shape → Bool

@@ -1,13 +1,15 @@
 -- The command line, as clap's meaning of a simple command sees it.
-use Rattle.std.specs.Prelude.{true, ℕ, Bool, List, [], ◌∷◌, ◌++◌, Some, codes, fold, if◌then◌else◌, pos}
+use Rattle.std.specs.Prelude.{true, ℕ, List, [], ◌∷◌, ◌++◌, Some, codes, fold, pos}
 use Rattle.clap.specs.Words.{App, Rule, Text, new_app, new_rule, with_rule, with_subcommand}
 use Rattle.clap.specs.Simple.{Shape, built_leaf}
 use Rattle.clap.specs.declared.builder.action.ArgAction.TheVariants.{SetTrue}
 use Rattle.clap.specs.declared.builder.value_parser.ValueParser.TheVariants.{Signed}
 use Rattle.wb_model.specs.declared.limits.TheConstants.{CEILING, LARGEST_BUDGET, LARGEST_MINIMUM, LARGEST_STEP, SMALLEST_STEP}
 use Rattle.wb_command_line.specs.Subcommands.{Subcommand, subcommands}
-use Rattle.wb_command_line.specs.declared.command_line.Level.{Level}
-use Rattle.wb_command_line.specs.declared.command_line.NumberOption.{NumberOption}
+use Rattle.wb_command_line.specs.declared.command_line.parser.Level.{Level}
+use Rattle.wb_command_line.specs.declared.command_line.parser.NumberOption.{NumberOption}
+use Rattle.wb_command_line.specs.declared.command_line.parser.Takes.{Takes}
+use Rattle.wb_command_line.specs.declared.command_line.parser.Takes.TheVariants as taking
 
 -- `--NAME N`, where N is a number from the least to the most
 abbrev pub number_option : Text → ℕ → ℕ → Rule
@@ -22,6 +24,9 @@ limit_option = number_option (codes "limit") 0 CEILING
 abbrev pub fail_option : Rule
 fail_option = number_option (codes "fail") 0 CEILING
 
+abbrev pub every_option : Rule
+every_option = number_option (codes "every") 0 CEILING
+
 abbrev pub budget_option : Rule
 budget_option = number_option (codes "budget") 1 LARGEST_BUDGET
 
@@ -31,13 +36,23 @@ min_option = number_option (codes "min") 0 LARGEST_MINIMUM
 abbrev pub step_option : Rule
 step_option = number_option (codes "step") SMALLEST_STEP LARGEST_STEP
 
--- `--json`, which takes no value
-abbrev pub json_flag : Rule
-json_flag = record (new_rule (codes "json")) { long = Some (codes "json"); action = Some SetTrue }
+-- `--NAME`, which takes no value, by its id and its name
+abbrev pub flag : Text → Text → Rule
+flag id name = record (new_rule id) { long = Some name; action = Some SetTrue }
 
--- the options of a rule, for the subcommands that take one
-abbrev pub rule_options : Bool → List Rule
-rule_options takes_rule = if takes_rule then limit_option ∷ fail_option ∷ [] else []
+abbrev pub json_flag : Rule
+json_flag = flag (codes "json") (codes "json")
+
+-- `--every` of a subcommand that tries failures is a flag, and takes no number, so that it has an id of
+-- its own
+abbrev pub rates_flag : Rule
+rates_flag = flag (codes "rates") (codes "every")
+
+-- the options that a subcommand has beside those of all
+abbrev pub own_options : Takes → List Rule
+own_options taking.Rule = limit_option ∷ fail_option ∷ every_option ∷ []
+own_options taking.Failures = rates_flag ∷ []
+own_options taking.Neither = []
 
 -- those that every subcommand has and that take a number
 abbrev pub number_options : List Rule
@@ -50,27 +65,33 @@ shared_options = number_options ++ json_flag ∷ []
 abbrev pub with_rules : App → List Rule → App
 with_rules = fold with_rule
 
--- `NAME [--limit L] [--fail N] [--budget B] [--min M] [--step G] [--json] [FILE]`, or the same without a rule
-abbrev pub subcommand_line : Text → Bool → App
-subcommand_line name takes_rule = with_rules (new_app name) (file_argument ∷ rule_options takes_rule ++ shared_options)
+-- `NAME [OPTIONS] [FILE]`, by the options beside those of all
+abbrev pub line_with : Text → List Rule → App
+line_with name options = with_rules (new_app name) (file_argument ∷ options ++ shared_options)
+
+-- `NAME [--limit L] [--fail N] [--every N] [--budget B] [--min M] [--step G] [--json] [FILE]`, the same
+-- with a flag `--every` in the place of a rule, or with neither
+abbrev pub subcommand_line : Text → Takes → App
+subcommand_line name takes = line_with name (own_options takes)
 
 -- the same once it is built, with its call for help
-abbrev pub level : Text → Bool → Shape
-level name takes_rule = built_leaf (subcommand_line name takes_rule).top
+abbrev pub level : Text → Takes → Shape
+level name takes = built_leaf (subcommand_line name takes).top
 
 abbrev pub level_of : Subcommand → Shape
-level_of s = level s.name s.takes_rule
+level_of s = level s.name s.takes
 
--- the level that has every option
-abbrev pub run_level : Shape
-run_level = level (codes "run") true
+-- a level that has the options of all subcommands, which none of them is: each id stands there once
+abbrev pub joined_level : Shape
+joined_level =
+    built_leaf (line_with [] (own_options taking.Rule ++ own_options taking.Failures)).top
 
 -- `workbench`, which wants a subcommand
 abbrev pub bare_line : App
 bare_line = let line = new_app (codes "workbench") in record line { top = record line.top { subcommand_required = true } }
 
 abbrev pub command_line : App
-command_line = fold (λ line s. with_subcommand line (subcommand_line s.name s.takes_rule).top) bare_line subcommands
+command_line = fold (λ line s. with_subcommand line (subcommand_line s.name s.takes).top) bare_line subcommands
 
 -- the option that an entry of code stands for
 abbrev pub option_rule : NumberOption → Rule
@@ -81,7 +102,7 @@ with_option line option = with_rule line (option_rule option)
 
 -- the subcommand that an entry of code stands for
 abbrev pub line_of : Level → App
-line_of level = subcommand_line level.name.now level.takes_rule
+line_of level = subcommand_line level.name.now level.takes
 
 abbrev pub with_level : App → Level → App
 with_level above level = with_subcommand above (line_of level).top

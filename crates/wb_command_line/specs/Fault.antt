@@ -19,7 +19,7 @@ is_want_of_memory _ = false
 abbrev pub fault_of_error : Error → CommandFault
 fault_of_error e = if is_want_of_memory (kind_of e) then NoMemory else Usage e
 
--- clap takes the words, but they give both a limit and the number of an attempt
+-- clap takes the words, but they give more than one of a limit, the number of an attempt and a rate
 pub record IsDoubled (words : List Text) : Type 0 where
   pub faultless : fault_of command_line words ≡ []
   pub doubled : spell_both words ≡ true
@@ -38,7 +38,8 @@ IsFaultOf words Both = IsDoubled words
 IsFaultOf words Shape = IsMisshapen words
 IsFaultOf words NoMemory = ⊤
 
--- not both a limit and a number are given, but the heap's minimum length or step is no multiple of 16
+-- no more than one of a limit, a number and a rate is given, but the heap's minimum length or step is no
+-- multiple of 16
 pub record AreMisshapen (name : Text) (rows : List Row) : Type 0 where
   pub command : Command
   pub meant : IsMeantBy name rows command

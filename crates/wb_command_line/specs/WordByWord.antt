@@ -1,10 +1,11 @@
 -- Which words clap takes on the command line where none of them is an option, and what they spell, said without clap.
-use Rattle.std.specs.Prelude.{◌≡◌, ◌≢◌, ◌==◌, ◌&&◌, ◌||◌, Bool, true, false, not, List, [], ◌∷◌, Option, Some, None, MatchOption, codes, if◌then◌else◌}
+use Rattle.std.specs.Prelude.{◌≡◌, ◌≢◌, ◌==◌, ◌&&◌, ◌||◌, Bool, true, false, not, List, [], ◌∷◌, ◌++◌, Option, Some, None, MatchOption, codes, if◌then◌else◌}
 use Rattle.std.specs.List.{list_any}
 use Rattle.std.specs.Option.{option_map_or}
 use Rattle.std.specs.Str.{bytes_eq}
 use Rattle.clap.specs.Lexer.{long_of}
 use Rattle.clap.specs.Words.{Text, fault_of, takes}
+use Rattle.wb_model.specs.declared.failures.Failures.TheVariants.{Single}
 use Rattle.wb_model.specs.declared.heap.Rule.TheVariants.{Unlimited}
 use Rattle.wb_model.specs.declared.limits.TheConstants.{DEFAULT_BUDGET}
 use Rattle.wb_command_line.specs.CommandLine.{command_line}
@@ -12,6 +13,8 @@ use Rattle.wb_command_line.specs.Subcommands.{Subcommand, subcommand_named}
 use Rattle.wb_command_line.specs.Spelled.{IsSpelledBy, default_shape}
 use Rattle.wb_command_line.specs.declared.command.Command.{Command}
 use Rattle.wb_command_line.specs.declared.command.Task.{Task}
+use Rattle.wb_command_line.specs.declared.command_line.parser.Takes.{Takes}
+use Rattle.wb_command_line.specs.declared.command_line.parser.Takes.TheVariants as taking
 
 -- `--`, after which no word is a flag
 abbrev pub is_separator : Text → Bool
@@ -26,9 +29,15 @@ is_flag _ = false
 abbrev pub shared_names : List Text
 shared_names = codes "budget" ∷ codes "min" ∷ codes "step" ∷ codes "json" ∷ []
 
--- the options of a subcommand, by whether it takes a rule
-abbrev pub option_names : Bool → List Text
-option_names takes_rule = if takes_rule then codes "limit" ∷ codes "fail" ∷ shared_names else shared_names
+-- those that a subcommand has beside them
+abbrev pub own_names : Takes → List Text
+own_names taking.Rule = codes "limit" ∷ codes "fail" ∷ codes "every" ∷ []
+own_names taking.Failures = codes "every" ∷ []
+own_names taking.Neither = []
+
+-- the options of a subcommand, by what it takes
+abbrev pub option_names : Takes → List Text
+option_names takes = own_names takes ++ shared_names
 
 abbrev pub is_option : List Text → Text → Bool
 is_option names name = list_any (λ o. bytes_eq o name) names
@@ -63,11 +72,12 @@ pub record AreRefused (words : List Text) : Type 0 where
   pub refused : takes command_line words ≡ false
   pub faulty : fault_of command_line words ≢ []
 
--- where no word after the subcommand is an option of it, clap takes just these, and they spell its task, without a limit
--- or a number, on the file that they name
+-- where no word after the subcommand is an option of it, clap takes just these, and they spell its task, without a limit,
+-- a number or a rate, where one attempt fails at a time, on the file that they name
 abbrev pub AreReadAfter : Subcommand → List Text → List Text → Type 0
-AreReadAfter s words rest = has_no_option (option_names s.takes_rule) rest ≡ true
-    → MatchOption (file_named rest) (AreRefused words) (λ file. AreTaken words (plain_command (s.task Unlimited) file))
+AreReadAfter s words rest = has_no_option (option_names s.takes) rest ≡ true
+    → MatchOption (file_named rest) (AreRefused words)
+    (λ file. AreTaken words (plain_command (s.task Unlimited Single) file))
 
 -- any name of the program, then a subcommand's, then the words after it; clap refuses all others
 abbrev pub AreRead : List Text → Type 0

@@ -8,6 +8,7 @@ use crate::file_name::FileName;
 use clap::error::ErrorKind;
 use std::alloc::AllocError;
 use thiserror::Error;
+use wb_model::failures::Failures;
 use wb_model::heap::{Rule, Shape};
 
 /// What is to be done with the script.
@@ -17,10 +18,11 @@ pub enum Task {
     Run(Rule),
     /// The length of heap that the script needs, and what each shorter one refuses first.
     Size,
-    /// The least number of an attempt whose simulated failure leaks or panics, and the run in which it does.
-    Sweep,
-    /// `Size`, and then `Sweep`.
-    Check,
+    /// The least of these failures that leaks or panics, and the run in which it does: the number of an attempt that
+    /// fails, or the rate at which attempts fail.
+    Sweep(Failures),
+    /// `Size`, and then `Sweep` with these failures.
+    Check(Failures),
 }
 
 /// A command: what is to be done, and with what.
@@ -43,8 +45,9 @@ pub enum CommandFault {
     /// `clap` refuses the words, or they call for help; its text is for the user.
     #[error("{0}")]
     Usage(clap::Error),
-    /// `clap` takes the words, but they give both a limit and the number of an attempt. It comes before `Shape`.
-    #[error("error: give '--limit' or '--fail', not both\n")]
+    /// `clap` takes the words, but they give more than one of a limit, the number of an attempt and a rate. It comes
+    /// before `Shape`.
+    #[error("error: give one of '--limit', '--fail' and '--every'\n")]
     Both,
     /// `clap` takes the words, but the heap's minimum length or step is no multiple of 16 bytes.
     #[error("error: the values of '--min' and '--step' are multiples of 16\n")]

@@ -1,21 +1,20 @@
 -- An attempt that leaves the rises as they are takes no memory: its cell ends within what is held, and it adds nothing.
 use Rattle.std.proofs.Common.{◌≡◌, ◌≢◌, ℕ, ◌+◌, ◌<◌, ◌≤◌, ◌++◌, arith, Result, Ok, Err, IsErr, IfErr, Bool, true, false, cond, List, [], ◌∷◌, length, length-append, Option, Some, None, is_some, refl, sym, ap, ◌∙◌}
-use Rattle.std.specs.Prelude.{nat_eq, nat_lt}
+use Rattle.std.specs.Prelude.{nat_lt}
 use Rattle.std.proofs.lemmas.Bool.{ltb-false}
 use Rattle.wb_model.specs.declared.limits.TheConstants.{CEILING}
 use Rattle.wb_model.specs.declared.heap.Answer.{Answer}
 use Rattle.wb_model.specs.declared.heap.Answer.TheVariants.{Granted, Simulated, Refused}
 use Rattle.wb_model.specs.declared.heap.Attempt.{Attempt}
 use Rattle.wb_model.specs.declared.heap.Rule.{Rule}
-use Rattle.wb_model.specs.declared.heap.Rule.TheVariants.{Unlimited, Limit, Number}
 use Rattle.wb_model.specs.declared.size.Rise.{Rise}
 use Rattle.wb_model.specs.Debug.{Debug, made_by, number_of_next, trace_line, answer_in}
 use Rattle.wb_model.specs.Heap.{AfterAnswer, alloc_request, request_at}
 use Rattle.wb_model.specs.LimitedHeap.{place_in, space_in}
 use Rattle.wb_model.specs.Rises.{end_of_line, granted_end, rise_of, rises_with, top_of_rises}
 use Rattle.wb_model.specs.Row.{cell_length, headers, place_of}
-use Rattle.wb_model.specs.Rules.{Request, answer_to, refusal_of, unless_refused}
-use Rattle.wb_model.specs.Space.{committed_by, limit_under}
+use Rattle.wb_model.specs.Rules.{Request, answer_to, limit_of, refusal_of, refusal_past, simulates, unless_refused}
+use Rattle.wb_model.specs.Space.{below_ceiling, committed_by, limit_under}
 use Rattle.wb_model.proofs.LimitedHeaps.{shape_is}
 use Rattle.wb_rheap.specs.declared.fault.HeapFault.{HeapFault}
 use Rattle.wb_rheap.specs.declared.fault.HeapFault.TheVariants as faults
@@ -58,22 +57,21 @@ granted-within rule number t = due t.due
     open_to true c e = cc
     open_to false c e = ltb-false _ _ c
 
-    by : (rule : Rule) → unless_refused (refusal_of rule number end) end ≡ Some Granted → end ≤ limit_under rule
-    by Unlimited e = open_to (nat_lt CEILING end) refl e
-    by (Number n) e = numbered (nat_eq n number) e
+    past : (o : Option ℕ) → unless_refused (refusal_past o end) end ≡ Some Granted → end ≤ below_ceiling o
+    past None e = open_to (nat_lt CEILING end) refl e
+    past (Some l) e = limited (nat_lt l end) refl e
       where
-        numbered : (b : Bool) → unless_refused (cond b (Some Simulated) None) end ≡ Some Granted → end ≤ CEILING
-        numbered true e = cc
-        numbered false e = open_to (nat_lt CEILING end) refl e
-    by (Limit l) e = limited (nat_lt l end) refl e
-      where
-        limited : (b : Bool) → nat_lt l end ≡ b → unless_refused (cond b (Some Refused) None) end ≡ Some Granted → end ≤ limit_under (Limit l)
+        limited : (b : Bool) → nat_lt l end ≡ b → unless_refused (cond b (Some Refused) None) end ≡ Some Granted → end ≤ below_ceiling (Some l)
         limited true f e = cc
         limited false f e = omega (arith, ltb-false _ _ f, open_to (nat_lt CEILING end) refl e)
 
+    by : (b : Bool) → unless_refused (cond b (Some Simulated) (refusal_past (limit_of rule) end)) end ≡ Some Granted → end ≤ limit_under rule
+    by true e = cc
+    by false e = past (limit_of rule) e
+
     due : (b : Bool) → cond b (Some Simulated) (unless_refused (refusal_of rule number end) end) ≡ Some Granted → end ≤ limit_under rule
     due true e = cc
-    due false e = by rule e
+    due false e = by (simulates rule number) e
 
 -- a grant that is neither too long nor in want of memory is no error
 pub no_error : {T : Type 0} (r : Result T HeapFault) → IsErr r → IfErr r (λ fault. fault ≢ faults.TooShort → fault ≡ faults.NoMemory) →

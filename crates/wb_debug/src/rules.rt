@@ -16,7 +16,9 @@ fn refusal(rule: Rule, number: u32, end: u32) -> Option<Answer>
     match rule {
         Rule::Unlimited => None,
         Rule::Limit(limit) => (limit < end).then_some(Answer::Refused),
-        Rule::Number(refused) => (refused == number).then_some(Answer::Simulated),
+        Rule::Number(failing) => (failing == number).then_some(Answer::Simulated),
+        Rule::Every(0) => None,
+        Rule::Every(rate) => (number % rate == 0).then_some(Answer::Simulated),
     }
 }
 
@@ -40,7 +42,7 @@ pub fn limit_under(rule: Rule) -> u32
 {
     match rule {
         Rule::Limit(limit) => limit.min(CEILING),
-        Rule::Unlimited | Rule::Number(_) => CEILING,
+        Rule::Unlimited | Rule::Number(_) | Rule::Every(_) => CEILING,
     }
 }
 

@@ -16,6 +16,7 @@ mod lengths;
 mod panics;
 mod probe;
 mod questions;
+mod rates;
 mod script_file;
 mod sentences;
 mod values;
@@ -24,7 +25,7 @@ mod words;
 
 use crate::runs::ends::put_findings;
 use crate::runs::lengths::put_lengths;
-use crate::runs::watch::watched;
+use crate::runs::watch::watch_run;
 pub use script_file::ScriptFile;
 use std::alloc::Global;
 use wb_model::heap::{Rule, Shape};
@@ -52,7 +53,7 @@ pub fn run_found(
     requires greatest { setting.budget ≤ LARGEST_BUDGET }
 {
     let mut text = String::new(alloc);
-    if let Some(seen) = watched(alloc, script, setting)? {
+    if let Some(seen) = watch_run(alloc, script, setting)? {
         put_findings(&mut text, file, setting, &seen)?;
     }
     Ok(text)

@@ -10,7 +10,7 @@ use wb_model::heap::{Attempt, Kind, Panic, Rule, Shape};
 /// The shape of most heaps here.
 const SHAPE: Shape = Shape { min: 0, step: 4096 };
 
-static ATTEMPTS: [WorkedDebugHeap; 12] = [
+static ATTEMPTS: [WorkedDebugHeap; 15] = [
     WorkedDebugHeap {
         about: "the next attempt fails once",
         rule: Rule::Unlimited,
@@ -72,6 +72,58 @@ static ATTEMPTS: [WorkedDebugHeap; 12] = [
                 (4, 128, 176, Refused),
                 (5, 128, 176, Simulated),
             ]),
+        ],
+    },
+    WorkedDebugHeap {
+        about: "a rate counts from attempt 1, whatever the setting counts from",
+        rule: Rule::Every(3),
+        shape: SHAPE,
+        calls: &[
+            Call::Alloc(16, (144, 2)),
+            Call::NoAlloc(16),
+            Call::FailEvery(2),
+            Call::Alloc(16, (176, 4)),
+            Call::NoAlloc(16),
+            Call::NoRealloc((144, 2), 48),
+            Call::NoAlloc(16),
+            Call::FailNone,
+            Call::Alloc(16, (208, 8)),
+            Call::NoAlloc(16),
+            Call::Trace(&[
+                (1, 144, 0, Granted),
+                (2, 32, 144, Granted),
+                (3, 32, 176, Simulated),
+                (4, 32, 176, Granted),
+                (5, 32, 208, Simulated),
+                (6, 64, 208, Simulated),
+                (7, 32, 208, Simulated),
+                (8, 32, 208, Granted),
+                (9, 32, 240, Simulated),
+            ]),
+        ],
+    },
+    WorkedDebugHeap {
+        about: "what a rate and the setting refuse is refused once",
+        rule: Rule::Every(2),
+        shape: SHAPE,
+        calls: &[
+            Call::FailNext(1),
+            Call::NoAlloc(16),
+            Call::Alloc(16, (144, 3)),
+            Call::NoAlloc(16_777_216),
+            Call::AllocPastCeiling(16_777_216),
+            Call::Attempts(4),
+        ],
+    },
+    WorkedDebugHeap {
+        about: "a rate of 0 refuses nothing",
+        rule: Rule::Every(0),
+        shape: SHAPE,
+        calls: &[
+            Call::Alloc(16, (144, 2)),
+            Call::FailNext(1),
+            Call::NoAlloc(16),
+            Call::Alloc(16, (176, 4)),
         ],
     },
     WorkedDebugHeap {

@@ -201,10 +201,21 @@ fn worked_stacks(rt: HostRuntime) -> Result<(), Fail> {
 
 #[test]
 fn a_stack_whose_first_cell_is_refused(rt: HostRuntime) -> Result<(), Fail> {
-    for rule in [Rule::Limit(0), Rule::Limit(143), Rule::Number(1)] {
+    for rule in [
+        Rule::Limit(0),
+        Rule::Limit(143),
+        Rule::Number(1),
+        Rule::Every(1),
+    ] {
         assert!(rt; begun(rt.alloc(), rule)?.is_none());
     }
-    for rule in [Rule::Limit(144), Rule::Number(2), Rule::Number(0)] {
+    for rule in [
+        Rule::Limit(144),
+        Rule::Number(2),
+        Rule::Number(0),
+        Rule::Every(2),
+        Rule::Every(0),
+    ] {
         assert!(rt; begun(rt.alloc(), rule)?.is_some());
     }
     Ok(())

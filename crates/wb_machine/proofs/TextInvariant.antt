@@ -18,13 +18,12 @@ use Rattle.wb_model.specs.LimitedHeap.{zero_words}
 use Rattle.wb_model.specs.Texts.{Edited, answer_of, units_of_part}
 use Rattle.wb_model.specs.Statements.{is_null, is_raw}
 use Rattle.wb_model.specs.declared.limits.TheConstants.{CEILING}
-use Rattle.wb_model.specs.declared.heap.Rule.{Rule}
-use Rattle.wb_model.specs.declared.heap.Rule.TheVariants.{Unlimited, Limit, Number}
 use Rattle.wb_model.specs.Space.{limit_under}
 use Rattle.wb_model.specs.Reading.{max_units, is_same_base, is_same_pointer}
 use Rattle.wb_model.specs.Debug.{Debug, number_of_next, made_by, answer_in, alloc_made, longer_made, shorter_made, realloc_made, debug_without, with_row}
 use Rattle.wb_model.specs.TextCells.{IsText, text_words, text_in, text_at, IsTextAt, debug_edited, room_in, max_at, usable_or_none}
 use Rattle.wb_model.proofs.TextCells.{text-read, zeros-text, resized-text}
+use Rattle.wb_model.proofs.LimitedHeaps.{limit_under-ceiling}
 use Rattle.wb_machine.specs.TextInvariant.{IsTextCell, AreTexts}
 use Rattle.wb_model.specs.declared.text.Base.{Base}
 use Rattle.wb_model.specs.declared.text.Base.TheVariants as B
@@ -234,11 +233,6 @@ texts_stored p ws row raw texts =
 pub texts_with_field : (p : Ptr) (ws : List ℕ) (row : List (Cell (List ℕ))) (c : Cell (List ℕ)) (class : ℕ) → cell_at p row ≡ Some c → c.head.kind ≡ Object class → AreTexts row → AreTexts (with_payload p ws row)
 texts_with_field p ws row c class found kind texts =
     texts_changed p ws row (λ d at text. let same : Some d ≡ Some c = sym at ∙ found in let one : d ≡ c = cc in let no : Object class ≡ Text = sym kind ∙ sym (ap (λ (x : Cell (List ℕ)). x.head.kind) one) ∙ text in cc) texts
-
-limit_under-ceiling : (r : Rule) → limit_under r ≤ CEILING
-limit_under-ceiling Unlimited = omega arith
-limit_under-ceiling (Limit l) = omega arith
-limit_under-ceiling (Number n) = omega arith
 
 -- no text has more units than an int holds
 pub text_small : (p : Ptr) (d : Debug) (h : Header) → IsTextAt p d → end_of h ≤ limit_under d.rule → 4 * length (payload_of p d.heap.row) ≡ usable_of h → length (text_at p d) < 2 ^ 31

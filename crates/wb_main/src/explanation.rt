@@ -24,9 +24,9 @@ const CUT: u8 = 3;
 /// How standard input is called before the number of a line.
 const INPUT: &str = "<stdin>";
 
-/// The explanation of the answer to the command that the words spell, by its status and by what was read and written; empty
-/// where there is nothing to say. The only error is that memory ran out.
-pub fn explained(
+/// Returns the explanation of the answer to the command that the words spell, by its status and by what was read and
+/// written; empty if there is nothing to say. The only error is that memory ran out.
+pub fn explain_answer(
     alloc: Global,
     words: &[String],
     record: &Record,
@@ -36,28 +36,28 @@ pub fn explained(
         return Ok(String::new(alloc));
     }
     match command(alloc, words) {
-        Ok(command) => explained_command(alloc, &command, record, status),
+        Ok(command) => explain_command(alloc, &command, record, status),
         Err(_) => Ok(String::new(alloc)),
     }
 }
 
-fn explained_command(
+fn explain_command(
     alloc: Global,
     command: &Command,
     record: &Record,
     status: u8,
 ) -> Result<String, NoMemory> {
     if status == READ_OR_WRITE_FAULT {
-        return explained_fault(alloc, command, record);
+        return explain_fault(alloc, command, record);
     }
     if record.is_short {
         return Err(NoMemory);
     }
-    explained_script(alloc, command, record, status)
+    explain_script(alloc, command, record, status)
 }
 
 /// Why the script's file could not be read, or the report not written.
-fn explained_fault(alloc: Global, command: &Command, record: &Record) -> Result<String, NoMemory> {
+fn explain_fault(alloc: Global, command: &Command, record: &Record) -> Result<String, NoMemory> {
     let Some((deed, kind)) = record.fault else {
         return Ok(String::new(alloc));
     };
@@ -78,7 +78,7 @@ fn name_of<'a>(command: &'a Command, input: &'a str) -> &'a str {
 }
 
 /// Why the script is refused, or what its runs found.
-fn explained_script(
+fn explain_script(
     alloc: Global,
     command: &Command,
     record: &Record,
@@ -86,7 +86,7 @@ fn explained_script(
 ) -> Result<String, NoMemory> {
     let bytes = record.bytes.as_slice();
     match wb_script::read(alloc, bytes) {
-        Ok(script) => explained_runs(alloc, command, record, status, &script),
+        Ok(script) => explain_runs(alloc, command, record, status, &script),
         Err(fault) => {
             let name = name_of(command, INPUT);
             Ok(refused_script(alloc, name, bytes, &fault)?)
@@ -95,7 +95,7 @@ fn explained_script(
 }
 
 /// What the runs found of which the report tells.
-fn explained_runs(
+fn explain_runs(
     alloc: Global,
     command: &Command,
     record: &Record,
@@ -110,22 +110,24 @@ fn explained_runs(
     let name = name_of(command, INPUT);
     let file = ScriptFile { name, text };
     let mut found = String::new(alloc);
-    if let Task::Size | Task::Check = command.task {
+    if let Task::Size | Task::Check(_) = command.task {
         found = lengths_found(alloc, file, script, budget_of(command), command.shape)?;
     }
-    if let Some(rule) = rule_told(command.task, record.number, status) {
+    if let Some(rule) = rule_to_explain(command.task, record.number, status) {
         let run = run_found(alloc, file, script, setting_of(command, rule))?;
         found.push_str(run.as_str())?;
     }
     Ok(found)
 }
 
-/// The rule of the run of which there is something to say: none where it found nothing and nothing was to fail.
-fn rule_told(task: Task, number: Option<u32>, status: u8) -> Option<Rule> {
+/// Returns the rule of the run to explain; `None` if it found nothing and nothing was to fail, and if the report gives no
+/// number.
+fn rule_to_explain(task: Task, number: Option<u32>, status: u8) -> Option<Rule> {
     match task {
         Task::Run(Rule::Unlimited) if status == NOTHING_FOUND => None,
         Task::Run(rule) => Some(rule),
-        Task::Size | Task::Sweep | Task::Check => number.map(|it| Rule::Number(it)),
+        Task::Size => number.map(|it| Rule::Number(it)),
+        Task::Sweep(failures) | Task::Check(failures) => number.map(|it| failures.at(it).rule()),
     }
 }
 

@@ -6,7 +6,7 @@ mod explanation;
 mod recorded;
 mod told;
 
-use crate::explanation::explained;
+use crate::explanation::explain_answer;
 use crate::recorded::{Record, Recorded, RecordedHost};
 use std::cell::RefCell;
 use std::io::Write;
@@ -41,7 +41,7 @@ fn explain(rt: &HostRuntime, record: &RefCell<Record>, status: u8) {
     let Ok(record) = record.try_borrow() else {
         return;
     };
-    if let Ok(text) = explained(rt.alloc(), words.as_slice(), &record, status) {
+    if let Ok(text) = explain_answer(rt.alloc(), words.as_slice(), &record, status) {
         let _ = rt.stderr().write_all(text.as_bytes());
     }
 }

@@ -1,9 +1,9 @@
 //! The process's files and streams, with a record of what went through them: the script's bytes, what failed first, and the
-//! number that a report tells. What is recorded changes nothing of what is read and written.
+//! number that a report gives. What is recorded changes nothing of what is read and written.
 
 ghost use Rattle.std.specs.Prelude.{⊤};
 
-use crate::told::number_told;
+use crate::told::read_number;
 use std::cell::RefCell;
 use std::fs::File;
 use std::io;
@@ -21,7 +21,7 @@ pub struct Record {
     pub is_short: bool,
     /// What failed first, and why.
     pub fault: Option<(Deed, ErrorKind)>,
-    /// The number of an attempt that the report tells.
+    /// The number that the report gives: of an attempt, or a rate.
     pub number: Option<u32>,
     /// Something was written.
     pub has_report: bool,
@@ -60,7 +60,7 @@ impl Record {
     fn note_write(&mut self, written: &io::Result<usize>, bytes: &[u8]) {
         if !self.has_report {
             self.has_report = true;
-            self.number = number_told(bytes);
+            self.number = read_number(bytes);
         }
         match written {
             Ok(0) => self.note_fault(Deed::Writing, ErrorKind::WriteZero),

@@ -1,10 +1,16 @@
-//! The number of an attempt that a report tells: the one that a sweep found, or the one whose run was cut.
+//! The number that a report gives: of the attempt that a sweep found, or the rate, or the number or rate whose run was cut.
 
-/// What stands before the number, in a report as lines and as JSON. No other line begins so, and no line holds a quote.
-static BEFORE: [&str; 4] = ["\nnumber ", "\"number\":", "\ncut ", "\"cut "];
+/// What comes before the number, in a report as lines and as JSON. No other line begins so, and no line holds a quote.
+static BEFORE: [&str; 5] = [
+    "\nnumber ",
+    "\nevery ",
+    "\"number\":",
+    "\ncut ",
+    "\"cut ",
+];
 
-/// The number that a report tells, or `None` where it tells none.
-pub fn number_told(report: &[u8]) -> Option<u32> {
+/// Returns the number that a report gives, or `None` if it gives none.
+pub fn read_number(report: &[u8]) -> Option<u32> {
     let text = str::from_utf8(report).ok()?;
     if let Some(rest) = text.strip_prefix("cut ") {
         return leading_number(rest);

@@ -1,8 +1,6 @@
 -- The Agreement law, by induction on a process: no statement's meaning is looked at.
 use Rattle.std.proofs.Common.{◌≡◌, ◌≢◌, ℕ, ◌+◌, ◌≤◌, arith, ◌⊎◌, inl, inr, Bool, true, false, List, [], ◌∷◌, ◌++◌, length, refl, sym, ◌∙◌, ap, subst, append_assoc, append-nil, Option, Some, None, IsSome, cond}
-use Rattle.wb_model.specs.declared.limits.TheConstants.{CEILING}
 use Rattle.wb_model.specs.declared.heap.Rule.{Rule}
-use Rattle.wb_model.specs.declared.heap.Rule.TheVariants.{Unlimited, Limit, Number}
 use Rattle.wb_model.specs.declared.heap.Shape.{Shape}
 use Rattle.wb_model.specs.declared.heap.Answer.{Answer}
 use Rattle.wb_model.specs.declared.heap.Answer.TheVariants.{Granted, Simulated, Refused}
@@ -11,7 +9,7 @@ use Rattle.wb_model.specs.declared.run.Why.TheVariants.{Ceiling}
 use Rattle.wb_model.specs.declared.script.Script.{Script}
 use Rattle.wb_model.specs.Rules.{refusal_of, unless_refused, answer_to, Request}
 use Rattle.wb_model.specs.State.{is_cut, State, Query, heap_note, available_note, compress_note, Process, ends, stops, asks, notes}
-use Rattle.wb_model.specs.Space.{Space, space_below, bound_below, limit_under, space_of}
+use Rattle.wb_model.specs.Space.{Space, space_below, bound_below, below_ceiling, space_of}
 use Rattle.wb_model.specs.declared.size.Rise.{Rise}
 use Rattle.wb_model.specs.Account.{stopped, Account, Settled, settled, on_answer, recorded, noted, next_number, trace_line}
 use Rattle.wb_model.specs.Rises.{trace_with}
@@ -246,12 +244,7 @@ rules_agree-law script budget shape r s h not =
     y = settled s (space_of s shape) (process script budget) (before (space_of s shape))
 
     spaces : (r s : Rule) → IsNoLimit r → IsNoLimit s → space_of s shape ≡ space_of r shape
-    spaces r s p q = ap (λ b. space_below (bound_below b) shape) (bound s q ∙ sym (bound r p))
-      where
-        bound : (r : Rule) → IsNoLimit r → limit_under r ≡ CEILING
-        bound (Limit l) p = absurd p
-        bound Unlimited p = refl
-        bound (Number n) p = refl
+    spaces r s p q = ap (λ o. space_below (bound_below (below_ceiling o)) shape) (q ∙ sym p)
 
     whole : Same (space_of r shape) (space_of s shape) (before (space_of r shape)) (before (space_of s shape)) x y → IsNoLimit r → IsNoLimit s → result_of y ≡ result_of x
     whole same p q =

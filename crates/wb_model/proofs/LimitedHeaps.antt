@@ -1,5 +1,5 @@
 -- What a grant and a release keep of a heap with a limit.
-use Rattle.std.proofs.Common.{◌≡◌, ◌≢◌, ℕ, ◌+◌, ◌-◌, ◌*◌, ◌/◌, ◌%◌, ◌≤◌, ◌<◌, Bool, true, false, List, [], ◌∷◌, refl, arith, rules, suc, cond, min, length, subst, sym, ◌∙◌, ap, All, find, Some, IfSome}
+use Rattle.std.proofs.Common.{◌≡◌, ◌≢◌, ℕ, ◌+◌, ◌-◌, ◌*◌, ◌/◌, ◌%◌, ◌≤◌, ◌<◌, Bool, true, false, List, [], ◌∷◌, refl, arith, rules, suc, cond, min, length, subst, sym, ◌∙◌, ap, All, find, Option, Some, None, IfSome}
 use Rattle.std.specs.Prelude.{nat_lt}
 use Rattle.std.proofs.lemmas.Bool.{ltb-true, ltb-false}
 use Rattle.std.proofs.Math.Nat.{mul-mod_left, mul_assoc}
@@ -10,11 +10,11 @@ use Rattle.wb_model.specs.declared.heap.Header.{Header}
 use Rattle.wb_model.specs.declared.heap.Kind.{Kind}
 use Rattle.wb_model.specs.declared.heap.Ptr.{Ptr}
 use Rattle.wb_model.specs.declared.heap.Rule.{Rule}
-use Rattle.wb_model.specs.declared.heap.Rule.TheVariants.{Unlimited, Limit, Number}
 use Rattle.wb_model.specs.declared.heap.Shape.{Shape}
 use Rattle.wb_model.specs.CellRow.{payload_of}
+use Rattle.wb_model.specs.Rules.{limit_of}
 use Rattle.wb_model.specs.Row.{headers, end_of, IsSpacedFrom, IsRow, IsLeastPlace, top_of}
-use Rattle.wb_model.specs.Space.{Space, committed_by, compressed_to, limit_under, round_up, is_shape}
+use Rattle.wb_model.specs.Space.{Space, below_ceiling, committed_by, compressed_to, limit_under, round_up, is_shape}
 use Rattle.wb_model.specs.LimitedHeap.{LimitedHeap, IsSoundHeap, IsCellLength, IsLiveBelow, IsFilled, space_in, place_in, zero_words, fresh_cell, empty_heap, heap_with, heap_without, heap_changed, compressed_length, heap_compressed}
 use Rattle.wb_model.proofs.Places.{place_of-least}
 use Rattle.wb_model.proofs.Rows.{headers-without, headers-changed, IsRow-filter, IsRow-inserted, All-inserted, All-placed, place_from-top, top_from-within, ends-within}
@@ -210,6 +210,8 @@ All-heap_without P heap p all = subst (All P) (sym (headers-without p heap.row))
 
 -- no rule lets a heap pass the ceiling
 pub limit_under-ceiling : (r : Rule) → limit_under r ≤ CEILING
-limit_under-ceiling Unlimited = omega arith
-limit_under-ceiling (Limit l) = omega arith
-limit_under-ceiling (Number n) = omega arith
+limit_under-ceiling r = by (limit_of r)
+  where
+    by : (o : Option ℕ) → below_ceiling o ≤ CEILING
+    by None = omega arith
+    by (Some l) = omega arith

@@ -1,22 +1,21 @@
 -- Rules that say the same of the attempts made so far: a heap is as long under each, and a rule that fits under one fits under
--- the other. A number says the same as number 0 of the attempts before it.
-use Rattle.std.proofs.Common.{◌≡◌, ℕ, ◌+◌, false, refl, ap, ◌∙◌, sym, subst, inl, inr, arith, Some, None, cond}
+-- the other. The failures of a sweep say the same as failure 0 of the attempts before.
+use Rattle.std.proofs.Common.{◌≡◌, ℕ, ◌+◌, ◌%◌, ◌<◌, ◌≤◌, false, refl, ap, ◌∙◌, sym, subst, inl, inr, arith, Some, None, cond}
+use Rattle.std.specs.Prelude.{nat_eq}
+use Rattle.std.proofs.Math.Nat.{mod-eq_of_lt}
 use Rattle.std.proofs.lemmas.Bool.{ne_eqb}
-use Rattle.wb_model.specs.declared.limits.TheConstants.{CEILING}
+use Rattle.wb_model.specs.declared.failures.Failures.{Failures}
+use Rattle.wb_model.specs.declared.failures.Failures.TheVariants.{Single, Every}
 use Rattle.wb_model.specs.declared.heap.Answer.TheVariants.{Simulated}
 use Rattle.wb_model.specs.declared.heap.Rule.{Rule}
-use Rattle.wb_model.specs.declared.heap.Rule.TheVariants.{Unlimited, Limit, Number}
 use Rattle.wb_model.specs.Agreement.{IsNoLimit}
 use Rattle.wb_model.specs.Rest.{Fits, SameSoFar}
-use Rattle.wb_model.specs.Space.{limit_under}
-
-no_limit : (r : Rule) → IsNoLimit r → limit_under r ≡ CEILING
-no_limit Unlimited h = refl
-no_limit (Limit l) h = absurd h
-no_limit (Number n) h = refl
+use Rattle.wb_model.specs.Rules.{limit_of, refusal_of, refusal_past, simulates}
+use Rattle.wb_model.specs.Space.{below_ceiling, limit_under}
+use Rattle.wb_model.specs.Sweeps.{rule_of}
 
 pub same-limit : (r own : Rule) (attempts : ℕ) → SameSoFar r own attempts → limit_under r ≡ limit_under own
-same-limit r own attempts s = no_limit r s.no_limit ∙ sym (no_limit own s.own_no_limit)
+same-limit r own attempts s = ap below_ceiling (s.no_limit ∙ sym s.own_no_limit)
 
 pub fits-through : (r new own : Rule) (attempts : ℕ) → SameSoFar new own attempts → Fits r new false attempts → Fits r own false attempts
 fits-through r new own attempts s (inl e) = inr (refl, subst (λ q. SameSoFar q own attempts) (sym e) s)
@@ -30,11 +29,34 @@ fits-through r new own attempts s (inr f) =
       },
     )
 
-pub number-fits : (attempts : ℕ) → SameSoFar (Number (attempts + 1)) (Number 0) attempts
-number-fits attempts = record {
-  no_limit = tt;
-  own_no_limit = tt;
+-- what a rule without a limit refuses of an attempt whose failure it doesn't simulate
+pub unsimulated-open : (r : Rule) (number end : ℕ) → IsNoLimit r → simulates r number ≡ false → refusal_of r number end ≡ None
+unsimulated-open r number end no_limit e = ap (λ b. cond b (Some Simulated) (refusal_past (limit_of r) end)) e ∙ ap (λ o. refusal_past o end) no_limit
+
+pub failures-no_limit : (failures : Failures) (n : ℕ) → IsNoLimit (rule_of failures n)
+failures-no_limit Single n = refl
+failures-no_limit Every n = refl
+
+-- failure 0 refuses none of the attempts, which count from 1
+pub zero-refuses_none : (failures : Failures) (number end : ℕ) → 1 ≤ number → refusal_of (rule_of failures 0) number end ≡ None
+zero-refuses_none Single number end first = unsimulated-open (rule_of Single 0) number end refl (ne_eqb 0 number (λ z. omega (arith, z, first)))
+zero-refuses_none Every number end first = refl
+
+-- and no failure refuses an attempt with a lesser number
+pub later-refuses_none : (failures : Failures) (n number end : ℕ) → 1 ≤ number → number < n → refusal_of (rule_of failures n) number end ≡ None
+later-refuses_none Single n number end first before = unsimulated-open (rule_of Single n) number end refl (ne_eqb n number (λ z. omega (arith, z, before)))
+later-refuses_none Every n number end first before = unsimulated-open (rule_of Every n) number end refl (ap (λ b. cond b false (nat_eq (number % n) 0)) positive ∙ undivided)
+  where
+    positive : nat_eq n 0 ≡ false
+    positive = ne_eqb n 0 (λ z. omega (arith, z, before))
+
+    undivided : nat_eq (number % n) 0 ≡ false
+    undivided = ne_eqb (number % n) 0 (λ z. omega (arith, z, mod-eq_of_lt before, first))
+
+pub failures-fit : (failures : Failures) (attempts : ℕ) → SameSoFar (rule_of failures (attempts + 1)) (rule_of failures 0) attempts
+failures-fit failures attempts = record {
+  no_limit = failures-no_limit failures (attempts + 1);
+  own_no_limit = failures-no_limit failures 0;
   same = λ number end first made.
-      ap (λ b. cond b (Some Simulated) None)
-      (ne_eqb (attempts + 1) number (λ z. omega (arith, z, made)) ∙ sym (ne_eqb 0 number (λ z. omega (arith, z, first))));
+      later-refuses_none failures (attempts + 1) number end first (omega arith) ∙ sym (zero-refuses_none failures number end first);
 }

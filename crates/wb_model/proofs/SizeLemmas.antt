@@ -200,7 +200,7 @@ end_within (suc k) (u ∷ ts) t e = let rest = end_within k ts t e in omega arit
 -- from the required length on, the run is the one without a limit
 pub long_enough : (script : Script) (budget : ℕ) (shape : Shape) (l : ℕ) → (run script Unlimited budget shape).outcome ≢ Cut Ceiling →
     required script budget shape ≤ l → IsSameButNotes (run script Unlimited budget shape) (run script (Limit l) budget shape)
-long_enough script budget shape l uncut le = (same_run script budget shape Unlimited (Limit l) (unlimited_least (Limit l)) uncut no_grant).but_notes
+long_enough script budget shape l uncut le = (same_run script budget shape Unlimited (Limit l) refl (unlimited_least (Limit l)) uncut no_grant).but_notes
   where
     no_grant : RefusesNoGrant (Limit l) (run script Unlimited budget shape).trace
     no_grant k t there granted =

@@ -1,14 +1,15 @@
--- The least number whose run is bad or cut stands among those up to the last attempt of the run without failure.
+-- The least failure whose run is bad or cut is among those up to the last attempt of the run without failure.
 use Rattle.std.proofs.Common.{◌≡◌, ◌≢◌, inl, inr, ℕ, zero, suc, ◌+◌, ◌<◌, ◌≤◌, arith, Bool, true, false, length, refl, sym, ◌∙◌, ap, subst, Option, Some, None, cond}
 use Rattle.std.specs.Prelude.{not, ◌↔◌}
 use Rattle.std.proofs.lemmas.Bool.{cases_lt, and_right}
+use Rattle.wb_model.specs.declared.failures.Failures.{Failures}
 use Rattle.wb_model.specs.declared.heap.Shape.{Shape}
 use Rattle.wb_model.specs.declared.run.RunResult.{RunResult}
 use Rattle.wb_model.specs.declared.run.Why.TheVariants.{Ceiling}
 use Rattle.wb_model.specs.declared.run.Outcome.TheVariants.{Cut}
 use Rattle.wb_model.specs.declared.script.Script.{Script}
 use Rattle.wb_model.specs.Run.{is_bad}
-use Rattle.wb_model.specs.Sweeps.{is_fine, is_cut_outcome, run_at, AreFineBelow, AreAllFine, IsLeastUnfine, or_else, least_unfine, least_bad_or_cut}
+use Rattle.wb_model.specs.Sweeps.{is_fine, is_cut_outcome, runs_of, AreFineBelow, AreAllFine, IsLeastUnfine, or_else, least_unfine, least_bad_or_cut}
 use Rattle.wb_model.proofs.SameRuns.{past_the_last}
 
 -- a run that is cut isn't fine
@@ -67,17 +68,17 @@ module _ (runs : ℕ → RunResult) where
       by None f true g e rest = cc
       by None f false g e rest = let same : m ≡ number = cc in subst (IsLeastUnfine runs) same (record { unfine = g; least = missing_below m f })
 
--- the numbers of a script's attempts
-module _ (script : Script) (budget : ℕ) (shape : Shape) where
-  past : is_fine (run_at script budget shape 0) ≡ true → (n : ℕ) → length (run_at script budget shape 0).trace < n → run_at script budget shape n ≡ run_at script budget shape 0
-  past fine n lt = past_the_last script budget shape n (fine_uncut (run_at script budget shape 0) fine) lt
+-- the failures of a script's attempts
+module _ (failures : Failures) (script : Script) (budget : ℕ) (shape : Shape) where
+  past : is_fine (runs_of failures script budget shape 0) ≡ true → (n : ℕ) → length (runs_of failures script budget shape 0).trace < n → runs_of failures script budget shape n ≡ runs_of failures script budget shape 0
+  past fine n lt = past_the_last failures script budget shape n (fine_uncut (runs_of failures script budget shape 0) fine) lt
 
-  pub all_fine : AreFineBelow (run_at script budget shape) (length (run_at script budget shape 0).trace + 1) → AreAllFine (run_at script budget shape)
-  all_fine below = fine_all (run_at script budget shape) (length (run_at script budget shape 0).trace) (past (below 0 (omega arith))) below
+  pub all_fine : AreFineBelow (runs_of failures script budget shape) (length (runs_of failures script budget shape 0).trace + 1) → AreAllFine (runs_of failures script budget shape)
+  all_fine below = fine_all (runs_of failures script budget shape) (length (runs_of failures script budget shape 0).trace) (past (below 0 (omega arith))) below
 
-  unfine_within : (number : ℕ) → IsLeastUnfine (run_at script budget shape) number → number ≤ length (run_at script budget shape 0).trace
+  unfine_within : (number : ℕ) → IsLeastUnfine (runs_of failures script budget shape) number → number ≤ length (runs_of failures script budget shape 0).trace
   unfine_within number is =
-      elim (cases_lt (length (run_at script budget shape 0).trace) number) [
+      elim (cases_lt (length (runs_of failures script budget shape 0).trace) number) [
         | inl lt ↦
             let fine = all_fine (λ smaller less. is.least smaller (omega arith)) number in
             let unfine = is.unfine in
@@ -85,14 +86,14 @@ module _ (script : Script) (budget : ℕ) (shape : Shape) where
         | inr le ↦ le
       ]
 
-  pub least-some : (number : ℕ) → (least_bad_or_cut script budget shape ≡ Some number) ↔ IsLeastUnfine (run_at script budget shape) number
+  pub least-some : (number : ℕ) → (least_bad_or_cut failures script budget shape ≡ Some number) ↔ IsLeastUnfine (runs_of failures script budget shape) number
   least-some number = (
-    λ e. found_below (run_at script budget shape) (suc (length (run_at script budget shape 0).trace)) number e,
-    λ is. let le = unfine_within number is in some_below (run_at script budget shape) (suc (length (run_at script budget shape 0).trace)) number (omega arith) is,
+    λ e. found_below (runs_of failures script budget shape) (suc (length (runs_of failures script budget shape 0).trace)) number e,
+    λ is. let le = unfine_within number is in some_below (runs_of failures script budget shape) (suc (length (runs_of failures script budget shape 0).trace)) number (omega arith) is,
   )
 
-  pub least-none : (least_bad_or_cut script budget shape ≡ None) ↔ AreAllFine (run_at script budget shape)
+  pub least-none : (least_bad_or_cut failures script budget shape ≡ None) ↔ AreAllFine (runs_of failures script budget shape)
   least-none = (
-    λ e. all_fine (λ n lt. missing_below (run_at script budget shape) (suc (length (run_at script budget shape 0).trace)) e n (omega arith)),
-    λ fine. none_below (run_at script budget shape) (suc (length (run_at script budget shape 0).trace)) (λ n lt. fine n),
+    λ e. all_fine (λ n lt. missing_below (runs_of failures script budget shape) (suc (length (runs_of failures script budget shape 0).trace)) e n (omega arith)),
+    λ fine. none_below (runs_of failures script budget shape) (suc (length (runs_of failures script budget shape 0).trace)) (λ n lt. fine n),
   )

@@ -1,17 +1,17 @@
 -- Each line of a run's trace is that of an attempt which the run asked for, answered by the script's own setting or the rule.
 use Rattle.std.proofs.Common.{◌≡◌, ◌≢◌, ℕ, zero, suc, ◌+◌, ◌<◌, ◌≤◌, inl, inr, arith, Bool, true, false, List, [], ◌∷◌, ◌++◌, length, append-nil, append_assoc, refl, sym, ◌∙◌, ap, subst, Option, Some, None, cond}
-use Rattle.std.specs.Prelude.{nat_eq, nat_lt, slice_get}
-use Rattle.std.proofs.lemmas.Bool.{eqb-true, ltb-true, ltb-false}
+use Rattle.std.specs.Prelude.{nat_lt, slice_get}
+use Rattle.std.proofs.lemmas.Bool.{ltb-true, ltb-false}
 use Rattle.wb_model.specs.declared.limits.TheConstants.{CEILING}
 use Rattle.wb_model.specs.declared.heap.Rule.{Rule}
-use Rattle.wb_model.specs.declared.heap.Rule.TheVariants.{Unlimited, Limit, Number}
+use Rattle.wb_model.specs.declared.heap.Rule.TheVariants.{Unlimited, Limit}
 use Rattle.wb_model.specs.declared.heap.Shape.{Shape}
 use Rattle.wb_model.specs.declared.heap.Answer.{Answer}
 use Rattle.wb_model.specs.declared.heap.Answer.TheVariants.{Granted, Simulated, Refused}
 use Rattle.wb_model.specs.declared.heap.Attempt.{Attempt}
 use Rattle.wb_model.specs.declared.run.Why.TheVariants.{Ceiling}
 use Rattle.wb_model.specs.declared.script.Script.{Script}
-use Rattle.wb_model.specs.Rules.{refusal_of, unless_refused, answer_to, Request}
+use Rattle.wb_model.specs.Rules.{limit_of, simulates, refusal_past, refusal_of, unless_refused, answer_to, Request}
 use Rattle.wb_model.specs.State.{is_cut, Query, heap_note, available_note, compress_note, Process, ends, stops, asks, notes}
 use Rattle.wb_model.specs.Space.{Space, space_of}
 use Rattle.wb_model.specs.Account.{stopped, Account, settled, on_answer, recorded, noted, next_number, trace_line}
@@ -22,21 +22,22 @@ use Rattle.wb_model.specs.Traces.{asked_before, asked_for, end_of_attempt, IsLin
 -- what a rule refuses, by the answer
 record IsRefusal (rule : Rule) (number end : ℕ) (w : Answer) : Type 0 where
   granted : w ≢ Granted
-  refused : w ≡ Refused → (limit : ℕ) × (rule ≡ Limit limit) × (limit < end)
-  simulated : w ≡ Simulated → rule ≡ Number number
+  refused : w ≡ Refused → (limit : ℕ) × (limit_of rule ≡ Some limit) × (limit < end)
 
 refusal-is : (rule : Rule) (number end : ℕ) (w : Answer) → refusal_of rule number end ≡ Some w → IsRefusal rule number end w
-refusal-is Unlimited number end w e = cc
-refusal-is (Limit limit) number end w e = by (nat_lt limit end) refl e
+refusal-is rule number end w = simulated (simulates rule number)
   where
-    by : (b : Bool) → nat_lt limit end ≡ b → cond b (Some Refused) None ≡ Some w → IsRefusal (Limit limit) number end w
-    by true t f = record { granted = λ g. cc; refused = λ r. (limit, refl, ltb-true _ _ t); simulated = λ s. cc }
-    by false t f = cc
-refusal-is (Number n) number end w e = by (nat_eq n number) refl e
-  where
-    by : (b : Bool) → nat_eq n number ≡ b → cond b (Some Simulated) None ≡ Some w → IsRefusal (Number n) number end w
-    by true t f = record { granted = λ g. cc; refused = λ r. cc; simulated = λ s. ap Number (eqb-true _ _ t) }
-    by false t f = cc
+    limited : (o : Option ℕ) → limit_of rule ≡ o → refusal_past o end ≡ Some w → IsRefusal rule number end w
+    limited None l e = cc
+    limited (Some limit) l e = by (nat_lt limit end) refl e
+      where
+        by : (b : Bool) → nat_lt limit end ≡ b → cond b (Some Refused) None ≡ Some w → IsRefusal rule number end w
+        by true t f = record { granted = λ g. cc; refused = λ r. (limit, l, ltb-true _ _ t) }
+        by false t f = cc
+
+    simulated : (b : Bool) → cond b (Some Simulated) (refusal_past (limit_of rule) end) ≡ Some w → IsRefusal rule number end w
+    simulated true e = record { granted = λ g. cc; refused = λ r. cc }
+    simulated false e = limited (limit_of rule) refl e
 
 line-is : (rule : Rule) (made : ℕ) (asked : Request) (w : Answer) → answer_to rule (made + 1) asked ≡ Some w → IsLine rule made asked (trace_line (made + 1) asked w)
 line-is rule made asked w = due asked.due refl
@@ -52,7 +53,7 @@ line-is rule made asked w = due asked.due refl
     left (Some v) f undue e =
         let same : v ≡ w = cc in
         let is = refusal-is rule (made + 1) end w (f ∙ ap Some same) in
-        record { number = refl; length = refl; place = refl; granted = λ g. absurd (is.granted g); refused = is.refused; simulated = λ s. inr (is.simulated s); due = λ d. cc }
+        record { number = refl; length = refl; place = refl; granted = λ g. absurd (is.granted g); refused = is.refused; simulated = λ s. inr (f ∙ ap Some (same ∙ s)); due = λ d. cc }
     left None f undue e =
         let is = open_to (nat_lt CEILING end) refl e in
         let granted : w ≡ Granted = is.0 in

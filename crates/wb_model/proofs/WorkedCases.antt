@@ -1,6 +1,7 @@
 -- Worked cases, each by computing: the definitions give what the files of cases/ say. Written by tools/cases_to_theorems.py;
 -- edit nothing here.
 use Rattle.std.specs.Prelude.{◌≡◌, refl, ℕ, pos, negsuc, [], ◌∷◌, length, Some, None}
+use Rattle.wb_model.specs.declared.failures.Failures.TheVariants.{Single, Every}
 use Rattle.wb_model.specs.declared.heap.Rule.TheVariants as R
 use Rattle.wb_model.specs.declared.heap.Panic.TheVariants as P
 use Rattle.wb_model.specs.declared.script.Holder.TheVariants as H
@@ -27,7 +28,7 @@ use Rattle.wb_model.specs.declared.script.Numbered.{Numbered}
 use Rattle.wb_model.specs.declared.script.Statement.TheOpen.{Statement-F}
 use Rattle.wb_model.specs.declared.script.Statement.TheViews.{out-Statement, roll-Statement}
 use Rattle.wb_model.specs.Run.{run, required, rises}
-use Rattle.wb_model.specs.Sweeps.{run_at, least_bad_or_cut}
+use Rattle.wb_model.specs.Sweeps.{runs_of, least_bad_or_cut}
 use Rattle.std.specs.Fmt.{digits}
 
 -- what a run computes through
@@ -1299,14 +1300,14 @@ append_too_long_run = refl
 abbrev script_double_delete_mended_check : Script
 script_double_delete_mended_check = record { classes = (record { line = 2; extra = 4; fields = []; construct = None; destroy = None }) ∷ (record { line = 5; extra = 0; fields = (Some 0) ∷ None ∷ []; construct = None; destroy = Some (record { locals = []; statements = (on 9 (Statement-F.Delete (Field H.This 1 0))) ∷ (on 10 (Statement-F.Free (Field H.This 1 1))) ∷ [] }) }) ∷ []; procedures = (record { line = 14; parameters = (Par.OfPointer (Some 1)) ∷ (Par.OfPointer (Some 0)) ∷ []; body = record { locals = []; statements = (on 16 (Statement-F.Set (Field (H.Local 0) 1 0) (Held (H.Local 1)))) ∷ (on 17 (Statement-F.Alloc (Field (H.Local 0) 1 1) (Constant (pos 40)) Leaves)) ∷ [] } }) ∷ (record { line = 20; parameters = []; body = record { locals = (OfPointer (Some 1)) ∷ (OfPointer (Some 0)) ∷ OfNumber ∷ []; statements = (on 24 (Statement-F.New (Held (H.Local 0)) 1 Leaves)) ∷ (on 25 (Statement-F.PushObject (Held (H.Local 0)))) ∷ (on 26 (Statement-F.New (Held (H.Local 1)) 0 Leaves)) ∷ (on 27 (Statement-F.Trap 2 ((on 28 (Statement-F.Call 0 ((Passed (Held (H.Local 0))) ∷ (Passed (Held (H.Local 1))) ∷ []))) ∷ []))) ∷ (on 30 (Statement-F.LeaveIfError (Variable 2))) ∷ (on 31 (Statement-F.PopDestroy (Constant (pos 1)))) ∷ [] } }) ∷ []; operations = []; literals = []; main = 1 }
 
-double_delete_mended_check : (required script_double_delete_mended_check 10000 (shaped 4096 4096) ≡ 288) × (rises script_double_delete_mended_check 10000 (shaped 4096 4096) ≡ (rise 1 144) ∷ (rise 2 192) ∷ (rise 3 224) ∷ (rise 4 288) ∷ []) × (length (run_at script_double_delete_mended_check 10000 (shaped 4096 4096) 0).trace ≡ 4) × (least_bad_or_cut script_double_delete_mended_check 10000 (shaped 4096 4096) ≡ None)
+double_delete_mended_check : (required script_double_delete_mended_check 10000 (shaped 4096 4096) ≡ 288) × (rises script_double_delete_mended_check 10000 (shaped 4096 4096) ≡ (rise 1 144) ∷ (rise 2 192) ∷ (rise 3 224) ∷ (rise 4 288) ∷ []) × (length (runs_of Single script_double_delete_mended_check 10000 (shaped 4096 4096) 0).trace ≡ 4) × (least_bad_or_cut Single script_double_delete_mended_check 10000 (shaped 4096 4096) ≡ None)
 unfolding everything
 double_delete_mended_check = (refl, refl, refl, refl)
 
 abbrev script_double_delete_check : Script
 script_double_delete_check = record { classes = (record { line = 2; extra = 4; fields = []; construct = None; destroy = None }) ∷ (record { line = 5; extra = 0; fields = (Some 0) ∷ None ∷ []; construct = None; destroy = Some (record { locals = []; statements = (on 9 (Statement-F.Delete (Field H.This 1 0))) ∷ (on 10 (Statement-F.Free (Field H.This 1 1))) ∷ [] }) }) ∷ []; procedures = (record { line = 14; parameters = (Par.OfPointer (Some 1)) ∷ (Par.OfPointer (Some 0)) ∷ []; body = record { locals = []; statements = (on 16 (Statement-F.Set (Field (H.Local 0) 1 0) (Held (H.Local 1)))) ∷ (on 17 (Statement-F.Alloc (Field (H.Local 0) 1 1) (Constant (pos 40)) Leaves)) ∷ [] } }) ∷ (record { line = 20; parameters = []; body = record { locals = (OfPointer (Some 1)) ∷ (OfPointer (Some 0)) ∷ OfNumber ∷ []; statements = (on 24 (Statement-F.New (Held (H.Local 0)) 1 Leaves)) ∷ (on 25 (Statement-F.PushObject (Held (H.Local 0)))) ∷ (on 26 (Statement-F.New (Held (H.Local 1)) 0 Leaves)) ∷ (on 27 (Statement-F.Trap 2 ((on 28 (Statement-F.Call 0 ((Passed (Held (H.Local 0))) ∷ (Passed (Held (H.Local 1))) ∷ []))) ∷ []))) ∷ (on 30 (Statement-F.If (Less (Variable 2) (Constant (pos 0))) ((on 31 (Statement-F.Delete (Held (H.Local 1)))) ∷ []))) ∷ (on 33 (Statement-F.PopDestroy (Constant (pos 1)))) ∷ [] } }) ∷ []; operations = []; literals = []; main = 1 }
 
-double_delete_check : (required script_double_delete_check 10000 (shaped 4096 4096) ≡ 288) × (rises script_double_delete_check 10000 (shaped 4096 4096) ≡ (rise 1 144) ∷ (rise 2 192) ∷ (rise 3 224) ∷ (rise 4 288) ∷ []) × (length (run_at script_double_delete_check 10000 (shaped 4096 4096) 0).trace ≡ 4) × (least_bad_or_cut script_double_delete_check 10000 (shaped 4096 4096) ≡ Some 4) × (run_at script_double_delete_check 10000 (shaped 4096 4096) 4 ≡ record { outcome = Panicked (P.Workbench 1); trace = (line 1 144 0 Granted) ∷ (line 2 48 144 Granted) ∷ (line 3 32 192 Granted) ∷ (line 4 64 224 Simulated) ∷ []; lines = []; notes = []; steps = 15 })
+double_delete_check : (required script_double_delete_check 10000 (shaped 4096 4096) ≡ 288) × (rises script_double_delete_check 10000 (shaped 4096 4096) ≡ (rise 1 144) ∷ (rise 2 192) ∷ (rise 3 224) ∷ (rise 4 288) ∷ []) × (length (runs_of Single script_double_delete_check 10000 (shaped 4096 4096) 0).trace ≡ 4) × (least_bad_or_cut Single script_double_delete_check 10000 (shaped 4096 4096) ≡ Some 4) × (runs_of Single script_double_delete_check 10000 (shaped 4096 4096) 4 ≡ record { outcome = Panicked (P.Workbench 1); trace = (line 1 144 0 Granted) ∷ (line 2 48 144 Granted) ∷ (line 3 32 192 Granted) ∷ (line 4 64 224 Simulated) ∷ []; lines = []; notes = []; steps = 15 })
 unfolding everything
 double_delete_check = (refl, refl, refl, refl, refl)
 
@@ -1316,6 +1317,62 @@ script_double_free_run = record { classes = []; procedures = (record { line = 2;
 double_free_run : run script_double_free_run R.Unlimited 10000 (shaped 4096 4096) ≡ record { outcome = Panicked (P.User 42); trace = (line 1 144 0 Granted) ∷ (line 2 64 144 Granted) ∷ (line 3 64 144 Granted) ∷ []; lines = (116 ∷ 104 ∷ 101 ∷ 32 ∷ 112 ∷ 108 ∷ 97 ∷ 99 ∷ 101 ∷ 115 ∷ 32 ∷ 97 ∷ 114 ∷ 101 ∷ 32 ∷ 116 ∷ 104 ∷ 101 ∷ 32 ∷ 115 ∷ 97 ∷ 109 ∷ 101 ∷ 44 ∷ 32 ∷ 116 ∷ 104 ∷ 101 ∷ 32 ∷ 97 ∷ 108 ∷ 108 ∷ 111 ∷ 99 ∷ 97 ∷ 116 ∷ 105 ∷ 111 ∷ 110 ∷ 32 ∷ 110 ∷ 117 ∷ 109 ∷ 98 ∷ 101 ∷ 114 ∷ 115 ∷ 32 ∷ 97 ∷ 114 ∷ 101 ∷ 110 ∷ 39 ∷ 116 ∷ []) ∷ []; notes = []; steps = 5 }
 unfolding everything
 double_free_run = refl
+
+abbrev script_fallback_leaks_every_json_check : Script
+script_fallback_leaks_every_json_check = record { classes = []; procedures = (record { line = 4; parameters = []; body = record { locals = (OfPointer None) ∷ (OfPointer None) ∷ []; statements = (on 7 (Statement-F.Alloc (Held (H.Local 0)) (Constant (pos 4000)) GivesNull)) ∷ (on 8 (Statement-F.If (IsNull (Held (H.Local 0))) ((on 9 (Statement-F.NewText (Held (H.Local 1)) (Constant (pos 20)) Leaves)) ∷ (on 10 (Statement-F.Copy (InCell (Held (H.Local 1))) (Quoted 0))) ∷ (on 12 (Statement-F.Alloc (Held (H.Local 0)) (Constant (pos 500)) Leaves)) ∷ (on 13 (Statement-F.PrintText (Of (InCell (Held (H.Local 1)))))) ∷ (on 14 (Statement-F.Free (Held (H.Local 1)))) ∷ []))) ∷ (on 16 (Statement-F.ReturnPointer (Held (H.Local 0)))) ∷ [] } }) ∷ (record { line = 19; parameters = []; body = record { locals = (OfPointer None) ∷ OfNumber ∷ []; statements = (on 22 (Statement-F.Trap 1 ((on 23 (Statement-F.CallTo 0 0 [])) ∷ []))) ∷ (on 25 (Statement-F.PrintNumber (Variable 1))) ∷ (on 26 (Statement-F.Free (Held (H.Local 0)))) ∷ [] } }) ∷ []; operations = []; literals = (105 ∷ 110 ∷ 32 ∷ 102 ∷ 101 ∷ 119 ∷ 32 ∷ 99 ∷ 111 ∷ 108 ∷ 111 ∷ 117 ∷ 114 ∷ 115 ∷ []) ∷ []; main = 1 }
+
+fallback_leaks_every_json_check : (required script_fallback_leaks_every_json_check 10000 (shaped 4096 4096) ≡ 4160) × (rises script_fallback_leaks_every_json_check 10000 (shaped 4096 4096) ≡ (rise 1 144) ∷ (rise 2 4160) ∷ []) × (length (runs_of Every script_fallback_leaks_every_json_check 10000 (shaped 4096 4096) 0).trace ≡ 2) × (least_bad_or_cut Every script_fallback_leaks_every_json_check 10000 (shaped 4096 4096) ≡ Some 2) × (runs_of Every script_fallback_leaks_every_json_check 10000 (shaped 4096 4096) 2 ≡ record { outcome = Ended None ((record { number = 3; length = 64; place = 144 }) ∷ []); trace = (line 1 144 0 Granted) ∷ (line 2 4016 144 Simulated) ∷ (line 3 64 144 Granted) ∷ (line 4 528 208 Simulated) ∷ []; lines = (45 ∷ 52 ∷ []) ∷ []; notes = []; steps = 9 })
+unfolding everything
+fallback_leaks_every_json_check = (refl, refl, refl, refl, refl)
+
+abbrev script_fallback_leaks_every_run : Script
+script_fallback_leaks_every_run = record { classes = []; procedures = (record { line = 4; parameters = []; body = record { locals = (OfPointer None) ∷ (OfPointer None) ∷ []; statements = (on 7 (Statement-F.Alloc (Held (H.Local 0)) (Constant (pos 4000)) GivesNull)) ∷ (on 8 (Statement-F.If (IsNull (Held (H.Local 0))) ((on 9 (Statement-F.NewText (Held (H.Local 1)) (Constant (pos 20)) Leaves)) ∷ (on 10 (Statement-F.Copy (InCell (Held (H.Local 1))) (Quoted 0))) ∷ (on 12 (Statement-F.Alloc (Held (H.Local 0)) (Constant (pos 500)) Leaves)) ∷ (on 13 (Statement-F.PrintText (Of (InCell (Held (H.Local 1)))))) ∷ (on 14 (Statement-F.Free (Held (H.Local 1)))) ∷ []))) ∷ (on 16 (Statement-F.ReturnPointer (Held (H.Local 0)))) ∷ [] } }) ∷ (record { line = 19; parameters = []; body = record { locals = (OfPointer None) ∷ OfNumber ∷ []; statements = (on 22 (Statement-F.Trap 1 ((on 23 (Statement-F.CallTo 0 0 [])) ∷ []))) ∷ (on 25 (Statement-F.PrintNumber (Variable 1))) ∷ (on 26 (Statement-F.Free (Held (H.Local 0)))) ∷ [] } }) ∷ []; operations = []; literals = (105 ∷ 110 ∷ 32 ∷ 102 ∷ 101 ∷ 119 ∷ 32 ∷ 99 ∷ 111 ∷ 108 ∷ 111 ∷ 117 ∷ 114 ∷ 115 ∷ []) ∷ []; main = 1 }
+
+fallback_leaks_every_run : run script_fallback_leaks_every_run (R.Every 2) 10000 (shaped 4096 4096) ≡ record { outcome = Ended None ((record { number = 3; length = 64; place = 144 }) ∷ []); trace = (line 1 144 0 Granted) ∷ (line 2 4016 144 Simulated) ∷ (line 3 64 144 Granted) ∷ (line 4 528 208 Simulated) ∷ []; lines = (45 ∷ 52 ∷ []) ∷ []; notes = []; steps = 9 }
+unfolding everything
+fallback_leaks_every_run = refl
+
+abbrev script_fallback_leaks_every_sweep : Script
+script_fallback_leaks_every_sweep = record { classes = []; procedures = (record { line = 4; parameters = []; body = record { locals = (OfPointer None) ∷ (OfPointer None) ∷ []; statements = (on 7 (Statement-F.Alloc (Held (H.Local 0)) (Constant (pos 4000)) GivesNull)) ∷ (on 8 (Statement-F.If (IsNull (Held (H.Local 0))) ((on 9 (Statement-F.NewText (Held (H.Local 1)) (Constant (pos 20)) Leaves)) ∷ (on 10 (Statement-F.Copy (InCell (Held (H.Local 1))) (Quoted 0))) ∷ (on 12 (Statement-F.Alloc (Held (H.Local 0)) (Constant (pos 500)) Leaves)) ∷ (on 13 (Statement-F.PrintText (Of (InCell (Held (H.Local 1)))))) ∷ (on 14 (Statement-F.Free (Held (H.Local 1)))) ∷ []))) ∷ (on 16 (Statement-F.ReturnPointer (Held (H.Local 0)))) ∷ [] } }) ∷ (record { line = 19; parameters = []; body = record { locals = (OfPointer None) ∷ OfNumber ∷ []; statements = (on 22 (Statement-F.Trap 1 ((on 23 (Statement-F.CallTo 0 0 [])) ∷ []))) ∷ (on 25 (Statement-F.PrintNumber (Variable 1))) ∷ (on 26 (Statement-F.Free (Held (H.Local 0)))) ∷ [] } }) ∷ []; operations = []; literals = (105 ∷ 110 ∷ 32 ∷ 102 ∷ 101 ∷ 119 ∷ 32 ∷ 99 ∷ 111 ∷ 108 ∷ 111 ∷ 117 ∷ 114 ∷ 115 ∷ []) ∷ []; main = 1 }
+
+fallback_leaks_every_sweep : (length (runs_of Every script_fallback_leaks_every_sweep 10000 (shaped 4096 4096) 0).trace ≡ 2) × (least_bad_or_cut Every script_fallback_leaks_every_sweep 10000 (shaped 4096 4096) ≡ Some 2) × (runs_of Every script_fallback_leaks_every_sweep 10000 (shaped 4096 4096) 2 ≡ record { outcome = Ended None ((record { number = 3; length = 64; place = 144 }) ∷ []); trace = (line 1 144 0 Granted) ∷ (line 2 4016 144 Simulated) ∷ (line 3 64 144 Granted) ∷ (line 4 528 208 Simulated) ∷ []; lines = (45 ∷ 52 ∷ []) ∷ []; notes = []; steps = 9 })
+unfolding everything
+fallback_leaks_every_sweep = (refl, refl, refl)
+
+abbrev script_fallback_leaks_mended_every_sweep : Script
+script_fallback_leaks_mended_every_sweep = record { classes = []; procedures = (record { line = 2; parameters = []; body = record { locals = (OfPointer None) ∷ (OfPointer None) ∷ []; statements = (on 5 (Statement-F.Alloc (Held (H.Local 0)) (Constant (pos 4000)) GivesNull)) ∷ (on 6 (Statement-F.If (IsNull (Held (H.Local 0))) ((on 7 (Statement-F.NewText (Held (H.Local 1)) (Constant (pos 20)) Leaves)) ∷ (on 8 (Statement-F.Push (Held (H.Local 1)))) ∷ (on 9 (Statement-F.Copy (InCell (Held (H.Local 1))) (Quoted 0))) ∷ (on 10 (Statement-F.Alloc (Held (H.Local 0)) (Constant (pos 500)) Leaves)) ∷ (on 11 (Statement-F.PrintText (Of (InCell (Held (H.Local 1)))))) ∷ (on 12 (Statement-F.PopDestroy (Constant (pos 1)))) ∷ []))) ∷ (on 14 (Statement-F.ReturnPointer (Held (H.Local 0)))) ∷ [] } }) ∷ (record { line = 17; parameters = []; body = record { locals = (OfPointer None) ∷ OfNumber ∷ []; statements = (on 20 (Statement-F.Trap 1 ((on 21 (Statement-F.CallTo 0 0 [])) ∷ []))) ∷ (on 23 (Statement-F.PrintNumber (Variable 1))) ∷ (on 24 (Statement-F.Free (Held (H.Local 0)))) ∷ [] } }) ∷ []; operations = []; literals = (105 ∷ 110 ∷ 32 ∷ 102 ∷ 101 ∷ 119 ∷ 32 ∷ 99 ∷ 111 ∷ 108 ∷ 111 ∷ 117 ∷ 114 ∷ 115 ∷ []) ∷ []; main = 1 }
+
+fallback_leaks_mended_every_sweep : (length (runs_of Every script_fallback_leaks_mended_every_sweep 10000 (shaped 4096 4096) 0).trace ≡ 2) × (least_bad_or_cut Every script_fallback_leaks_mended_every_sweep 10000 (shaped 4096 4096) ≡ None)
+unfolding everything
+fallback_leaks_mended_every_sweep = (refl, refl)
+
+abbrev script_fallback_leaks_mended_check : Script
+script_fallback_leaks_mended_check = record { classes = []; procedures = (record { line = 2; parameters = []; body = record { locals = (OfPointer None) ∷ (OfPointer None) ∷ []; statements = (on 5 (Statement-F.Alloc (Held (H.Local 0)) (Constant (pos 4000)) GivesNull)) ∷ (on 6 (Statement-F.If (IsNull (Held (H.Local 0))) ((on 7 (Statement-F.NewText (Held (H.Local 1)) (Constant (pos 20)) Leaves)) ∷ (on 8 (Statement-F.Push (Held (H.Local 1)))) ∷ (on 9 (Statement-F.Copy (InCell (Held (H.Local 1))) (Quoted 0))) ∷ (on 10 (Statement-F.Alloc (Held (H.Local 0)) (Constant (pos 500)) Leaves)) ∷ (on 11 (Statement-F.PrintText (Of (InCell (Held (H.Local 1)))))) ∷ (on 12 (Statement-F.PopDestroy (Constant (pos 1)))) ∷ []))) ∷ (on 14 (Statement-F.ReturnPointer (Held (H.Local 0)))) ∷ [] } }) ∷ (record { line = 17; parameters = []; body = record { locals = (OfPointer None) ∷ OfNumber ∷ []; statements = (on 20 (Statement-F.Trap 1 ((on 21 (Statement-F.CallTo 0 0 [])) ∷ []))) ∷ (on 23 (Statement-F.PrintNumber (Variable 1))) ∷ (on 24 (Statement-F.Free (Held (H.Local 0)))) ∷ [] } }) ∷ []; operations = []; literals = (105 ∷ 110 ∷ 32 ∷ 102 ∷ 101 ∷ 119 ∷ 32 ∷ 99 ∷ 111 ∷ 108 ∷ 111 ∷ 117 ∷ 114 ∷ 115 ∷ []) ∷ []; main = 1 }
+
+fallback_leaks_mended_check : (required script_fallback_leaks_mended_check 10000 (shaped 4096 4096) ≡ 4160) × (rises script_fallback_leaks_mended_check 10000 (shaped 4096 4096) ≡ (rise 1 144) ∷ (rise 2 4160) ∷ []) × (length (runs_of Single script_fallback_leaks_mended_check 10000 (shaped 4096 4096) 0).trace ≡ 2) × (least_bad_or_cut Single script_fallback_leaks_mended_check 10000 (shaped 4096 4096) ≡ None)
+unfolding everything
+fallback_leaks_mended_check = (refl, refl, refl, refl)
+
+abbrev script_fallback_leaks_refused_run : Script
+script_fallback_leaks_refused_run = record { classes = []; procedures = (record { line = 4; parameters = []; body = record { locals = (OfPointer None) ∷ (OfPointer None) ∷ []; statements = (on 7 (Statement-F.Alloc (Held (H.Local 0)) (Constant (pos 4000)) GivesNull)) ∷ (on 8 (Statement-F.If (IsNull (Held (H.Local 0))) ((on 9 (Statement-F.NewText (Held (H.Local 1)) (Constant (pos 20)) Leaves)) ∷ (on 10 (Statement-F.Copy (InCell (Held (H.Local 1))) (Quoted 0))) ∷ (on 12 (Statement-F.Alloc (Held (H.Local 0)) (Constant (pos 500)) Leaves)) ∷ (on 13 (Statement-F.PrintText (Of (InCell (Held (H.Local 1)))))) ∷ (on 14 (Statement-F.Free (Held (H.Local 1)))) ∷ []))) ∷ (on 16 (Statement-F.ReturnPointer (Held (H.Local 0)))) ∷ [] } }) ∷ (record { line = 19; parameters = []; body = record { locals = (OfPointer None) ∷ OfNumber ∷ []; statements = (on 22 (Statement-F.Trap 1 ((on 23 (Statement-F.CallTo 0 0 [])) ∷ []))) ∷ (on 25 (Statement-F.PrintNumber (Variable 1))) ∷ (on 26 (Statement-F.Free (Held (H.Local 0)))) ∷ [] } }) ∷ []; operations = []; literals = (105 ∷ 110 ∷ 32 ∷ 102 ∷ 101 ∷ 119 ∷ 32 ∷ 99 ∷ 111 ∷ 108 ∷ 111 ∷ 117 ∷ 114 ∷ 115 ∷ []) ∷ []; main = 1 }
+
+fallback_leaks_refused_run : run script_fallback_leaks_refused_run (R.Number 2) 10000 (shaped 4096 4096) ≡ record { outcome = Ended None []; trace = (line 1 144 0 Granted) ∷ (line 2 4016 144 Simulated) ∷ (line 3 64 144 Granted) ∷ (line 4 528 208 Granted) ∷ []; lines = (105 ∷ 110 ∷ 32 ∷ 102 ∷ 101 ∷ 119 ∷ 32 ∷ 99 ∷ 111 ∷ 108 ∷ 111 ∷ 117 ∷ 114 ∷ 115 ∷ []) ∷ (48 ∷ []) ∷ []; notes = []; steps = 12 }
+unfolding everything
+fallback_leaks_refused_run = refl
+
+abbrev script_fallback_leaks_check : Script
+script_fallback_leaks_check = record { classes = []; procedures = (record { line = 4; parameters = []; body = record { locals = (OfPointer None) ∷ (OfPointer None) ∷ []; statements = (on 7 (Statement-F.Alloc (Held (H.Local 0)) (Constant (pos 4000)) GivesNull)) ∷ (on 8 (Statement-F.If (IsNull (Held (H.Local 0))) ((on 9 (Statement-F.NewText (Held (H.Local 1)) (Constant (pos 20)) Leaves)) ∷ (on 10 (Statement-F.Copy (InCell (Held (H.Local 1))) (Quoted 0))) ∷ (on 12 (Statement-F.Alloc (Held (H.Local 0)) (Constant (pos 500)) Leaves)) ∷ (on 13 (Statement-F.PrintText (Of (InCell (Held (H.Local 1)))))) ∷ (on 14 (Statement-F.Free (Held (H.Local 1)))) ∷ []))) ∷ (on 16 (Statement-F.ReturnPointer (Held (H.Local 0)))) ∷ [] } }) ∷ (record { line = 19; parameters = []; body = record { locals = (OfPointer None) ∷ OfNumber ∷ []; statements = (on 22 (Statement-F.Trap 1 ((on 23 (Statement-F.CallTo 0 0 [])) ∷ []))) ∷ (on 25 (Statement-F.PrintNumber (Variable 1))) ∷ (on 26 (Statement-F.Free (Held (H.Local 0)))) ∷ [] } }) ∷ []; operations = []; literals = (105 ∷ 110 ∷ 32 ∷ 102 ∷ 101 ∷ 119 ∷ 32 ∷ 99 ∷ 111 ∷ 108 ∷ 111 ∷ 117 ∷ 114 ∷ 115 ∷ []) ∷ []; main = 1 }
+
+fallback_leaks_check : (required script_fallback_leaks_check 10000 (shaped 4096 4096) ≡ 4160) × (rises script_fallback_leaks_check 10000 (shaped 4096 4096) ≡ (rise 1 144) ∷ (rise 2 4160) ∷ []) × (length (runs_of Single script_fallback_leaks_check 10000 (shaped 4096 4096) 0).trace ≡ 2) × (least_bad_or_cut Single script_fallback_leaks_check 10000 (shaped 4096 4096) ≡ None)
+unfolding everything
+fallback_leaks_check = (refl, refl, refl, refl)
+
+abbrev script_fallback_leaks_sweep : Script
+script_fallback_leaks_sweep = record { classes = []; procedures = (record { line = 4; parameters = []; body = record { locals = (OfPointer None) ∷ (OfPointer None) ∷ []; statements = (on 7 (Statement-F.Alloc (Held (H.Local 0)) (Constant (pos 4000)) GivesNull)) ∷ (on 8 (Statement-F.If (IsNull (Held (H.Local 0))) ((on 9 (Statement-F.NewText (Held (H.Local 1)) (Constant (pos 20)) Leaves)) ∷ (on 10 (Statement-F.Copy (InCell (Held (H.Local 1))) (Quoted 0))) ∷ (on 12 (Statement-F.Alloc (Held (H.Local 0)) (Constant (pos 500)) Leaves)) ∷ (on 13 (Statement-F.PrintText (Of (InCell (Held (H.Local 1)))))) ∷ (on 14 (Statement-F.Free (Held (H.Local 1)))) ∷ []))) ∷ (on 16 (Statement-F.ReturnPointer (Held (H.Local 0)))) ∷ [] } }) ∷ (record { line = 19; parameters = []; body = record { locals = (OfPointer None) ∷ OfNumber ∷ []; statements = (on 22 (Statement-F.Trap 1 ((on 23 (Statement-F.CallTo 0 0 [])) ∷ []))) ∷ (on 25 (Statement-F.PrintNumber (Variable 1))) ∷ (on 26 (Statement-F.Free (Held (H.Local 0)))) ∷ [] } }) ∷ []; operations = []; literals = (105 ∷ 110 ∷ 32 ∷ 102 ∷ 101 ∷ 119 ∷ 32 ∷ 99 ∷ 111 ∷ 108 ∷ 111 ∷ 117 ∷ 114 ∷ 115 ∷ []) ∷ []; main = 1 }
+
+fallback_leaks_sweep : (length (runs_of Single script_fallback_leaks_sweep 10000 (shaped 4096 4096) 0).trace ≡ 2) × (least_bad_or_cut Single script_fallback_leaks_sweep 10000 (shaped 4096 4096) ≡ None)
+unfolding everything
+fallback_leaks_sweep = (refl, refl)
 
 abbrev script_grow_then_append_refused_run : Script
 script_grow_then_append_refused_run = record { classes = []; procedures = (record { line = 2; parameters = []; body = record { locals = (OfPointer None) ∷ (OfPointer None) ∷ OfNumber ∷ []; statements = (on 6 (Statement-F.NewText (Held (H.Local 0)) (Constant (pos 5)) GivesNull)) ∷ (on 7 (Statement-F.Append (InCell (Held (H.Local 0))) (Quoted 0))) ∷ (on 9 (Statement-F.ReallocText (Held (H.Local 1)) (Held (H.Local 0)) (Constant (pos 9)))) ∷ (on 11 (Statement-F.GetMaximum 2 (InCell (Held (H.Local 1))))) ∷ (on 12 (Statement-F.PrintNumber (Variable 2))) ∷ (on 13 (Statement-F.Append (InCell (Held (H.Local 1))) (Quoted 1))) ∷ (on 14 (Statement-F.PrintText (Of (InCell (Held (H.Local 1)))))) ∷ (on 15 (Statement-F.Free (Held (H.Local 1)))) ∷ [] } }) ∷ []; operations = []; literals = (104 ∷ 101 ∷ 97 ∷ 112 ∷ []) ∷ (32 ∷ 102 ∷ 117 ∷ 108 ∷ 108 ∷ []) ∷ []; main = 0 }
@@ -1334,35 +1391,35 @@ grow_then_append_run = refl
 abbrev script_grow_then_append_sweep : Script
 script_grow_then_append_sweep = record { classes = []; procedures = (record { line = 2; parameters = []; body = record { locals = (OfPointer None) ∷ (OfPointer None) ∷ OfNumber ∷ []; statements = (on 6 (Statement-F.NewText (Held (H.Local 0)) (Constant (pos 5)) GivesNull)) ∷ (on 7 (Statement-F.Append (InCell (Held (H.Local 0))) (Quoted 0))) ∷ (on 9 (Statement-F.ReallocText (Held (H.Local 1)) (Held (H.Local 0)) (Constant (pos 9)))) ∷ (on 11 (Statement-F.GetMaximum 2 (InCell (Held (H.Local 1))))) ∷ (on 12 (Statement-F.PrintNumber (Variable 2))) ∷ (on 13 (Statement-F.Append (InCell (Held (H.Local 1))) (Quoted 1))) ∷ (on 14 (Statement-F.PrintText (Of (InCell (Held (H.Local 1)))))) ∷ (on 15 (Statement-F.Free (Held (H.Local 1)))) ∷ [] } }) ∷ []; operations = []; literals = (104 ∷ 101 ∷ 97 ∷ 112 ∷ []) ∷ (32 ∷ 102 ∷ 117 ∷ 108 ∷ 108 ∷ []) ∷ []; main = 0 }
 
-grow_then_append_sweep : (length (run_at script_grow_then_append_sweep 10000 (shaped 4096 4096) 0).trace ≡ 3) × (least_bad_or_cut script_grow_then_append_sweep 10000 (shaped 4096 4096) ≡ Some 2) × (run_at script_grow_then_append_sweep 10000 (shaped 4096 4096) 2 ≡ record { outcome = Panicked (P.Workbench 1); trace = (line 1 144 0 Granted) ∷ (line 2 32 144 Simulated) ∷ []; lines = []; notes = []; steps = 2 })
+grow_then_append_sweep : (length (runs_of Single script_grow_then_append_sweep 10000 (shaped 4096 4096) 0).trace ≡ 3) × (least_bad_or_cut Single script_grow_then_append_sweep 10000 (shaped 4096 4096) ≡ Some 2) × (runs_of Single script_grow_then_append_sweep 10000 (shaped 4096 4096) 2 ≡ record { outcome = Panicked (P.Workbench 1); trace = (line 1 144 0 Granted) ∷ (line 2 32 144 Simulated) ∷ []; lines = []; notes = []; steps = 2 })
 unfolding everything
 grow_then_append_sweep = (refl, refl, refl)
 
 abbrev script_grown_unchecked_mended_check : Script
 script_grown_unchecked_mended_check = record { classes = []; procedures = (record { line = 2; parameters = []; body = record { locals = (OfPointer None) ∷ (OfPointer None) ∷ []; statements = (on 5 (Statement-F.NewText (Held (H.Local 0)) (Constant (pos 4)) GivesNull)) ∷ (on 6 (Statement-F.If (NotNull (Held (H.Local 0))) ((on 7 (Statement-F.Append (InCell (Held (H.Local 0))) (Quoted 0))) ∷ (on 8 (Statement-F.ReallocText (Held (H.Local 1)) (Held (H.Local 0)) (Constant (pos 40)))) ∷ (on 9 (Statement-F.If (NotNull (Held (H.Local 1))) ((on 10 (Statement-F.Set (Held (H.Local 0)) (Held (H.Local 1)))) ∷ (on 11 (Statement-F.Append (InCell (Held (H.Local 0))) (Quoted 1))) ∷ []))) ∷ (on 14 (Statement-F.PrintText (Of (InCell (Held (H.Local 0)))))) ∷ (on 15 (Statement-F.Free (Held (H.Local 0)))) ∷ []))) ∷ [] } }) ∷ []; operations = []; literals = (83 ∷ 121 ∷ 109 ∷ []) ∷ (98 ∷ 105 ∷ 97 ∷ 110 ∷ 32 ∷ 79 ∷ 83 ∷ 32 ∷ 118 ∷ 57 ∷ []) ∷ []; main = 0 }
 
-grown_unchecked_mended_check : (required script_grown_unchecked_mended_check 10000 (shaped 4096 4096) ≡ 256) × (rises script_grown_unchecked_mended_check 10000 (shaped 4096 4096) ≡ (rise 1 144) ∷ (rise 2 176) ∷ (rise 3 256) ∷ []) × (length (run_at script_grown_unchecked_mended_check 10000 (shaped 4096 4096) 0).trace ≡ 3) × (least_bad_or_cut script_grown_unchecked_mended_check 10000 (shaped 4096 4096) ≡ None)
+grown_unchecked_mended_check : (required script_grown_unchecked_mended_check 10000 (shaped 4096 4096) ≡ 256) × (rises script_grown_unchecked_mended_check 10000 (shaped 4096 4096) ≡ (rise 1 144) ∷ (rise 2 176) ∷ (rise 3 256) ∷ []) × (length (runs_of Single script_grown_unchecked_mended_check 10000 (shaped 4096 4096) 0).trace ≡ 3) × (least_bad_or_cut Single script_grown_unchecked_mended_check 10000 (shaped 4096 4096) ≡ None)
 unfolding everything
 grown_unchecked_mended_check = (refl, refl, refl, refl)
 
 abbrev script_grown_unchecked_check : Script
 script_grown_unchecked_check = record { classes = []; procedures = (record { line = 2; parameters = []; body = record { locals = (OfPointer None) ∷ []; statements = (on 4 (Statement-F.NewText (Held (H.Local 0)) (Constant (pos 4)) GivesNull)) ∷ (on 5 (Statement-F.If (NotNull (Held (H.Local 0))) ((on 6 (Statement-F.Append (InCell (Held (H.Local 0))) (Quoted 0))) ∷ (on 7 (Statement-F.ReallocText (Held (H.Local 0)) (Held (H.Local 0)) (Constant (pos 40)))) ∷ (on 8 (Statement-F.Append (InCell (Held (H.Local 0))) (Quoted 1))) ∷ (on 9 (Statement-F.PrintText (Of (InCell (Held (H.Local 0)))))) ∷ (on 10 (Statement-F.Free (Held (H.Local 0)))) ∷ []))) ∷ [] } }) ∷ []; operations = []; literals = (83 ∷ 121 ∷ 109 ∷ []) ∷ (98 ∷ 105 ∷ 97 ∷ 110 ∷ 32 ∷ 79 ∷ 83 ∷ 32 ∷ 118 ∷ 57 ∷ []) ∷ []; main = 0 }
 
-grown_unchecked_check : (required script_grown_unchecked_check 10000 (shaped 4096 4096) ≡ 256) × (rises script_grown_unchecked_check 10000 (shaped 4096 4096) ≡ (rise 1 144) ∷ (rise 2 176) ∷ (rise 3 256) ∷ []) × (length (run_at script_grown_unchecked_check 10000 (shaped 4096 4096) 0).trace ≡ 3) × (least_bad_or_cut script_grown_unchecked_check 10000 (shaped 4096 4096) ≡ Some 3) × (run_at script_grown_unchecked_check 10000 (shaped 4096 4096) 3 ≡ record { outcome = Panicked (P.Workbench 1); trace = (line 1 144 0 Granted) ∷ (line 2 32 144 Granted) ∷ (line 3 112 144 Simulated) ∷ []; lines = []; notes = []; steps = 5 })
+grown_unchecked_check : (required script_grown_unchecked_check 10000 (shaped 4096 4096) ≡ 256) × (rises script_grown_unchecked_check 10000 (shaped 4096 4096) ≡ (rise 1 144) ∷ (rise 2 176) ∷ (rise 3 256) ∷ []) × (length (runs_of Single script_grown_unchecked_check 10000 (shaped 4096 4096) 0).trace ≡ 3) × (least_bad_or_cut Single script_grown_unchecked_check 10000 (shaped 4096 4096) ≡ Some 3) × (runs_of Single script_grown_unchecked_check 10000 (shaped 4096 4096) 3 ≡ record { outcome = Panicked (P.Workbench 1); trace = (line 1 144 0 Granted) ∷ (line 2 32 144 Granted) ∷ (line 3 112 144 Simulated) ∷ []; lines = []; notes = []; steps = 5 })
 unfolding everything
 grown_unchecked_check = (refl, refl, refl, refl, refl)
 
 abbrev script_half_built_object_mended_check : Script
 script_half_built_object_mended_check = record { classes = (record { line = 2; extra = 0; fields = None ∷ None ∷ []; construct = Some (record { locals = []; statements = (on 6 (Statement-F.NewText (Field H.This 0 0) (Constant (pos 8)) Leaves)) ∷ (on 7 (Statement-F.Alloc (Field H.This 0 1) (Constant (pos 40)) Leaves)) ∷ [] }); destroy = Some (record { locals = []; statements = (on 10 (Statement-F.If (NotNull (Field H.This 0 1)) ((on 11 (Statement-F.Store (Field H.This 0 1) (Constant (pos 0)) (Constant (pos 1)))) ∷ []))) ∷ (on 13 (Statement-F.Free (Field H.This 0 1))) ∷ (on 14 (Statement-F.Free (Field H.This 0 0))) ∷ [] }) }) ∷ []; procedures = (record { line = 18; parameters = []; body = record { locals = (OfPointer (Some 0)) ∷ []; statements = (on 20 (Statement-F.New (Held (H.Local 0)) 0 Leaves)) ∷ (on 21 (Statement-F.PushObject (Held (H.Local 0)))) ∷ (on 22 (Statement-F.Construct (Held (H.Local 0)))) ∷ (on 23 (Statement-F.PopDestroy (Constant (pos 1)))) ∷ [] } }) ∷ []; operations = []; literals = []; main = 0 }
 
-half_built_object_mended_check : (required script_half_built_object_mended_check 10000 (shaped 4096 4096) ≡ 304) × (rises script_half_built_object_mended_check 10000 (shaped 4096 4096) ≡ (rise 1 144) ∷ (rise 2 192) ∷ (rise 3 240) ∷ (rise 4 304) ∷ []) × (length (run_at script_half_built_object_mended_check 10000 (shaped 4096 4096) 0).trace ≡ 4) × (least_bad_or_cut script_half_built_object_mended_check 10000 (shaped 4096 4096) ≡ None)
+half_built_object_mended_check : (required script_half_built_object_mended_check 10000 (shaped 4096 4096) ≡ 304) × (rises script_half_built_object_mended_check 10000 (shaped 4096 4096) ≡ (rise 1 144) ∷ (rise 2 192) ∷ (rise 3 240) ∷ (rise 4 304) ∷ []) × (length (runs_of Single script_half_built_object_mended_check 10000 (shaped 4096 4096) 0).trace ≡ 4) × (least_bad_or_cut Single script_half_built_object_mended_check 10000 (shaped 4096 4096) ≡ None)
 unfolding everything
 half_built_object_mended_check = (refl, refl, refl, refl)
 
 abbrev script_half_built_object_check : Script
 script_half_built_object_check = record { classes = (record { line = 3; extra = 0; fields = None ∷ None ∷ []; construct = Some (record { locals = []; statements = (on 7 (Statement-F.NewText (Field H.This 0 0) (Constant (pos 8)) Leaves)) ∷ (on 8 (Statement-F.Alloc (Field H.This 0 1) (Constant (pos 40)) Leaves)) ∷ [] }); destroy = Some (record { locals = []; statements = (on 12 (Statement-F.Store (Field H.This 0 1) (Constant (pos 0)) (Constant (pos 1)))) ∷ (on 13 (Statement-F.Free (Field H.This 0 1))) ∷ (on 14 (Statement-F.Free (Field H.This 0 0))) ∷ [] }) }) ∷ []; procedures = (record { line = 18; parameters = []; body = record { locals = (OfPointer (Some 0)) ∷ []; statements = (on 20 (Statement-F.New (Held (H.Local 0)) 0 Leaves)) ∷ (on 21 (Statement-F.PushObject (Held (H.Local 0)))) ∷ (on 22 (Statement-F.Construct (Held (H.Local 0)))) ∷ (on 23 (Statement-F.PopDestroy (Constant (pos 1)))) ∷ [] } }) ∷ []; operations = []; literals = []; main = 0 }
 
-half_built_object_check : (required script_half_built_object_check 10000 (shaped 4096 4096) ≡ 304) × (rises script_half_built_object_check 10000 (shaped 4096 4096) ≡ (rise 1 144) ∷ (rise 2 192) ∷ (rise 3 240) ∷ (rise 4 304) ∷ []) × (length (run_at script_half_built_object_check 10000 (shaped 4096 4096) 0).trace ≡ 4) × (least_bad_or_cut script_half_built_object_check 10000 (shaped 4096 4096) ≡ Some 3) × (run_at script_half_built_object_check 10000 (shaped 4096 4096) 3 ≡ record { outcome = Panicked (P.Workbench 1); trace = (line 1 144 0 Granted) ∷ (line 2 48 144 Granted) ∷ (line 3 48 192 Simulated) ∷ []; lines = []; notes = []; steps = 7 })
+half_built_object_check : (required script_half_built_object_check 10000 (shaped 4096 4096) ≡ 304) × (rises script_half_built_object_check 10000 (shaped 4096 4096) ≡ (rise 1 144) ∷ (rise 2 192) ∷ (rise 3 240) ∷ (rise 4 304) ∷ []) × (length (runs_of Single script_half_built_object_check 10000 (shaped 4096 4096) 0).trace ≡ 4) × (least_bad_or_cut Single script_half_built_object_check 10000 (shaped 4096 4096) ≡ Some 3) × (runs_of Single script_half_built_object_check 10000 (shaped 4096 4096) 3 ≡ record { outcome = Panicked (P.Workbench 1); trace = (line 1 144 0 Granted) ∷ (line 2 48 144 Granted) ∷ (line 3 48 192 Simulated) ∷ []; lines = []; notes = []; steps = 7 })
 unfolding everything
 half_built_object_check = (refl, refl, refl, refl, refl)
 
@@ -1383,14 +1440,14 @@ holes_size = (refl, refl)
 abbrev script_item_outlives_its_cell_mended_check : Script
 script_item_outlives_its_cell_mended_check = record { classes = []; procedures = (record { line = 2; parameters = []; body = record { locals = (OfPointer None) ∷ (OfPointer None) ∷ OfNumber ∷ []; statements = (on 6 (Statement-F.Trap 2 ((on 7 (Statement-F.NewText (Held (H.Local 0)) (Constant (pos 20)) Leaves)) ∷ (on 8 (Statement-F.Push (Held (H.Local 0)))) ∷ (on 9 (Statement-F.Append (InCell (Held (H.Local 0))) (Quoted 0))) ∷ (on 10 (Statement-F.PrintText (Of (InCell (Held (H.Local 0)))))) ∷ (on 12 (Statement-F.PopDestroy (Constant (pos 1)))) ∷ (on 13 (Statement-F.NewText (Held (H.Local 1)) (Constant (pos 40)) Leaves)) ∷ (on 14 (Statement-F.Free (Held (H.Local 1)))) ∷ []))) ∷ [] } }) ∷ []; operations = []; literals = (68 ∷ 101 ∷ 97 ∷ 114 ∷ 32 ∷ 65 ∷ 100 ∷ 97 ∷ []) ∷ []; main = 0 }
 
-item_outlives_its_cell_mended_check : (required script_item_outlives_its_cell_mended_check 10000 (shaped 4096 4096) ≡ 256) × (rises script_item_outlives_its_cell_mended_check 10000 (shaped 4096 4096) ≡ (rise 1 144) ∷ (rise 2 208) ∷ (rise 3 256) ∷ []) × (length (run_at script_item_outlives_its_cell_mended_check 10000 (shaped 4096 4096) 0).trace ≡ 3) × (least_bad_or_cut script_item_outlives_its_cell_mended_check 10000 (shaped 4096 4096) ≡ None)
+item_outlives_its_cell_mended_check : (required script_item_outlives_its_cell_mended_check 10000 (shaped 4096 4096) ≡ 256) × (rises script_item_outlives_its_cell_mended_check 10000 (shaped 4096 4096) ≡ (rise 1 144) ∷ (rise 2 208) ∷ (rise 3 256) ∷ []) × (length (runs_of Single script_item_outlives_its_cell_mended_check 10000 (shaped 4096 4096) 0).trace ≡ 3) × (least_bad_or_cut Single script_item_outlives_its_cell_mended_check 10000 (shaped 4096 4096) ≡ None)
 unfolding everything
 item_outlives_its_cell_mended_check = (refl, refl, refl, refl)
 
 abbrev script_item_outlives_its_cell_check : Script
 script_item_outlives_its_cell_check = record { classes = []; procedures = (record { line = 3; parameters = []; body = record { locals = (OfPointer None) ∷ (OfPointer None) ∷ OfNumber ∷ []; statements = (on 7 (Statement-F.Trap 2 ((on 8 (Statement-F.NewText (Held (H.Local 0)) (Constant (pos 20)) Leaves)) ∷ (on 9 (Statement-F.Push (Held (H.Local 0)))) ∷ (on 10 (Statement-F.Append (InCell (Held (H.Local 0))) (Quoted 0))) ∷ (on 11 (Statement-F.PrintText (Of (InCell (Held (H.Local 0)))))) ∷ (on 13 (Statement-F.Free (Held (H.Local 0)))) ∷ (on 14 (Statement-F.NewText (Held (H.Local 1)) (Constant (pos 40)) Leaves)) ∷ (on 15 (Statement-F.Free (Held (H.Local 1)))) ∷ (on 16 (Statement-F.Pop (Constant (pos 1)))) ∷ []))) ∷ [] } }) ∷ []; operations = []; literals = (68 ∷ 101 ∷ 97 ∷ 114 ∷ 32 ∷ 65 ∷ 100 ∷ 97 ∷ []) ∷ []; main = 0 }
 
-item_outlives_its_cell_check : (required script_item_outlives_its_cell_check 10000 (shaped 4096 4096) ≡ 256) × (rises script_item_outlives_its_cell_check 10000 (shaped 4096 4096) ≡ (rise 1 144) ∷ (rise 2 208) ∷ (rise 3 256) ∷ []) × (length (run_at script_item_outlives_its_cell_check 10000 (shaped 4096 4096) 0).trace ≡ 3) × (least_bad_or_cut script_item_outlives_its_cell_check 10000 (shaped 4096 4096) ≡ Some 3) × (run_at script_item_outlives_its_cell_check 10000 (shaped 4096 4096) 3 ≡ record { outcome = Panicked (P.User 42); trace = (line 1 144 0 Granted) ∷ (line 2 64 144 Granted) ∷ (line 3 112 144 Simulated) ∷ []; lines = (68 ∷ 101 ∷ 97 ∷ 114 ∷ 32 ∷ 65 ∷ 100 ∷ 97 ∷ []) ∷ []; notes = []; steps = 8 })
+item_outlives_its_cell_check : (required script_item_outlives_its_cell_check 10000 (shaped 4096 4096) ≡ 256) × (rises script_item_outlives_its_cell_check 10000 (shaped 4096 4096) ≡ (rise 1 144) ∷ (rise 2 208) ∷ (rise 3 256) ∷ []) × (length (runs_of Single script_item_outlives_its_cell_check 10000 (shaped 4096 4096) 0).trace ≡ 3) × (least_bad_or_cut Single script_item_outlives_its_cell_check 10000 (shaped 4096 4096) ≡ Some 3) × (runs_of Single script_item_outlives_its_cell_check 10000 (shaped 4096 4096) 3 ≡ record { outcome = Panicked (P.User 42); trace = (line 1 144 0 Granted) ∷ (line 2 64 144 Granted) ∷ (line 3 112 144 Simulated) ∷ []; lines = (68 ∷ 101 ∷ 97 ∷ 114 ∷ 32 ∷ 65 ∷ 100 ∷ 97 ∷ []) ∷ []; notes = []; steps = 8 })
 unfolding everything
 item_outlives_its_cell_check = (refl, refl, refl, refl, refl)
 
@@ -1411,7 +1468,7 @@ leak_under_failure_in_a_large_heap_run = refl
 abbrev script_leak_under_failure_check : Script
 script_leak_under_failure_check = record { classes = []; procedures = (record { line = 4; parameters = []; body = record { locals = (OfPointer None) ∷ []; statements = (on 6 (Statement-F.Alloc (Held (H.Local 0)) (Constant (pos 16)) GivesNull)) ∷ (on 7 (Statement-F.Realloc (Held (H.Local 0)) (Held (H.Local 0)) (Constant (pos 32)) GivesNull)) ∷ (on 9 (Statement-F.Free (Held (H.Local 0)))) ∷ [] } }) ∷ []; operations = []; literals = []; main = 0 }
 
-leak_under_failure_check : (required script_leak_under_failure_check 10000 (shaped 4096 4096) ≡ 192) × (rises script_leak_under_failure_check 10000 (shaped 4096 4096) ≡ (rise 1 144) ∷ (rise 2 176) ∷ (rise 3 192) ∷ []) × (length (run_at script_leak_under_failure_check 10000 (shaped 4096 4096) 0).trace ≡ 3) × (least_bad_or_cut script_leak_under_failure_check 10000 (shaped 4096 4096) ≡ Some 3) × (run_at script_leak_under_failure_check 10000 (shaped 4096 4096) 3 ≡ record { outcome = Ended None ((record { number = 2; length = 32; place = 144 }) ∷ []); trace = (line 1 144 0 Granted) ∷ (line 2 32 144 Granted) ∷ (line 3 48 144 Simulated) ∷ []; lines = []; notes = []; steps = 3 })
+leak_under_failure_check : (required script_leak_under_failure_check 10000 (shaped 4096 4096) ≡ 192) × (rises script_leak_under_failure_check 10000 (shaped 4096 4096) ≡ (rise 1 144) ∷ (rise 2 176) ∷ (rise 3 192) ∷ []) × (length (runs_of Single script_leak_under_failure_check 10000 (shaped 4096 4096) 0).trace ≡ 3) × (least_bad_or_cut Single script_leak_under_failure_check 10000 (shaped 4096 4096) ≡ Some 3) × (runs_of Single script_leak_under_failure_check 10000 (shaped 4096 4096) 3 ≡ record { outcome = Ended None ((record { number = 2; length = 32; place = 144 }) ∷ []); trace = (line 1 144 0 Granted) ∷ (line 2 32 144 Granted) ∷ (line 3 48 144 Simulated) ∷ []; lines = []; notes = []; steps = 3 })
 unfolding everything
 leak_under_failure_check = (refl, refl, refl, refl, refl)
 
@@ -1425,14 +1482,14 @@ leak_under_failure_run = refl
 abbrev script_member_not_cleared_mended_check : Script
 script_member_not_cleared_mended_check = record { classes = (record { line = 2; extra = 4; fields = None ∷ []; construct = Some (record { locals = []; statements = (on 5 (Statement-F.NewText (Field H.This 0 0) (Constant (pos 8)) Leaves)) ∷ [] }); destroy = Some (record { locals = []; statements = (on 8 (Statement-F.Free (Field H.This 0 0))) ∷ [] }) }) ∷ []; procedures = (record { line = 12; parameters = (Par.OfPointer (Some 0)) ∷ []; body = record { locals = []; statements = (on 13 (Statement-F.Free (Field (H.Local 0) 0 0))) ∷ (on 14 (Statement-F.SetNull (Field (H.Local 0) 0 0))) ∷ (on 15 (Statement-F.NewText (Field (H.Local 0) 0 0) (Constant (pos 20)) Leaves)) ∷ [] } }) ∷ (record { line = 18; parameters = []; body = record { locals = (OfPointer (Some 0)) ∷ []; statements = (on 20 (Statement-F.New (Held (H.Local 0)) 0 Leaves)) ∷ (on 21 (Statement-F.PushObject (Held (H.Local 0)))) ∷ (on 22 (Statement-F.Construct (Held (H.Local 0)))) ∷ (on 23 (Statement-F.Call 0 ((Passed (Held (H.Local 0))) ∷ []))) ∷ (on 24 (Statement-F.PopDestroy (Constant (pos 1)))) ∷ [] } }) ∷ []; operations = []; literals = []; main = 1 }
 
-member_not_cleared_mended_check : (required script_member_not_cleared_mended_check 10000 (shaped 4096 4096) ≡ 256) × (rises script_member_not_cleared_mended_check 10000 (shaped 4096 4096) ≡ (rise 1 144) ∷ (rise 2 192) ∷ (rise 3 240) ∷ (rise 4 256) ∷ []) × (length (run_at script_member_not_cleared_mended_check 10000 (shaped 4096 4096) 0).trace ≡ 4) × (least_bad_or_cut script_member_not_cleared_mended_check 10000 (shaped 4096 4096) ≡ None)
+member_not_cleared_mended_check : (required script_member_not_cleared_mended_check 10000 (shaped 4096 4096) ≡ 256) × (rises script_member_not_cleared_mended_check 10000 (shaped 4096 4096) ≡ (rise 1 144) ∷ (rise 2 192) ∷ (rise 3 240) ∷ (rise 4 256) ∷ []) × (length (runs_of Single script_member_not_cleared_mended_check 10000 (shaped 4096 4096) 0).trace ≡ 4) × (least_bad_or_cut Single script_member_not_cleared_mended_check 10000 (shaped 4096 4096) ≡ None)
 unfolding everything
 member_not_cleared_mended_check = (refl, refl, refl, refl)
 
 abbrev script_member_not_cleared_check : Script
 script_member_not_cleared_check = record { classes = (record { line = 2; extra = 4; fields = None ∷ []; construct = Some (record { locals = []; statements = (on 5 (Statement-F.NewText (Field H.This 0 0) (Constant (pos 8)) Leaves)) ∷ [] }); destroy = Some (record { locals = []; statements = (on 8 (Statement-F.Free (Field H.This 0 0))) ∷ [] }) }) ∷ []; procedures = (record { line = 12; parameters = (Par.OfPointer (Some 0)) ∷ []; body = record { locals = []; statements = (on 13 (Statement-F.Free (Field (H.Local 0) 0 0))) ∷ (on 15 (Statement-F.NewText (Field (H.Local 0) 0 0) (Constant (pos 20)) Leaves)) ∷ [] } }) ∷ (record { line = 18; parameters = []; body = record { locals = (OfPointer (Some 0)) ∷ []; statements = (on 20 (Statement-F.New (Held (H.Local 0)) 0 Leaves)) ∷ (on 21 (Statement-F.PushObject (Held (H.Local 0)))) ∷ (on 22 (Statement-F.Construct (Held (H.Local 0)))) ∷ (on 23 (Statement-F.Call 0 ((Passed (Held (H.Local 0))) ∷ []))) ∷ (on 24 (Statement-F.PopDestroy (Constant (pos 1)))) ∷ [] } }) ∷ []; operations = []; literals = []; main = 1 }
 
-member_not_cleared_check : (required script_member_not_cleared_check 10000 (shaped 4096 4096) ≡ 256) × (rises script_member_not_cleared_check 10000 (shaped 4096 4096) ≡ (rise 1 144) ∷ (rise 2 192) ∷ (rise 3 240) ∷ (rise 4 256) ∷ []) × (length (run_at script_member_not_cleared_check 10000 (shaped 4096 4096) 0).trace ≡ 4) × (least_bad_or_cut script_member_not_cleared_check 10000 (shaped 4096 4096) ≡ Some 4) × (run_at script_member_not_cleared_check 10000 (shaped 4096 4096) 4 ≡ record { outcome = Panicked (P.User 42); trace = (line 1 144 0 Granted) ∷ (line 2 48 144 Granted) ∷ (line 3 48 192 Granted) ∷ (line 4 64 192 Simulated) ∷ []; lines = []; notes = []; steps = 10 })
+member_not_cleared_check : (required script_member_not_cleared_check 10000 (shaped 4096 4096) ≡ 256) × (rises script_member_not_cleared_check 10000 (shaped 4096 4096) ≡ (rise 1 144) ∷ (rise 2 192) ∷ (rise 3 240) ∷ (rise 4 256) ∷ []) × (length (runs_of Single script_member_not_cleared_check 10000 (shaped 4096 4096) 0).trace ≡ 4) × (least_bad_or_cut Single script_member_not_cleared_check 10000 (shaped 4096 4096) ≡ Some 4) × (runs_of Single script_member_not_cleared_check 10000 (shaped 4096 4096) 4 ≡ record { outcome = Panicked (P.User 42); trace = (line 1 144 0 Granted) ∷ (line 2 48 144 Granted) ∷ (line 3 48 192 Granted) ∷ (line 4 64 192 Simulated) ∷ []; lines = []; notes = []; steps = 10 })
 unfolding everything
 member_not_cleared_check = (refl, refl, refl, refl, refl)
 
@@ -1446,7 +1503,7 @@ newlc_refused_run = refl
 abbrev script_newlc_check : Script
 script_newlc_check = record { classes = []; procedures = (record { line = 3; parameters = Par.OfNumber ∷ []; body = record { locals = (OfPointer None) ∷ (OfPointer None) ∷ []; statements = (on 6 (Statement-F.Alloc (Held (H.Local 1)) (Constant (pos 40)) Leaves)) ∷ (on 8 (Statement-F.Push (Held (H.Local 1)))) ∷ (on 10 (Statement-F.Alloc (Held (H.Local 2)) (Constant (pos 200)) Leaves)) ∷ (on 11 (Statement-F.Push (Held (H.Local 2)))) ∷ (on 12 (Statement-F.Store (Held (H.Local 2)) (Constant (pos 0)) (Variable 0))) ∷ (on 13 (Statement-F.Store (Held (H.Local 1)) (Constant (pos 0)) (Variable 0))) ∷ (on 14 (Statement-F.PopDestroy (Constant (pos 1)))) ∷ (on 16 (Statement-F.ReturnPointer (Held (H.Local 1)))) ∷ [] } }) ∷ (record { line = 19; parameters = []; body = record { locals = (OfPointer None) ∷ (OfPointer None) ∷ []; statements = (on 22 (Statement-F.CallTo 0 0 ((Given (Constant (pos 3))) ∷ []))) ∷ (on 24 (Statement-F.CallTo 1 0 ((Given (Constant (pos 4))) ∷ []))) ∷ (on 25 (Statement-F.Store (Held (H.Local 0)) (Constant (pos 1)) (Constant (pos 7)))) ∷ (on 26 (Statement-F.Store (Held (H.Local 1)) (Constant (pos 1)) (Constant (pos 7)))) ∷ (on 27 (Statement-F.PopDestroy (Constant (pos 2)))) ∷ [] } }) ∷ []; operations = []; literals = []; main = 1 }
 
-newlc_check : (required script_newlc_check 10000 (shaped 4096 4096) ≡ 496) × (rises script_newlc_check 10000 (shaped 4096 4096) ≡ (rise 1 144) ∷ (rise 2 208) ∷ (rise 3 432) ∷ (rise 5 496) ∷ []) × (length (run_at script_newlc_check 10000 (shaped 4096 4096) 0).trace ≡ 5) × (least_bad_or_cut script_newlc_check 10000 (shaped 4096 4096) ≡ None)
+newlc_check : (required script_newlc_check 10000 (shaped 4096 4096) ≡ 496) × (rises script_newlc_check 10000 (shaped 4096 4096) ≡ (rise 1 144) ∷ (rise 2 208) ∷ (rise 3 432) ∷ (rise 5 496) ∷ []) × (length (runs_of Single script_newlc_check 10000 (shaped 4096 4096) 0).trace ≡ 5) × (least_bad_or_cut Single script_newlc_check 10000 (shaped 4096 4096) ≡ None)
 unfolding everything
 newlc_check = (refl, refl, refl, refl)
 
@@ -1467,14 +1524,14 @@ notes_run = refl
 abbrev script_push_too_late_check : Script
 script_push_too_late_check = record { classes = []; procedures = (record { line = 3; parameters = Par.OfNumber ∷ []; body = record { locals = (OfPointer None) ∷ (OfPointer None) ∷ []; statements = (on 6 (Statement-F.Alloc (Held (H.Local 1)) (Constant (pos 40)) Leaves)) ∷ (on 8 (Statement-F.Alloc (Held (H.Local 2)) (Constant (pos 200)) Leaves)) ∷ (on 9 (Statement-F.Push (Held (H.Local 1)))) ∷ (on 10 (Statement-F.Push (Held (H.Local 2)))) ∷ (on 11 (Statement-F.Store (Held (H.Local 2)) (Constant (pos 0)) (Variable 0))) ∷ (on 12 (Statement-F.Store (Held (H.Local 1)) (Constant (pos 0)) (Variable 0))) ∷ (on 13 (Statement-F.PopDestroy (Constant (pos 1)))) ∷ (on 14 (Statement-F.ReturnPointer (Held (H.Local 1)))) ∷ [] } }) ∷ (record { line = 17; parameters = []; body = record { locals = (OfPointer None) ∷ (OfPointer None) ∷ []; statements = (on 20 (Statement-F.CallTo 0 0 ((Given (Constant (pos 3))) ∷ []))) ∷ (on 21 (Statement-F.CallTo 1 0 ((Given (Constant (pos 4))) ∷ []))) ∷ (on 22 (Statement-F.Store (Held (H.Local 0)) (Constant (pos 1)) (Constant (pos 7)))) ∷ (on 23 (Statement-F.Store (Held (H.Local 1)) (Constant (pos 1)) (Constant (pos 7)))) ∷ (on 24 (Statement-F.PopDestroy (Constant (pos 2)))) ∷ [] } }) ∷ []; operations = []; literals = []; main = 1 }
 
-push_too_late_check : (required script_push_too_late_check 10000 (shaped 4096 4096) ≡ 496) × (rises script_push_too_late_check 10000 (shaped 4096 4096) ≡ (rise 1 144) ∷ (rise 2 208) ∷ (rise 3 432) ∷ (rise 5 496) ∷ []) × (length (run_at script_push_too_late_check 10000 (shaped 4096 4096) 0).trace ≡ 5) × (least_bad_or_cut script_push_too_late_check 10000 (shaped 4096 4096) ≡ Some 3) × (run_at script_push_too_late_check 10000 (shaped 4096 4096) 3 ≡ record { outcome = Ended (Some (negsuc 3)) ((record { number = 2; length = 64; place = 144 }) ∷ []); trace = (line 1 144 0 Granted) ∷ (line 2 64 144 Granted) ∷ (line 3 224 208 Simulated) ∷ []; lines = []; notes = []; steps = 3 })
+push_too_late_check : (required script_push_too_late_check 10000 (shaped 4096 4096) ≡ 496) × (rises script_push_too_late_check 10000 (shaped 4096 4096) ≡ (rise 1 144) ∷ (rise 2 208) ∷ (rise 3 432) ∷ (rise 5 496) ∷ []) × (length (runs_of Single script_push_too_late_check 10000 (shaped 4096 4096) 0).trace ≡ 5) × (least_bad_or_cut Single script_push_too_late_check 10000 (shaped 4096 4096) ≡ Some 3) × (runs_of Single script_push_too_late_check 10000 (shaped 4096 4096) 3 ≡ record { outcome = Ended (Some (negsuc 3)) ((record { number = 2; length = 64; place = 144 }) ∷ []); trace = (line 1 144 0 Granted) ∷ (line 2 64 144 Granted) ∷ (line 3 224 208 Simulated) ∷ []; lines = []; notes = []; steps = 3 })
 unfolding everything
 push_too_late_check = (refl, refl, refl, refl, refl)
 
 abbrev script_regrown_member_check : Script
 script_regrown_member_check = record { classes = (record { line = 3; extra = 4; fields = None ∷ []; construct = Some (record { locals = []; statements = (on 6 (Statement-F.NewText (Field H.This 0 0) (Constant (pos 4)) Leaves)) ∷ (on 7 (Statement-F.Copy (InCell (Field H.This 0 0)) (Quoted 0))) ∷ [] }); destroy = Some (record { locals = []; statements = (on 10 (Statement-F.Free (Field H.This 0 0))) ∷ [] }) }) ∷ []; procedures = (record { line = 14; parameters = (Par.OfPointer None) ∷ Par.OfNumber ∷ []; body = record { locals = (OfPointer None) ∷ []; statements = (on 16 (Statement-F.ReallocText (Held (H.Local 2)) (Held (H.Local 0)) (Variable 1))) ∷ (on 17 (Statement-F.LeaveIfNull (Held (H.Local 2)))) ∷ (on 18 (Statement-F.ReturnPointer (Held (H.Local 2)))) ∷ [] } }) ∷ (record { line = 21; parameters = (Par.OfPointer (Some 0)) ∷ []; body = record { locals = (OfPointer None) ∷ []; statements = (on 23 (Statement-F.CallTo 1 0 ((Passed (Field (H.Local 0) 0 0)) ∷ (Given (Constant (pos 40))) ∷ []))) ∷ (on 24 (Statement-F.Set (Field (H.Local 0) 0 0) (Held (H.Local 1)))) ∷ (on 25 (Statement-F.Append (InCell (Field (H.Local 0) 0 0)) (Quoted 1))) ∷ [] } }) ∷ (record { line = 28; parameters = []; body = record { locals = (OfPointer (Some 0)) ∷ []; statements = (on 30 (Statement-F.New (Held (H.Local 0)) 0 Leaves)) ∷ (on 31 (Statement-F.PushObject (Held (H.Local 0)))) ∷ (on 32 (Statement-F.Construct (Held (H.Local 0)))) ∷ (on 33 (Statement-F.Call 1 ((Passed (Held (H.Local 0))) ∷ []))) ∷ (on 34 (Statement-F.PrintText (Of (InCell (Field (H.Local 0) 0 0))))) ∷ (on 35 (Statement-F.PopDestroy (Constant (pos 1)))) ∷ [] } }) ∷ []; operations = []; literals = (109 ∷ 105 ∷ 108 ∷ 107 ∷ []) ∷ (32 ∷ 97 ∷ 110 ∷ 100 ∷ 32 ∷ 98 ∷ 114 ∷ 101 ∷ 97 ∷ 100 ∷ []) ∷ []; main = 2 }
 
-regrown_member_check : (required script_regrown_member_check 10000 (shaped 4096 4096) ≡ 304) × (rises script_regrown_member_check 10000 (shaped 4096 4096) ≡ (rise 1 144) ∷ (rise 2 192) ∷ (rise 3 224) ∷ (rise 4 304) ∷ []) × (length (run_at script_regrown_member_check 10000 (shaped 4096 4096) 0).trace ≡ 4) × (least_bad_or_cut script_regrown_member_check 10000 (shaped 4096 4096) ≡ None)
+regrown_member_check : (required script_regrown_member_check 10000 (shaped 4096 4096) ≡ 304) × (rises script_regrown_member_check 10000 (shaped 4096 4096) ≡ (rise 1 144) ∷ (rise 2 192) ∷ (rise 3 224) ∷ (rise 4 304) ∷ []) × (length (runs_of Single script_regrown_member_check 10000 (shaped 4096 4096) 0).trace ≡ 4) × (least_bad_or_cut Single script_regrown_member_check 10000 (shaped 4096 4096) ≡ None)
 unfolding everything
 regrown_member_check = (refl, refl, refl, refl)
 
@@ -1495,51 +1552,72 @@ retry_in_a_short_heap_run = refl
 abbrev script_retry_leaks_mended_check : Script
 script_retry_leaks_mended_check = record { classes = []; procedures = (record { line = 2; parameters = []; body = record { locals = (OfPointer None) ∷ (OfPointer None) ∷ []; statements = (on 5 (Statement-F.Repeat (Constant (pos 3)) ((on 6 (Statement-F.If (IsNull (Held (H.Local 1))) ((on 7 (Statement-F.Alloc (Held (H.Local 0)) (Constant (pos 16)) GivesNull)) ∷ (on 8 (Statement-F.If (NotNull (Held (H.Local 0))) ((on 9 (Statement-F.Alloc (Held (H.Local 1)) (Constant (pos 200)) GivesNull)) ∷ (on 10 (Statement-F.If (IsNull (Held (H.Local 1))) ((on 11 (Statement-F.Free (Held (H.Local 0)))) ∷ (on 12 (Statement-F.SetNull (Held (H.Local 0)))) ∷ []))) ∷ []))) ∷ []))) ∷ []))) ∷ (on 17 (Statement-F.Free (Held (H.Local 1)))) ∷ (on 18 (Statement-F.Free (Held (H.Local 0)))) ∷ [] } }) ∷ []; operations = []; literals = []; main = 0 }
 
-retry_leaks_mended_check : (required script_retry_leaks_mended_check 10000 (shaped 4096 4096) ≡ 400) × (rises script_retry_leaks_mended_check 10000 (shaped 4096 4096) ≡ (rise 1 144) ∷ (rise 2 176) ∷ (rise 3 400) ∷ []) × (length (run_at script_retry_leaks_mended_check 10000 (shaped 4096 4096) 0).trace ≡ 3) × (least_bad_or_cut script_retry_leaks_mended_check 10000 (shaped 4096 4096) ≡ None)
+retry_leaks_mended_check : (required script_retry_leaks_mended_check 10000 (shaped 4096 4096) ≡ 400) × (rises script_retry_leaks_mended_check 10000 (shaped 4096 4096) ≡ (rise 1 144) ∷ (rise 2 176) ∷ (rise 3 400) ∷ []) × (length (runs_of Single script_retry_leaks_mended_check 10000 (shaped 4096 4096) 0).trace ≡ 3) × (least_bad_or_cut Single script_retry_leaks_mended_check 10000 (shaped 4096 4096) ≡ None)
 unfolding everything
 retry_leaks_mended_check = (refl, refl, refl, refl)
 
 abbrev script_retry_leaks_check : Script
 script_retry_leaks_check = record { classes = []; procedures = (record { line = 2; parameters = []; body = record { locals = (OfPointer None) ∷ (OfPointer None) ∷ []; statements = (on 5 (Statement-F.Repeat (Constant (pos 3)) ((on 6 (Statement-F.If (IsNull (Held (H.Local 1))) ((on 7 (Statement-F.Alloc (Held (H.Local 0)) (Constant (pos 16)) GivesNull)) ∷ (on 8 (Statement-F.If (NotNull (Held (H.Local 0))) ((on 9 (Statement-F.Alloc (Held (H.Local 1)) (Constant (pos 200)) GivesNull)) ∷ []))) ∷ []))) ∷ []))) ∷ (on 13 (Statement-F.Free (Held (H.Local 1)))) ∷ (on 14 (Statement-F.Free (Held (H.Local 0)))) ∷ [] } }) ∷ []; operations = []; literals = []; main = 0 }
 
-retry_leaks_check : (required script_retry_leaks_check 10000 (shaped 4096 4096) ≡ 400) × (rises script_retry_leaks_check 10000 (shaped 4096 4096) ≡ (rise 1 144) ∷ (rise 2 176) ∷ (rise 3 400) ∷ []) × (length (run_at script_retry_leaks_check 10000 (shaped 4096 4096) 0).trace ≡ 3) × (least_bad_or_cut script_retry_leaks_check 10000 (shaped 4096 4096) ≡ Some 3) × (run_at script_retry_leaks_check 10000 (shaped 4096 4096) 3 ≡ record { outcome = Ended None ((record { number = 2; length = 32; place = 144 }) ∷ []); trace = (line 1 144 0 Granted) ∷ (line 2 32 144 Granted) ∷ (line 3 224 176 Simulated) ∷ (line 4 32 176 Granted) ∷ (line 5 224 208 Granted) ∷ []; lines = []; notes = []; steps = 15 })
+retry_leaks_check : (required script_retry_leaks_check 10000 (shaped 4096 4096) ≡ 400) × (rises script_retry_leaks_check 10000 (shaped 4096 4096) ≡ (rise 1 144) ∷ (rise 2 176) ∷ (rise 3 400) ∷ []) × (length (runs_of Single script_retry_leaks_check 10000 (shaped 4096 4096) 0).trace ≡ 3) × (least_bad_or_cut Single script_retry_leaks_check 10000 (shaped 4096 4096) ≡ Some 3) × (runs_of Single script_retry_leaks_check 10000 (shaped 4096 4096) 3 ≡ record { outcome = Ended None ((record { number = 2; length = 32; place = 144 }) ∷ []); trace = (line 1 144 0 Granted) ∷ (line 2 32 144 Granted) ∷ (line 3 224 176 Simulated) ∷ (line 4 32 176 Granted) ∷ (line 5 224 208 Granted) ∷ []; lines = []; notes = []; steps = 15 })
 unfolding everything
 retry_leaks_check = (refl, refl, refl, refl, refl)
 
 abbrev script_retry_check : Script
 script_retry_check = record { classes = []; procedures = (record { line = 3; parameters = []; body = record { locals = (OfPointer None) ∷ (OfPointer None) ∷ OfNumber ∷ []; statements = (on 7 (Statement-F.Alloc (Held (H.Local 0)) (Constant (pos 100)) GivesNull)) ∷ (on 8 (Statement-F.Repeat (Constant (pos 3)) ((on 9 (Statement-F.If (IsNull (Held (H.Local 1))) ((on 10 (Statement-F.Add 2 (Constant (pos 1)))) ∷ (on 11 (Statement-F.Alloc (Held (H.Local 1)) (Constant (pos 300)) GivesNull)) ∷ (on 12 (Statement-F.If (IsNull (Held (H.Local 1))) ((on 14 (Statement-F.Free (Held (H.Local 0)))) ∷ (on 15 (Statement-F.SetNull (Held (H.Local 0)))) ∷ []))) ∷ []))) ∷ []))) ∷ (on 19 (Statement-F.PrintNumber (Variable 2))) ∷ (on 20 (Statement-F.Free (Held (H.Local 1)))) ∷ (on 21 (Statement-F.Free (Held (H.Local 0)))) ∷ [] } }) ∷ []; operations = []; literals = []; main = 0 }
 
-retry_check : (required script_retry_check 10000 (shaped 4096 4096) ≡ 592) × (rises script_retry_check 10000 (shaped 4096 4096) ≡ (rise 1 144) ∷ (rise 2 272) ∷ (rise 3 592) ∷ []) × (length (run_at script_retry_check 10000 (shaped 4096 4096) 0).trace ≡ 3) × (least_bad_or_cut script_retry_check 10000 (shaped 4096 4096) ≡ None)
+retry_check : (required script_retry_check 10000 (shaped 4096 4096) ≡ 592) × (rises script_retry_check 10000 (shaped 4096 4096) ≡ (rise 1 144) ∷ (rise 2 272) ∷ (rise 3 592) ∷ []) × (length (runs_of Single script_retry_check 10000 (shaped 4096 4096) 0).trace ≡ 3) × (least_bad_or_cut Single script_retry_check 10000 (shaped 4096 4096) ≡ None)
 unfolding everything
 retry_check = (refl, refl, refl, refl)
 
 abbrev script_second_phase_leaks_mended_check : Script
 script_second_phase_leaks_mended_check = record { classes = (record { line = 2; extra = 4; fields = None ∷ []; construct = Some (record { locals = []; statements = (on 5 (Statement-F.NewText (Field H.This 0 0) (Constant (pos 16)) Leaves)) ∷ (on 6 (Statement-F.Copy (InCell (Field H.This 0 0)) (Quoted 0))) ∷ [] }); destroy = Some (record { locals = []; statements = (on 9 (Statement-F.Free (Field H.This 0 0))) ∷ [] }) }) ∷ []; procedures = (record { line = 13; parameters = []; body = record { locals = (OfPointer (Some 0)) ∷ []; statements = (on 15 (Statement-F.New (Held (H.Local 0)) 0 Leaves)) ∷ (on 16 (Statement-F.PushObject (Held (H.Local 0)))) ∷ (on 17 (Statement-F.Construct (Held (H.Local 0)))) ∷ (on 18 (Statement-F.ReturnPointer (Held (H.Local 0)))) ∷ [] } }) ∷ (record { line = 21; parameters = []; body = record { locals = (OfPointer (Some 0)) ∷ []; statements = (on 23 (Statement-F.CallTo 0 0 [])) ∷ (on 24 (Statement-F.PrintText (Of (InCell (Field (H.Local 0) 0 0))))) ∷ (on 25 (Statement-F.PopDestroy (Constant (pos 1)))) ∷ [] } }) ∷ []; operations = []; literals = (109 ∷ 105 ∷ 108 ∷ 107 ∷ []) ∷ []; main = 1 }
 
-second_phase_leaks_mended_check : (required script_second_phase_leaks_mended_check 10000 (shaped 4096 4096) ≡ 256) × (rises script_second_phase_leaks_mended_check 10000 (shaped 4096 4096) ≡ (rise 1 144) ∷ (rise 2 192) ∷ (rise 3 256) ∷ []) × (length (run_at script_second_phase_leaks_mended_check 10000 (shaped 4096 4096) 0).trace ≡ 3) × (least_bad_or_cut script_second_phase_leaks_mended_check 10000 (shaped 4096 4096) ≡ None)
+second_phase_leaks_mended_check : (required script_second_phase_leaks_mended_check 10000 (shaped 4096 4096) ≡ 256) × (rises script_second_phase_leaks_mended_check 10000 (shaped 4096 4096) ≡ (rise 1 144) ∷ (rise 2 192) ∷ (rise 3 256) ∷ []) × (length (runs_of Single script_second_phase_leaks_mended_check 10000 (shaped 4096 4096) 0).trace ≡ 3) × (least_bad_or_cut Single script_second_phase_leaks_mended_check 10000 (shaped 4096 4096) ≡ None)
 unfolding everything
 second_phase_leaks_mended_check = (refl, refl, refl, refl)
 
 abbrev script_second_phase_leaks_check : Script
 script_second_phase_leaks_check = record { classes = (record { line = 3; extra = 4; fields = None ∷ []; construct = Some (record { locals = []; statements = (on 6 (Statement-F.NewText (Field H.This 0 0) (Constant (pos 16)) Leaves)) ∷ (on 7 (Statement-F.Copy (InCell (Field H.This 0 0)) (Quoted 0))) ∷ [] }); destroy = Some (record { locals = []; statements = (on 10 (Statement-F.Free (Field H.This 0 0))) ∷ [] }) }) ∷ []; procedures = (record { line = 14; parameters = []; body = record { locals = (OfPointer (Some 0)) ∷ []; statements = (on 16 (Statement-F.New (Held (H.Local 0)) 0 Leaves)) ∷ (on 18 (Statement-F.Construct (Held (H.Local 0)))) ∷ (on 19 (Statement-F.PrintText (Of (InCell (Field (H.Local 0) 0 0))))) ∷ (on 20 (Statement-F.Delete (Held (H.Local 0)))) ∷ [] } }) ∷ []; operations = []; literals = (109 ∷ 105 ∷ 108 ∷ 107 ∷ []) ∷ []; main = 0 }
 
-second_phase_leaks_check : (required script_second_phase_leaks_check 10000 (shaped 4096 4096) ≡ 256) × (rises script_second_phase_leaks_check 10000 (shaped 4096 4096) ≡ (rise 1 144) ∷ (rise 2 192) ∷ (rise 3 256) ∷ []) × (length (run_at script_second_phase_leaks_check 10000 (shaped 4096 4096) 0).trace ≡ 3) × (least_bad_or_cut script_second_phase_leaks_check 10000 (shaped 4096 4096) ≡ Some 3) × (run_at script_second_phase_leaks_check 10000 (shaped 4096 4096) 3 ≡ record { outcome = Ended (Some (negsuc 3)) ((record { number = 2; length = 48; place = 144 }) ∷ []); trace = (line 1 144 0 Granted) ∷ (line 2 48 144 Granted) ∷ (line 3 64 192 Simulated) ∷ []; lines = []; notes = []; steps = 3 })
+second_phase_leaks_check : (required script_second_phase_leaks_check 10000 (shaped 4096 4096) ≡ 256) × (rises script_second_phase_leaks_check 10000 (shaped 4096 4096) ≡ (rise 1 144) ∷ (rise 2 192) ∷ (rise 3 256) ∷ []) × (length (runs_of Single script_second_phase_leaks_check 10000 (shaped 4096 4096) 0).trace ≡ 3) × (least_bad_or_cut Single script_second_phase_leaks_check 10000 (shaped 4096 4096) ≡ Some 3) × (runs_of Single script_second_phase_leaks_check 10000 (shaped 4096 4096) 3 ≡ record { outcome = Ended (Some (negsuc 3)) ((record { number = 2; length = 48; place = 144 }) ∷ []); trace = (line 1 144 0 Granted) ∷ (line 2 48 144 Granted) ∷ (line 3 64 192 Simulated) ∷ []; lines = []; notes = []; steps = 3 })
 unfolding everything
 second_phase_leaks_check = (refl, refl, refl, refl, refl)
 
 abbrev script_swallowed_leave_mended_check : Script
 script_swallowed_leave_mended_check = record { classes = []; procedures = (record { line = 2; parameters = []; body = record { locals = (OfPointer None) ∷ OfNumber ∷ []; statements = (on 5 (Statement-F.Trap 1 ((on 6 (Statement-F.NewText (Held (H.Local 0)) (Constant (pos 8)) Leaves)) ∷ []))) ∷ (on 8 (Statement-F.IfElse (Equal (Variable 1) (Constant (pos 0))) ((on 9 (Statement-F.Append (InCell (Held (H.Local 0))) (Quoted 0))) ∷ (on 10 (Statement-F.PrintText (Of (InCell (Held (H.Local 0)))))) ∷ (on 11 (Statement-F.Free (Held (H.Local 0)))) ∷ []) ((on 13 (Statement-F.PrintText (Quoted 1))) ∷ []))) ∷ [] } }) ∷ []; operations = []; literals = (103 ∷ 117 ∷ 101 ∷ 115 ∷ 116 ∷ []) ∷ (110 ∷ 111 ∷ 32 ∷ 114 ∷ 111 ∷ 111 ∷ 109 ∷ 32 ∷ 102 ∷ 111 ∷ 114 ∷ 32 ∷ 97 ∷ 32 ∷ 110 ∷ 97 ∷ 109 ∷ 101 ∷ []) ∷ []; main = 0 }
 
-swallowed_leave_mended_check : (required script_swallowed_leave_mended_check 10000 (shaped 4096 4096) ≡ 192) × (rises script_swallowed_leave_mended_check 10000 (shaped 4096 4096) ≡ (rise 1 144) ∷ (rise 2 192) ∷ []) × (length (run_at script_swallowed_leave_mended_check 10000 (shaped 4096 4096) 0).trace ≡ 2) × (least_bad_or_cut script_swallowed_leave_mended_check 10000 (shaped 4096 4096) ≡ None)
+swallowed_leave_mended_check : (required script_swallowed_leave_mended_check 10000 (shaped 4096 4096) ≡ 192) × (rises script_swallowed_leave_mended_check 10000 (shaped 4096 4096) ≡ (rise 1 144) ∷ (rise 2 192) ∷ []) × (length (runs_of Single script_swallowed_leave_mended_check 10000 (shaped 4096 4096) 0).trace ≡ 2) × (least_bad_or_cut Single script_swallowed_leave_mended_check 10000 (shaped 4096 4096) ≡ None)
 unfolding everything
 swallowed_leave_mended_check = (refl, refl, refl, refl)
 
 abbrev script_swallowed_leave_check : Script
 script_swallowed_leave_check = record { classes = []; procedures = (record { line = 2; parameters = []; body = record { locals = (OfPointer None) ∷ OfNumber ∷ []; statements = (on 5 (Statement-F.Trap 1 ((on 6 (Statement-F.NewText (Held (H.Local 0)) (Constant (pos 8)) Leaves)) ∷ []))) ∷ (on 9 (Statement-F.Append (InCell (Held (H.Local 0))) (Quoted 0))) ∷ (on 10 (Statement-F.PrintText (Of (InCell (Held (H.Local 0)))))) ∷ (on 11 (Statement-F.Free (Held (H.Local 0)))) ∷ [] } }) ∷ []; operations = []; literals = (103 ∷ 117 ∷ 101 ∷ 115 ∷ 116 ∷ []) ∷ []; main = 0 }
 
-swallowed_leave_check : (required script_swallowed_leave_check 10000 (shaped 4096 4096) ≡ 192) × (rises script_swallowed_leave_check 10000 (shaped 4096 4096) ≡ (rise 1 144) ∷ (rise 2 192) ∷ []) × (length (run_at script_swallowed_leave_check 10000 (shaped 4096 4096) 0).trace ≡ 2) × (least_bad_or_cut script_swallowed_leave_check 10000 (shaped 4096 4096) ≡ Some 2) × (run_at script_swallowed_leave_check 10000 (shaped 4096 4096) 2 ≡ record { outcome = Panicked (P.Workbench 1); trace = (line 1 144 0 Granted) ∷ (line 2 48 144 Simulated) ∷ []; lines = []; notes = []; steps = 3 })
+swallowed_leave_check : (required script_swallowed_leave_check 10000 (shaped 4096 4096) ≡ 192) × (rises script_swallowed_leave_check 10000 (shaped 4096 4096) ≡ (rise 1 144) ∷ (rise 2 192) ∷ []) × (length (runs_of Single script_swallowed_leave_check 10000 (shaped 4096 4096) 0).trace ≡ 2) × (least_bad_or_cut Single script_swallowed_leave_check 10000 (shaped 4096 4096) ≡ Some 2) × (runs_of Single script_swallowed_leave_check 10000 (shaped 4096 4096) 2 ≡ record { outcome = Panicked (P.Workbench 1); trace = (line 1 144 0 Granted) ∷ (line 2 48 144 Simulated) ∷ []; lines = []; notes = []; steps = 3 })
 unfolding everything
 swallowed_leave_check = (refl, refl, refl, refl, refl)
+
+abbrev script_test_loop_every_sweep : Script
+script_test_loop_every_sweep = record { classes = []; procedures = (record { line = 3; parameters = []; body = record { locals = (OfPointer None) ∷ (OfPointer None) ∷ []; statements = (on 6 (Statement-F.Alloc (Held (H.Local 0)) (Constant (pos 40)) Leaves)) ∷ (on 7 (Statement-F.Push (Held (H.Local 0)))) ∷ (on 8 (Statement-F.NewText (Held (H.Local 1)) (Constant (pos 8)) Leaves)) ∷ (on 9 (Statement-F.Push (Held (H.Local 1)))) ∷ (on 10 (Statement-F.Copy (InCell (Held (H.Local 1))) (Quoted 0))) ∷ (on 11 (Statement-F.PopDestroy (Constant (pos 2)))) ∷ [] } }) ∷ (record { line = 14; parameters = []; body = record { locals = OfNumber ∷ OfNumber ∷ []; statements = (on 17 (Statement-F.Repeat (Constant (pos 4)) ((on 18 (Statement-F.Add 0 (Constant (pos 1)))) ∷ (on 19 Statement-F.Mark) ∷ (on 21 (Statement-F.FailEvery (Variable 0))) ∷ (on 22 (Statement-F.Trap 1 ((on 23 (Statement-F.Call 0 [])) ∷ []))) ∷ (on 25 Statement-F.FailNone) ∷ (on 27 (Statement-F.MarkEnd (Constant (pos 0)))) ∷ (on 29 (Statement-F.PrintNumber (Variable 1))) ∷ []))) ∷ [] } }) ∷ []; operations = []; literals = (112 ∷ 114 ∷ 105 ∷ 99 ∷ 101 ∷ 115 ∷ []) ∷ []; main = 1 }
+
+test_loop_every_sweep : (length (runs_of Every script_test_loop_every_sweep 10000 (shaped 4096 4096) 0).trace ≡ 8) × (least_bad_or_cut Every script_test_loop_every_sweep 10000 (shaped 4096 4096) ≡ None)
+unfolding everything
+test_loop_every_sweep = (refl, refl)
+
+abbrev script_test_loop_check : Script
+script_test_loop_check = record { classes = []; procedures = (record { line = 3; parameters = []; body = record { locals = (OfPointer None) ∷ (OfPointer None) ∷ []; statements = (on 6 (Statement-F.Alloc (Held (H.Local 0)) (Constant (pos 40)) Leaves)) ∷ (on 7 (Statement-F.Push (Held (H.Local 0)))) ∷ (on 8 (Statement-F.NewText (Held (H.Local 1)) (Constant (pos 8)) Leaves)) ∷ (on 9 (Statement-F.Push (Held (H.Local 1)))) ∷ (on 10 (Statement-F.Copy (InCell (Held (H.Local 1))) (Quoted 0))) ∷ (on 11 (Statement-F.PopDestroy (Constant (pos 2)))) ∷ [] } }) ∷ (record { line = 14; parameters = []; body = record { locals = OfNumber ∷ OfNumber ∷ []; statements = (on 17 (Statement-F.Repeat (Constant (pos 4)) ((on 18 (Statement-F.Add 0 (Constant (pos 1)))) ∷ (on 19 Statement-F.Mark) ∷ (on 21 (Statement-F.FailEvery (Variable 0))) ∷ (on 22 (Statement-F.Trap 1 ((on 23 (Statement-F.Call 0 [])) ∷ []))) ∷ (on 25 Statement-F.FailNone) ∷ (on 27 (Statement-F.MarkEnd (Constant (pos 0)))) ∷ (on 29 (Statement-F.PrintNumber (Variable 1))) ∷ []))) ∷ [] } }) ∷ []; operations = []; literals = (112 ∷ 114 ∷ 105 ∷ 99 ∷ 101 ∷ 115 ∷ []) ∷ []; main = 1 }
+
+test_loop_check : (required script_test_loop_check 10000 (shaped 4096 4096) ≡ 256) × (rises script_test_loop_check 10000 (shaped 4096 4096) ≡ (rise 1 144) ∷ (rise 3 208) ∷ (rise 6 256) ∷ []) × (length (runs_of Single script_test_loop_check 10000 (shaped 4096 4096) 0).trace ≡ 8) × (least_bad_or_cut Single script_test_loop_check 10000 (shaped 4096 4096) ≡ None)
+unfolding everything
+test_loop_check = (refl, refl, refl, refl)
+
+abbrev script_test_loop_run : Script
+script_test_loop_run = record { classes = []; procedures = (record { line = 3; parameters = []; body = record { locals = (OfPointer None) ∷ (OfPointer None) ∷ []; statements = (on 6 (Statement-F.Alloc (Held (H.Local 0)) (Constant (pos 40)) Leaves)) ∷ (on 7 (Statement-F.Push (Held (H.Local 0)))) ∷ (on 8 (Statement-F.NewText (Held (H.Local 1)) (Constant (pos 8)) Leaves)) ∷ (on 9 (Statement-F.Push (Held (H.Local 1)))) ∷ (on 10 (Statement-F.Copy (InCell (Held (H.Local 1))) (Quoted 0))) ∷ (on 11 (Statement-F.PopDestroy (Constant (pos 2)))) ∷ [] } }) ∷ (record { line = 14; parameters = []; body = record { locals = OfNumber ∷ OfNumber ∷ []; statements = (on 17 (Statement-F.Repeat (Constant (pos 4)) ((on 18 (Statement-F.Add 0 (Constant (pos 1)))) ∷ (on 19 Statement-F.Mark) ∷ (on 21 (Statement-F.FailEvery (Variable 0))) ∷ (on 22 (Statement-F.Trap 1 ((on 23 (Statement-F.Call 0 [])) ∷ []))) ∷ (on 25 Statement-F.FailNone) ∷ (on 27 (Statement-F.MarkEnd (Constant (pos 0)))) ∷ (on 29 (Statement-F.PrintNumber (Variable 1))) ∷ []))) ∷ [] } }) ∷ []; operations = []; literals = (112 ∷ 114 ∷ 105 ∷ 99 ∷ 101 ∷ 115 ∷ []) ∷ []; main = 1 }
+
+test_loop_run : run script_test_loop_run R.Unlimited 10000 (shaped 4096 4096) ≡ record { outcome = Ended None []; trace = (line 1 144 0 Granted) ∷ (line 2 64 144 Simulated) ∷ (line 3 64 144 Granted) ∷ (line 4 48 208 Simulated) ∷ (line 5 64 144 Granted) ∷ (line 6 48 208 Granted) ∷ (line 7 64 144 Granted) ∷ (line 8 48 208 Granted) ∷ []; lines = (45 ∷ 52 ∷ []) ∷ (45 ∷ 52 ∷ []) ∷ (48 ∷ []) ∷ (48 ∷ []) ∷ []; notes = []; steps = 58 }
+unfolding everything
+test_loop_run = refl
 
 abbrev script_trap_by_hand_refused_run : Script
 script_trap_by_hand_refused_run = record { classes = []; procedures = (record { line = 2; parameters = []; body = record { locals = (OfPointer None) ∷ (OfPointer None) ∷ OfNumber ∷ []; statements = (on 6 (Statement-F.Trap 2 ((on 7 (Statement-F.Alloc (Held (H.Local 0)) (Constant (pos 20)) Leaves)) ∷ (on 8 (Statement-F.Alloc (Held (H.Local 1)) (Constant (pos 60)) Leaves)) ∷ (on 9 (Statement-F.Store (Held (H.Local 1)) (Constant (pos 14)) (Constant (pos 1)))) ∷ []))) ∷ (on 12 (Statement-F.Free (Held (H.Local 0)))) ∷ (on 13 (Statement-F.Free (Held (H.Local 1)))) ∷ (on 15 (Statement-F.LeaveIfError (Variable 2))) ∷ [] } }) ∷ []; operations = []; literals = []; main = 0 }
@@ -1551,14 +1629,14 @@ trap_by_hand_refused_run = refl
 abbrev script_trap_by_hand_check : Script
 script_trap_by_hand_check = record { classes = []; procedures = (record { line = 2; parameters = []; body = record { locals = (OfPointer None) ∷ (OfPointer None) ∷ OfNumber ∷ []; statements = (on 6 (Statement-F.Trap 2 ((on 7 (Statement-F.Alloc (Held (H.Local 0)) (Constant (pos 20)) Leaves)) ∷ (on 8 (Statement-F.Alloc (Held (H.Local 1)) (Constant (pos 60)) Leaves)) ∷ (on 9 (Statement-F.Store (Held (H.Local 1)) (Constant (pos 14)) (Constant (pos 1)))) ∷ []))) ∷ (on 12 (Statement-F.Free (Held (H.Local 0)))) ∷ (on 13 (Statement-F.Free (Held (H.Local 1)))) ∷ (on 15 (Statement-F.LeaveIfError (Variable 2))) ∷ [] } }) ∷ []; operations = []; literals = []; main = 0 }
 
-trap_by_hand_check : (required script_trap_by_hand_check 10000 (shaped 4096 4096) ≡ 272) × (rises script_trap_by_hand_check 10000 (shaped 4096 4096) ≡ (rise 1 144) ∷ (rise 2 192) ∷ (rise 3 272) ∷ []) × (length (run_at script_trap_by_hand_check 10000 (shaped 4096 4096) 0).trace ≡ 3) × (least_bad_or_cut script_trap_by_hand_check 10000 (shaped 4096 4096) ≡ None)
+trap_by_hand_check : (required script_trap_by_hand_check 10000 (shaped 4096 4096) ≡ 272) × (rises script_trap_by_hand_check 10000 (shaped 4096 4096) ≡ (rise 1 144) ∷ (rise 2 192) ∷ (rise 3 272) ∷ []) × (length (runs_of Single script_trap_by_hand_check 10000 (shaped 4096 4096) 0).trace ≡ 3) × (least_bad_or_cut Single script_trap_by_hand_check 10000 (shaped 4096 4096) ≡ None)
 unfolding everything
 trap_by_hand_check = (refl, refl, refl, refl)
 
 abbrev script_two_phase_leaks_check : Script
 script_two_phase_leaks_check = record { classes = []; procedures = (record { line = 3; parameters = []; body = record { locals = (OfPointer None) ∷ []; statements = (on 5 (Statement-F.Alloc (Held (H.Local 0)) (Constant (pos 16)) Leaves)) ∷ (on 6 (Statement-F.Store (Held (H.Local 0)) (Constant (pos 0)) (Constant (pos 1)))) ∷ (on 8 (Statement-F.Realloc (Held (H.Local 0)) (Held (H.Local 0)) (Constant (pos 200)) Leaves)) ∷ (on 9 (Statement-F.ReturnPointer (Held (H.Local 0)))) ∷ [] } }) ∷ (record { line = 12; parameters = []; body = record { locals = (OfPointer None) ∷ OfNumber ∷ []; statements = (on 15 (Statement-F.Trap 1 ((on 16 (Statement-F.CallTo 0 0 [])) ∷ []))) ∷ (on 18 (Statement-F.Free (Held (H.Local 0)))) ∷ [] } }) ∷ []; operations = []; literals = []; main = 1 }
 
-two_phase_leaks_check : (required script_two_phase_leaks_check 10000 (shaped 4096 4096) ≡ 368) × (rises script_two_phase_leaks_check 10000 (shaped 4096 4096) ≡ (rise 1 144) ∷ (rise 2 176) ∷ (rise 3 368) ∷ []) × (length (run_at script_two_phase_leaks_check 10000 (shaped 4096 4096) 0).trace ≡ 3) × (least_bad_or_cut script_two_phase_leaks_check 10000 (shaped 4096 4096) ≡ Some 3) × (run_at script_two_phase_leaks_check 10000 (shaped 4096 4096) 3 ≡ record { outcome = Ended None ((record { number = 2; length = 32; place = 144 }) ∷ []); trace = (line 1 144 0 Granted) ∷ (line 2 32 144 Granted) ∷ (line 3 224 144 Simulated) ∷ []; lines = []; notes = []; steps = 6 })
+two_phase_leaks_check : (required script_two_phase_leaks_check 10000 (shaped 4096 4096) ≡ 368) × (rises script_two_phase_leaks_check 10000 (shaped 4096 4096) ≡ (rise 1 144) ∷ (rise 2 176) ∷ (rise 3 368) ∷ []) × (length (runs_of Single script_two_phase_leaks_check 10000 (shaped 4096 4096) 0).trace ≡ 3) × (least_bad_or_cut Single script_two_phase_leaks_check 10000 (shaped 4096 4096) ≡ Some 3) × (runs_of Single script_two_phase_leaks_check 10000 (shaped 4096 4096) 3 ≡ record { outcome = Ended None ((record { number = 2; length = 32; place = 144 }) ∷ []); trace = (line 1 144 0 Granted) ∷ (line 2 32 144 Granted) ∷ (line 3 224 144 Simulated) ∷ []; lines = []; notes = []; steps = 6 })
 unfolding everything
 two_phase_leaks_check = (refl, refl, refl, refl, refl)
 
@@ -1572,7 +1650,7 @@ two_phase_refused_run = refl
 abbrev script_two_phase_check : Script
 script_two_phase_check = record { classes = []; procedures = (record { line = 2; parameters = []; body = record { locals = (OfPointer None) ∷ OfNumber ∷ []; statements = (on 5 (Statement-F.Alloc (Held (H.Local 0)) (Constant (pos 16)) Leaves)) ∷ (on 6 (Statement-F.Store (Held (H.Local 0)) (Constant (pos 0)) (Constant (pos 1)))) ∷ (on 7 (Statement-F.Trap 1 ((on 8 (Statement-F.Realloc (Held (H.Local 0)) (Held (H.Local 0)) (Constant (pos 200)) Leaves)) ∷ []))) ∷ (on 11 (Statement-F.If (Less (Variable 1) (Constant (pos 0))) ((on 12 (Statement-F.Free (Held (H.Local 0)))) ∷ (on 13 (Statement-F.Leave (Variable 1))) ∷ []))) ∷ (on 15 (Statement-F.ReturnPointer (Held (H.Local 0)))) ∷ [] } }) ∷ (record { line = 18; parameters = []; body = record { locals = (OfPointer None) ∷ OfNumber ∷ []; statements = (on 21 (Statement-F.Trap 1 ((on 22 (Statement-F.CallTo 0 0 [])) ∷ []))) ∷ (on 24 (Statement-F.Free (Held (H.Local 0)))) ∷ [] } }) ∷ []; operations = []; literals = []; main = 1 }
 
-two_phase_check : (required script_two_phase_check 10000 (shaped 4096 4096) ≡ 368) × (rises script_two_phase_check 10000 (shaped 4096 4096) ≡ (rise 1 144) ∷ (rise 2 176) ∷ (rise 3 368) ∷ []) × (length (run_at script_two_phase_check 10000 (shaped 4096 4096) 0).trace ≡ 3) × (least_bad_or_cut script_two_phase_check 10000 (shaped 4096 4096) ≡ None)
+two_phase_check : (required script_two_phase_check 10000 (shaped 4096 4096) ≡ 368) × (rises script_two_phase_check 10000 (shaped 4096 4096) ≡ (rise 1 144) ∷ (rise 2 176) ∷ (rise 3 368) ∷ []) × (length (runs_of Single script_two_phase_check 10000 (shaped 4096 4096) 0).trace ≡ 3) × (least_bad_or_cut Single script_two_phase_check 10000 (shaped 4096 4096) ≡ None)
 unfolding everything
 two_phase_check = (refl, refl, refl, refl)
 
@@ -1765,45 +1843,45 @@ words_of_a_table_run : run script_words_of_a_table_run R.Unlimited 10000 (shaped
 unfolding everything
 words_of_a_table_run = refl
 
-abbrev script_empty_main_json_check : Script
-script_empty_main_json_check = record { classes = []; procedures = (record { line = 1; parameters = []; body = record { locals = []; statements = [] } }) ∷ []; operations = []; literals = []; main = 0 }
+abbrev script_empty_main_json_with_kind_check : Script
+script_empty_main_json_with_kind_check = record { classes = []; procedures = (record { line = 1; parameters = []; body = record { locals = []; statements = [] } }) ∷ []; operations = []; literals = []; main = 0 }
 
-empty_main_json_check : (required script_empty_main_json_check 10000 (shaped 4096 4096) ≡ 144) × (rises script_empty_main_json_check 10000 (shaped 4096 4096) ≡ (rise 1 144) ∷ []) × (length (run_at script_empty_main_json_check 10000 (shaped 4096 4096) 0).trace ≡ 1) × (least_bad_or_cut script_empty_main_json_check 10000 (shaped 4096 4096) ≡ None)
+empty_main_json_with_kind_check : (required script_empty_main_json_with_kind_check 10000 (shaped 4096 4096) ≡ 144) × (rises script_empty_main_json_with_kind_check 10000 (shaped 4096 4096) ≡ (rise 1 144) ∷ []) × (length (runs_of Single script_empty_main_json_with_kind_check 10000 (shaped 4096 4096) 0).trace ≡ 1) × (least_bad_or_cut Single script_empty_main_json_with_kind_check 10000 (shaped 4096 4096) ≡ None)
 unfolding everything
-empty_main_json_check = (refl, refl, refl, refl)
+empty_main_json_with_kind_check = (refl, refl, refl, refl)
 
-abbrev script_empty_main_json_run : Script
-script_empty_main_json_run = record { classes = []; procedures = (record { line = 1; parameters = []; body = record { locals = []; statements = [] } }) ∷ []; operations = []; literals = []; main = 0 }
+abbrev script_empty_main_json_with_kind_run : Script
+script_empty_main_json_with_kind_run = record { classes = []; procedures = (record { line = 1; parameters = []; body = record { locals = []; statements = [] } }) ∷ []; operations = []; literals = []; main = 0 }
 
-empty_main_json_run : run script_empty_main_json_run R.Unlimited 10000 (shaped 4096 4096) ≡ record { outcome = Ended None []; trace = (line 1 144 0 Granted) ∷ []; lines = []; notes = []; steps = 0 }
+empty_main_json_with_kind_run : run script_empty_main_json_with_kind_run R.Unlimited 10000 (shaped 4096 4096) ≡ record { outcome = Ended None []; trace = (line 1 144 0 Granted) ∷ []; lines = []; notes = []; steps = 0 }
 unfolding everything
-empty_main_json_run = refl
+empty_main_json_with_kind_run = refl
 
-abbrev script_empty_main_json_size : Script
-script_empty_main_json_size = record { classes = []; procedures = (record { line = 1; parameters = []; body = record { locals = []; statements = [] } }) ∷ []; operations = []; literals = []; main = 0 }
+abbrev script_empty_main_json_with_kind_size : Script
+script_empty_main_json_with_kind_size = record { classes = []; procedures = (record { line = 1; parameters = []; body = record { locals = []; statements = [] } }) ∷ []; operations = []; literals = []; main = 0 }
 
-empty_main_json_size : (required script_empty_main_json_size 10000 (shaped 4096 4096) ≡ 144) × (rises script_empty_main_json_size 10000 (shaped 4096 4096) ≡ (rise 1 144) ∷ [])
+empty_main_json_with_kind_size : (required script_empty_main_json_with_kind_size 10000 (shaped 4096 4096) ≡ 144) × (rises script_empty_main_json_with_kind_size 10000 (shaped 4096 4096) ≡ (rise 1 144) ∷ [])
 unfolding everything
-empty_main_json_size = (refl, refl)
+empty_main_json_with_kind_size = (refl, refl)
 
-abbrev script_failure_that_outruns_the_budget_json_check : Script
-script_failure_that_outruns_the_budget_json_check = record { classes = []; procedures = (record { line = 1; parameters = []; body = record { locals = (OfPointer None) ∷ []; statements = (on 3 (Statement-F.Alloc (Held (H.Local 0)) (Constant (pos 16)) GivesNull)) ∷ (on 4 (Statement-F.If (IsNull (Held (H.Local 0))) ((on 5 (Statement-F.Repeat (Constant (pos 20000)) [])) ∷ []))) ∷ (on 8 (Statement-F.Free (Held (H.Local 0)))) ∷ [] } }) ∷ []; operations = []; literals = []; main = 0 }
+abbrev script_failure_that_outruns_the_budget_json_with_kind_check : Script
+script_failure_that_outruns_the_budget_json_with_kind_check = record { classes = []; procedures = (record { line = 1; parameters = []; body = record { locals = (OfPointer None) ∷ []; statements = (on 3 (Statement-F.Alloc (Held (H.Local 0)) (Constant (pos 16)) GivesNull)) ∷ (on 4 (Statement-F.If (IsNull (Held (H.Local 0))) ((on 5 (Statement-F.Repeat (Constant (pos 20000)) [])) ∷ []))) ∷ (on 8 (Statement-F.Free (Held (H.Local 0)))) ∷ [] } }) ∷ []; operations = []; literals = []; main = 0 }
 
-failure_that_outruns_the_budget_json_check : (required script_failure_that_outruns_the_budget_json_check 10000 (shaped 4096 4096) ≡ 176) × (rises script_failure_that_outruns_the_budget_json_check 10000 (shaped 4096 4096) ≡ (rise 1 144) ∷ (rise 2 176) ∷ []) × (least_bad_or_cut script_failure_that_outruns_the_budget_json_check 10000 (shaped 4096 4096) ≡ Some 2) × ((run_at script_failure_that_outruns_the_budget_json_check 10000 (shaped 4096 4096) 2).outcome ≡ Cut Budget)
+failure_that_outruns_the_budget_json_with_kind_check : (required script_failure_that_outruns_the_budget_json_with_kind_check 10000 (shaped 4096 4096) ≡ 176) × (rises script_failure_that_outruns_the_budget_json_with_kind_check 10000 (shaped 4096 4096) ≡ (rise 1 144) ∷ (rise 2 176) ∷ []) × (least_bad_or_cut Single script_failure_that_outruns_the_budget_json_with_kind_check 10000 (shaped 4096 4096) ≡ Some 2) × ((runs_of Single script_failure_that_outruns_the_budget_json_with_kind_check 10000 (shaped 4096 4096) 2).outcome ≡ Cut Budget)
 unfolding everything
-failure_that_outruns_the_budget_json_check = (refl, refl, refl, refl)
+failure_that_outruns_the_budget_json_with_kind_check = (refl, refl, refl, refl)
 
-abbrev script_leak_without_any_failure_json_sweep : Script
-script_leak_without_any_failure_json_sweep = record { classes = []; procedures = (record { line = 1; parameters = []; body = record { locals = (OfPointer None) ∷ []; statements = (on 3 (Statement-F.Alloc (Held (H.Local 0)) (Constant (pos 16)) GivesNull)) ∷ [] } }) ∷ []; operations = []; literals = []; main = 0 }
+abbrev script_leak_without_any_failure_json_with_kind_sweep : Script
+script_leak_without_any_failure_json_with_kind_sweep = record { classes = []; procedures = (record { line = 1; parameters = []; body = record { locals = (OfPointer None) ∷ []; statements = (on 3 (Statement-F.Alloc (Held (H.Local 0)) (Constant (pos 16)) GivesNull)) ∷ [] } }) ∷ []; operations = []; literals = []; main = 0 }
 
-leak_without_any_failure_json_sweep : (length (run_at script_leak_without_any_failure_json_sweep 10000 (shaped 4096 4096) 0).trace ≡ 2) × (least_bad_or_cut script_leak_without_any_failure_json_sweep 10000 (shaped 4096 4096) ≡ Some 0) × (run_at script_leak_without_any_failure_json_sweep 10000 (shaped 4096 4096) 0 ≡ record { outcome = Ended None ((record { number = 2; length = 32; place = 144 }) ∷ []); trace = (line 1 144 0 Granted) ∷ (line 2 32 144 Granted) ∷ []; lines = []; notes = []; steps = 1 })
+leak_without_any_failure_json_with_kind_sweep : (length (runs_of Single script_leak_without_any_failure_json_with_kind_sweep 10000 (shaped 4096 4096) 0).trace ≡ 2) × (least_bad_or_cut Single script_leak_without_any_failure_json_with_kind_sweep 10000 (shaped 4096 4096) ≡ Some 0) × (runs_of Single script_leak_without_any_failure_json_with_kind_sweep 10000 (shaped 4096 4096) 0 ≡ record { outcome = Ended None ((record { number = 2; length = 32; place = 144 }) ∷ []); trace = (line 1 144 0 Granted) ∷ (line 2 32 144 Granted) ∷ []; lines = []; notes = []; steps = 1 })
 unfolding everything
-leak_without_any_failure_json_sweep = (refl, refl, refl)
+leak_without_any_failure_json_with_kind_sweep = (refl, refl, refl)
 
 abbrev script_object_deleted_twice_check : Script
 script_object_deleted_twice_check = record { classes = (record { line = 2; extra = 4; fields = []; construct = None; destroy = None }) ∷ (record { line = 5; extra = 0; fields = (Some 0) ∷ None ∷ []; construct = None; destroy = Some (record { locals = []; statements = (on 9 (Statement-F.Delete (Field H.This 1 0))) ∷ (on 10 (Statement-F.Free (Field H.This 1 1))) ∷ [] }) }) ∷ []; procedures = (record { line = 14; parameters = (Par.OfPointer (Some 1)) ∷ (Par.OfPointer (Some 0)) ∷ []; body = record { locals = []; statements = (on 16 (Statement-F.Set (Field (H.Local 0) 1 0) (Held (H.Local 1)))) ∷ (on 17 (Statement-F.Alloc (Field (H.Local 0) 1 1) (Constant (pos 40)) Leaves)) ∷ [] } }) ∷ (record { line = 20; parameters = []; body = record { locals = (OfPointer (Some 1)) ∷ (OfPointer (Some 0)) ∷ OfNumber ∷ []; statements = (on 24 (Statement-F.New (Held (H.Local 0)) 1 Leaves)) ∷ (on 25 (Statement-F.PushObject (Held (H.Local 0)))) ∷ (on 26 (Statement-F.New (Held (H.Local 1)) 0 Leaves)) ∷ (on 27 (Statement-F.Trap 2 ((on 28 (Statement-F.Call 0 ((Passed (Held (H.Local 0))) ∷ (Passed (Held (H.Local 1))) ∷ []))) ∷ []))) ∷ (on 30 (Statement-F.If (Less (Variable 2) (Constant (pos 0))) ((on 31 (Statement-F.Delete (Held (H.Local 1)))) ∷ []))) ∷ (on 33 (Statement-F.PopDestroy (Constant (pos 1)))) ∷ [] } }) ∷ []; operations = []; literals = []; main = 1 }
 
-object_deleted_twice_check : (required script_object_deleted_twice_check 10000 (shaped 4096 4096) ≡ 288) × (rises script_object_deleted_twice_check 10000 (shaped 4096 4096) ≡ (rise 1 144) ∷ (rise 2 192) ∷ (rise 3 224) ∷ (rise 4 288) ∷ []) × (length (run_at script_object_deleted_twice_check 10000 (shaped 4096 4096) 0).trace ≡ 4) × (least_bad_or_cut script_object_deleted_twice_check 10000 (shaped 4096 4096) ≡ Some 4) × (run_at script_object_deleted_twice_check 10000 (shaped 4096 4096) 4 ≡ record { outcome = Panicked (P.Workbench 1); trace = (line 1 144 0 Granted) ∷ (line 2 48 144 Granted) ∷ (line 3 32 192 Granted) ∷ (line 4 64 224 Simulated) ∷ []; lines = []; notes = []; steps = 15 })
+object_deleted_twice_check : (required script_object_deleted_twice_check 10000 (shaped 4096 4096) ≡ 288) × (rises script_object_deleted_twice_check 10000 (shaped 4096 4096) ≡ (rise 1 144) ∷ (rise 2 192) ∷ (rise 3 224) ∷ (rise 4 288) ∷ []) × (length (runs_of Single script_object_deleted_twice_check 10000 (shaped 4096 4096) 0).trace ≡ 4) × (least_bad_or_cut Single script_object_deleted_twice_check 10000 (shaped 4096 4096) ≡ Some 4) × (runs_of Single script_object_deleted_twice_check 10000 (shaped 4096 4096) 4 ≡ record { outcome = Panicked (P.Workbench 1); trace = (line 1 144 0 Granted) ∷ (line 2 48 144 Granted) ∷ (line 3 32 192 Granted) ∷ (line 4 64 224 Simulated) ∷ []; lines = []; notes = []; steps = 15 })
 unfolding everything
 object_deleted_twice_check = (refl, refl, refl, refl, refl)
 
@@ -2577,6 +2655,111 @@ popped_operation_does_not_run_run : run script_popped_operation_does_not_run_run
 unfolding everything
 popped_operation_does_not_run_run = refl
 
+abbrev script_attempts_that_the_script_refuses_count_run : Script
+script_attempts_that_the_script_refuses_count_run = record { classes = []; procedures = (record { line = 1; parameters = []; body = record { locals = (OfPointer None) ∷ []; statements = (on 3 (Statement-F.FailEvery (Constant (pos 1)))) ∷ (on 4 (Statement-F.Alloc (Held (H.Local 0)) (Constant (pos 0)) GivesNull)) ∷ (on 5 (Statement-F.Alloc (Held (H.Local 0)) (Constant (pos 0)) GivesNull)) ∷ (on 6 Statement-F.FailNone) ∷ (on 7 (Statement-F.Alloc (Held (H.Local 0)) (Constant (pos 0)) GivesNull)) ∷ (on 8 (Statement-F.Alloc (Held (H.Local 0)) (Constant (pos 0)) GivesNull)) ∷ [] } }) ∷ []; operations = []; literals = []; main = 0 }
+
+attempts_that_the_script_refuses_count_run : run script_attempts_that_the_script_refuses_count_run (R.Every 4) 10000 (shaped 4096 4096) ≡ record { outcome = Ended None ((record { number = 5; length = 16; place = 144 }) ∷ []); trace = (line 1 144 0 Granted) ∷ (line 2 16 144 Simulated) ∷ (line 3 16 144 Simulated) ∷ (line 4 16 144 Simulated) ∷ (line 5 16 144 Granted) ∷ []; lines = []; notes = []; steps = 6 }
+unfolding everything
+attempts_that_the_script_refuses_count_run = refl
+
+abbrev script_eighth_push_grows_the_cleanup_cell_every_sweep : Script
+script_eighth_push_grows_the_cleanup_cell_every_sweep = record { classes = []; procedures = (record { line = 1; parameters = []; body = record { locals = (OfPointer None) ∷ []; statements = (on 3 (Statement-F.Repeat (Constant (pos 8)) ((on 4 (Statement-F.Alloc (Held (H.Local 0)) (Constant (pos 16)) Leaves)) ∷ (on 5 (Statement-F.Push (Held (H.Local 0)))) ∷ []))) ∷ (on 7 (Statement-F.PopDestroy (Constant (pos 8)))) ∷ [] } }) ∷ []; operations = []; literals = []; main = 0 }
+
+eighth_push_grows_the_cleanup_cell_every_sweep : (length (runs_of Every script_eighth_push_grows_the_cleanup_cell_every_sweep 10000 (shaped 4096 4096) 0).trace ≡ 10) × (least_bad_or_cut Every script_eighth_push_grows_the_cleanup_cell_every_sweep 10000 (shaped 4096 4096) ≡ None)
+unfolding everything
+eighth_push_grows_the_cleanup_cell_every_sweep = (refl, refl)
+
+abbrev script_fallback_that_rate_3_refuses_sweep : Script
+script_fallback_that_rate_3_refuses_sweep = record { classes = []; procedures = (record { line = 1; parameters = []; body = record { locals = (OfPointer None) ∷ (OfPointer None) ∷ []; statements = (on 4 (Statement-F.Alloc (Held (H.Local 1)) (Constant (pos 16)) GivesNull)) ∷ (on 5 (Statement-F.Alloc (Held (H.Local 0)) (Constant (pos 16)) GivesNull)) ∷ (on 6 (Statement-F.If (IsNull (Held (H.Local 0))) ((on 7 (Statement-F.Free (Held (H.Local 1)))) ∷ (on 8 (Statement-F.Alloc (Held (H.Local 1)) (Constant (pos 16)) GivesNull)) ∷ (on 9 (Statement-F.Free (Held (H.Local 1)))) ∷ (on 10 (Statement-F.Alloc (Held (H.Local 1)) (Constant (pos 16)) GivesNull)) ∷ (on 11 (Statement-F.Alloc (Held (H.Local 0)) (Constant (pos 0)) GivesNull)) ∷ (on 12 (Statement-F.Store (Held (H.Local 0)) (Constant (pos 0)) (Constant (pos 7)))) ∷ []))) ∷ (on 14 (Statement-F.Free (Held (H.Local 0)))) ∷ (on 15 (Statement-F.Free (Held (H.Local 1)))) ∷ [] } }) ∷ []; operations = []; literals = []; main = 0 }
+
+fallback_that_rate_3_refuses_sweep : (length (runs_of Every script_fallback_that_rate_3_refuses_sweep 10000 (shaped 4096 4096) 0).trace ≡ 3) × (least_bad_or_cut Every script_fallback_that_rate_3_refuses_sweep 10000 (shaped 4096 4096) ≡ Some 3) × (runs_of Every script_fallback_that_rate_3_refuses_sweep 10000 (shaped 4096 4096) 3 ≡ record { outcome = Panicked (P.Workbench 1); trace = (line 1 144 0 Granted) ∷ (line 2 32 144 Granted) ∷ (line 3 32 176 Simulated) ∷ (line 4 32 144 Granted) ∷ (line 5 32 144 Granted) ∷ (line 6 16 176 Simulated) ∷ []; lines = []; notes = []; steps = 9 })
+unfolding everything
+fallback_that_rate_3_refuses_sweep = (refl, refl, refl)
+
+abbrev script_first_rate_that_is_cut_check : Script
+script_first_rate_that_is_cut_check = record { classes = []; procedures = (record { line = 1; parameters = []; body = record { locals = (OfPointer None) ∷ []; statements = (on 3 (Statement-F.Alloc (Held (H.Local 0)) (Constant (pos 16)) GivesNull)) ∷ (on 4 (Statement-F.If (IsNull (Held (H.Local 0))) ((on 5 (Statement-F.Repeat (Constant (pos 200)) [])) ∷ []))) ∷ (on 8 (Statement-F.Free (Held (H.Local 0)))) ∷ [] } }) ∷ []; operations = []; literals = []; main = 0 }
+
+first_rate_that_is_cut_check : (required script_first_rate_that_is_cut_check 100 (shaped 4096 4096) ≡ 176) × (rises script_first_rate_that_is_cut_check 100 (shaped 4096 4096) ≡ (rise 1 144) ∷ (rise 2 176) ∷ []) × (least_bad_or_cut Every script_first_rate_that_is_cut_check 100 (shaped 4096 4096) ≡ Some 2) × ((runs_of Every script_first_rate_that_is_cut_check 100 (shaped 4096 4096) 2).outcome ≡ Cut Budget)
+unfolding everything
+first_rate_that_is_cut_check = (refl, refl, refl, refl)
+
+abbrev script_first_rate_that_is_cut_sweep : Script
+script_first_rate_that_is_cut_sweep = record { classes = []; procedures = (record { line = 1; parameters = []; body = record { locals = (OfPointer None) ∷ []; statements = (on 3 (Statement-F.Alloc (Held (H.Local 0)) (Constant (pos 16)) GivesNull)) ∷ (on 4 (Statement-F.If (IsNull (Held (H.Local 0))) ((on 5 (Statement-F.Repeat (Constant (pos 200)) [])) ∷ []))) ∷ (on 8 (Statement-F.Free (Held (H.Local 0)))) ∷ [] } }) ∷ []; operations = []; literals = []; main = 0 }
+
+first_rate_that_is_cut_sweep : (least_bad_or_cut Every script_first_rate_that_is_cut_sweep 100 (shaped 4096 4096) ≡ Some 2) × ((runs_of Every script_first_rate_that_is_cut_sweep 100 (shaped 4096 4096) 2).outcome ≡ Cut Budget)
+unfolding everything
+first_rate_that_is_cut_sweep = (refl, refl)
+
+abbrev script_last_rate_that_can_differ_sweep : Script
+script_last_rate_that_can_differ_sweep = record { classes = []; procedures = (record { line = 1; parameters = []; body = record { locals = (OfPointer None) ∷ (OfPointer None) ∷ []; statements = (on 4 (Statement-F.Alloc (Held (H.Local 0)) (Constant (pos 16)) GivesNull)) ∷ (on 5 (Statement-F.Alloc (Held (H.Local 1)) (Constant (pos 16)) GivesNull)) ∷ (on 6 (Statement-F.Store (Held (H.Local 1)) (Constant (pos 0)) (Constant (pos 7)))) ∷ (on 7 (Statement-F.Free (Held (H.Local 0)))) ∷ (on 8 (Statement-F.Free (Held (H.Local 1)))) ∷ [] } }) ∷ []; operations = []; literals = []; main = 0 }
+
+last_rate_that_can_differ_sweep : (length (runs_of Every script_last_rate_that_can_differ_sweep 10000 (shaped 4096 4096) 0).trace ≡ 3) × (least_bad_or_cut Every script_last_rate_that_can_differ_sweep 10000 (shaped 4096 4096) ≡ Some 3) × (runs_of Every script_last_rate_that_can_differ_sweep 10000 (shaped 4096 4096) 3 ≡ record { outcome = Panicked (P.Workbench 1); trace = (line 1 144 0 Granted) ∷ (line 2 32 144 Granted) ∷ (line 3 32 176 Simulated) ∷ []; lines = []; notes = []; steps = 3 })
+unfolding everything
+last_rate_that_can_differ_sweep = (refl, refl, refl)
+
+abbrev script_leak_before_a_cut_at_a_greater_rate_sweep : Script
+script_leak_before_a_cut_at_a_greater_rate_sweep = record { classes = []; procedures = (record { line = 1; parameters = []; body = record { locals = (OfPointer None) ∷ (OfPointer None) ∷ (OfPointer None) ∷ []; statements = (on 5 (Statement-F.Alloc (Held (H.Local 0)) (Constant (pos 16)) GivesNull)) ∷ (on 6 (Statement-F.Alloc (Held (H.Local 1)) (Constant (pos 16)) GivesNull)) ∷ (on 7 (Statement-F.If (IsNull (Held (H.Local 0))) ((on 8 (Statement-F.SetNull (Held (H.Local 1)))) ∷ []))) ∷ (on 10 (Statement-F.If (IsNull (Held (H.Local 1))) ((on 11 (Statement-F.If (NotNull (Held (H.Local 0))) ((on 12 (Statement-F.Repeat (Constant (pos 200)) [])) ∷ []))) ∷ []))) ∷ (on 16 (Statement-F.Free (Held (H.Local 0)))) ∷ (on 17 (Statement-F.Free (Held (H.Local 1)))) ∷ [] } }) ∷ []; operations = []; literals = []; main = 0 }
+
+leak_before_a_cut_at_a_greater_rate_sweep : (length (runs_of Every script_leak_before_a_cut_at_a_greater_rate_sweep 100 (shaped 4096 4096) 0).trace ≡ 3) × (least_bad_or_cut Every script_leak_before_a_cut_at_a_greater_rate_sweep 100 (shaped 4096 4096) ≡ Some 2) × (runs_of Every script_leak_before_a_cut_at_a_greater_rate_sweep 100 (shaped 4096 4096) 2 ≡ record { outcome = Ended None ((record { number = 3; length = 32; place = 144 }) ∷ []); trace = (line 1 144 0 Granted) ∷ (line 2 32 144 Simulated) ∷ (line 3 32 144 Granted) ∷ []; lines = []; notes = []; steps = 8 })
+unfolding everything
+leak_before_a_cut_at_a_greater_rate_sweep = (refl, refl, refl)
+
+abbrev script_leak_that_needs_two_failures_every_json_sweep : Script
+script_leak_that_needs_two_failures_every_json_sweep = record { classes = []; procedures = (record { line = 1; parameters = []; body = record { locals = (OfPointer None) ∷ (OfPointer None) ∷ (OfPointer None) ∷ []; statements = (on 5 (Statement-F.Alloc (Held (H.Local 0)) (Constant (pos 16)) GivesNull)) ∷ (on 6 (Statement-F.Alloc (Held (H.Local 1)) (Constant (pos 16)) GivesNull)) ∷ (on 7 (Statement-F.Alloc (Held (H.Local 2)) (Constant (pos 16)) GivesNull)) ∷ (on 8 (Statement-F.If (IsNull (Held (H.Local 0))) ((on 9 (Statement-F.If (IsNull (Held (H.Local 2))) ((on 10 (Statement-F.Leave (Constant (negsuc 3)))) ∷ []))) ∷ []))) ∷ (on 13 (Statement-F.Free (Held (H.Local 0)))) ∷ (on 14 (Statement-F.Free (Held (H.Local 1)))) ∷ (on 15 (Statement-F.Free (Held (H.Local 2)))) ∷ [] } }) ∷ []; operations = []; literals = []; main = 0 }
+
+leak_that_needs_two_failures_every_json_sweep : (length (runs_of Every script_leak_that_needs_two_failures_every_json_sweep 10000 (shaped 4096 4096) 0).trace ≡ 4) × (least_bad_or_cut Every script_leak_that_needs_two_failures_every_json_sweep 10000 (shaped 4096 4096) ≡ Some 2) × (runs_of Every script_leak_that_needs_two_failures_every_json_sweep 10000 (shaped 4096 4096) 2 ≡ record { outcome = Ended (Some (negsuc 3)) ((record { number = 3; length = 32; place = 144 }) ∷ []); trace = (line 1 144 0 Granted) ∷ (line 2 32 144 Simulated) ∷ (line 3 32 144 Granted) ∷ (line 4 32 176 Simulated) ∷ []; lines = []; notes = []; steps = 6 })
+unfolding everything
+leak_that_needs_two_failures_every_json_sweep = (refl, refl, refl)
+
+abbrev script_leak_that_needs_two_failures_every_run : Script
+script_leak_that_needs_two_failures_every_run = record { classes = []; procedures = (record { line = 1; parameters = []; body = record { locals = (OfPointer None) ∷ (OfPointer None) ∷ (OfPointer None) ∷ []; statements = (on 5 (Statement-F.Alloc (Held (H.Local 0)) (Constant (pos 16)) GivesNull)) ∷ (on 6 (Statement-F.Alloc (Held (H.Local 1)) (Constant (pos 16)) GivesNull)) ∷ (on 7 (Statement-F.Alloc (Held (H.Local 2)) (Constant (pos 16)) GivesNull)) ∷ (on 8 (Statement-F.If (IsNull (Held (H.Local 0))) ((on 9 (Statement-F.If (IsNull (Held (H.Local 2))) ((on 10 (Statement-F.Leave (Constant (negsuc 3)))) ∷ []))) ∷ []))) ∷ (on 13 (Statement-F.Free (Held (H.Local 0)))) ∷ (on 14 (Statement-F.Free (Held (H.Local 1)))) ∷ (on 15 (Statement-F.Free (Held (H.Local 2)))) ∷ [] } }) ∷ []; operations = []; literals = []; main = 0 }
+
+leak_that_needs_two_failures_every_run : run script_leak_that_needs_two_failures_every_run (R.Every 2) 10000 (shaped 4096 4096) ≡ record { outcome = Ended (Some (negsuc 3)) ((record { number = 3; length = 32; place = 144 }) ∷ []); trace = (line 1 144 0 Granted) ∷ (line 2 32 144 Simulated) ∷ (line 3 32 144 Granted) ∷ (line 4 32 176 Simulated) ∷ []; lines = []; notes = []; steps = 6 }
+unfolding everything
+leak_that_needs_two_failures_every_run = refl
+
+abbrev script_leak_that_needs_two_failures_every_sweep : Script
+script_leak_that_needs_two_failures_every_sweep = record { classes = []; procedures = (record { line = 1; parameters = []; body = record { locals = (OfPointer None) ∷ (OfPointer None) ∷ (OfPointer None) ∷ []; statements = (on 5 (Statement-F.Alloc (Held (H.Local 0)) (Constant (pos 16)) GivesNull)) ∷ (on 6 (Statement-F.Alloc (Held (H.Local 1)) (Constant (pos 16)) GivesNull)) ∷ (on 7 (Statement-F.Alloc (Held (H.Local 2)) (Constant (pos 16)) GivesNull)) ∷ (on 8 (Statement-F.If (IsNull (Held (H.Local 0))) ((on 9 (Statement-F.If (IsNull (Held (H.Local 2))) ((on 10 (Statement-F.Leave (Constant (negsuc 3)))) ∷ []))) ∷ []))) ∷ (on 13 (Statement-F.Free (Held (H.Local 0)))) ∷ (on 14 (Statement-F.Free (Held (H.Local 1)))) ∷ (on 15 (Statement-F.Free (Held (H.Local 2)))) ∷ [] } }) ∷ []; operations = []; literals = []; main = 0 }
+
+leak_that_needs_two_failures_every_sweep : (length (runs_of Every script_leak_that_needs_two_failures_every_sweep 10000 (shaped 4096 4096) 0).trace ≡ 4) × (least_bad_or_cut Every script_leak_that_needs_two_failures_every_sweep 10000 (shaped 4096 4096) ≡ Some 2) × (runs_of Every script_leak_that_needs_two_failures_every_sweep 10000 (shaped 4096 4096) 2 ≡ record { outcome = Ended (Some (negsuc 3)) ((record { number = 3; length = 32; place = 144 }) ∷ []); trace = (line 1 144 0 Granted) ∷ (line 2 32 144 Simulated) ∷ (line 3 32 144 Granted) ∷ (line 4 32 176 Simulated) ∷ []; lines = []; notes = []; steps = 6 })
+unfolding everything
+leak_that_needs_two_failures_every_sweep = (refl, refl, refl)
+
+abbrev script_rate_0_finds_a_leak_sweep : Script
+script_rate_0_finds_a_leak_sweep = record { classes = []; procedures = (record { line = 1; parameters = []; body = record { locals = (OfPointer None) ∷ []; statements = (on 3 (Statement-F.Alloc (Held (H.Local 0)) (Constant (pos 16)) GivesNull)) ∷ [] } }) ∷ []; operations = []; literals = []; main = 0 }
+
+rate_0_finds_a_leak_sweep : (length (runs_of Every script_rate_0_finds_a_leak_sweep 10000 (shaped 4096 4096) 0).trace ≡ 2) × (least_bad_or_cut Every script_rate_0_finds_a_leak_sweep 10000 (shaped 4096 4096) ≡ Some 0) × (runs_of Every script_rate_0_finds_a_leak_sweep 10000 (shaped 4096 4096) 0 ≡ record { outcome = Ended None ((record { number = 2; length = 32; place = 144 }) ∷ []); trace = (line 1 144 0 Granted) ∷ (line 2 32 144 Granted) ∷ []; lines = []; notes = []; steps = 1 })
+unfolding everything
+rate_0_finds_a_leak_sweep = (refl, refl, refl)
+
+abbrev script_rate_0_refuses_nothing_run : Script
+script_rate_0_refuses_nothing_run = record { classes = []; procedures = (record { line = 1; parameters = []; body = record { locals = (OfPointer None) ∷ []; statements = (on 3 (Statement-F.Alloc (Held (H.Local 0)) (Constant (pos 16)) GivesNull)) ∷ (on 4 (Statement-F.Realloc (Held (H.Local 0)) (Held (H.Local 0)) (Constant (pos 32)) GivesNull)) ∷ (on 5 (Statement-F.Free (Held (H.Local 0)))) ∷ [] } }) ∷ []; operations = []; literals = []; main = 0 }
+
+rate_0_refuses_nothing_run : run script_rate_0_refuses_nothing_run (R.Every 0) 10000 (shaped 4096 4096) ≡ record { outcome = Ended None []; trace = (line 1 144 0 Granted) ∷ (line 2 32 144 Granted) ∷ (line 3 48 144 Granted) ∷ []; lines = []; notes = []; steps = 3 }
+unfolding everything
+rate_0_refuses_nothing_run = refl
+
+abbrev script_rate_counts_from_attempt_1_run : Script
+script_rate_counts_from_attempt_1_run = record { classes = []; procedures = (record { line = 1; parameters = []; body = record { locals = (OfPointer None) ∷ (OfPointer None) ∷ (OfPointer None) ∷ (OfPointer None) ∷ (OfPointer None) ∷ []; statements = (on 7 (Statement-F.Alloc (Held (H.Local 0)) (Constant (pos 16)) GivesNull)) ∷ (on 8 (Statement-F.FailEvery (Constant (pos 4)))) ∷ (on 9 (Statement-F.Alloc (Held (H.Local 1)) (Constant (pos 16)) GivesNull)) ∷ (on 10 (Statement-F.Alloc (Held (H.Local 2)) (Constant (pos 16)) GivesNull)) ∷ (on 11 Statement-F.FailNone) ∷ (on 12 (Statement-F.Alloc (Held (H.Local 3)) (Constant (pos 16)) GivesNull)) ∷ (on 13 (Statement-F.Alloc (Held (H.Local 4)) (Constant (pos 16)) GivesNull)) ∷ [] } }) ∷ []; operations = []; literals = []; main = 0 }
+
+rate_counts_from_attempt_1_run : run script_rate_counts_from_attempt_1_run (R.Every 3) 10000 (shaped 4096 4096) ≡ record { outcome = Ended None ((record { number = 2; length = 32; place = 144 }) ∷ (record { number = 4; length = 32; place = 176 }) ∷ (record { number = 5; length = 32; place = 208 }) ∷ []); trace = (line 1 144 0 Granted) ∷ (line 2 32 144 Granted) ∷ (line 3 32 176 Simulated) ∷ (line 4 32 176 Granted) ∷ (line 5 32 208 Granted) ∷ (line 6 32 240 Simulated) ∷ []; lines = []; notes = []; steps = 7 }
+unfolding everything
+rate_counts_from_attempt_1_run = refl
+
+abbrev script_retry_that_fails_again_every_sweep : Script
+script_retry_that_fails_again_every_sweep = record { classes = []; procedures = (record { line = 1; parameters = []; body = record { locals = (OfPointer None) ∷ (OfPointer None) ∷ []; statements = (on 4 (Statement-F.Alloc (Held (H.Local 1)) (Constant (pos 16)) GivesNull)) ∷ (on 5 (Statement-F.Alloc (Held (H.Local 0)) (Constant (pos 16)) GivesNull)) ∷ (on 6 (Statement-F.If (IsNull (Held (H.Local 0))) ((on 7 (Statement-F.Alloc (Held (H.Local 0)) (Constant (pos 16)) GivesNull)) ∷ (on 8 (Statement-F.If (IsNull (Held (H.Local 0))) ((on 9 (Statement-F.Leave (Constant (negsuc 3)))) ∷ []))) ∷ []))) ∷ (on 12 (Statement-F.Free (Held (H.Local 0)))) ∷ (on 13 (Statement-F.Free (Held (H.Local 1)))) ∷ [] } }) ∷ []; operations = []; literals = []; main = 0 }
+
+retry_that_fails_again_every_sweep : (length (runs_of Every script_retry_that_fails_again_every_sweep 10000 (shaped 4096 4096) 0).trace ≡ 3) × (least_bad_or_cut Every script_retry_that_fails_again_every_sweep 10000 (shaped 4096 4096) ≡ None)
+unfolding everything
+retry_that_fails_again_every_sweep = (refl, refl)
+
+abbrev script_setting_and_rate_name_one_attempt_run : Script
+script_setting_and_rate_name_one_attempt_run = record { classes = []; procedures = (record { line = 1; parameters = []; body = record { locals = (OfPointer None) ∷ (OfPointer None) ∷ (OfPointer None) ∷ (OfPointer None) ∷ []; statements = (on 6 (Statement-F.FailEvery (Constant (pos 3)))) ∷ (on 7 (Statement-F.Alloc (Held (H.Local 0)) (Constant (pos 0)) GivesNull)) ∷ (on 8 (Statement-F.Alloc (Held (H.Local 1)) (Constant (pos 0)) GivesNull)) ∷ (on 9 (Statement-F.Alloc (Held (H.Local 2)) (Constant (pos 0)) GivesNull)) ∷ (on 10 (Statement-F.Alloc (Held (H.Local 3)) (Constant (pos 0)) GivesNull)) ∷ [] } }) ∷ []; operations = []; literals = []; main = 0 }
+
+setting_and_rate_name_one_attempt_run : run script_setting_and_rate_name_one_attempt_run (R.Every 2) 10000 (shaped 4096 4096) ≡ record { outcome = Ended None ((record { number = 3; length = 16; place = 144 }) ∷ (record { number = 5; length = 16; place = 160 }) ∷ []); trace = (line 1 144 0 Granted) ∷ (line 2 16 144 Simulated) ∷ (line 3 16 144 Granted) ∷ (line 4 16 160 Simulated) ∷ (line 5 16 160 Granted) ∷ []; lines = []; notes = []; steps = 5 }
+unfolding everything
+setting_and_rate_name_one_attempt_run = refl
+
 abbrev script_committed_length_notes_run : Script
 script_committed_length_notes_run = record { classes = []; procedures = (record { line = 1; parameters = []; body = record { locals = (OfPointer None) ∷ []; statements = (on 3 (Statement-F.Alloc (Held (H.Local 0)) (Constant (pos 200)) GivesNull)) ∷ (on 4 Statement-F.NoteAvailable) ∷ (on 5 Statement-F.NoteHeap) ∷ (on 6 (Statement-F.Free (Held (H.Local 0)))) ∷ (on 7 Statement-F.NoteAvailable) ∷ (on 8 Statement-F.NoteCompress) ∷ (on 9 Statement-F.NoteHeap) ∷ [] } }) ∷ []; operations = []; literals = []; main = 0 }
 
@@ -2846,161 +3029,161 @@ top_cell_grows_in_place_size = (refl, refl)
 abbrev script_budget_is_enough_for_each_item_check : Script
 script_budget_is_enough_for_each_item_check = record { classes = []; procedures = (record { line = 1; parameters = []; body = record { locals = (OfPointer None) ∷ (OfPointer None) ∷ (OfPointer None) ∷ []; statements = (on 5 (Statement-F.Alloc (Held (H.Local 0)) (Constant (pos 16)) Leaves)) ∷ (on 6 (Statement-F.Push (Held (H.Local 0)))) ∷ (on 7 (Statement-F.Alloc (Held (H.Local 1)) (Constant (pos 16)) Leaves)) ∷ (on 8 (Statement-F.Push (Held (H.Local 1)))) ∷ (on 9 (Statement-F.Alloc (Held (H.Local 2)) (Constant (pos 16)) Leaves)) ∷ (on 10 (Statement-F.Push (Held (H.Local 2)))) ∷ (on 11 (Statement-F.PopDestroy (Constant (pos 3)))) ∷ (on 12 (Statement-F.PrintText (Quoted 0))) ∷ [] } }) ∷ []; operations = []; literals = (110 ∷ 111 ∷ 110 ∷ 101 ∷ 32 ∷ 105 ∷ 115 ∷ 32 ∷ 108 ∷ 101 ∷ 102 ∷ 116 ∷ []) ∷ []; main = 0 }
 
-budget_is_enough_for_each_item_check : (required script_budget_is_enough_for_each_item_check 10000 (shaped 4096 4096) ≡ 240) × (rises script_budget_is_enough_for_each_item_check 10000 (shaped 4096 4096) ≡ (rise 1 144) ∷ (rise 2 176) ∷ (rise 3 208) ∷ (rise 4 240) ∷ []) × (length (run_at script_budget_is_enough_for_each_item_check 10000 (shaped 4096 4096) 0).trace ≡ 4) × (least_bad_or_cut script_budget_is_enough_for_each_item_check 10000 (shaped 4096 4096) ≡ None)
+budget_is_enough_for_each_item_check : (required script_budget_is_enough_for_each_item_check 10000 (shaped 4096 4096) ≡ 240) × (rises script_budget_is_enough_for_each_item_check 10000 (shaped 4096 4096) ≡ (rise 1 144) ∷ (rise 2 176) ∷ (rise 3 208) ∷ (rise 4 240) ∷ []) × (length (runs_of Single script_budget_is_enough_for_each_item_check 10000 (shaped 4096 4096) 0).trace ≡ 4) × (least_bad_or_cut Single script_budget_is_enough_for_each_item_check 10000 (shaped 4096 4096) ≡ None)
 unfolding everything
 budget_is_enough_for_each_item_check = (refl, refl, refl, refl)
 
 abbrev script_eighth_push_grows_the_cleanup_cell_check : Script
 script_eighth_push_grows_the_cleanup_cell_check = record { classes = []; procedures = (record { line = 1; parameters = []; body = record { locals = (OfPointer None) ∷ []; statements = (on 3 (Statement-F.Repeat (Constant (pos 8)) ((on 4 (Statement-F.Alloc (Held (H.Local 0)) (Constant (pos 16)) Leaves)) ∷ (on 5 (Statement-F.Push (Held (H.Local 0)))) ∷ []))) ∷ (on 7 (Statement-F.PopDestroy (Constant (pos 8)))) ∷ [] } }) ∷ []; operations = []; literals = []; main = 0 }
 
-eighth_push_grows_the_cleanup_cell_check : (required script_eighth_push_grows_the_cleanup_cell_check 10000 (shaped 4096 4096) ≡ 608) × (rises script_eighth_push_grows_the_cleanup_cell_check 10000 (shaped 4096 4096) ≡ (rise 1 144) ∷ (rise 2 176) ∷ (rise 3 208) ∷ (rise 4 240) ∷ (rise 5 272) ∷ (rise 6 304) ∷ (rise 7 336) ∷ (rise 8 368) ∷ (rise 9 400) ∷ (rise 10 608) ∷ []) × (length (run_at script_eighth_push_grows_the_cleanup_cell_check 10000 (shaped 4096 4096) 0).trace ≡ 10) × (least_bad_or_cut script_eighth_push_grows_the_cleanup_cell_check 10000 (shaped 4096 4096) ≡ None)
+eighth_push_grows_the_cleanup_cell_check : (required script_eighth_push_grows_the_cleanup_cell_check 10000 (shaped 4096 4096) ≡ 608) × (rises script_eighth_push_grows_the_cleanup_cell_check 10000 (shaped 4096 4096) ≡ (rise 1 144) ∷ (rise 2 176) ∷ (rise 3 208) ∷ (rise 4 240) ∷ (rise 5 272) ∷ (rise 6 304) ∷ (rise 7 336) ∷ (rise 8 368) ∷ (rise 9 400) ∷ (rise 10 608) ∷ []) × (length (runs_of Single script_eighth_push_grows_the_cleanup_cell_check 10000 (shaped 4096 4096) 0).trace ≡ 10) × (least_bad_or_cut Single script_eighth_push_grows_the_cleanup_cell_check 10000 (shaped 4096 4096) ≡ None)
 unfolding everything
 eighth_push_grows_the_cleanup_cell_check = (refl, refl, refl, refl)
 
 abbrev script_eighth_push_grows_the_cleanup_cell_sweep : Script
 script_eighth_push_grows_the_cleanup_cell_sweep = record { classes = []; procedures = (record { line = 1; parameters = []; body = record { locals = (OfPointer None) ∷ []; statements = (on 3 (Statement-F.Repeat (Constant (pos 8)) ((on 4 (Statement-F.Alloc (Held (H.Local 0)) (Constant (pos 16)) Leaves)) ∷ (on 5 (Statement-F.Push (Held (H.Local 0)))) ∷ []))) ∷ (on 7 (Statement-F.PopDestroy (Constant (pos 8)))) ∷ [] } }) ∷ []; operations = []; literals = []; main = 0 }
 
-eighth_push_grows_the_cleanup_cell_sweep : (length (run_at script_eighth_push_grows_the_cleanup_cell_sweep 10000 (shaped 4096 4096) 0).trace ≡ 10) × (least_bad_or_cut script_eighth_push_grows_the_cleanup_cell_sweep 10000 (shaped 4096 4096) ≡ None)
+eighth_push_grows_the_cleanup_cell_sweep : (length (runs_of Single script_eighth_push_grows_the_cleanup_cell_sweep 10000 (shaped 4096 4096) 0).trace ≡ 10) × (least_bad_or_cut Single script_eighth_push_grows_the_cleanup_cell_sweep 10000 (shaped 4096 4096) ≡ None)
 unfolding everything
 eighth_push_grows_the_cleanup_cell_sweep = (refl, refl)
 
 abbrev script_empty_main_check : Script
 script_empty_main_check = record { classes = []; procedures = (record { line = 1; parameters = []; body = record { locals = []; statements = [] } }) ∷ []; operations = []; literals = []; main = 0 }
 
-empty_main_check : (required script_empty_main_check 10000 (shaped 4096 4096) ≡ 144) × (rises script_empty_main_check 10000 (shaped 4096 4096) ≡ (rise 1 144) ∷ []) × (length (run_at script_empty_main_check 10000 (shaped 4096 4096) 0).trace ≡ 1) × (least_bad_or_cut script_empty_main_check 10000 (shaped 4096 4096) ≡ None)
+empty_main_check : (required script_empty_main_check 10000 (shaped 4096 4096) ≡ 144) × (rises script_empty_main_check 10000 (shaped 4096 4096) ≡ (rise 1 144) ∷ []) × (length (runs_of Single script_empty_main_check 10000 (shaped 4096 4096) 0).trace ≡ 1) × (least_bad_or_cut Single script_empty_main_check 10000 (shaped 4096 4096) ≡ None)
 unfolding everything
 empty_main_check = (refl, refl, refl, refl)
 
 abbrev script_failure_that_outruns_the_budget_check : Script
 script_failure_that_outruns_the_budget_check = record { classes = []; procedures = (record { line = 1; parameters = []; body = record { locals = (OfPointer None) ∷ []; statements = (on 3 (Statement-F.Alloc (Held (H.Local 0)) (Constant (pos 16)) GivesNull)) ∷ (on 4 (Statement-F.If (IsNull (Held (H.Local 0))) ((on 5 (Statement-F.Repeat (Constant (pos 20000)) [])) ∷ []))) ∷ (on 8 (Statement-F.Free (Held (H.Local 0)))) ∷ [] } }) ∷ []; operations = []; literals = []; main = 0 }
 
-failure_that_outruns_the_budget_check : (required script_failure_that_outruns_the_budget_check 10000 (shaped 4096 4096) ≡ 176) × (rises script_failure_that_outruns_the_budget_check 10000 (shaped 4096 4096) ≡ (rise 1 144) ∷ (rise 2 176) ∷ []) × (least_bad_or_cut script_failure_that_outruns_the_budget_check 10000 (shaped 4096 4096) ≡ Some 2) × ((run_at script_failure_that_outruns_the_budget_check 10000 (shaped 4096 4096) 2).outcome ≡ Cut Budget)
+failure_that_outruns_the_budget_check : (required script_failure_that_outruns_the_budget_check 10000 (shaped 4096 4096) ≡ 176) × (rises script_failure_that_outruns_the_budget_check 10000 (shaped 4096 4096) ≡ (rise 1 144) ∷ (rise 2 176) ∷ []) × (least_bad_or_cut Single script_failure_that_outruns_the_budget_check 10000 (shaped 4096 4096) ≡ Some 2) × ((runs_of Single script_failure_that_outruns_the_budget_check 10000 (shaped 4096 4096) 2).outcome ≡ Cut Budget)
 unfolding everything
 failure_that_outruns_the_budget_check = (refl, refl, refl, refl)
 
 abbrev script_failure_that_outruns_the_budget_sweep : Script
 script_failure_that_outruns_the_budget_sweep = record { classes = []; procedures = (record { line = 1; parameters = []; body = record { locals = (OfPointer None) ∷ []; statements = (on 3 (Statement-F.Alloc (Held (H.Local 0)) (Constant (pos 16)) GivesNull)) ∷ (on 4 (Statement-F.If (IsNull (Held (H.Local 0))) ((on 5 (Statement-F.Repeat (Constant (pos 20000)) [])) ∷ []))) ∷ (on 8 (Statement-F.Free (Held (H.Local 0)))) ∷ [] } }) ∷ []; operations = []; literals = []; main = 0 }
 
-failure_that_outruns_the_budget_sweep : (least_bad_or_cut script_failure_that_outruns_the_budget_sweep 10000 (shaped 4096 4096) ≡ Some 2) × ((run_at script_failure_that_outruns_the_budget_sweep 10000 (shaped 4096 4096) 2).outcome ≡ Cut Budget)
+failure_that_outruns_the_budget_sweep : (least_bad_or_cut Single script_failure_that_outruns_the_budget_sweep 10000 (shaped 4096 4096) ≡ Some 2) × ((runs_of Single script_failure_that_outruns_the_budget_sweep 10000 (shaped 4096 4096) 2).outcome ≡ Cut Budget)
 unfolding everything
 failure_that_outruns_the_budget_sweep = (refl, refl)
 
 abbrev script_first_fit_reuses_hole_check : Script
 script_first_fit_reuses_hole_check = record { classes = []; procedures = (record { line = 1; parameters = []; body = record { locals = (OfPointer None) ∷ (OfPointer None) ∷ (OfPointer None) ∷ []; statements = (on 5 (Statement-F.Alloc (Held (H.Local 0)) (Constant (pos 10)) GivesNull)) ∷ (on 6 (Statement-F.Alloc (Held (H.Local 1)) (Constant (pos 100)) GivesNull)) ∷ (on 7 (Statement-F.Free (Held (H.Local 0)))) ∷ (on 8 (Statement-F.Alloc (Held (H.Local 2)) (Constant (pos 16)) GivesNull)) ∷ (on 9 (Statement-F.Free (Held (H.Local 1)))) ∷ (on 10 (Statement-F.Free (Held (H.Local 2)))) ∷ [] } }) ∷ []; operations = []; literals = []; main = 0 }
 
-first_fit_reuses_hole_check : (required script_first_fit_reuses_hole_check 10000 (shaped 4096 4096) ≡ 304) × (rises script_first_fit_reuses_hole_check 10000 (shaped 4096 4096) ≡ (rise 1 144) ∷ (rise 2 176) ∷ (rise 3 304) ∷ []) × (length (run_at script_first_fit_reuses_hole_check 10000 (shaped 4096 4096) 0).trace ≡ 4) × (least_bad_or_cut script_first_fit_reuses_hole_check 10000 (shaped 4096 4096) ≡ None)
+first_fit_reuses_hole_check : (required script_first_fit_reuses_hole_check 10000 (shaped 4096 4096) ≡ 304) × (rises script_first_fit_reuses_hole_check 10000 (shaped 4096 4096) ≡ (rise 1 144) ∷ (rise 2 176) ∷ (rise 3 304) ∷ []) × (length (runs_of Single script_first_fit_reuses_hole_check 10000 (shaped 4096 4096) 0).trace ≡ 4) × (least_bad_or_cut Single script_first_fit_reuses_hole_check 10000 (shaped 4096 4096) ≡ None)
 unfolding everything
 first_fit_reuses_hole_check = (refl, refl, refl, refl)
 
 abbrev script_item_that_was_freed_by_hand_check : Script
 script_item_that_was_freed_by_hand_check = record { classes = []; procedures = (record { line = 1; parameters = []; body = record { locals = (OfPointer None) ∷ (OfPointer None) ∷ []; statements = (on 4 (Statement-F.Alloc (Held (H.Local 0)) (Constant (pos 16)) Leaves)) ∷ (on 5 (Statement-F.Push (Held (H.Local 0)))) ∷ (on 6 (Statement-F.Free (Held (H.Local 0)))) ∷ (on 7 (Statement-F.Alloc (Held (H.Local 1)) (Constant (pos 16)) Leaves)) ∷ (on 8 (Statement-F.Pop (Constant (pos 1)))) ∷ (on 9 (Statement-F.Free (Held (H.Local 1)))) ∷ [] } }) ∷ []; operations = []; literals = []; main = 0 }
 
-item_that_was_freed_by_hand_check : (required script_item_that_was_freed_by_hand_check 10000 (shaped 4096 4096) ≡ 176) × (rises script_item_that_was_freed_by_hand_check 10000 (shaped 4096 4096) ≡ (rise 1 144) ∷ (rise 2 176) ∷ []) × (length (run_at script_item_that_was_freed_by_hand_check 10000 (shaped 4096 4096) 0).trace ≡ 3) × (least_bad_or_cut script_item_that_was_freed_by_hand_check 10000 (shaped 4096 4096) ≡ Some 3) × (run_at script_item_that_was_freed_by_hand_check 10000 (shaped 4096 4096) 3 ≡ record { outcome = Panicked (P.User 42); trace = (line 1 144 0 Granted) ∷ (line 2 32 144 Granted) ∷ (line 3 32 144 Simulated) ∷ []; lines = []; notes = []; steps = 5 })
+item_that_was_freed_by_hand_check : (required script_item_that_was_freed_by_hand_check 10000 (shaped 4096 4096) ≡ 176) × (rises script_item_that_was_freed_by_hand_check 10000 (shaped 4096 4096) ≡ (rise 1 144) ∷ (rise 2 176) ∷ []) × (length (runs_of Single script_item_that_was_freed_by_hand_check 10000 (shaped 4096 4096) 0).trace ≡ 3) × (least_bad_or_cut Single script_item_that_was_freed_by_hand_check 10000 (shaped 4096 4096) ≡ Some 3) × (runs_of Single script_item_that_was_freed_by_hand_check 10000 (shaped 4096 4096) 3 ≡ record { outcome = Panicked (P.User 42); trace = (line 1 144 0 Granted) ∷ (line 2 32 144 Granted) ∷ (line 3 32 144 Simulated) ∷ []; lines = []; notes = []; steps = 5 })
 unfolding everything
 item_that_was_freed_by_hand_check = (refl, refl, refl, refl, refl)
 
 abbrev script_leak_that_needs_two_failures_sweep : Script
 script_leak_that_needs_two_failures_sweep = record { classes = []; procedures = (record { line = 1; parameters = []; body = record { locals = (OfPointer None) ∷ (OfPointer None) ∷ (OfPointer None) ∷ []; statements = (on 5 (Statement-F.Alloc (Held (H.Local 0)) (Constant (pos 16)) GivesNull)) ∷ (on 6 (Statement-F.Alloc (Held (H.Local 1)) (Constant (pos 16)) GivesNull)) ∷ (on 7 (Statement-F.Alloc (Held (H.Local 2)) (Constant (pos 16)) GivesNull)) ∷ (on 8 (Statement-F.If (IsNull (Held (H.Local 0))) ((on 9 (Statement-F.If (IsNull (Held (H.Local 2))) ((on 10 (Statement-F.Leave (Constant (negsuc 3)))) ∷ []))) ∷ []))) ∷ (on 13 (Statement-F.Free (Held (H.Local 0)))) ∷ (on 14 (Statement-F.Free (Held (H.Local 1)))) ∷ (on 15 (Statement-F.Free (Held (H.Local 2)))) ∷ [] } }) ∷ []; operations = []; literals = []; main = 0 }
 
-leak_that_needs_two_failures_sweep : (length (run_at script_leak_that_needs_two_failures_sweep 10000 (shaped 4096 4096) 0).trace ≡ 4) × (least_bad_or_cut script_leak_that_needs_two_failures_sweep 10000 (shaped 4096 4096) ≡ None)
+leak_that_needs_two_failures_sweep : (length (runs_of Single script_leak_that_needs_two_failures_sweep 10000 (shaped 4096 4096) 0).trace ≡ 4) × (least_bad_or_cut Single script_leak_that_needs_two_failures_sweep 10000 (shaped 4096 4096) ≡ None)
 unfolding everything
 leak_that_needs_two_failures_sweep = (refl, refl)
 
 abbrev script_leak_without_any_failure_sweep : Script
 script_leak_without_any_failure_sweep = record { classes = []; procedures = (record { line = 1; parameters = []; body = record { locals = (OfPointer None) ∷ []; statements = (on 3 (Statement-F.Alloc (Held (H.Local 0)) (Constant (pos 16)) GivesNull)) ∷ [] } }) ∷ []; operations = []; literals = []; main = 0 }
 
-leak_without_any_failure_sweep : (length (run_at script_leak_without_any_failure_sweep 10000 (shaped 4096 4096) 0).trace ≡ 2) × (least_bad_or_cut script_leak_without_any_failure_sweep 10000 (shaped 4096 4096) ≡ Some 0) × (run_at script_leak_without_any_failure_sweep 10000 (shaped 4096 4096) 0 ≡ record { outcome = Ended None ((record { number = 2; length = 32; place = 144 }) ∷ []); trace = (line 1 144 0 Granted) ∷ (line 2 32 144 Granted) ∷ []; lines = []; notes = []; steps = 1 })
+leak_without_any_failure_sweep : (length (runs_of Single script_leak_without_any_failure_sweep 10000 (shaped 4096 4096) 0).trace ≡ 2) × (least_bad_or_cut Single script_leak_without_any_failure_sweep 10000 (shaped 4096 4096) ≡ Some 0) × (runs_of Single script_leak_without_any_failure_sweep 10000 (shaped 4096 4096) 0 ≡ record { outcome = Ended None ((record { number = 2; length = 32; place = 144 }) ∷ []); trace = (line 1 144 0 Granted) ∷ (line 2 32 144 Granted) ∷ []; lines = []; notes = []; steps = 1 })
 unfolding everything
 leak_without_any_failure_sweep = (refl, refl, refl)
 
 abbrev script_leave_destroys_the_items_of_all_callees_sweep : Script
 script_leave_destroys_the_items_of_all_callees_sweep = record { classes = []; procedures = (record { line = 1; parameters = []; body = record { locals = (OfPointer None) ∷ []; statements = (on 3 (Statement-F.Alloc (Held (H.Local 0)) (Constant (pos 16)) Leaves)) ∷ (on 4 (Statement-F.Push (Held (H.Local 0)))) ∷ (on 5 (Statement-F.Leave (Constant (negsuc 6)))) ∷ [] } }) ∷ (record { line = 7; parameters = []; body = record { locals = (OfPointer None) ∷ []; statements = (on 9 (Statement-F.Alloc (Held (H.Local 0)) (Constant (pos 32)) Leaves)) ∷ (on 10 (Statement-F.Push (Held (H.Local 0)))) ∷ (on 11 (Statement-F.Call 0 [])) ∷ (on 12 (Statement-F.PopDestroy (Constant (pos 1)))) ∷ [] } }) ∷ (record { line = 14; parameters = []; body = record { locals = (OfPointer None) ∷ []; statements = (on 16 (Statement-F.Alloc (Held (H.Local 0)) (Constant (pos 48)) Leaves)) ∷ (on 17 (Statement-F.Push (Held (H.Local 0)))) ∷ (on 18 (Statement-F.Call 1 [])) ∷ (on 19 (Statement-F.PopDestroy (Constant (pos 1)))) ∷ [] } }) ∷ (record { line = 21; parameters = []; body = record { locals = OfNumber ∷ []; statements = (on 23 (Statement-F.Trap 0 ((on 24 (Statement-F.Call 2 [])) ∷ []))) ∷ (on 26 (Statement-F.PrintNumber (Variable 0))) ∷ [] } }) ∷ []; operations = []; literals = []; main = 3 }
 
-leave_destroys_the_items_of_all_callees_sweep : (length (run_at script_leave_destroys_the_items_of_all_callees_sweep 10000 (shaped 4096 4096) 0).trace ≡ 4) × (least_bad_or_cut script_leave_destroys_the_items_of_all_callees_sweep 10000 (shaped 4096 4096) ≡ None)
+leave_destroys_the_items_of_all_callees_sweep : (length (runs_of Single script_leave_destroys_the_items_of_all_callees_sweep 10000 (shaped 4096 4096) 0).trace ≡ 4) × (least_bad_or_cut Single script_leave_destroys_the_items_of_all_callees_sweep 10000 (shaped 4096 4096) ≡ None)
 unfolding everything
 leave_destroys_the_items_of_all_callees_sweep = (refl, refl)
 
 abbrev script_marks_never_count_the_cleanup_cell_check : Script
 script_marks_never_count_the_cleanup_cell_check = record { classes = []; procedures = (record { line = 1; parameters = []; body = record { locals = (OfPointer None) ∷ []; statements = (on 3 Statement-F.Mark) ∷ (on 4 (Statement-F.Repeat (Constant (pos 8)) ((on 5 (Statement-F.Push (Held (H.Local 0)))) ∷ []))) ∷ (on 7 (Statement-F.Pop (Constant (pos 8)))) ∷ (on 8 (Statement-F.MarkEnd (Constant (pos 0)))) ∷ [] } }) ∷ []; operations = []; literals = []; main = 0 }
 
-marks_never_count_the_cleanup_cell_check : (required script_marks_never_count_the_cleanup_cell_check 10000 (shaped 4096 4096) ≡ 208) × (rises script_marks_never_count_the_cleanup_cell_check 10000 (shaped 4096 4096) ≡ (rise 1 144) ∷ (rise 2 208) ∷ []) × (length (run_at script_marks_never_count_the_cleanup_cell_check 10000 (shaped 4096 4096) 0).trace ≡ 2) × (least_bad_or_cut script_marks_never_count_the_cleanup_cell_check 10000 (shaped 4096 4096) ≡ None)
+marks_never_count_the_cleanup_cell_check : (required script_marks_never_count_the_cleanup_cell_check 10000 (shaped 4096 4096) ≡ 208) × (rises script_marks_never_count_the_cleanup_cell_check 10000 (shaped 4096 4096) ≡ (rise 1 144) ∷ (rise 2 208) ∷ []) × (length (runs_of Single script_marks_never_count_the_cleanup_cell_check 10000 (shaped 4096 4096) 0).trace ≡ 2) × (least_bad_or_cut Single script_marks_never_count_the_cleanup_cell_check 10000 (shaped 4096 4096) ≡ None)
 unfolding everything
 marks_never_count_the_cleanup_cell_check = (refl, refl, refl, refl)
 
 abbrev script_next_push_asks_for_the_growth_again_check : Script
 script_next_push_asks_for_the_growth_again_check = record { classes = []; procedures = (record { line = 1; parameters = []; body = record { locals = (OfPointer None) ∷ (OfPointer None) ∷ OfNumber ∷ []; statements = (on 5 (Statement-F.Repeat (Constant (pos 7)) ((on 6 (Statement-F.Push (Held (H.Local 1)))) ∷ []))) ∷ (on 8 (Statement-F.Alloc (Held (H.Local 0)) (Constant (pos 16)) GivesNull)) ∷ (on 9 (Statement-F.FailNext (Constant (pos 1)))) ∷ (on 10 (Statement-F.Trap 2 ((on 11 (Statement-F.Push (Held (H.Local 0)))) ∷ []))) ∷ (on 13 (Statement-F.PrintNumber (Variable 2))) ∷ (on 14 (Statement-F.Alloc (Held (H.Local 0)) (Constant (pos 16)) GivesNull)) ∷ (on 15 (Statement-F.Push (Held (H.Local 0)))) ∷ (on 16 (Statement-F.PopDestroy (Constant (pos 1)))) ∷ (on 17 (Statement-F.Pop (Constant (pos 7)))) ∷ [] } }) ∷ []; operations = []; literals = []; main = 0 }
 
-next_push_asks_for_the_growth_again_check : (required script_next_push_asks_for_the_growth_again_check 10000 (shaped 4096 4096) ≡ 384) × (rises script_next_push_asks_for_the_growth_again_check 10000 (shaped 4096 4096) ≡ (rise 1 144) ∷ (rise 2 176) ∷ (rise 5 384) ∷ []) × (length (run_at script_next_push_asks_for_the_growth_again_check 10000 (shaped 4096 4096) 0).trace ≡ 5) × (least_bad_or_cut script_next_push_asks_for_the_growth_again_check 10000 (shaped 4096 4096) ≡ None)
+next_push_asks_for_the_growth_again_check : (required script_next_push_asks_for_the_growth_again_check 10000 (shaped 4096 4096) ≡ 384) × (rises script_next_push_asks_for_the_growth_again_check 10000 (shaped 4096 4096) ≡ (rise 1 144) ∷ (rise 2 176) ∷ (rise 5 384) ∷ []) × (length (runs_of Single script_next_push_asks_for_the_growth_again_check 10000 (shaped 4096 4096) 0).trace ≡ 5) × (least_bad_or_cut Single script_next_push_asks_for_the_growth_again_check 10000 (shaped 4096 4096) ≡ None)
 unfolding everything
 next_push_asks_for_the_growth_again_check = (refl, refl, refl, refl)
 
 abbrev script_panic_without_any_failure_sweep : Script
 script_panic_without_any_failure_sweep = record { classes = []; procedures = (record { line = 1; parameters = []; body = record { locals = (OfPointer None) ∷ (OfPointer None) ∷ []; statements = (on 4 (Statement-F.Alloc (Held (H.Local 0)) (Constant (pos 16)) GivesNull)) ∷ (on 5 (Statement-F.Free (Held (H.Local 0)))) ∷ (on 6 (Statement-F.Alloc (Held (H.Local 1)) (Constant (pos 16)) GivesNull)) ∷ (on 7 (Statement-F.Free (Held (H.Local 0)))) ∷ [] } }) ∷ []; operations = []; literals = []; main = 0 }
 
-panic_without_any_failure_sweep : (length (run_at script_panic_without_any_failure_sweep 10000 (shaped 4096 4096) 0).trace ≡ 3) × (least_bad_or_cut script_panic_without_any_failure_sweep 10000 (shaped 4096 4096) ≡ Some 0) × (run_at script_panic_without_any_failure_sweep 10000 (shaped 4096 4096) 0 ≡ record { outcome = Panicked (P.User 42); trace = (line 1 144 0 Granted) ∷ (line 2 32 144 Granted) ∷ (line 3 32 144 Granted) ∷ []; lines = []; notes = []; steps = 4 })
+panic_without_any_failure_sweep : (length (runs_of Single script_panic_without_any_failure_sweep 10000 (shaped 4096 4096) 0).trace ≡ 3) × (least_bad_or_cut Single script_panic_without_any_failure_sweep 10000 (shaped 4096 4096) ≡ Some 0) × (runs_of Single script_panic_without_any_failure_sweep 10000 (shaped 4096 4096) 0 ≡ record { outcome = Panicked (P.User 42); trace = (line 1 144 0 Granted) ∷ (line 2 32 144 Granted) ∷ (line 3 32 144 Granted) ∷ []; lines = []; notes = []; steps = 4 })
 unfolding everything
 panic_without_any_failure_sweep = (refl, refl, refl)
 
 abbrev script_popped_item_of_a_refused_request_sweep : Script
 script_popped_item_of_a_refused_request_sweep = record { classes = []; procedures = (record { line = 1; parameters = []; body = record { locals = (OfPointer None) ∷ (OfPointer None) ∷ []; statements = (on 4 (Statement-F.Alloc (Held (H.Local 0)) (Constant (pos 16)) Leaves)) ∷ (on 5 (Statement-F.Push (Held (H.Local 0)))) ∷ (on 6 (Statement-F.Pop (Constant (pos 1)))) ∷ (on 7 (Statement-F.Alloc (Held (H.Local 1)) (Constant (pos 16)) Leaves)) ∷ (on 8 (Statement-F.Free (Held (H.Local 1)))) ∷ (on 9 (Statement-F.Free (Held (H.Local 0)))) ∷ [] } }) ∷ []; operations = []; literals = []; main = 0 }
 
-popped_item_of_a_refused_request_sweep : (length (run_at script_popped_item_of_a_refused_request_sweep 10000 (shaped 4096 4096) 0).trace ≡ 3) × (least_bad_or_cut script_popped_item_of_a_refused_request_sweep 10000 (shaped 4096 4096) ≡ Some 3) × (run_at script_popped_item_of_a_refused_request_sweep 10000 (shaped 4096 4096) 3 ≡ record { outcome = Ended (Some (negsuc 3)) ((record { number = 2; length = 32; place = 144 }) ∷ []); trace = (line 1 144 0 Granted) ∷ (line 2 32 144 Granted) ∷ (line 3 32 176 Simulated) ∷ []; lines = []; notes = []; steps = 4 })
+popped_item_of_a_refused_request_sweep : (length (runs_of Single script_popped_item_of_a_refused_request_sweep 10000 (shaped 4096 4096) 0).trace ≡ 3) × (least_bad_or_cut Single script_popped_item_of_a_refused_request_sweep 10000 (shaped 4096 4096) ≡ Some 3) × (runs_of Single script_popped_item_of_a_refused_request_sweep 10000 (shaped 4096 4096) 3 ≡ record { outcome = Ended (Some (negsuc 3)) ((record { number = 2; length = 32; place = 144 }) ∷ []); trace = (line 1 144 0 Granted) ∷ (line 2 32 144 Granted) ∷ (line 3 32 176 Simulated) ∷ []; lines = []; notes = []; steps = 4 })
 unfolding everything
 popped_item_of_a_refused_request_sweep = (refl, refl, refl)
 
 abbrev script_procedure_returns_a_pushed_cell_check : Script
 script_procedure_returns_a_pushed_cell_check = record { classes = []; procedures = (record { line = 1; parameters = Par.OfNumber ∷ []; body = record { locals = (OfPointer None) ∷ []; statements = (on 3 (Statement-F.Alloc (Held (H.Local 1)) (Variable 0) Leaves)) ∷ (on 4 (Statement-F.Push (Held (H.Local 1)))) ∷ (on 5 (Statement-F.ReturnPointer (Held (H.Local 1)))) ∷ [] } }) ∷ (record { line = 7; parameters = []; body = record { locals = (OfPointer None) ∷ []; statements = (on 9 (Statement-F.CallTo 0 0 ((Given (Constant (pos 40))) ∷ []))) ∷ (on 10 (Statement-F.PopDestroy (Constant (pos 1)))) ∷ [] } }) ∷ []; operations = []; literals = []; main = 1 }
 
-procedure_returns_a_pushed_cell_check : (required script_procedure_returns_a_pushed_cell_check 10000 (shaped 4096 4096) ≡ 208) × (rises script_procedure_returns_a_pushed_cell_check 10000 (shaped 4096 4096) ≡ (rise 1 144) ∷ (rise 2 208) ∷ []) × (length (run_at script_procedure_returns_a_pushed_cell_check 10000 (shaped 4096 4096) 0).trace ≡ 2) × (least_bad_or_cut script_procedure_returns_a_pushed_cell_check 10000 (shaped 4096 4096) ≡ None)
+procedure_returns_a_pushed_cell_check : (required script_procedure_returns_a_pushed_cell_check 10000 (shaped 4096 4096) ≡ 208) × (rises script_procedure_returns_a_pushed_cell_check 10000 (shaped 4096 4096) ≡ (rise 1 144) ∷ (rise 2 208) ∷ []) × (length (runs_of Single script_procedure_returns_a_pushed_cell_check 10000 (shaped 4096 4096) 0).trace ≡ 2) × (least_bad_or_cut Single script_procedure_returns_a_pushed_cell_check 10000 (shaped 4096 4096) ≡ None)
 unfolding everything
 procedure_returns_a_pushed_cell_check = (refl, refl, refl, refl)
 
 abbrev script_push_that_the_script_refuses_destroys_its_own_item_sweep : Script
 script_push_that_the_script_refuses_destroys_its_own_item_sweep = record { classes = []; procedures = (record { line = 1; parameters = []; body = record { locals = (OfPointer None) ∷ (OfPointer None) ∷ OfNumber ∷ []; statements = (on 5 (Statement-F.Alloc (Held (H.Local 0)) (Constant (pos 16)) GivesNull)) ∷ (on 6 (Statement-F.FailNext (Constant (pos 1)))) ∷ (on 7 (Statement-F.Trap 2 ((on 8 (Statement-F.Repeat (Constant (pos 7)) ((on 9 (Statement-F.Push (Held (H.Local 1)))) ∷ []))) ∷ (on 11 (Statement-F.Push (Held (H.Local 0)))) ∷ []))) ∷ (on 13 (Statement-F.PrintNumber (Variable 2))) ∷ (on 14 (Statement-F.Free (Held (H.Local 0)))) ∷ [] } }) ∷ []; operations = []; literals = []; main = 0 }
 
-push_that_the_script_refuses_destroys_its_own_item_sweep : (length (run_at script_push_that_the_script_refuses_destroys_its_own_item_sweep 10000 (shaped 4096 4096) 0).trace ≡ 3) × (least_bad_or_cut script_push_that_the_script_refuses_destroys_its_own_item_sweep 10000 (shaped 4096 4096) ≡ Some 0) × (run_at script_push_that_the_script_refuses_destroys_its_own_item_sweep 10000 (shaped 4096 4096) 0 ≡ record { outcome = Panicked (P.User 42); trace = (line 1 144 0 Granted) ∷ (line 2 32 144 Granted) ∷ (line 3 208 176 Simulated) ∷ []; lines = (45 ∷ 52 ∷ []) ∷ []; notes = []; steps = 29 })
+push_that_the_script_refuses_destroys_its_own_item_sweep : (length (runs_of Single script_push_that_the_script_refuses_destroys_its_own_item_sweep 10000 (shaped 4096 4096) 0).trace ≡ 3) × (least_bad_or_cut Single script_push_that_the_script_refuses_destroys_its_own_item_sweep 10000 (shaped 4096 4096) ≡ Some 0) × (runs_of Single script_push_that_the_script_refuses_destroys_its_own_item_sweep 10000 (shaped 4096 4096) 0 ≡ record { outcome = Panicked (P.User 42); trace = (line 1 144 0 Granted) ∷ (line 2 32 144 Granted) ∷ (line 3 208 176 Simulated) ∷ []; lines = (45 ∷ 52 ∷ []) ∷ []; notes = []; steps = 29 })
 unfolding everything
 push_that_the_script_refuses_destroys_its_own_item_sweep = (refl, refl, refl)
 
 abbrev script_pushed_object_survives_every_failure_sweep : Script
 script_pushed_object_survives_every_failure_sweep = record { classes = (record { line = 1; extra = 16; fields = None ∷ []; construct = Some (record { locals = []; statements = (on 4 (Statement-F.NewText (Field H.This 0 0) (Constant (pos 4)) Leaves)) ∷ [] }); destroy = Some (record { locals = []; statements = (on 7 (Statement-F.Free (Field H.This 0 0))) ∷ [] }) }) ∷ []; procedures = (record { line = 10; parameters = []; body = record { locals = (OfPointer (Some 0)) ∷ []; statements = (on 12 (Statement-F.New (Held (H.Local 0)) 0 Leaves)) ∷ (on 13 (Statement-F.PushObject (Held (H.Local 0)))) ∷ (on 14 (Statement-F.Construct (Held (H.Local 0)))) ∷ (on 15 (Statement-F.Pop (Constant (pos 1)))) ∷ (on 16 (Statement-F.Delete (Held (H.Local 0)))) ∷ [] } }) ∷ []; operations = []; literals = []; main = 0 }
 
-pushed_object_survives_every_failure_sweep : (length (run_at script_pushed_object_survives_every_failure_sweep 10000 (shaped 4096 4096) 0).trace ≡ 3) × (least_bad_or_cut script_pushed_object_survives_every_failure_sweep 10000 (shaped 4096 4096) ≡ None)
+pushed_object_survives_every_failure_sweep : (length (runs_of Single script_pushed_object_survives_every_failure_sweep 10000 (shaped 4096 4096) 0).trace ≡ 3) × (least_bad_or_cut Single script_pushed_object_survives_every_failure_sweep 10000 (shaped 4096 4096) ≡ None)
 unfolding everything
 pushed_object_survives_every_failure_sweep = (refl, refl)
 
 abbrev script_retry_that_fails_again_sweep : Script
 script_retry_that_fails_again_sweep = record { classes = []; procedures = (record { line = 1; parameters = []; body = record { locals = (OfPointer None) ∷ (OfPointer None) ∷ []; statements = (on 4 (Statement-F.Alloc (Held (H.Local 1)) (Constant (pos 16)) GivesNull)) ∷ (on 5 (Statement-F.Alloc (Held (H.Local 0)) (Constant (pos 16)) GivesNull)) ∷ (on 6 (Statement-F.If (IsNull (Held (H.Local 0))) ((on 7 (Statement-F.Alloc (Held (H.Local 0)) (Constant (pos 16)) GivesNull)) ∷ (on 8 (Statement-F.If (IsNull (Held (H.Local 0))) ((on 9 (Statement-F.Leave (Constant (negsuc 3)))) ∷ []))) ∷ []))) ∷ (on 12 (Statement-F.Free (Held (H.Local 0)))) ∷ (on 13 (Statement-F.Free (Held (H.Local 1)))) ∷ [] } }) ∷ []; operations = []; literals = []; main = 0 }
 
-retry_that_fails_again_sweep : (length (run_at script_retry_that_fails_again_sweep 10000 (shaped 4096 4096) 0).trace ≡ 3) × (least_bad_or_cut script_retry_that_fails_again_sweep 10000 (shaped 4096 4096) ≡ None)
+retry_that_fails_again_sweep : (length (runs_of Single script_retry_that_fails_again_sweep 10000 (shaped 4096 4096) 0).trace ≡ 3) × (least_bad_or_cut Single script_retry_that_fails_again_sweep 10000 (shaped 4096 4096) ≡ None)
 unfolding everything
 retry_that_fails_again_sweep = (refl, refl)
 
 abbrev script_stack_that_moves_check : Script
 script_stack_that_moves_check = record { classes = []; procedures = (record { line = 1; parameters = []; body = record { locals = (OfPointer None) ∷ (OfPointer None) ∷ (OfPointer None) ∷ []; statements = (on 5 (Statement-F.Alloc (Held (H.Local 0)) (Constant (pos 16)) GivesNull)) ∷ (on 6 (Statement-F.Repeat (Constant (pos 8)) ((on 7 (Statement-F.Push (Held (H.Local 2)))) ∷ []))) ∷ (on 9 Statement-F.NoteHeap) ∷ (on 10 Statement-F.NoteAvailable) ∷ (on 11 (Statement-F.Alloc (Held (H.Local 1)) (Constant (pos 112)) GivesNull)) ∷ (on 12 (Statement-F.Repeat (Constant (pos 4)) ((on 13 (Statement-F.Push (Held (H.Local 2)))) ∷ []))) ∷ (on 15 Statement-F.NoteHeap) ∷ (on 16 Statement-F.NoteAvailable) ∷ (on 17 (Statement-F.Pop (Constant (pos 12)))) ∷ (on 18 (Statement-F.Free (Held (H.Local 0)))) ∷ (on 19 (Statement-F.Free (Held (H.Local 1)))) ∷ [] } }) ∷ []; operations = []; literals = []; main = 0 }
 
-stack_that_moves_check : (required script_stack_that_moves_check 10000 (shaped 4096 4096) ≡ 448) × (rises script_stack_that_moves_check 10000 (shaped 4096 4096) ≡ (rise 1 144) ∷ (rise 2 176) ∷ (rise 3 384) ∷ (rise 5 448) ∷ []) × (length (run_at script_stack_that_moves_check 10000 (shaped 4096 4096) 0).trace ≡ 5) × (least_bad_or_cut script_stack_that_moves_check 10000 (shaped 4096 4096) ≡ Some 3) × (run_at script_stack_that_moves_check 10000 (shaped 4096 4096) 3 ≡ record { outcome = Ended (Some (negsuc 3)) ((record { number = 2; length = 32; place = 144 }) ∷ []); trace = (line 1 144 0 Granted) ∷ (line 2 32 144 Granted) ∷ (line 3 208 176 Simulated) ∷ []; lines = []; notes = []; steps = 26 })
+stack_that_moves_check : (required script_stack_that_moves_check 10000 (shaped 4096 4096) ≡ 448) × (rises script_stack_that_moves_check 10000 (shaped 4096 4096) ≡ (rise 1 144) ∷ (rise 2 176) ∷ (rise 3 384) ∷ (rise 5 448) ∷ []) × (length (runs_of Single script_stack_that_moves_check 10000 (shaped 4096 4096) 0).trace ≡ 5) × (least_bad_or_cut Single script_stack_that_moves_check 10000 (shaped 4096 4096) ≡ Some 3) × (runs_of Single script_stack_that_moves_check 10000 (shaped 4096 4096) 3 ≡ record { outcome = Ended (Some (negsuc 3)) ((record { number = 2; length = 32; place = 144 }) ∷ []); trace = (line 1 144 0 Granted) ∷ (line 2 32 144 Granted) ∷ (line 3 208 176 Simulated) ∷ []; lines = []; notes = []; steps = 26 })
 unfolding everything
 stack_that_moves_check = (refl, refl, refl, refl, refl)
 
 abbrev script_top_cell_grows_in_place_check : Script
 script_top_cell_grows_in_place_check = record { classes = []; procedures = (record { line = 1; parameters = []; body = record { locals = (OfPointer None) ∷ (OfPointer None) ∷ (OfPointer None) ∷ []; statements = (on 5 (Statement-F.Alloc (Held (H.Local 0)) (Constant (pos 48)) GivesNull)) ∷ (on 6 (Statement-F.Alloc (Held (H.Local 1)) (Constant (pos 16)) GivesNull)) ∷ (on 7 (Statement-F.Free (Held (H.Local 0)))) ∷ (on 8 (Statement-F.Realloc (Held (H.Local 2)) (Held (H.Local 1)) (Constant (pos 48)) GivesNull)) ∷ (on 9 (Statement-F.IfElse (IsNull (Held (H.Local 2))) ((on 10 (Statement-F.Free (Held (H.Local 1)))) ∷ []) ((on 12 (Statement-F.Free (Held (H.Local 2)))) ∷ []))) ∷ [] } }) ∷ []; operations = []; literals = []; main = 0 }
 
-top_cell_grows_in_place_check : (required script_top_cell_grows_in_place_check 10000 (shaped 4096 4096) ≡ 272) × (rises script_top_cell_grows_in_place_check 10000 (shaped 4096 4096) ≡ (rise 1 144) ∷ (rise 2 208) ∷ (rise 3 240) ∷ (rise 4 272) ∷ []) × (length (run_at script_top_cell_grows_in_place_check 10000 (shaped 4096 4096) 0).trace ≡ 4) × (least_bad_or_cut script_top_cell_grows_in_place_check 10000 (shaped 4096 4096) ≡ None)
+top_cell_grows_in_place_check : (required script_top_cell_grows_in_place_check 10000 (shaped 4096 4096) ≡ 272) × (rises script_top_cell_grows_in_place_check 10000 (shaped 4096 4096) ≡ (rise 1 144) ∷ (rise 2 208) ∷ (rise 3 240) ∷ (rise 4 272) ∷ []) × (length (runs_of Single script_top_cell_grows_in_place_check 10000 (shaped 4096 4096) 0).trace ≡ 4) × (least_bad_or_cut Single script_top_cell_grows_in_place_check 10000 (shaped 4096 4096) ≡ None)
 unfolding everything
 top_cell_grows_in_place_check = (refl, refl, refl, refl)
 
 abbrev script_unpushed_object_leaks_when_construction_fails_check : Script
 script_unpushed_object_leaks_when_construction_fails_check = record { classes = (record { line = 1; extra = 16; fields = None ∷ []; construct = Some (record { locals = []; statements = (on 4 (Statement-F.NewText (Field H.This 0 0) (Constant (pos 4)) Leaves)) ∷ [] }); destroy = Some (record { locals = []; statements = (on 7 (Statement-F.Free (Field H.This 0 0))) ∷ [] }) }) ∷ []; procedures = (record { line = 10; parameters = []; body = record { locals = (OfPointer (Some 0)) ∷ []; statements = (on 12 (Statement-F.New (Held (H.Local 0)) 0 Leaves)) ∷ (on 13 (Statement-F.Construct (Held (H.Local 0)))) ∷ (on 14 (Statement-F.Delete (Held (H.Local 0)))) ∷ [] } }) ∷ []; operations = []; literals = []; main = 0 }
 
-unpushed_object_leaks_when_construction_fails_check : (required script_unpushed_object_leaks_when_construction_fails_check 10000 (shaped 4096 4096) ≡ 224) × (rises script_unpushed_object_leaks_when_construction_fails_check 10000 (shaped 4096 4096) ≡ (rise 1 144) ∷ (rise 2 192) ∷ (rise 3 224) ∷ []) × (length (run_at script_unpushed_object_leaks_when_construction_fails_check 10000 (shaped 4096 4096) 0).trace ≡ 3) × (least_bad_or_cut script_unpushed_object_leaks_when_construction_fails_check 10000 (shaped 4096 4096) ≡ Some 3) × (run_at script_unpushed_object_leaks_when_construction_fails_check 10000 (shaped 4096 4096) 3 ≡ record { outcome = Ended (Some (negsuc 3)) ((record { number = 2; length = 48; place = 144 }) ∷ []); trace = (line 1 144 0 Granted) ∷ (line 2 48 144 Granted) ∷ (line 3 32 192 Simulated) ∷ []; lines = []; notes = []; steps = 3 })
+unpushed_object_leaks_when_construction_fails_check : (required script_unpushed_object_leaks_when_construction_fails_check 10000 (shaped 4096 4096) ≡ 224) × (rises script_unpushed_object_leaks_when_construction_fails_check 10000 (shaped 4096 4096) ≡ (rise 1 144) ∷ (rise 2 192) ∷ (rise 3 224) ∷ []) × (length (runs_of Single script_unpushed_object_leaks_when_construction_fails_check 10000 (shaped 4096 4096) 0).trace ≡ 3) × (least_bad_or_cut Single script_unpushed_object_leaks_when_construction_fails_check 10000 (shaped 4096 4096) ≡ Some 3) × (runs_of Single script_unpushed_object_leaks_when_construction_fails_check 10000 (shaped 4096 4096) 3 ≡ record { outcome = Ended (Some (negsuc 3)) ((record { number = 2; length = 48; place = 144 }) ∷ []); trace = (line 1 144 0 Granted) ∷ (line 2 48 144 Granted) ∷ (line 3 32 192 Simulated) ∷ []; lines = []; notes = []; steps = 3 })
 unfolding everything
 unpushed_object_leaks_when_construction_fails_check = (refl, refl, refl, refl, refl)
 
 abbrev script_unpushed_object_leaks_when_construction_fails_sweep : Script
 script_unpushed_object_leaks_when_construction_fails_sweep = record { classes = (record { line = 1; extra = 16; fields = None ∷ []; construct = Some (record { locals = []; statements = (on 4 (Statement-F.NewText (Field H.This 0 0) (Constant (pos 4)) Leaves)) ∷ [] }); destroy = Some (record { locals = []; statements = (on 7 (Statement-F.Free (Field H.This 0 0))) ∷ [] }) }) ∷ []; procedures = (record { line = 10; parameters = []; body = record { locals = (OfPointer (Some 0)) ∷ []; statements = (on 12 (Statement-F.New (Held (H.Local 0)) 0 Leaves)) ∷ (on 13 (Statement-F.Construct (Held (H.Local 0)))) ∷ (on 14 (Statement-F.Delete (Held (H.Local 0)))) ∷ [] } }) ∷ []; operations = []; literals = []; main = 0 }
 
-unpushed_object_leaks_when_construction_fails_sweep : (length (run_at script_unpushed_object_leaks_when_construction_fails_sweep 10000 (shaped 4096 4096) 0).trace ≡ 3) × (least_bad_or_cut script_unpushed_object_leaks_when_construction_fails_sweep 10000 (shaped 4096 4096) ≡ Some 3) × (run_at script_unpushed_object_leaks_when_construction_fails_sweep 10000 (shaped 4096 4096) 3 ≡ record { outcome = Ended (Some (negsuc 3)) ((record { number = 2; length = 48; place = 144 }) ∷ []); trace = (line 1 144 0 Granted) ∷ (line 2 48 144 Granted) ∷ (line 3 32 192 Simulated) ∷ []; lines = []; notes = []; steps = 3 })
+unpushed_object_leaks_when_construction_fails_sweep : (length (runs_of Single script_unpushed_object_leaks_when_construction_fails_sweep 10000 (shaped 4096 4096) 0).trace ≡ 3) × (least_bad_or_cut Single script_unpushed_object_leaks_when_construction_fails_sweep 10000 (shaped 4096 4096) ≡ Some 3) × (runs_of Single script_unpushed_object_leaks_when_construction_fails_sweep 10000 (shaped 4096 4096) 3 ≡ record { outcome = Ended (Some (negsuc 3)) ((record { number = 2; length = 48; place = 144 }) ∷ []); trace = (line 1 144 0 Granted) ∷ (line 2 48 144 Granted) ∷ (line 3 32 192 Simulated) ∷ []; lines = []; notes = []; steps = 3 })
 unfolding everything
 unpushed_object_leaks_when_construction_fails_sweep = (refl, refl, refl)
 

@@ -1,7 +1,6 @@
 -- The Agreement law: two rules give the same run up to the first attempt that they answer differently.
 use Rattle.std.specs.Prelude.{◌≡◌, ◌≢◌, ◌≤◌, ℕ, ◌+◌, List, ◌∷◌, ◌++◌, ◌⊎◌, Some, None, IsSome, length, slice_get}
 use Rattle.wb_model.specs.declared.heap.Rule.{Rule}
-use Rattle.wb_model.specs.declared.heap.Rule.TheVariants.{Limit}
 use Rattle.wb_model.specs.declared.heap.Shape.{Shape}
 use Rattle.wb_model.specs.declared.heap.Answer.TheVariants.{Granted}
 use Rattle.wb_model.specs.declared.heap.Attempt.{Attempt}
@@ -9,7 +8,7 @@ use Rattle.wb_model.specs.declared.run.Why.TheVariants.{Ceiling}
 use Rattle.wb_model.specs.declared.run.Outcome.TheVariants.{Cut}
 use Rattle.wb_model.specs.declared.run.RunResult.{RunResult}
 use Rattle.wb_model.specs.declared.script.Script.{Script}
-use Rattle.wb_model.specs.Rules.{refusal_of}
+use Rattle.wb_model.specs.Rules.{limit_of, refusal_of}
 use Rattle.wb_model.specs.Run.{run}
 use Rattle.wb_model.specs.Traces.{refusal_by, answer_by}
 
@@ -22,8 +21,7 @@ abbrev pub RefusesNoGrant : Rule → List Attempt → Type 0
 RefusesNoGrant s trace = (k : ℕ) (t : Attempt) → slice_get trace k ≡ Some t → t.answer ≡ Granted → refusal_by s t ≡ None
 
 abbrev pub IsNoLimit : Rule → Type 0
-IsNoLimit (Limit l) = ⊥
-IsNoLimit _ = Unit {0}
+IsNoLimit r = limit_of r ≡ None
 
 -- equal but for notes
 pub record IsSameButNotes (x y : RunResult) : Type 0 where

@@ -1,16 +1,30 @@
 -- What a rule and the script's own setting say of an attempt.
-use Rattle.std.specs.Prelude.{ℕ, zero, suc, ◌+◌, Bool, false, nat_eq, nat_lt, if◌then◌else◌, Option, Some, None}
+use Rattle.std.specs.Prelude.{ℕ, zero, suc, ◌+◌, ◌%◌, Bool, false, nat_eq, nat_lt, if◌then◌else◌, Option, Some, None}
 use Rattle.wb_model.specs.declared.limits.TheConstants.{CEILING}
 use Rattle.wb_model.specs.declared.heap.Rule.{Rule}
-use Rattle.wb_model.specs.declared.heap.Rule.TheVariants.{Unlimited, Limit, Number}
+use Rattle.wb_model.specs.declared.heap.Rule.TheVariants.{Limit, Number, Every}
 use Rattle.wb_model.specs.declared.heap.Answer.{Answer}
 use Rattle.wb_model.specs.declared.heap.Answer.TheVariants.{Granted, Simulated, Refused}
 
+-- the length past which a rule refuses each end, where it has one
+abbrev pub limit_of : Rule → Option ℕ
+limit_of (Limit l) = Some l
+limit_of _ = None
+
+-- whether a rule simulates the failure of the attempt with this number; rate 0 simulates none
+abbrev pub simulates : Rule → ℕ → Bool
+simulates (Number n) number = nat_eq n number
+simulates (Every n) number = if nat_eq n 0 then false else nat_eq (number % n) 0
+simulates _ number = false
+
+-- what is refused of an end past a limit
+abbrev pub refusal_past : Option ℕ → ℕ → Option Answer
+refusal_past None end = None
+refusal_past (Some l) end = if nat_lt l end then Some Refused else None
+
 -- what a rule says of an attempt with this number and end
 abbrev pub refusal_of : Rule → ℕ → ℕ → Option Answer
-refusal_of Unlimited number end = None
-refusal_of (Limit l) number end = if nat_lt l end then Some Refused else None
-refusal_of (Number n) number end = if nat_eq n number then Some Simulated else None
+refusal_of rule number end = if simulates rule number then Some Simulated else refusal_past (limit_of rule) end
 
 -- the script's own setting: none, the k-th next attempt, or every k-th
 pub data Setting : Type 0 where

@@ -1,11 +1,11 @@
 -- The committed length of a chunk: how a limit and a shape decide it, and the free runs below it.
-use Rattle.std.specs.Prelude.{ℕ, ◌+◌, ◌-◌, ◌*◌, ◌/◌, ◌%◌, ◌≡◌, ◌≤◌, List, [], ◌∷◌, Bool, ◌&&◌, nat_lt, nat_le, nat_eq, if◌then◌else◌, min, max, sum}
+use Rattle.std.specs.Prelude.{ℕ, ◌+◌, ◌-◌, ◌*◌, ◌/◌, ◌%◌, ◌≡◌, ◌≤◌, Option, Some, None, List, [], ◌∷◌, Bool, ◌&&◌, nat_lt, nat_le, nat_eq, if◌then◌else◌, min, max, sum}
 use Rattle.wb_model.specs.declared.limits.TheConstants.{CEILING, LARGEST_MINIMUM, SMALLEST_STEP, LARGEST_STEP}
 use Rattle.wb_model.specs.declared.heap.Rule.{Rule}
-use Rattle.wb_model.specs.declared.heap.Rule.TheVariants.{Limit}
 use Rattle.wb_model.specs.declared.heap.Shape.{Shape}
 use Rattle.wb_model.specs.declared.heap.Header.{Header}
 use Rattle.wb_model.specs.Row.{end_of, IsFree, total_length}
+use Rattle.wb_model.specs.Rules.{limit_of}
 
 -- the shapes that a heap may have
 abbrev pub is_shape : Shape → Bool
@@ -26,10 +26,14 @@ space_below bound shape = record { least = min shape.min bound; bound = bound; s
 abbrev pub bound_below : ℕ → ℕ
 bound_below limit = limit / 16 * 16
 
--- the length that a heap may reach under a rule: the limit or the ceiling, whichever is less
+-- a limit or the ceiling, whichever is less
+abbrev pub below_ceiling : Option ℕ → ℕ
+below_ceiling (Some l) = min l CEILING
+below_ceiling None = CEILING
+
+-- the length that a heap may reach under a rule
 abbrev pub limit_under : Rule → ℕ
-limit_under (Limit l) = min l CEILING
-limit_under _ = CEILING
+limit_under rule = below_ceiling (limit_of rule)
 
 abbrev pub space_of : Rule → Shape → Space
 space_of rule shape = space_below (bound_below (limit_under rule)) shape

@@ -1,6 +1,12 @@
 -- What a sweep looks for among runs that are numbered from 0 on.
 use Rattle.std.specs.Prelude.{◌≡◌, ℕ, zero, suc, ◌<◌, Bool, true, false, not, ◌&&◌, if◌then◌else◌, length, Option, Some, None}
-use Rattle.wb_model.specs.declared.heap.Rule.TheVariants.{Number}
+use Rattle.wb_model.specs.declared.failures.Failing.{Failing}
+use Rattle.wb_model.specs.declared.failures.Failing.TheVariants.{Number}
+use Rattle.wb_model.specs.declared.failures.Failing.TheVariants as failings
+use Rattle.wb_model.specs.declared.failures.Failures.{Failures}
+use Rattle.wb_model.specs.declared.failures.Failures.TheVariants.{Single, Every}
+use Rattle.wb_model.specs.declared.heap.Rule.{Rule}
+use Rattle.wb_model.specs.declared.heap.Rule.TheVariants as rules
 use Rattle.wb_model.specs.declared.heap.Shape.{Shape}
 use Rattle.wb_model.specs.declared.run.Outcome.{Outcome}
 use Rattle.wb_model.specs.declared.run.Outcome.TheVariants.{Cut}
@@ -37,22 +43,47 @@ abbrev pub least_unfine : (ℕ → RunResult) → ℕ → Option ℕ
 least_unfine runs zero = None
 least_unfine runs (suc n) = or_else (least_unfine runs n) (if is_fine (runs n) then None else Some n)
 
--- the run in which the attempt with a number fails; attempts count from 1, so number 0 is the run without failure
-abbrev pub run_at : Script → ℕ → Shape → ℕ → RunResult
-run_at script budget shape number = run script (Number number) budget shape
+-- the failure that a sweep tries as n
+abbrev pub failing_at : Failures → ℕ → Failing
+failing_at Single n = Number n
+failing_at Every n = failings.Every n
+
+-- the rule of a failure
+abbrev pub rule_for : Failing → Rule
+rule_for (Number n) = rules.Number n
+rule_for (failings.Every n) = rules.Every n
+
+abbrev pub rule_of : Failures → ℕ → Rule
+rule_of failures n = rule_for (failing_at failures n)
+
+-- the run under the failure that is tried as n: the attempt with number n fails, or every n-th does; as attempts count from 1,
+-- n = 0 is the run without failure
+abbrev pub runs_of : Failures → Script → ℕ → Shape → ℕ → RunResult
+runs_of failures script budget shape n = run script (rule_of failures n) budget shape
 
 -- what a sweep finds among the numbers up to the last attempt of the run without failure; `sweeps_end` among the laws says
 -- that it is the least of all numbers
-abbrev pub least_bad_or_cut : Script → ℕ → Shape → Option ℕ
-least_bad_or_cut script budget shape = least_unfine (run_at script budget shape) (suc (length (run_at script budget shape 0).trace))
+abbrev pub least_bad_or_cut : Failures → Script → ℕ → Shape → Option ℕ
+least_bad_or_cut failures script budget shape =
+    least_unfine (runs_of failures script budget shape) (suc (length (runs_of failures script budget shape 0).trace))
 
--- the least number whose simulated failure leaks or panics, and the run in which it does; no smaller number's run is cut
-pub record IsLeastBad (script : Script) (budget : ℕ) (shape : Shape) (number : ℕ) (result : RunResult) : Type 0 where
-  pub bad : is_bad (run_at script budget shape number) ≡ true
-  pub least : AreFineBelow (run_at script budget shape) number
-  pub run_is : result ≡ run_at script budget shape number
+-- the least number whose run leaks or panics, and that run; no smaller number's run is cut
+pub record IsLeastBad (runs : ℕ → RunResult) (number : ℕ) (result : RunResult) : Type 0 where
+  pub bad : is_bad (runs number) ≡ true
+  pub least : AreFineBelow runs number
+  pub run_is : result ≡ runs number
 
 -- the least number whose run is cut, and why; no smaller number's run is bad
-pub record IsLeastCut (script : Script) (budget : ℕ) (shape : Shape) (number : ℕ) (why : Why) : Type 0 where
-  pub cut : (run_at script budget shape number).outcome ≡ Cut why
-  pub least : AreFineBelow (run_at script budget shape) number
+pub record IsLeastCut (runs : ℕ → RunResult) (number : ℕ) (why : Why) : Type 0 where
+  pub cut : (runs number).outcome ≡ Cut why
+  pub least : AreFineBelow runs number
+
+-- the least failure whose run leaks or panics, and that run
+abbrev pub IsFound : Failures → Script → ℕ → Shape → Failing → RunResult → Type 0
+IsFound failures script budget shape at result =
+    (n : ℕ) × (at ≡ failing_at failures n) × IsLeastBad (runs_of failures script budget shape) n result
+
+-- the least failure whose run is cut, and why
+abbrev pub IsCutShort : Failures → Script → ℕ → Shape → Failing → Why → Type 0
+IsCutShort failures script budget shape at why =
+    (n : ℕ) × (at ≡ failing_at failures n) × IsLeastCut (runs_of failures script budget shape) n why

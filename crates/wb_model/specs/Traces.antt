@@ -2,11 +2,10 @@
 use Rattle.std.specs.Prelude.{◌≡◌, ◌⊎◌, ℕ, ◌+◌, ◌<◌, ◌≤◌, List, [], ◌∷◌, true, Option, Some, None}
 use Rattle.wb_model.specs.declared.limits.TheConstants.{CEILING}
 use Rattle.wb_model.specs.declared.heap.Rule.{Rule}
-use Rattle.wb_model.specs.declared.heap.Rule.TheVariants.{Limit, Number}
 use Rattle.wb_model.specs.declared.heap.Answer.{Answer}
 use Rattle.wb_model.specs.declared.heap.Answer.TheVariants.{Granted, Simulated, Refused}
 use Rattle.wb_model.specs.declared.heap.Attempt.{Attempt}
-use Rattle.wb_model.specs.Rules.{Request, is_due, refusal_of, unless_refused, answer_to}
+use Rattle.wb_model.specs.Rules.{Request, is_due, limit_of, refusal_of, unless_refused, answer_to}
 use Rattle.wb_model.specs.State.{Process, ends, stops, asks, notes}
 
 -- where the cell of an attempt ends, or would
@@ -49,9 +48,9 @@ pub record IsLine (rule : Rule) (made : ℕ) (asked : Request) (t : Attempt) : T
   -- the rule leaves the attempt open, and its cell ends within the ceiling
   pub granted : t.answer ≡ Granted → (refusal_by rule t ≡ None) × (end_of_attempt t ≤ CEILING)
   -- the rule is a limit, and the cell would end past it
-  pub refused : t.answer ≡ Refused → (limit : ℕ) × (rule ≡ Limit limit) × (limit < end_of_attempt t)
-  -- the script's own setting refuses the attempt, or the rule names it
-  pub simulated : t.answer ≡ Simulated → (asked.due ≡ true) ⊎ (rule ≡ Number t.number)
+  pub refused : t.answer ≡ Refused → (limit : ℕ) × (limit_of rule ≡ Some limit) × (limit < end_of_attempt t)
+  -- the script's own setting refuses the attempt, or the rule lets it fail
+  pub simulated : t.answer ≡ Simulated → (asked.due ≡ true) ⊎ (refusal_by rule t ≡ Some Simulated)
   -- and what the setting refuses isn't answered otherwise
   pub due : asked.due ≡ true → t.answer ≡ Simulated
 

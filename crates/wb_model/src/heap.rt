@@ -81,6 +81,9 @@ pub enum Rule {
     Limit(u32),
     /// The one with this number. Attempts count from 1, so number 0 refuses nothing.
     Number(u32),
+    /// Those whose number is a multiple of this rate; rate 0 refuses nothing. The attempts count from the run's first, whatever
+    /// the script's own setting counts from.
+    Every(u32),
 }
 
 /// The heap's minimum length and growth step, in bytes.
@@ -96,7 +99,7 @@ pub struct Shape {
 #[derive(Clone, Copy, Debug, PartialEq, Eq)]
 pub enum Answer {
     Granted,
-    /// Refused by the script's own setting or by `Rule::Number`.
+    /// Refused by the script's own setting, by `Rule::Number` or by `Rule::Every`.
     Simulated,
     /// Refused by `Rule::Limit`.
     Refused,

@@ -1,7 +1,7 @@
 //! Laws of the definitions. Each is the contract of a function that does nothing, so that the gate proves it.
 
 ghost use Rattle.std.specs.Prelude.{◌≡◌, ◌≢◌, ℕ, ℤ, ◌+◌, ◌-◌, ◌%◌, ◌<◌, ◌≤◌, ◌↔◌, List, Option, Some, None, false, true, [], IsTrue, nat_eq, length, take, drop, slice_get, slice_index, All};
-ghost use Rattle.wb_model.specs.Agreement.{Agrees, RefusesAtLeast, RefusesNoGrant, IsSameRun, IsSameButNotes};
+ghost use Rattle.wb_model.specs.Agreement.{Agrees, RefusesAtLeast, RefusesNoGrant, IsNoLimit, IsSameRun, IsSameButNotes};
 ghost use Rattle.wb_model.specs.Sizes.{first_refusal, NoneIsRefused, IsFirstRefused, IsGreatestEnd, IsTable};
 ghost use Rattle.wb_model.specs.FreeSlots.{HasFreeSlot, WhereverItGoesOn};
 ghost use Rattle.wb_model.specs.Throughout.{Throughout, AreCellsAfter, AreLeaksAfter};
@@ -12,7 +12,7 @@ ghost use Rattle.wb_model.specs.Debug.{Debug, alloc_made, first_debug, first_deb
 ghost use Rattle.wb_model.specs.Rises.{top_of_rises};
 ghost use Rattle.wb_model.specs.Run.{process, run, run_with_rises, whole_run, highest_end, required, rises, rises_above, refused_at};
 ghost use Rattle.wb_model.specs.Space.{AreFreeRuns, free_runs};
-ghost use Rattle.wb_model.specs.Sweeps.{run_at, AreAllFine, IsLeastUnfine, least_bad_or_cut};
+ghost use Rattle.wb_model.specs.Sweeps.{runs_of, AreAllFine, IsLeastUnfine, least_bad_or_cut};
 ghost use Rattle.wb_model.specs.Texts.{units_of_part};
 ghost use Rattle.wb_model.specs.Destructions.{GoesOnWith};
 ghost use Rattle.wb_model.specs.Meaning.{meaning_of};
@@ -22,12 +22,13 @@ ghost use Rattle.wb_model.specs.State.{State};
 ghost use Rattle.wb_model.specs.Statements.{Piece, Where, destroy_items, destroy_object};
 ghost use Rattle.wb_model.specs.Traces.{asked_for, AreAnsweredLines, TellsSettings};
 ghost use Rattle.wb_model.specs.declared.limits.TheConstants.{CEILING};
+ghost use Rattle.wb_model.specs.declared.failures.Failures.{Failures};
 ghost use Rattle.wb_model.specs.declared.heap.Attempt.{Attempt};
 ghost use Rattle.wb_model.specs.declared.heap.Header.{Header};
 ghost use Rattle.wb_model.specs.declared.heap.Kind.{Kind};
 ghost use Rattle.wb_model.specs.declared.heap.Ptr.{Ptr};
 ghost use Rattle.wb_model.specs.declared.heap.Rule.{Rule};
-ghost use Rattle.wb_model.specs.declared.heap.Rule.TheVariants.{Unlimited, Limit, Number};
+ghost use Rattle.wb_model.specs.declared.heap.Rule.TheVariants.{Unlimited, Limit};
 ghost use Rattle.wb_model.specs.declared.heap.Shape.{Shape};
 ghost use Rattle.wb_model.specs.declared.run.Leak.{Leak};
 ghost use Rattle.wb_model.specs.declared.run.Outcome.TheVariants.{Ended, Cut};
@@ -68,7 +69,7 @@ pub fn rules_agree()
 
 /// The lines of a run's trace are those of the attempts that it asks for, in order: the number is the line's index, from 1; a
 /// granted attempt is one that the rule leaves open and that ends within the ceiling; a refused one ends past the limit that
-/// the rule is; a simulated one is refused by the script's own setting, or named by the rule.
+/// the rule is; a simulated one is refused by the script's own setting, or by the rule.
 pub fn lines_are_answered()
     ensures lines { (script : Script) (budget : ℕ) (shape : Shape) (r : Rule) →
         AreAnsweredLines r 0 (asked_for r 0 (process script budget)) (run script r budget shape).trace }
@@ -114,22 +115,29 @@ pub fn limits_refuse()
     ensures within { (script : Script) (budget : ℕ) (shape : Shape) → required script budget shape ≤ CEILING }
 {}
 
-/// Two rules, of which the second refuses at least what the first refuses, but nothing that is granted in the run under the
-/// first, give the same run. So the numbers past the last attempt of the run without failure give that run.
+/// Two rules, of which the first is no limit and the second refuses at least what the first refuses, but nothing that is
+/// granted in the run under the first, give the same run. So the numbers, and the rates, past the last attempt of the run
+/// without failure give that run.
 pub fn unasked_rules_agree()
-    ensures rules { (script : Script) (budget : ℕ) (shape : Shape) (r : Rule) (s : Rule) → RefusesAtLeast r s →
-        (run script r budget shape).outcome ≢ Cut Ceiling → RefusesNoGrant s (run script r budget shape).trace →
+    ensures rules { (script : Script) (budget : ℕ) (shape : Shape) (r : Rule) (s : Rule) →
+        IsNoLimit r → RefusesAtLeast r s → (run script r budget shape).outcome ≢ Cut Ceiling →
+        RefusesNoGrant s (run script r budget shape).trace →
         IsSameRun r s (run script r budget shape) (run script s budget shape) }
-    ensures numbers { (script : Script) (budget : ℕ) (shape : Shape) (number : ℕ) → (run script (Number 0) budget shape).outcome ≢ Cut Ceiling →
-        length (run script (Number 0) budget shape).trace < number → run script (Number number) budget shape ≡ run script (Number 0) budget shape }
+    ensures failures { (failures : Failures) (script : Script) (budget : ℕ) (shape : Shape) (n : ℕ) →
+        (runs_of failures script budget shape 0).outcome ≢ Cut Ceiling →
+        length (runs_of failures script budget shape 0).trace < n →
+        runs_of failures script budget shape n ≡ runs_of failures script budget shape 0 }
 {}
 
-/// What is found among the numbers up to the last attempt of the run without failure is, of all numbers, the least whose
-/// run is bad or cut; where nothing is, the run of every number is fine.
+/// What is found among the numbers, or the rates, up to the last attempt of the run without failure is, of all of them, the
+/// least whose run is bad or cut; where nothing is, the run of each is fine.
 pub fn sweeps_end()
-    ensures some { (script : Script) (budget : ℕ) (shape : Shape) (number : ℕ) →
-        (least_bad_or_cut script budget shape ≡ Some number) ↔ IsLeastUnfine (run_at script budget shape) number }
-    ensures none { (script : Script) (budget : ℕ) (shape : Shape) → (least_bad_or_cut script budget shape ≡ None) ↔ AreAllFine (run_at script budget shape) }
+    ensures some { (failures : Failures) (script : Script) (budget : ℕ) (shape : Shape) (n : ℕ) →
+        (least_bad_or_cut failures script budget shape ≡ Some n)
+        ↔ IsLeastUnfine (runs_of failures script budget shape) n }
+    ensures none { (failures : Failures) (script : Script) (budget : ℕ) (shape : Shape) →
+        (least_bad_or_cut failures script budget shape ≡ None)
+        ↔ AreAllFine (runs_of failures script budget shape) }
 {}
 
 /// The live cells that a run of any script passes through are a row, whatever its attempts are answered: they ascend

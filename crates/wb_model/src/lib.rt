@@ -5,6 +5,7 @@
 //! the workbench but small lists stands here.
 #![tactic(auto)]
 
+pub mod failures;
 pub mod fault;
 pub mod heap;
 pub mod items;

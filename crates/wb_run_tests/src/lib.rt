@@ -1,6 +1,6 @@
-//! Nothing but tests: of turns of a machine, shapes that no heap has, lengths that a table tells, and of the program over words, hosts
-//! and streams in memory, by the public calls of the crates that have these. They stand here so that those crates are proved once, and
-//! not again with their tests. What a worked case can show stands in none of them.
+//! Nothing but tests: of turns of a machine, shapes that no heap has, lengths that a table tells, rates at which attempts fail, and of
+//! the program over words, hosts and streams in memory, by the public calls of the crates that have these. They stand here so that those
+//! crates are proved once, and not again with their tests. What a worked case can show stands in none of them.
 #![tactic(auto)]
 
 #[cfg(test)]
@@ -11,6 +11,8 @@ mod lengths;
 mod notes;
 #[cfg(test)]
 mod programs;
+#[cfg(test)]
+mod rates;
 #[cfg(test)]
 mod shapes;
 #[cfg(test)]

@@ -120,8 +120,13 @@ static COMMANDS: [(&[&str], Wanted); 4] = [
 ];
 
 /// Words behind the program's name that are no command. What is said of them stands in worked cases.
-static REFUSED: [&[&str]; 16] = [
+static REFUSED: [&[&str]; 21] = [
     &["run", "-", "--limit", "176", "--fail", "2"],
+    &["run", "-", "--limit", "176", "--every", "2"],
+    &["run", "-", "--fail", "2", "--every", "2"],
+    &["run", "-", "--every"],
+    &["size", "-", "--every"],
+    &["sweep", "--every=2", "-"],
     &["run", "--min", "8"],
     &["walk"],
     &["--help"],

@@ -2,6 +2,7 @@
 
 use std::test::Fail;
 use wb_machine::{RunFault, run};
+use wb_model::failures::Failures;
 use wb_model::heap::{Rule, Shape};
 use wb_script::read;
 use wb_size::fault::SizeFault;
@@ -33,7 +34,9 @@ fn no_size_has_it(rt: HostRuntime) -> Result<(), Fail> {
 #[test]
 fn no_sweep_has_it(rt: HostRuntime) -> Result<(), Fail> {
     let script = read(rt.alloc(), EMPTY)?;
-    let told = sweep(rt.alloc(), &script, 3, ODD);
-    assert_eq!(rt; told.err(), Some(SweepFault::BadShape));
+    for failures in [Failures::Single, Failures::Every] {
+        let told = sweep(rt.alloc(), &script, failures, 3, ODD);
+        assert_eq!(rt; told.err(), Some(SweepFault::BadShape));
+    }
     Ok(())
 }

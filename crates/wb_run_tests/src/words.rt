@@ -2,6 +2,7 @@
 
 use std::alloc::Global;
 use std::test::Fail;
+use wb_model::failures::Failures;
 use wb_model::heap::{Rule, Shape};
 use workbench::{Command, CommandFault, FileName, Task, command};
 
@@ -14,8 +15,8 @@ const DEFAULT_SHAPE: Shape = Shape {
 static SUBCOMMANDS: [(&str, Task); 4] = [
     ("run", Task::Run(Rule::Unlimited)),
     ("size", Task::Size),
-    ("sweep", Task::Sweep),
-    ("check", Task::Check),
+    ("sweep", Task::Sweep(Failures::Single)),
+    ("check", Task::Check(Failures::Single)),
 ];
 
 /// The budget, the shape, whether JSON is asked for, and the file.
@@ -99,7 +100,7 @@ static AFTER_EACH: [(&[&str], Spelled); 16] = [
 ];
 
 /// Words that spell a run of the default budget, its rule, its shape and its file.
-static RUNS: [(&[&str], Rule, Shape, Option<&str>); 19] = [
+static RUNS: [(&[&str], Rule, Shape, Option<&str>); 22] = [
     (
         &["workbench", "run", "a.oom"],
         Rule::Unlimited,
@@ -209,6 +210,24 @@ static RUNS: [(&[&str], Rule, Shape, Option<&str>); 19] = [
         None,
     ),
     (
+        &["workbench", "run", "--every", "3"],
+        Rule::Every(3),
+        DEFAULT_SHAPE,
+        None,
+    ),
+    (
+        &["workbench", "run", "--every=0", "--", "--every"],
+        Rule::Every(0),
+        DEFAULT_SHAPE,
+        Some("--every"),
+    ),
+    (
+        &["workbench", "run", "a.oom", "--every", "+0016777216"],
+        Rule::Every(16_777_216),
+        DEFAULT_SHAPE,
+        Some("a.oom"),
+    ),
+    (
         &["workbench", "run", "--min=32", "--fail", "2", "--step=16"],
         Rule::Number(2),
         Shape { min: 32, step: 16 },
@@ -231,6 +250,12 @@ static RUNS: [(&[&str], Rule, Shape, Option<&str>); 19] = [
     ),
 ];
 
+/// The subcommands that take the flag `--every`, and what each asks for with it.
+static WITH_RATES: [(&str, Task); 2] = [
+    ("sweep", Task::Sweep(Failures::Every)),
+    ("check", Task::Check(Failures::Every)),
+];
+
 /// Whether the command has this task and these options.
 fn is_spelled(command: &Command, task: Task, spelled: Spelled) -> bool {
     let (budget, shape, json, file) = spelled;
@@ -246,6 +271,23 @@ fn takes_words_after_each_subcommand(rt: HostRuntime) -> Result<(), Fail> {
     for (name, task) in &SUBCOMMANDS {
         for (index, (rest, spelled)) in AFTER_EACH.iter().enumerate() {
             let mut words = vec![in rt.alloc(); "workbench", name]?;
+            words.extend_from_slice(rest)?;
+            let command = command(rt.alloc(), words.as_slice())?;
+            assert!(rt;
+                is_spelled(&command, *task, *spelled),
+                "{name}, row {index}"
+            );
+        }
+    }
+    Ok(())
+}
+
+/// The flag comes first, before all that every subcommand takes, so that a word after it is no number of its own.
+#[test]
+fn takes_the_flag_for_rates(rt: HostRuntime) -> Result<(), Fail> {
+    for (name, task) in &WITH_RATES {
+        for (index, (rest, spelled)) in AFTER_EACH.iter().enumerate() {
+            let mut words = vec![in rt.alloc(); "workbench", name, "--every"]?;
             words.extend_from_slice(rest)?;
             let command = command(rt.alloc(), words.as_slice())?;
             assert!(rt;

@@ -1,11 +1,14 @@
--- What a sweep says of every number: the least whose run is bad, or that none is.
+-- What a sweep says of every failure: the least whose run is bad, or that none is.
 use Rattle.std.specs.Prelude.{◌≡◌, ℕ, ◌+◌, List, true, Some, None, IfSome, length, slice_get}
+use Rattle.wb_machine.specs.Seen.{Seen}
+use Rattle.wb_model.specs.declared.failures.Failing.{Failing}
+use Rattle.wb_model.specs.declared.failures.Failures.{Failures}
 use Rattle.wb_model.specs.declared.heap.Attempt.{Attempt}
 use Rattle.wb_model.specs.declared.heap.Shape.{Shape}
 use Rattle.wb_model.specs.declared.run.RunResult.{RunResult}
 use Rattle.wb_model.specs.declared.script.Script.{Script}
 use Rattle.wb_model.specs.Run.{is_bad}
-use Rattle.wb_model.specs.Sweeps.{run_at, AreAllFine, IsLeastBad}
+use Rattle.wb_model.specs.Sweeps.{failing_at, runs_of, AreAllFine, IsFound}
 use Rattle.wb_sweep.specs.declared.found.Found.{Found}
 use Rattle.wb_sweep.specs.declared.found.Sweep.{Sweep}
 
@@ -14,13 +17,24 @@ abbrev pub IsNumbered : List Attempt → Type 0
 IsNumbered trace = (k : ℕ) (t : Attempt) → slice_get trace k ≡ Some t → t.number ≡ k + 1
 
 -- what is found of a bad run
-pub record IsBadAt (at : ℕ) (told : RunResult) (found : Found) : Type 0 where
+pub record IsBadAt (at : Failing) (told : RunResult) (found : Found) : Type 0 where
   pub bad : is_bad told ≡ true
-  pub number : found.number ≡ at
+  pub failing : found.at ≡ at
   pub result : found.result ≡ told
 
--- All numbers are spoken of, also those past the last attempt.
-pub record IsSweep (script : Script) (budget : ℕ) (shape : Shape) (sweep : Sweep) : Type 0 where
-  pub attempts : sweep.attempts ≡ length (run_at script budget shape 0).trace
-  pub found : IfSome sweep.found (λ found. IsLeastBad script budget shape found.number found.result)
-  pub none : sweep.found ≡ None → AreAllFine (run_at script budget shape)
+-- the runs of a sweep whose lead is such a run under way
+abbrev pub runs_beside : Failures → Seen → ℕ → RunResult
+runs_beside failures lead = runs_of failures lead.script lead.budget lead.shape
+
+-- the failure that is the first to refuse the attempt which a run makes next, and the run under it
+abbrev pub next_failing : Failures → Seen → Failing
+next_failing failures lead = failing_at failures (lead.attempts + 1)
+
+abbrev pub next_run : Failures → Seen → RunResult
+next_run failures lead = runs_beside failures lead (lead.attempts + 1)
+
+-- All failures are spoken of, also those past the last attempt.
+pub record IsSweep (failures : Failures) (script : Script) (budget : ℕ) (shape : Shape) (sweep : Sweep) : Type 0 where
+  pub attempts : sweep.attempts ≡ length (runs_of failures script budget shape 0).trace
+  pub found : IfSome sweep.found (λ found. IsFound failures script budget shape found.at found.result)
+  pub none : sweep.found ≡ None → AreAllFine (runs_of failures script budget shape)

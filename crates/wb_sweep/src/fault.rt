@@ -1,6 +1,7 @@
 //! Why a sweep has no answer.
 
 use wb_machine::RunFault;
+use wb_model::failures::Failing;
 use wb_model::memory::NoMemory;
 use wb_model::run::Why;
 
@@ -9,8 +10,8 @@ use wb_model::run::Why;
 pub enum SweepFault {
     /// A minimum length or a growth step that no heap may have.
     BadShape,
-    /// The run under this number was cut, and no smaller number's run was bad or cut.
-    Cut { number: u32, why: Why },
+    /// The run under this failure was cut, and no lesser failure's run was bad or cut.
+    Cut { at: Failing, why: Why },
     /// The workbench's own memory ran out. This is never a refusal of the simulated heap.
     NoMemory,
 }

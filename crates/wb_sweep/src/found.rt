@@ -1,15 +1,16 @@
-//! What a sweep tells.
+//! What a sweep finds.
 
+use wb_model::failures::Failing;
 use wb_model::run::RunResult;
 
-/// The least number whose run is bad, and that run.
+/// The least failure whose run is bad, and that run.
 #[derive(Debug, Drop)]
 pub struct Found {
-    pub number: u32,
+    pub at: Failing,
     pub result: RunResult,
 }
 
-/// What a sweep tells: how many attempts the run without failure makes, and what was found.
+/// What a sweep finds, and how many attempts the run without failure makes.
 #[derive(Debug, Drop)]
 pub struct Sweep {
     pub attempts: u32,

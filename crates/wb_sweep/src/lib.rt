@@ -1,4 +1,4 @@
-//! The least number of an attempt whose failure shows a panic or a leak.
+//! The least number of an attempt, or the least rate of attempts, whose failure shows a panic or a leak.
 #![tactic(auto)]
 
 pub mod fault;
@@ -11,6 +11,7 @@ pub use fork::result_under;
 pub use found::{Found, Sweep};
 pub use sweeping::sweep;
 pub use wb_machine::RunFault;
+pub use wb_model::failures::{Failing, Failures};
 pub use wb_model::heap::Shape;
 pub use wb_model::run::{RunResult, Why};
 pub use wb_model::script::Script;

@@ -3,6 +3,7 @@ use Rattle.std.proofs.Common.{◌≡◌, ◌+◌, ◌<◌, ◌≤◌, ℕ, List,
 use Rattle.std.specs.Io.KnownBytes.{Appends}
 use Rattle.wb_model.specs.declared.run.Outcome.{Outcome}
 use Rattle.wb_model.specs.declared.run.Outcome.TheVariants.{Ended, Panicked, NoCleanup, Cut}
+use Rattle.wb_model.specs.declared.failures.Failures.{Failures}
 use Rattle.wb_model.specs.declared.heap.Shape.{Shape}
 use Rattle.wb_model.specs.declared.script.Script.{Script}
 use Rattle.wb_model.specs.declared.limits.TheConstants.{LONGEST_SCRIPT}
@@ -31,20 +32,25 @@ size_status_le : (script : Script) (budget : ℕ) (shape : Shape) (text : List �
 size_status_le script budget shape text figures status (inl r) = omega (arith, r.1)
 size_status_le script budget shape text figures status (inr r) = omega (arith, r.1)
 
-sweep_status_le : (script : Script) (budget : ℕ) (shape : Shape) (text : List ℕ) (figures : Figures) (status : ℕ) → IsSweepReport script budget shape text figures status → status ≤ 3
-sweep_status_le script budget shape text figures status (inl r) = omega (arith, r.1)
-sweep_status_le script budget shape text figures status (inr (inl r)) = omega (arith, r.1)
-sweep_status_le script budget shape text figures status (inr (inr r)) = omega (arith, r.1)
+sweep_status_le : (failures : Failures) (script : Script) (budget : ℕ) (shape : Shape) (text : List ℕ) (figures : Figures)
+    (status : ℕ) → IsSweepReport failures script budget shape text figures status → status ≤ 3
+sweep_status_le failures script budget shape text figures status (inl r) = omega (arith, r.1)
+sweep_status_le failures script budget shape text figures status (inr (inl r)) = omega (arith, r.1)
+sweep_status_le failures script budget shape text figures status (inr (inr r)) = omega (arith, r.1)
 
-check_status_le : (script : Script) (budget : ℕ) (shape : Shape) (text : List ℕ) (figures : Figures) (status : ℕ) → IsCheckReport script budget shape text figures status → status ≤ 3
-check_status_le script budget shape text figures status (inl r) = sweep_status_le script budget shape r.second r.sweep status r.swept
-check_status_le script budget shape text figures status (inr r) = omega (arith, r.1)
+check_status_le : (failures : Failures) (script : Script) (budget : ℕ) (shape : Shape) (text : List ℕ) (figures : Figures)
+    (status : ℕ) → IsCheckReport failures script budget shape text figures status → status ≤ 3
+check_status_le failures script budget shape text figures status (inl r) =
+    sweep_status_le failures script budget shape r.second r.sweep status r.swept
+check_status_le failures script budget shape text figures status (inr r) = omega (arith, r.1)
 
 task_status_le : (task : Task) (script : Script) (budget : ℕ) (shape : Shape) (text : List ℕ) (figures : Figures) (status : ℕ) → IsTaskReport task script budget shape text figures status → status ≤ 3
 task_status_le (T.Run rule) script budget shape text figures status r = subst (λ n. n ≤ 3) (sym r.status_is) (outcome_status_le (run script rule budget shape).outcome)
 task_status_le T.Size script budget shape text figures status r = size_status_le script budget shape text figures status r
-task_status_le T.Sweep script budget shape text figures status r = sweep_status_le script budget shape text figures status r
-task_status_le T.Check script budget shape text figures status r = check_status_le script budget shape text figures status r
+task_status_le (T.Sweep failures) script budget shape text figures status r =
+    sweep_status_le failures script budget shape text figures status r
+task_status_le (T.Check failures) script budget shape text figures status r =
+    check_status_le failures script budget shape text figures status r
 
 report_status_le : (command : Command) (bytes text : List ℕ) (figures : Figures) (status : ℕ) → IsReport command bytes text figures status → status ≤ 3
 report_status_le command bytes text figures status (inl r) = task_status_le command.task r.script command.budget command.shape text figures status r.told
@@ -53,7 +59,7 @@ report_status_le command bytes text figures status (inr r) = omega (arith, r.sta
 -- ---- what was read is reported on, and laid out
 
 pub laid_out_is_reported : (command : Command) (told : Option (List ℕ)) (bytes seen lines text : List ℕ) (figures : Figures) (status own : ℕ)
-    → AreFirst (LONGEST_SCRIPT + 1) told bytes → seen ≡ bytes → IsReport command seen lines figures own → text ≡ laid_out command.json lines figures own → status ≡ own
+    → AreFirst (LONGEST_SCRIPT + 1) told bytes → seen ≡ bytes → IsReport command seen lines figures own → text ≡ laid_out command lines figures own → status ≡ own
     → IsReported command told text status
 laid_out_is_reported command told bytes seen lines text figures status own first same report laid is =
     subst (IsReported command told text) (sym is) (record {

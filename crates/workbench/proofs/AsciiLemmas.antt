@@ -8,13 +8,17 @@ use Rattle.std.proofs.lemmas.Str.{IsUtf8-from_ascii, utf8_lossy-IsUtf8}
 use Rattle.std.proofs.lemmas.Str.Ascii.{IsAscii-cons, IsAscii-nil}
 use Rattle.wb_model.specs.declared.fault.ScriptFault.{ScriptFault}
 use Rattle.wb_model.specs.declared.fault.ScriptFault.TheVariants.{TooLong, NotAscii, Grammar, UnknownName, DoubleName, WrongKind, MayLeave, NoMain, TooMany, NoMemory}
+use Rattle.wb_model.specs.declared.failures.Failing.{Failing}
+use Rattle.wb_model.specs.declared.failures.Failing.TheVariants.{Number}
+use Rattle.wb_model.specs.declared.failures.Failing.TheVariants as failings
+use Rattle.wb_model.specs.declared.failures.Failures.{Failures}
+use Rattle.wb_model.specs.declared.failures.Failures.TheVariants.{Single, Every}
 use Rattle.wb_model.specs.declared.heap.Answer.{Answer}
 use Rattle.wb_model.specs.declared.heap.Answer.TheVariants.{Granted, Simulated, Refused}
 use Rattle.wb_model.specs.declared.heap.Attempt.{Attempt}
 use Rattle.wb_model.specs.declared.heap.Panic.{Panic}
 use Rattle.wb_model.specs.declared.heap.Panic.TheVariants.{User, Alloc, Workbench}
 use Rattle.wb_model.specs.declared.heap.Rule.{Rule}
-use Rattle.wb_model.specs.declared.heap.Rule.TheVariants.{Number}
 use Rattle.wb_model.specs.declared.heap.Shape.{Shape}
 use Rattle.wb_model.specs.declared.run.Leak.{Leak}
 use Rattle.wb_model.specs.declared.run.Note.{Note}
@@ -29,6 +33,7 @@ use Rattle.wb_model.specs.declared.size.Rise.{Rise}
 use Rattle.wb_model.specs.Lines.{ends_line, onto_first, pieces_from, quoted_after}
 use Rattle.wb_model.specs.Printable.{IsPrintable, ArePrintable}
 use Rattle.wb_model.specs.Run.{run}
+use Rattle.wb_model.specs.Sweeps.{failing_at, rule_of}
 use Rattle.wb_model.proofs.PrintableLemmas.{is_printable, printable_by_test, decimal-printable, hexadecimal-printable, signed_decimal-printable}
 use Rattle.wb_model.proofs.ThroughoutLemmas.{run-prints}
 use Rattle.wb_command_line.specs.declared.command.Command.{Command}
@@ -38,7 +43,7 @@ use Rattle.workbench.specs.declared.figures.Figures.{Figures}
 use Rattle.workbench.specs.Ascii.{HasPrintableLines, IsPrintableText, IsTextByte}
 use Rattle.workbench.specs.Report.{IsReport, IsTaskReport, fault_line, no_memory, read_fault, refused, refused_at}
 use Rattle.workbench.specs.RunText.{answer_word, attempt_line, cut_line, eight_digits, end_line, leak_line, leaks_text, line, note_line, outcome_text, panic_line, print_line, run_text}
-use Rattle.workbench.specs.TwoNumbers.{IsCheckReport, IsFailing, IsSized, IsSizeReport, IsSweepReport, attempts_line, cut_at_line, found_text, none_line, refuses_line, size_text, table_text}
+use Rattle.workbench.specs.TwoNumbers.{IsCheckReport, IsFailing, IsSized, IsSizeReport, IsSweepReport, attempts_line, cut_at_line, failing_line, found_text, none_line, refuses_line, size_text, table_text}
 
 -- ---- words and numbers
 
@@ -185,8 +190,16 @@ of_cut_at number Ceiling = of_line (codes "cut " ++ decimal number ++ codes " ce
 of_attempts : (attempts : ℕ) → IsPrintableText (attempts_line attempts)
 of_attempts attempts = of_number (codes "attempts ") attempts refl
 
-of_found : (number : ℕ) (r : RunResult) → All ArePrintable r.lines → IsPrintableText (found_text number r)
-of_found number r are = both (line (codes "number " ++ decimal number)) (run_text r) (of_number (codes "number ") number refl) (of_run r are)
+of_failing_line : (failing : Failing) → IsPrintableText (failing_line failing)
+of_failing_line (Number n) = of_number (codes "number ") n refl
+of_failing_line (failings.Every n) = of_number (codes "every ") n refl
+
+of_found : (failing : Failing) (r : RunResult) → All ArePrintable r.lines → IsPrintableText (found_text failing r)
+of_found failing r are = both (failing_line failing) (run_text r) (of_failing_line failing) (of_run r are)
+
+of_none : (failures : Failures) → IsPrintableText (none_line failures)
+of_none Single = of_word (codes "number none") refl
+of_none Every = of_word (codes "every none") refl
 
 -- ---- the lines of a fault, and those that come in a report's place
 
@@ -227,26 +240,34 @@ module _ (script : Script) (budget : ℕ) (shape : Shape) where
   of_size_report text figures status (inl is) = of_sized text figures is.0
   of_size_report text figures status (inr is) = subst IsPrintableText (sym is.0.text_is) (of_cut_at 0 is.0.why)
 
-  of_failing : (text : List ℕ) (figures : Figures) → IsFailing script budget shape text figures → IsPrintableText text
-  of_failing text figures is =
-      subst IsPrintableText (sym is.text_is) (both (attempts_line _) (found_text is.number is.result) (of_attempts _)
-      (of_found is.number is.result (subst (λ (r : RunResult). All ArePrintable r.lines) (sym is.least.run_is) (run_lines (Number is.number)))))
+  of_failing : (failures : Failures) (text : List ℕ) (figures : Figures) → IsFailing failures script budget shape text figures
+      → IsPrintableText text
+  of_failing failures text figures is =
+      let failing : Failing = failing_at failures is.number in
+      let lines : All ArePrintable is.result.lines =
+      subst (λ (r : RunResult). All ArePrintable r.lines) (sym is.least.run_is) (run_lines (rule_of failures is.number)) in
+      subst IsPrintableText (sym is.text_is)
+      (both (attempts_line _) (found_text failing is.result) (of_attempts _) (of_found failing is.result lines))
 
-  of_sweep_report : (text : List ℕ) (figures : Figures) (status : ℕ) → IsSweepReport script budget shape text figures status → IsPrintableText text
-  of_sweep_report text figures status (inl is) = of_failing text figures is.0
-  of_sweep_report text figures status (inr (inl is)) = subst IsPrintableText (sym is.0.text_is) (both (attempts_line _) none_line (of_attempts _) (of_word (codes "number none") refl))
-  of_sweep_report text figures status (inr (inr is)) = subst IsPrintableText (sym is.0.text_is) (of_cut_at is.0.number is.0.why)
+  of_sweep_report : (failures : Failures) (text : List ℕ) (figures : Figures) (status : ℕ)
+      → IsSweepReport failures script budget shape text figures status → IsPrintableText text
+  of_sweep_report failures text figures status (inl is) = of_failing failures text figures is.0
+  of_sweep_report failures text figures status (inr (inl is)) =
+      subst IsPrintableText (sym is.0.text_is) (both (attempts_line _) (none_line failures) (of_attempts _) (of_none failures))
+  of_sweep_report failures text figures status (inr (inr is)) = subst IsPrintableText (sym is.0.text_is) (of_cut_at is.0.number is.0.why)
 
-  of_check_report : (text : List ℕ) (figures : Figures) (status : ℕ) → IsCheckReport script budget shape text figures status → IsPrintableText text
-  of_check_report text figures status (inl is) =
-      subst IsPrintableText (sym is.text_is) (both is.first is.second (of_sized is.first is.size is.sized) (of_sweep_report is.second is.sweep status is.swept))
-  of_check_report text figures status (inr is) = subst IsPrintableText (sym is.0.text_is) (of_cut_at 0 is.0.why)
+  of_check_report : (failures : Failures) (text : List ℕ) (figures : Figures) (status : ℕ)
+      → IsCheckReport failures script budget shape text figures status → IsPrintableText text
+  of_check_report failures text figures status (inl is) =
+      subst IsPrintableText (sym is.text_is)
+      (both is.first is.second (of_sized is.first is.size is.sized) (of_sweep_report failures is.second is.sweep status is.swept))
+  of_check_report failures text figures status (inr is) = subst IsPrintableText (sym is.0.text_is) (of_cut_at 0 is.0.why)
 
   of_task : (task : Task) (text : List ℕ) (figures : Figures) (status : ℕ) → IsTaskReport task script budget shape text figures status → IsPrintableText text
   of_task (T.Run rule) text figures status is = subst IsPrintableText (sym is.text_is) (of_run (run script rule budget shape) (run_lines rule))
   of_task T.Size text figures status is = of_size_report text figures status is
-  of_task T.Sweep text figures status is = of_sweep_report text figures status is
-  of_task T.Check text figures status is = of_check_report text figures status is
+  of_task (T.Sweep failures) text figures status is = of_sweep_report failures text figures status is
+  of_task (T.Check failures) text figures status is = of_check_report failures text figures status is
 
 pub report-printable : (command : Command) (bytes text : List ℕ) (figures : Figures) (status : ℕ) → IsReport command bytes text figures status → IsPrintableText text
 report-printable command bytes text figures status (inl is) = of_task is.script command.budget command.shape command.task text figures status is.told

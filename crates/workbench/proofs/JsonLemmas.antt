@@ -4,12 +4,16 @@ use Rattle.std.specs.Prelude.{◌==◌}
 use Rattle.serde_json.specs.Data.{Data}
 use Rattle.serde_json.specs.View.{items_of}
 use Rattle.serde_json.specs.Written.{has_float, items_have_float}
+use Rattle.wb_command_line.specs.declared.command.Task.{Task}
+use Rattle.wb_command_line.specs.declared.command.Task.TheVariants as T
+use Rattle.wb_model.specs.declared.failures.Failures.{Failures}
+use Rattle.wb_model.specs.declared.failures.Failures.TheVariants.{Single, Every}
 use Rattle.wb_model.specs.declared.size.Rise.{Rise}
 use Rattle.wb_model.specs.Lines.{ends_line, lines_of, onto_first, pieces_from, quoted_after}
-use Rattle.workbench.specs.declared.figures.Failing.{Failing}
-use Rattle.workbench.specs.declared.figures.Failing.TheVariants.{At, Never}
+use Rattle.workbench.specs.declared.figures.FailingNumber.{FailingNumber}
+use Rattle.workbench.specs.declared.figures.FailingNumber.TheVariants.{At, Never}
 use Rattle.workbench.specs.declared.figures.Figures.{Figures}
-use Rattle.workbench.specs.JsonReport.{count_or_null, failing_number, line_string, line_strings, report_object, rise_pair, rise_pairs}
+use Rattle.workbench.specs.JsonReport.{count_or_null, failing_number, failures_kind, kind_of, line_string, line_strings, report_object, rise_pair, rise_pairs}
 
 -- ---- no fractions
 
@@ -21,10 +25,20 @@ count_has_none : (n : Option ℕ) → has_float (count_or_null n) ≡ false
 count_has_none None = refl
 count_has_none (Some n) = refl
 
-number_has_none : (number : Option Failing) → has_float (failing_number number) ≡ false
+failures_have_none : (failures : Failures) → has_float (failures_kind failures) ≡ false
+failures_have_none Single = refl
+failures_have_none Every = refl
+
+kind_has_none : (task : Task) → has_float (kind_of task) ≡ false
+kind_has_none (T.Run rule) = refl
+kind_has_none T.Size = refl
+kind_has_none (T.Sweep failures) = failures_have_none failures
+kind_has_none (T.Check failures) = failures_have_none failures
+
+number_has_none : (number : Option FailingNumber) → has_float (failing_number number) ≡ false
 number_has_none None = refl
 number_has_none (Some Never) = refl
-number_has_none (Some (At n)) = refl
+number_has_none (Some (At failing)) = refl
 
 lines_have_none : (text : List ℕ) → has_float (line_strings text) ≡ false
 lines_have_none text = each_has_none line_string (λ line. refl) (lines_of text)
@@ -33,9 +47,18 @@ rises_have_none : (rises : Option (List Rise)) → has_float (rise_pairs rises) 
 rises_have_none None = refl
 rises_have_none (Some rises) = each_has_none rise_pair (λ rise. refl) rises
 
-pub report_has_none : (text : List ℕ) (figures : Figures) (status : ℕ) → has_float (report_object text figures status) ≡ false
+pub report_has_none : (task : Task) (text : List ℕ) (figures : Figures) (status : ℕ)
+    → has_float (report_object task text figures status) ≡ false
 unfolding report_object
-report_has_none text figures status = rw (count_has_none figures.attempts, lines_have_none text, number_has_none figures.number, count_has_none figures.required, rises_have_none figures.rises) refl
+report_has_none task text figures status =
+    rw (
+      count_has_none figures.attempts,
+      kind_has_none task,
+      lines_have_none text,
+      number_has_none figures.number,
+      count_has_none figures.required,
+      rises_have_none figures.rises,
+    ) refl
 
 -- ---- lines
 

@@ -2,6 +2,7 @@
 use Rattle.std.proofs.Common.{◌≡◌, ◌⊎◌, inl, inr, ℕ, ◌<◌, List, ◌++◌, refl, sym, ◌∙◌, ap, subst, Bool, true, false, le_refl}
 use Rattle.std.specs.Prelude.{IsSome}
 use Rattle.std.proofs.lemmas.Bool.{cases_order, false≢true}
+use Rattle.wb_model.specs.declared.failures.Failures.{Failures}
 use Rattle.wb_model.specs.declared.heap.Shape.{Shape}
 use Rattle.wb_model.specs.declared.run.Outcome.{Outcome}
 use Rattle.wb_model.specs.declared.run.Outcome.TheVariants.{Cut}
@@ -11,14 +12,14 @@ use Rattle.wb_model.specs.declared.script.Script.{Script}
 use Rattle.wb_model.specs.declared.size.Rise.{Rise}
 use Rattle.wb_model.specs.Run.{is_bad, is_bad_outcome}
 use Rattle.wb_model.specs.Sizes.{IsHeapLength}
-use Rattle.wb_model.specs.Sweeps.{run_at, is_cut_outcome, is_fine, IsLeastBad, IsLeastCut}
+use Rattle.wb_model.specs.Sweeps.{failing_at, runs_of, is_cut_outcome, is_fine, IsLeastBad, IsLeastCut}
 use Rattle.wb_command_line.specs.declared.command.Command.{Command}
 use Rattle.wb_command_line.specs.declared.command.Task.{Task}
 use Rattle.wb_command_line.specs.declared.command.Task.TheVariants as T
 use Rattle.wb_script.proofs.FaultLaws.{fault_once, no_fault}
 use Rattle.wb_script.proofs.ScriptLaws.{script_once}
 use Rattle.workbench.specs.declared.figures.Figures.{Figures}
-use Rattle.workbench.specs.declared.figures.Failing.TheVariants.{At}
+use Rattle.workbench.specs.declared.figures.FailingNumber.TheVariants.{At}
 use Rattle.workbench.specs.Figures.{both_figures, size_figures, sweep_figures}
 use Rattle.workbench.specs.Report.{IsReport, IsReportOfFault, IsReportOfScript, IsTaskReport, fault_line}
 use Rattle.workbench.specs.TwoNumbers.{IsBoth, IsCheckReport, IsFailing, IsSized, IsSizeReport, IsSweepReport, IsUnsized, IsUnswept, attempts_line, attempts_of, cut_at_line, found_text, size_text}
@@ -45,12 +46,9 @@ fine_not_cut r why fine cut = let yes : is_cut_outcome r.outcome ≡ true = ap i
 bad_not_cut : (outcome : Outcome) (why : Why) → is_bad_outcome outcome ≡ true → outcome ≡ Cut why → ⊥
 bad_not_cut outcome why bad cut = let no : is_bad_outcome outcome ≡ false = ap is_bad_outcome cut in cc
 
+-- ---- how long the heap must be
+
 module _ (script : Script) (budget : ℕ) (shape : Shape) where
-  abbrev runs : ℕ → RunResult
-  runs = run_at script budget shape
-
-  -- ---- how long the heap must be
-
   enough_here : (m n : ℕ) (rs ss : List Rise) → IsHeapLength script budget shape m rs → IsHeapLength script budget shape n ss → m < n → ⊥
   enough_here m n rs ss one other less = absurd (false≢true (subst IsSome (one.enough m (le_refl m)) (other.short m less)))
 
@@ -87,7 +85,11 @@ module _ (script : Script) (budget : ℕ) (shape : Shape) where
   one_sizing text text' figures figures' status status' (inr (s, e)) (inl (t, f)) = absurd (never_both text' text figures' figures t s)
   one_sizing text text' figures figures' status status' (inr (s, e)) (inr (t, f)) = (one_cut text text' figures figures' s t, e ∙ sym f)
 
-  -- ---- which attempt's failure shows a leak or a panic
+-- ---- which failure shows a leak or a panic
+
+module _ (failures : Failures) (script : Script) (budget : ℕ) (shape : Shape) where
+  abbrev runs : ℕ → RunResult
+  runs = runs_of failures script budget shape
 
   -- of two runs that aren't fine, below which all are, neither comes first
   one_unfine : (m n : ℕ) → (is_fine (runs m) ≡ true → ⊥) → (is_fine (runs n) ≡ true → ⊥)
@@ -99,36 +101,38 @@ module _ (script : Script) (budget : ℕ) (shape : Shape) where
       by (inr (inl less)) = absurd (here (under m less))
       by (inr (inr less)) = absurd (there (below n less))
 
-  bad_unfine : (n : ℕ) (r : RunResult) → IsLeastBad script budget shape n r → is_fine (runs n) ≡ true → ⊥
+  bad_unfine : (n : ℕ) (r : RunResult) → IsLeastBad runs n r → is_fine (runs n) ≡ true → ⊥
   bad_unfine n r is fine = fine_not_bad (runs n) fine is.bad
 
-  cut_unfine : (n : ℕ) (why : Why) → IsLeastCut script budget shape n why → is_fine (runs n) ≡ true → ⊥
+  cut_unfine : (n : ℕ) (why : Why) → IsLeastCut runs n why → is_fine (runs n) ≡ true → ⊥
   cut_unfine n why is fine = fine_not_cut (runs n) why fine is.cut
 
-  one_failing : (text text' : List ℕ) (figures figures' : Figures) → IsFailing script budget shape text figures → IsFailing script budget shape text' figures'
+  one_failing : (text text' : List ℕ) (figures figures' : Figures) → IsFailing failures script budget shape text figures → IsFailing failures script budget shape text' figures'
       → Alike text figures text' figures'
   one_failing text text' figures figures' s t =
       let same : s.number ≡ t.number = one_unfine s.number t.number (bad_unfine _ _ s.least) (bad_unfine _ _ t.least) s.least.least t.least.least in
       let results : s.result ≡ t.result = s.least.run_is ∙ ap runs same ∙ sym t.least.run_is in
-      let words : found_text s.number s.result ≡ found_text t.number t.result = ap (λ n. found_text n s.result) same ∙ ap (found_text t.number) results in (
-        s.text_is ∙ ap (λ l. attempts_line (attempts_of script budget shape) ++ l) words ∙ sym t.text_is,
-        s.figures_are ∙ ap (λ n. sweep_figures (attempts_of script budget shape) (At n)) same ∙ sym t.figures_are,
+      let words : found_text (failing_at failures s.number) s.result ≡ found_text (failing_at failures t.number) t.result =
+      ap (λ n. found_text (failing_at failures n) s.result) same ∙ ap (found_text (failing_at failures t.number)) results in
+      let attempts : ℕ = attempts_of failures script budget shape in (
+        s.text_is ∙ ap (λ l. attempts_line attempts ++ l) words ∙ sym t.text_is,
+        s.figures_are ∙ ap (λ n. sweep_figures attempts (At (failing_at failures n))) same ∙ sym t.figures_are,
       )
 
-  one_unswept : (text text' : List ℕ) (figures figures' : Figures) → IsUnswept script budget shape text figures → IsUnswept script budget shape text' figures'
+  one_unswept : (text text' : List ℕ) (figures figures' : Figures) → IsUnswept failures script budget shape text figures → IsUnswept failures script budget shape text' figures'
       → Alike text figures text' figures'
   one_unswept text text' figures figures' s t =
       let same : s.number ≡ t.number = one_unfine s.number t.number (cut_unfine _ _ s.least) (cut_unfine _ _ t.least) s.least.least t.least.least in
       let why = one_why s.why t.why (runs t.number).outcome (subst (λ n. (runs n).outcome ≡ Cut s.why) same s.least.cut) t.least.cut in
       (s.text_is ∙ ap (λ n. cut_at_line n s.why) same ∙ ap (cut_at_line t.number) why ∙ sym t.text_is, s.figures_are ∙ sym t.figures_are)
 
-  failing_or_cut : (text text' : List ℕ) (figures figures' : Figures) → IsFailing script budget shape text figures → IsUnswept script budget shape text' figures' → ⊥
+  failing_or_cut : (text text' : List ℕ) (figures figures' : Figures) → IsFailing failures script budget shape text figures → IsUnswept failures script budget shape text' figures' → ⊥
   failing_or_cut text text' figures figures' s t =
       let same : s.number ≡ t.number = one_unfine s.number t.number (bad_unfine _ _ s.least) (cut_unfine _ _ t.least) s.least.least t.least.least in
       bad_not_cut (runs t.number).outcome t.why (subst (λ n. is_bad (runs n) ≡ true) same s.least.bad) t.least.cut
 
-  one_sweep : (text text' : List ℕ) (figures figures' : Figures) (status status' : ℕ) → IsSweepReport script budget shape text figures status
-      → IsSweepReport script budget shape text' figures' status' → Alike text figures text' figures' × (status ≡ status')
+  one_sweep : (text text' : List ℕ) (figures figures' : Figures) (status status' : ℕ) → IsSweepReport failures script budget shape text figures status
+      → IsSweepReport failures script budget shape text' figures' status' → Alike text figures text' figures' × (status ≡ status')
   one_sweep text text' figures figures' status status' (inl (s, e)) (inl (t, f)) = (one_failing text text' figures figures' s t, e ∙ sym f)
   one_sweep text text' figures figures' status status' (inl (s, e)) (inr (inl (t, f))) = absurd (bad_unfine _ _ s.least (t.fine s.number))
   one_sweep text text' figures figures' status status' (inl (s, e)) (inr (inr (t, f))) = absurd (failing_or_cut text text' figures figures' s t)
@@ -142,10 +146,10 @@ module _ (script : Script) (budget : ℕ) (shape : Shape) where
 
   -- ---- both
 
-  one_both : (text text' : List ℕ) (figures figures' : Figures) (status status' : ℕ) → IsBoth script budget shape text figures status
-      → IsBoth script budget shape text' figures' status' → Alike text figures text' figures' × (status ≡ status')
+  one_both : (text text' : List ℕ) (figures figures' : Figures) (status status' : ℕ) → IsBoth failures script budget shape text figures status
+      → IsBoth failures script budget shape text' figures' status' → Alike text figures text' figures' × (status ≡ status')
   one_both text text' figures figures' status status' s t =
-      let (first, size) = one_size s.first t.first s.size t.size s.sized t.sized in
+      let (first, size) = one_size script budget shape s.first t.first s.size t.size s.sized t.sized in
       let ((second, sweep), same) = one_sweep s.second t.second s.sweep t.sweep status status' s.swept t.swept in (
         (
           s.text_is ∙ ap (λ l. l ++ s.second) first ∙ ap (λ l. t.first ++ l) second ∙ sym t.text_is,
@@ -154,20 +158,26 @@ module _ (script : Script) (budget : ℕ) (shape : Shape) where
         same,
       )
 
-  one_check : (text text' : List ℕ) (figures figures' : Figures) (status status' : ℕ) → IsCheckReport script budget shape text figures status
-      → IsCheckReport script budget shape text' figures' status' → Alike text figures text' figures' × (status ≡ status')
+  one_check : (text text' : List ℕ) (figures figures' : Figures) (status status' : ℕ) → IsCheckReport failures script budget shape text figures status
+      → IsCheckReport failures script budget shape text' figures' status' → Alike text figures text' figures' × (status ≡ status')
   one_check text text' figures figures' status status' (inl s) (inl t) = one_both text text' figures figures' status status' s t
-  one_check text text' figures figures' status status' (inl s) (inr (t, f)) = absurd (never_both s.first text' s.size figures' s.sized t)
-  one_check text text' figures figures' status status' (inr (s, e)) (inl t) = absurd (never_both t.first text t.size figures t.sized s)
-  one_check text text' figures figures' status status' (inr (s, e)) (inr (t, f)) = (one_cut text text' figures figures' s t, e ∙ sym f)
+  one_check text text' figures figures' status status' (inl s) (inr (t, f)) = absurd (never_both script budget shape s.first text' s.size figures' s.sized t)
+  one_check text text' figures figures' status status' (inr (s, e)) (inl t) = absurd (never_both script budget shape t.first text t.size figures t.sized s)
+  one_check text text' figures figures' status status' (inr (s, e)) (inr (t, f)) = (one_cut script budget shape text text' figures figures' s t, e ∙ sym f)
 
+-- ---- by the task
+
+module _ (script : Script) (budget : ℕ) (shape : Shape) where
   one_task : (task : Task) (text text' : List ℕ) (figures figures' : Figures) (status status' : ℕ) → IsTaskReport task script budget shape text figures status
       → IsTaskReport task script budget shape text' figures' status' → Alike text figures text' figures' × (status ≡ status')
   one_task (T.Run rule) text text' figures figures' status status' s t =
       ((s.text_is ∙ sym t.text_is, s.figures_are ∙ sym t.figures_are), s.status_is ∙ sym t.status_is)
-  one_task T.Size text text' figures figures' status status' s t = one_sizing text text' figures figures' status status' s t
-  one_task T.Sweep text text' figures figures' status status' s t = one_sweep text text' figures figures' status status' s t
-  one_task T.Check text text' figures figures' status status' s t = one_check text text' figures figures' status status' s t
+  one_task T.Size text text' figures figures' status status' s t =
+      one_sizing script budget shape text text' figures figures' status status' s t
+  one_task (T.Sweep failures) text text' figures figures' status status' s t =
+      one_sweep failures script budget shape text text' figures figures' status status' s t
+  one_task (T.Check failures) text text' figures figures' status status' s t =
+      one_check failures script budget shape text text' figures figures' status status' s t
 
 -- ---- of a script, or of a fault
 

@@ -5,18 +5,23 @@ use Rattle.std.specs.Prelude.{map}
 use Rattle.serde_json.proofs.OnLiterals.{serde_json_on_literals}
 use Rattle.serde_json.specs.Data.{array}
 use Rattle.serde_json.specs.View.{items_of}
+use Rattle.wb_command_line.specs.declared.command.Task.TheVariants as T
+use Rattle.wb_model.specs.declared.failures.Failing.TheVariants as failings
+use Rattle.wb_model.specs.declared.failures.Failures.TheVariants.{Single, Every}
 use Rattle.wb_model.specs.declared.fault.ScriptFault.TheVariants as F
 use Rattle.wb_model.specs.declared.heap.Answer.TheVariants.{Granted, Simulated, Refused}
 use Rattle.wb_model.specs.declared.heap.Panic.TheVariants.{User, Alloc, Workbench}
+use Rattle.wb_model.specs.declared.heap.Rule.TheVariants.{Unlimited}
 use Rattle.wb_model.specs.declared.run.Note.TheVariants.{Heap, Available, Compress}
 use Rattle.wb_model.specs.declared.run.Outcome.TheVariants.{Ended, Panicked, NoCleanup, Cut}
 use Rattle.wb_model.specs.declared.run.RunResult.{RunResult}
 use Rattle.wb_model.specs.declared.run.Why.TheVariants.{Budget, Ceiling}
-use Rattle.workbench.specs.declared.figures.Failing.TheVariants.{At, Never}
+use Rattle.workbench.specs.declared.figures.FailingNumber.TheVariants.{At, Never}
 use Rattle.workbench.specs.Figures.{both_figures, no_figures, size_figures, sweep_figures}
 use Rattle.workbench.specs.JsonReport.{json_text, line_string, line_strings, report_object}
 use Rattle.workbench.specs.Report.{fault_line}
 use Rattle.workbench.specs.RunText.{run_text, run_status, outcome_text, outcome_status, note_line, attempt_line, leak_line}
+use Rattle.workbench.specs.TwoNumbers.{failing_line, sweep_text}
 
 -- a cell that is never freed
 abbrev forgotten_cell : RunResult
@@ -129,6 +134,31 @@ too_many-line : fault_line (F.TooMany 1) ≡ codes "refused 9 line 1\n"
 unfolding digits note_line attempt_line leak_line
 too_many-line = refl
 
+-- ---- what a sweep found
+
+-- over numbers and over rates, where a cell is never freed without any failure
+number-text : sweep_text Single (record { attempts = 2; found = Some (record { at = failings.Number 0; result = forgotten_cell }) })
+    ≡ codes "attempts 2\nnumber 0\nattempt 1 length 144 place 0 granted\nattempt 2 length 32 place 144 granted\nended\nleaks 1\nleak 2 length 32 place 144\nsteps 1\n"
+unfolding digits note_line attempt_line leak_line
+number-text = refl
+
+every-text : sweep_text Every (record { attempts = 2; found = Some (record { at = failings.Every 0; result = forgotten_cell }) })
+    ≡ codes "attempts 2\nevery 0\nattempt 1 length 144 place 0 granted\nattempt 2 length 32 place 144 granted\nended\nleaks 1\nleak 2 length 32 place 144\nsteps 1\n"
+unfolding digits note_line attempt_line leak_line
+every-text = refl
+
+failing-lines : (failing_line (failings.Number 12) ≡ codes "number 12\n") × (failing_line (failings.Every 12) ≡ codes "every 12\n")
+unfolding digits note_line attempt_line leak_line
+failing-lines = (refl, refl)
+
+number_none-text : sweep_text Single (record { attempts = 10; found = None }) ≡ codes "attempts 10\nnumber none\n"
+unfolding digits note_line attempt_line leak_line
+number_none-text = refl
+
+every_none-text : sweep_text Every (record { attempts = 10; found = None }) ≡ codes "attempts 10\nevery none\n"
+unfolding digits note_line attempt_line leak_line
+every_none-text = refl
+
 -- ---- as JSON
 
 -- the lines of a text, the empty one too
@@ -136,16 +166,29 @@ text-lines : line_strings (codes "print \"a\"\nprint \n\nsteps 2\n") ≡ array (
 text-lines = refl
 
 -- the figures of a check whose sweep found nothing, beside no lines
-check-json : json_text [] (both_figures (size_figures 176 (record { number = 1; top = 144 } ∷ record { number = 2; top = 176 } ∷ [])) (sweep_figures 2 Never)) 0
-    ≡ codes "{\"attempts\":2,\"lines\":[],\"number\":\"none\",\"required\":176,\"rises\":[[1,144],[2,176]],\"status\":0,\"version\":1}\n"
+check-json : json_text (T.Check Single) [] (both_figures (size_figures 176 (record { number = 1; top = 144 } ∷ record { number = 2; top = 176 } ∷ [])) (sweep_figures 2 Never)) 0
+    ≡ codes "{\"attempts\":2,\"kind\":\"single\",\"lines\":[],\"number\":\"none\",\"required\":176,\"rises\":[[1,144],[2,176]],\"status\":0,\"version\":2}\n"
 unfolding serde_json_on_literals digits report_object
 check-json = refl
 
--- those of a sweep that found a number, and of a refused script or a cut
-sweep-json : json_text [] (sweep_figures 3 (At 0)) 1 ≡ codes "{\"attempts\":3,\"lines\":[],\"number\":0,\"required\":null,\"rises\":null,\"status\":1,\"version\":1}\n"
+-- those of sweeps that found a number and a rate
+sweep-json : json_text (T.Sweep Single) [] (sweep_figures 3 (At (failings.Number 0))) 1
+    ≡ codes "{\"attempts\":3,\"kind\":\"single\",\"lines\":[],\"number\":0,\"required\":null,\"rises\":null,\"status\":1,\"version\":2}\n"
 unfolding serde_json_on_literals digits report_object
 sweep-json = refl
 
-plain-json : json_text [] no_figures 2 ≡ codes "{\"attempts\":null,\"lines\":[],\"number\":null,\"required\":null,\"rises\":null,\"status\":2,\"version\":1}\n"
+rate-json : json_text (T.Sweep Every) [] (sweep_figures 4 (At (failings.Every 2))) 1
+    ≡ codes "{\"attempts\":4,\"kind\":\"every\",\"lines\":[],\"number\":2,\"required\":null,\"rises\":null,\"status\":1,\"version\":2}\n"
+unfolding serde_json_on_literals digits report_object
+rate-json = refl
+
+-- those of a refused script or a cut, by what was asked for
+plain-json : json_text (T.Run Unlimited) [] no_figures 2
+    ≡ codes "{\"attempts\":null,\"kind\":null,\"lines\":[],\"number\":null,\"required\":null,\"rises\":null,\"status\":2,\"version\":2}\n"
 unfolding serde_json_on_literals digits report_object
 plain-json = refl
+
+cut-json : json_text (T.Check Every) [] no_figures 3
+    ≡ codes "{\"attempts\":null,\"kind\":\"every\",\"lines\":[],\"number\":null,\"required\":null,\"rises\":null,\"status\":3,\"version\":2}\n"
+unfolding serde_json_on_literals digits report_object
+cut-json = refl

@@ -22,7 +22,7 @@ pub record IsReported (command : Command) (told : Option (List ℕ)) (text : Lis
   pub lines : List ℕ
   pub figures : Figures
   pub report : IsReport command bytes lines figures status
-  pub text_is : text ≡ laid_out command.json lines figures status
+  pub text_is : text ≡ laid_out command lines figures status
 
 -- a read failed; the workbench's memory may have run out in its place
 abbrev pub is_read_fault : {A : Type 0} → Result A ReportFault → Bool

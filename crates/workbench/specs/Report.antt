@@ -52,10 +52,14 @@ pub record IsRunReport (r : RunResult) (text : List ℕ) (figures : Figures) (st
 
 -- what a task comes to on a script
 abbrev pub IsTaskReport : Task → Script → ℕ → Shape → List ℕ → Figures → ℕ → Type 0
-IsTaskReport (T.Run rule) script budget shape text figures status = IsRunReport (run script rule budget shape) text figures status
-IsTaskReport T.Size script budget shape text figures status = IsSizeReport script budget shape text figures status
-IsTaskReport T.Sweep script budget shape text figures status = IsSweepReport script budget shape text figures status
-IsTaskReport T.Check script budget shape text figures status = IsCheckReport script budget shape text figures status
+IsTaskReport (T.Run rule) script budget shape text figures status =
+    IsRunReport (run script rule budget shape) text figures status
+IsTaskReport T.Size script budget shape text figures status =
+    IsSizeReport script budget shape text figures status
+IsTaskReport (T.Sweep failures) script budget shape text figures status =
+    IsSweepReport failures script budget shape text figures status
+IsTaskReport (T.Check failures) script budget shape text figures status =
+    IsCheckReport failures script budget shape text figures status
 
 -- the bytes spell a script, and this is what the command's task comes to on it
 pub record IsReportOfScript (command : Command) (bytes text : List ℕ) (figures : Figures) (status : ℕ) : Type 0 where

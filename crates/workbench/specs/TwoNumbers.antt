@@ -1,8 +1,14 @@
--- What `size`, `sweep` and `check` tell, as lines and as figures, and what that means of runs: how long the heap must be, which
--- attempt each shorter heap refuses first, and the least number of an attempt whose simulated failure leaks or panics.
+-- What `size`, `sweep` and `check` say, as lines and as figures, and what that means of runs: how
+-- long the heap must be, which attempt each shorter heap refuses first, and the least number of an
+-- attempt whose simulated failure leaks or panics, or the least rate of attempts whose failures do.
 use Rattle.std.specs.Prelude.{◌≡◌, ◌≢◌, ◌⊎◌, ℕ, List, [], ◌∷◌, ◌++◌, codes, length}
 use Rattle.std.specs.Fmt.{decimal}
 use Rattle.std.specs.Option.{option_map_or}
+use Rattle.wb_model.specs.declared.failures.Failing.{Failing}
+use Rattle.wb_model.specs.declared.failures.Failing.TheVariants.{Number}
+use Rattle.wb_model.specs.declared.failures.Failing.TheVariants as failings
+use Rattle.wb_model.specs.declared.failures.Failures.{Failures}
+use Rattle.wb_model.specs.declared.failures.Failures.TheVariants.{Single, Every}
 use Rattle.wb_model.specs.declared.heap.Rule.TheVariants.{Unlimited}
 use Rattle.wb_model.specs.declared.heap.Shape.{Shape}
 use Rattle.wb_model.specs.declared.run.Outcome.TheVariants.{Cut}
@@ -13,9 +19,9 @@ use Rattle.wb_model.specs.declared.script.Script.{Script}
 use Rattle.wb_model.specs.declared.size.Rise.{Rise}
 use Rattle.wb_model.specs.Run.{run, rises as rises_of}
 use Rattle.wb_model.specs.Sizes.{IsHeapLength}
-use Rattle.wb_model.specs.Sweeps.{run_at, AreAllFine, IsLeastBad, IsLeastCut}
+use Rattle.wb_model.specs.Sweeps.{failing_at, runs_of, AreAllFine, IsLeastBad, IsLeastCut}
 use Rattle.wb_sweep.specs.declared.found.Sweep.{Sweep}
-use Rattle.workbench.specs.declared.figures.Failing.TheVariants.{At, Never}
+use Rattle.workbench.specs.declared.figures.FailingNumber.TheVariants.{At, Never}
 use Rattle.workbench.specs.declared.figures.Figures.{Figures}
 use Rattle.workbench.specs.Figures.{both_figures, no_figures, size_figures, sweep_figures}
 use Rattle.workbench.specs.RunText.{line, run_text}
@@ -63,68 +69,87 @@ abbrev pub IsSizeReport : Script → ℕ → Shape → List ℕ → Figures → 
 IsSizeReport script budget shape text figures status =
     (IsSized script budget shape text figures × (status ≡ 0)) ⊎ (IsUnsized script budget shape text figures × (status ≡ 3))
 
--- ---- which failing attempt shows a leak or a panic
+-- ---- which failure shows a leak or a panic
 
 abbrev pub attempts_line : ℕ → List ℕ
 attempts_line attempts = line (codes "attempts " ++ decimal attempts)
 
 -- how many attempts the run without failure makes
-abbrev pub attempts_of : Script → ℕ → Shape → ℕ
-attempts_of script budget shape = length (run_at script budget shape 0).trace
+abbrev pub attempts_of : Failures → Script → ℕ → Shape → ℕ
+attempts_of failures script budget shape =
+    length (runs_of failures script budget shape 0).trace
 
-abbrev pub found_text : ℕ → RunResult → List ℕ
-found_text number result = line (codes "number " ++ decimal number) ++ run_text result
+-- the number of the attempt that fails, or the rate at which attempts fail
+abbrev pub failing_line : Failing → List ℕ
+failing_line (Number n) = line (codes "number " ++ decimal n)
+failing_line (failings.Every n) = line (codes "every " ++ decimal n)
 
-abbrev pub none_line : List ℕ
-none_line = line (codes "number none")
+abbrev pub found_text : Failing → RunResult → List ℕ
+found_text failing result = failing_line failing ++ run_text result
 
--- what a sweep found, as it is printed
-abbrev pub sweep_text : Sweep → List ℕ
-sweep_text sweep = attempts_line sweep.attempts ++ option_map_or (λ found. found_text found.number found.result) sweep.found none_line
+abbrev pub none_line : Failures → List ℕ
+none_line Single = line (codes "number none")
+none_line Every = line (codes "every none")
 
--- A number is told, and the run in which its attempt fails. It is the least whose simulated failure leaks or panics; no
--- smaller number's run is cut (`IsLeastBad`).
-pub record IsFailing (script : Script) (budget : ℕ) (shape : Shape) (text : List ℕ) (figures : Figures) : Type 0 where
+-- what a sweep over such failures found, as it is printed
+abbrev pub sweep_text : Failures → Sweep → List ℕ
+sweep_text failures sweep =
+    attempts_line sweep.attempts
+    ++ option_map_or (λ found. found_text found.at found.result) sweep.found (none_line failures)
+
+-- A number or a rate is printed, and the run under that failure. It is the least whose run leaks or
+-- panics; no smaller one's run is cut (`IsLeastBad`).
+pub record IsFailing (failures : Failures) (script : Script) (budget : ℕ) (shape : Shape)
+    (text : List ℕ) (figures : Figures) : Type 0 where
   pub number : ℕ
   pub result : RunResult
-  pub least : IsLeastBad script budget shape number result
-  pub text_is : text ≡ attempts_line (attempts_of script budget shape) ++ found_text number result
-  pub figures_are : figures ≡ sweep_figures (attempts_of script budget shape) (At number)
+  pub least : IsLeastBad (runs_of failures script budget shape) number result
+  pub text_is : text ≡ attempts_line (attempts_of failures script budget shape)
+      ++ found_text (failing_at failures number) result
+  pub figures_are : figures
+      ≡ sweep_figures (attempts_of failures script budget shape) (At (failing_at failures number))
 
--- no number's failure leaks or panics, of all numbers from 0 on, and no such run is cut
-pub record IsNeverFailing (script : Script) (budget : ℕ) (shape : Shape) (text : List ℕ) (figures : Figures) : Type 0 where
-  pub fine : AreAllFine (run_at script budget shape)
-  pub text_is : text ≡ attempts_line (attempts_of script budget shape) ++ none_line
-  pub figures_are : figures ≡ sweep_figures (attempts_of script budget shape) Never
+-- the run leaks or panics under no number or rate, of all from 0 on, and is cut under none of them
+pub record IsNeverFailing (failures : Failures) (script : Script) (budget : ℕ) (shape : Shape)
+    (text : List ℕ) (figures : Figures) : Type 0 where
+  pub fine : AreAllFine (runs_of failures script budget shape)
+  pub text_is :
+      text ≡ attempts_line (attempts_of failures script budget shape) ++ none_line failures
+  pub figures_are : figures ≡ sweep_figures (attempts_of failures script budget shape) Never
 
--- no answer is told: a number's run is cut, and no smaller number's run leaks, panics or is cut (`IsLeastCut`)
-pub record IsUnswept (script : Script) (budget : ℕ) (shape : Shape) (text : List ℕ) (figures : Figures) : Type 0 where
+-- there is no answer: the run under a number or a rate is cut, and no smaller one's run leaks,
+-- panics or is cut (`IsLeastCut`)
+pub record IsUnswept (failures : Failures) (script : Script) (budget : ℕ) (shape : Shape)
+    (text : List ℕ) (figures : Figures) : Type 0 where
   pub number : ℕ
   pub why : Why
-  pub least : IsLeastCut script budget shape number why
+  pub least : IsLeastCut (runs_of failures script budget shape) number why
   pub text_is : text ≡ cut_at_line number why
   pub figures_are : figures ≡ no_figures
 
 -- the report of `sweep`
-abbrev pub IsSweepReport : Script → ℕ → Shape → List ℕ → Figures → ℕ → Type 0
-IsSweepReport script budget shape text figures status =
-    (IsFailing script budget shape text figures × (status ≡ 1))
-    ⊎ ((IsNeverFailing script budget shape text figures × (status ≡ 0)) ⊎ (IsUnswept script budget shape text figures × (status ≡ 3)))
+abbrev pub IsSweepReport : Failures → Script → ℕ → Shape → List ℕ → Figures → ℕ → Type 0
+IsSweepReport failures script budget shape text figures status =
+    (IsFailing failures script budget shape text figures × (status ≡ 1))
+    ⊎ ((IsNeverFailing failures script budget shape text figures × (status ≡ 0))
+    ⊎ (IsUnswept failures script budget shape text figures × (status ≡ 3)))
 
 -- ---- both
 
--- the length, and then the number or that there is none
-pub record IsBoth (script : Script) (budget : ℕ) (shape : Shape) (text : List ℕ) (figures : Figures) (status : ℕ) : Type 0 where
+-- the length, and then the number or the rate, or that there is none
+pub record IsBoth (failures : Failures) (script : Script) (budget : ℕ) (shape : Shape)
+    (text : List ℕ) (figures : Figures) (status : ℕ) : Type 0 where
   pub first : List ℕ
   pub second : List ℕ
   pub size : Figures
   pub sweep : Figures
   pub sized : IsSized script budget shape first size
-  pub swept : IsSweepReport script budget shape second sweep status
+  pub swept : IsSweepReport failures script budget shape second sweep status
   pub text_is : text ≡ first ++ second
   pub figures_are : figures ≡ both_figures size sweep
 
--- the report of `check`; where no length is told, nothing else is
-abbrev pub IsCheckReport : Script → ℕ → Shape → List ℕ → Figures → ℕ → Type 0
-IsCheckReport script budget shape text figures status =
-    IsBoth script budget shape text figures status ⊎ (IsUnsized script budget shape text figures × (status ≡ 3))
+-- the report of `check`; where there is no length, the sweep isn't made
+abbrev pub IsCheckReport : Failures → Script → ℕ → Shape → List ℕ → Figures → ℕ → Type 0
+IsCheckReport failures script budget shape text figures status =
+    IsBoth failures script budget shape text figures status
+    ⊎ (IsUnsized script budget shape text figures × (status ≡ 3))

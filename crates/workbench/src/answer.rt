@@ -155,19 +155,19 @@ fn reported<R: Source>(
 {
     let bytes = first_bytes(alloc, reader, MOST_READ)?;
     let report = report_on(alloc, command, bytes.as_slice())?;
-    Ok(laid_out(alloc, command.json, report)?)
+    Ok(laid_out(alloc, command, report)?)
 }
 
-/// A report as its lines, or as JSON.
-fn laid_out(alloc: Global, json: bool, report: Report) -> Result<Message, NoMemory>
+/// A report as the command wants it: as its lines, or as JSON.
+fn laid_out(alloc: Global, command: &Command, report: Report) -> Result<Message, NoMemory>
     requires { HasPrintableLines report.text.items }
     ensures text { IfOk result (λ m. m.text.items
-        ≡ laid_out json report.text.items report.figures report.status) }
+        ≡ laid_out command.now report.text.items report.figures report.status) }
     ensures status { IfOk result (λ m. m.status ≡ report.status) }
 {
     let status = report.status;
-    let text = if json {
-        json_text(alloc, &report)?
+    let text = if command.json {
+        json_text(alloc, command.task, &report)?
     } else {
         report.text
     };

@@ -1,27 +1,38 @@
-//! What a report tells as values, beside its lines. A JSON report has them under keys of their own.
+//! What a report says as values, beside its lines. A JSON report has them under keys of their own.
 
 ghost use Rattle.std.specs.Prelude.{◌≡◌};
-ghost use Rattle.workbench.specs.Figures.{both_figures, no_figures, run_figures, size_figures, sweep_figures};
+ghost use Rattle.workbench.specs.Figures.{both_figures, no_figures, number_of, run_figures, size_figures, sweep_figures};
 
+use wb_model::failures::Failing;
 use wb_model::run::RunResult;
 use wb_size::{Rises, Sizing};
 
-/// Which number a sweep that was finished tells.
+/// Which failure a sweep that was finished found.
 #[derive(Clone, Copy, Debug, PartialEq, Eq)]
-pub enum Failing {
-    /// No number's run leaks or panics.
+pub enum FailingNumber {
+    /// No failure's run leaks or panics.
     Never,
-    /// The least number whose run does.
-    At(u32),
+    /// The least failure whose run does.
+    At(Failing),
 }
 
-/// The values of a report, each where its task tells it.
+/// The number of the attempt that fails, or the rate at which attempts fail.
+pub fn number_of(failing: Failing) -> u32
+    ensures { result ≡ number_of failing }
+{
+    match failing {
+        Failing::Number(number) => number,
+        Failing::Every(rate) => rate,
+    }
+}
+
+/// The values of a report; `None` if its task has no such value.
 #[derive(Debug, Drop)]
 pub struct Figures {
     /// How many attempts the run made; for a sweep that was finished, the run without failure.
     pub attempts: Option<u64>,
     /// What the sweep found.
-    pub number: Option<Failing>,
+    pub number: Option<FailingNumber>,
     /// The length that the heap must have, in bytes.
     pub required: Option<u64>,
     /// The attempt that each shorter heap refuses first.
@@ -64,7 +75,7 @@ impl Figures {
     }
 
     /// Those of a sweep that was finished.
-    pub fn of_sweep(attempts: u32, number: Failing) -> Figures
+    pub fn of_sweep(attempts: u32, number: FailingNumber) -> Figures
         ensures { result ≡ sweep_figures attempts number }
     {
         Figures {
@@ -74,7 +85,7 @@ impl Figures {
         }
     }
 
-    /// Those of a size, and of the sweep that was made behind it.
+    /// Those of a size, and of the sweep that was made after it.
     pub fn of_both(size: Figures, sweep: Figures) -> Figures
         ensures { result ≡ both_figures size sweep }
     {

@@ -5,42 +5,46 @@ ghost use Rattle.serde_json.specs.View.{view};
 ghost use Rattle.wb_model.specs.Lines.{lines_of};
 ghost use Rattle.wb_model.specs.Printable.{ArePrintable};
 ghost use Rattle.workbench.specs.Ascii.{HasPrintableLines};
-ghost use Rattle.workbench.specs.JsonReport.{count_or_null, failing_number, json_text, line_string, line_strings, report_object, rise_pair, rise_pairs};
+ghost use Rattle.workbench.specs.JsonReport.{count_or_null, failing_number, failures_kind, json_text, kind_of, line_string, line_strings, report_object, rise_pair, rise_pairs};
 
-use crate::figures::Failing;
+use crate::figures::{FailingNumber, number_of};
 use crate::report::Report;
 use serde_json::{Map, Value, put};
 use std::alloc::{AllocError, Global};
+use wb_command_line::command::Task;
+use wb_model::failures::Failures;
 use wb_model::memory::NoMemory;
 use wb_model::size::Rise;
 use wb_size::Rises;
 
 /// The version of the form that a JSON report has.
-const VERSION: u32 = 1;
+const VERSION: u32 = 2;
 
-/// The report as a JSON object without blanks, and a line feed. The only error is that memory ran out.
+/// The report of a task as a JSON object without blanks, and a line feed. The only error is that memory ran out.
 #[tactic(auto, using(crate::proofs::JsonLemmas::report_has_none))]
-pub fn json_text(alloc: Global, report: &Report) -> Result<Vec<u8>, NoMemory>
+pub fn json_text(alloc: Global, task: Task, report: &Report) -> Result<Vec<u8>, NoMemory>
     requires { HasPrintableLines report.now.text.items }
     ensures { IfOk result (λ text. text.items
-        ≡ json_text report.now.text.items report.now.figures report.now.status) }
+        ≡ json_text task report.now.text.items report.now.figures report.now.status) }
 {
-    let mut text = report_object(alloc, report)?.to_vec(alloc)?;
+    let mut text = report_object(alloc, task, report)?.to_vec(alloc)?;
     text.extend_from_slice(b"\n")?;
     Ok(text)
 }
 
 /// The object. Its keys come in the order of their letters.
 #[tactic(auto, unfolding(crate::specs::JsonReport::report_object))]
-fn report_object(alloc: Global, report: &Report) -> Result<Value, AllocError>
+fn report_object(alloc: Global, task: Task, report: &Report) -> Result<Value, AllocError>
     requires { HasPrintableLines report.now.text.items }
     ensures { IfOk result (λ object. view object
-        ≡ report_object report.now.text.items report.now.figures report.now.status) }
+        ≡ report_object task report.now.text.items report.now.figures report.now.status) }
 {
     let figures = &report.figures;
     let mut members = Map::new(alloc);
     let attempts = count_or_null(figures.attempts);
     put(&mut members, alloc, "attempts", attempts)?;
+    let kind = kind_of(alloc, task)?;
+    put(&mut members, alloc, "kind", kind)?;
     let lines = line_strings(alloc, report.text.as_slice())?;
     put(&mut members, alloc, "lines", lines)?;
     let number = failing_number(alloc, figures.number)?;
@@ -54,7 +58,26 @@ fn report_object(alloc: Global, report: &Report) -> Result<Value, AllocError>
     Ok(Value::Object(members))
 }
 
-/// A number, or `null` where none is told.
+/// Which failures a task tries, or `null` where it tries none. The report makes no difference.
+fn kind_of(alloc: Global, task: Task) -> Result<Value, AllocError>
+    ensures { IfOk result (λ value. view value ≡ kind_of task) }
+{
+    match task {
+        Task::Sweep(failures) | Task::Check(failures) => failures_kind(alloc, failures),
+        Task::Run(_) | Task::Size => Ok(Value::Null),
+    }
+}
+
+fn failures_kind(alloc: Global, failures: Failures) -> Result<Value, AllocError>
+    ensures { IfOk result (λ value. view value ≡ failures_kind failures) }
+{
+    match failures {
+        Failures::Single => Value::try_from_str(alloc, "single"),
+        Failures::Every => Value::try_from_str(alloc, "every"),
+    }
+}
+
+/// A number, or `null` where there is none.
 fn count_or_null(count: Option<u64>) -> Value
     ensures { view result ≡ count_or_null count }
 {
@@ -87,7 +110,7 @@ fn line_string(alloc: Global, line: &[u8]) -> Result<Value, AllocError>
     Ok(Value::String(String::from_utf8_lossy(alloc, line)?))
 }
 
-/// The first line without its line feed, and the bytes behind that.
+/// The first line without its line feed, and the bytes after that.
 fn first_line<'a>(bytes: &'a [u8]) -> (&'a [u8], &'a [u8])
     requires { bytes.now ≢ [] }
     ensures lines { lines_of bytes.now ≡ result.0.now ∷ lines_of result.1.now }
@@ -101,18 +124,18 @@ fn first_line<'a>(bytes: &'a [u8]) -> (&'a [u8], &'a [u8])
     (bytes, &bytes[bytes.len()..])
 }
 
-/// The number that a sweep tells, or `null` where none was finished.
-fn failing_number(alloc: Global, number: Option<Failing>) -> Result<Value, AllocError>
+/// The number or the rate that a sweep found, or `null` where none was finished.
+fn failing_number(alloc: Global, number: Option<FailingNumber>) -> Result<Value, AllocError>
     ensures { IfOk result (λ value. view value ≡ failing_number number) }
 {
     match number {
-        Some(Failing::At(number)) => Ok(Value::from(number)),
-        Some(Failing::Never) => Value::try_from_str(alloc, "none"),
+        Some(FailingNumber::At(failing)) => Ok(Value::from(number_of(failing))),
+        Some(FailingNumber::Never) => Value::try_from_str(alloc, "none"),
         None => Ok(Value::Null),
     }
 }
 
-/// The table of rises, or `null` where none is told.
+/// The table of rises, or `null` where there is none.
 fn rise_pairs(alloc: Global, rises: &Option<Rises>) -> Result<Value, AllocError>
     ensures { IfOk result (λ pairs. view pairs ≡ rise_pairs rises.now) }
 {

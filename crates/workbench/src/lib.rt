@@ -18,6 +18,7 @@ mod tasks;
 pub use wb_command_line::command::{Command, CommandFault, Task};
 pub use wb_command_line::command_line::command;
 pub use wb_command_line::file_name::FileName;
+pub use wb_model::failures::Failures;
 pub use wb_model::heap::{Rule, Shape};
 pub use wb_model::memory::NoMemory;
 pub use wb_model::run::RunResult;

@@ -1,12 +1,13 @@
-//! The text of the two numbers, line by line: how long the heap must be, and which attempt's failure shows a fault. What
-//! a line says is said here alone.
+//! The text of the two numbers, line by line: how long the heap must be, and which failure shows a fault. What a line says
+//! is said here alone.
 
 ghost use Rattle.std.specs.Prelude.{◌≡◌, ◌++◌, OnOk};
-ghost use Rattle.workbench.specs.TwoNumbers.{cut_at_line, refuses_line, size_text, sweep_text, table_text};
+ghost use Rattle.workbench.specs.TwoNumbers.{cut_at_line, failing_line, none_line, refuses_line, size_text, sweep_text, table_text};
 
 use crate::appended::appended;
 use crate::run_text::put_run;
 use std::io::Write;
+use wb_model::failures::{Failing, Failures};
 use wb_model::memory::NoMemory;
 use wb_model::run::Why;
 use wb_model::size::Rise;
@@ -41,24 +42,43 @@ fn put_refuses(text: &mut Vec<u8>, from: u32, number: u32) -> Result<(), NoMemor
     appended(writeln!(text, "from {from} refuses {number}"))
 }
 
-/// Appends how many attempts the run without failure makes, and the number that was found with its run, or that there
-/// is none.
-pub fn put_sweep(text: &mut Vec<u8>, sweep: &Sweep) -> Result<(), NoMemory>
-    ensures { OnOk result (text.new.items ≡ text.old.items ++ sweep_text sweep.now) }
+/// Appends how many attempts the run without failure makes, and the number or the rate that was found, with the run under
+/// it, or that there is none.
+pub fn put_sweep(text: &mut Vec<u8>, failures: Failures, sweep: &Sweep) -> Result<(), NoMemory>
+    ensures { OnOk result (text.new.items ≡ text.old.items ++ sweep_text failures sweep.now) }
 {
     let attempts = sweep.attempts;
     appended(writeln!(text, "attempts {attempts}"))?;
     match &sweep.found {
         Some(found) => {
-            let number = found.number;
-            appended(writeln!(text, "number {number}"))?;
+            put_failing(text, found.at)?;
             put_run(text, &found.result)
         }
-        None => appended(writeln!(text, "number none")),
+        None => put_none(text, failures),
     }
 }
 
-/// Appends the line of a run that was cut, under the number of its failing attempt.
+fn put_failing(text: &mut Vec<u8>, failing: Failing) -> Result<(), NoMemory>
+    ensures { OnOk result (text.new.items ≡ text.old.items ++ failing_line failing) }
+{
+    let put = match failing {
+        Failing::Number(number) => writeln!(text, "number {number}"),
+        Failing::Every(rate) => writeln!(text, "every {rate}"),
+    };
+    appended(put)
+}
+
+fn put_none(text: &mut Vec<u8>, failures: Failures) -> Result<(), NoMemory>
+    ensures { OnOk result (text.new.items ≡ text.old.items ++ none_line failures) }
+{
+    let put = match failures {
+        Failures::Single => writeln!(text, "number none"),
+        Failures::Every => writeln!(text, "every none"),
+    };
+    appended(put)
+}
+
+/// Appends the line of a run that was cut, under the number of its failing attempt or the rate of those that fail.
 pub fn put_cut_at(text: &mut Vec<u8>, number: u32, why: Why) -> Result<(), NoMemory>
     ensures { OnOk result (text.new.items ≡ text.old.items ++ cut_at_line number why) }
 {

@@ -8,14 +8,14 @@ ghost use Rattle.workbench.specs.Report.{IsReport, fault_line, refused, refused_
 
 use crate::appended::appended;
 use crate::figures::Figures;
-use crate::tasks::carried_out;
+use crate::tasks::carry_out;
 use std::alloc::Global;
 use std::io::Write;
 use wb_command_line::command::Command;
 use wb_model::fault::ScriptFault;
 use wb_model::memory::NoMemory;
 
-/// A report as lines, the figures that it tells, and the exit status that goes with it.
+/// A report as lines, its figures, and the exit status that goes with it.
 #[derive(Debug, Drop)]
 pub struct Report {
     pub text: Vec<u8>,
@@ -30,7 +30,7 @@ pub fn report_on(alloc: Global, command: &Command, bytes: &[u8]) -> Result<Repor
     ensures { IfOk result (λ r. IsReport command.now bytes.now r.text.items r.figures r.status) }
 {
     match wb_script::read(alloc, bytes) {
-        Ok(script) => carried_out(alloc, command, &script),
+        Ok(script) => carry_out(alloc, command, &script),
         Err(ScriptFault::NoMemory) => Err(NoMemory),
         Err(fault) => refusal(alloc, fault),
     }

@@ -10,13 +10,14 @@ ghost use Rattle.workbench.specs.Report.{IsRunReport, IsTaskReport};
 ghost use Rattle.workbench.specs.RunText.{outcome_status};
 ghost use Rattle.workbench.specs.TwoNumbers.{IsSizeReport, IsSweepReport, IsCheckReport};
 
-use crate::figures::{Failing, Figures};
+use crate::figures::{FailingNumber, Figures, number_of};
 use crate::numbers_text::{put_cut_at, put_sizing, put_sweep};
 use crate::report::Report;
 use crate::run_text::put_run;
 use std::alloc::Global;
 use wb_command_line::command::{Command, Task};
 use wb_machine::RunFault;
+use wb_model::failures::Failures;
 use wb_model::heap::{Rule, Shape};
 use wb_model::limits::LARGEST_BUDGET;
 use wb_model::memory::NoMemory;
@@ -35,23 +36,23 @@ const FOUND: u8 = 1;
 const CUT: u8 = 3;
 
 /// What the command's task comes to on a script. The only error is that memory ran out.
-pub fn carried_out(alloc: Global, command: &Command, script: &Script) -> Result<Report, NoMemory>
+pub fn carry_out(alloc: Global, command: &Command, script: &Script) -> Result<Report, NoMemory>
     requires ranges { IsTrue (is_answerable command.now) }
     requires sound { IsTrue (is_script script.now) }
-    ensures { IfOk result (λ r. IsTaskReport command.now.task script.now command.now.budget command.now.shape
-        r.text.items r.figures r.status) }
+    ensures { IfOk result (λ r. IsTaskReport command.now.task script.now
+        command.now.budget command.now.shape r.text.items r.figures r.status) }
 {
     let (budget, shape) = (command.budget, command.shape);
     match command.task {
-        Task::Run(rule) => ran(alloc, script, rule, budget, shape),
-        Task::Size => sized(alloc, script, budget, shape),
-        Task::Sweep => swept(alloc, script, budget, shape),
-        Task::Check => checked(alloc, script, budget, shape),
+        Task::Run(rule) => run_report(alloc, script, rule, budget, shape),
+        Task::Size => size_report(alloc, script, budget, shape),
+        Task::Sweep(failures) => sweep_report(alloc, script, failures, budget, shape),
+        Task::Check(failures) => check_report(alloc, script, failures, budget, shape),
     }
 }
 
 /// One run, and its text.
-fn ran(
+fn run_report(
     alloc: Global,
     script: &Script,
     rule: Rule,
@@ -62,7 +63,8 @@ fn ran(
     requires least { 1 ≤ budget }
     requires greatest { budget ≤ LARGEST_BUDGET }
     requires shape { IsTrue (is_shape shape) }
-    ensures { IfOk result (λ r. IsRunReport (run script.now rule budget shape) r.text.items r.figures r.status) }
+    ensures { IfOk result (λ r. IsRunReport (run script.now rule budget shape)
+        r.text.items r.figures r.status) }
 {
     match wb_machine::run(alloc, script, rule, budget, shape) {
         Ok(run) => {
@@ -93,12 +95,18 @@ fn status_of(outcome: &Outcome) -> u8
 }
 
 /// How long the heap must be, or the line of a run that was cut.
-fn sized(alloc: Global, script: &Script, budget: u32, shape: Shape) -> Result<Report, NoMemory>
+fn size_report(
+    alloc: Global,
+    script: &Script,
+    budget: u32,
+    shape: Shape,
+) -> Result<Report, NoMemory>
     requires script { IsTrue (is_script script.now) }
     requires least { 1 ≤ budget }
     requires greatest { budget ≤ LARGEST_BUDGET }
     requires shape { IsTrue (is_shape shape) }
-    ensures { IfOk result (λ r. IsSizeReport script.now budget shape r.text.items r.figures r.status) }
+    ensures { IfOk result (λ r. IsSizeReport script.now budget shape
+        r.text.items r.figures r.status) }
 {
     let mut text = Vec::new(alloc);
     match size(alloc, script, budget, shape) {
@@ -112,7 +120,7 @@ fn sized(alloc: Global, script: &Script, budget: u32, shape: Shape) -> Result<Re
         }
         Err(SizeFault::Cut { number, why }) => {
             put_cut_at(&mut text, number, why)?;
-            Ok(cut(text))
+            Ok(cut_report(text))
         }
         // The command's shape is one that a heap may have.
         Err(SizeFault::BadShape) => unreachable!(),
@@ -120,31 +128,38 @@ fn sized(alloc: Global, script: &Script, budget: u32, shape: Shape) -> Result<Re
     }
 }
 
-/// Which attempt's failure leaks or panics, or the line of a run that was cut.
-fn swept(alloc: Global, script: &Script, budget: u32, shape: Shape) -> Result<Report, NoMemory>
+/// Which of these failures leaks or panics, or the line of a run that was cut.
+fn sweep_report(
+    alloc: Global,
+    script: &Script,
+    failures: Failures,
+    budget: u32,
+    shape: Shape,
+) -> Result<Report, NoMemory>
     requires script { IsTrue (is_script script.now) }
     requires least { 1 ≤ budget }
     requires greatest { budget ≤ LARGEST_BUDGET }
     requires shape { IsTrue (is_shape shape) }
-    ensures { IfOk result (λ r. IsSweepReport script.now budget shape r.text.items r.figures r.status) }
+    ensures { IfOk result (λ r. IsSweepReport failures script.now budget shape
+        r.text.items r.figures r.status) }
 {
     let mut text = Vec::new(alloc);
-    match sweep(alloc, script, budget, shape) {
-        Ok(told) => {
-            put_sweep(&mut text, &told)?;
-            let (number, status) = match &told.found {
-                Some(found) => (Failing::At(found.number), FOUND),
-                None => (Failing::Never, NOTHING_FOUND),
+    match sweep(alloc, script, failures, budget, shape) {
+        Ok(sweep) => {
+            put_sweep(&mut text, failures, &sweep)?;
+            let (number, status) = match &sweep.found {
+                Some(found) => (FailingNumber::At(found.at), FOUND),
+                None => (FailingNumber::Never, NOTHING_FOUND),
             };
             Ok(Report {
                 text,
-                figures: Figures::of_sweep(told.attempts, number),
+                figures: Figures::of_sweep(sweep.attempts, number),
                 status,
             })
         }
-        Err(SweepFault::Cut { number, why }) => {
-            put_cut_at(&mut text, number, why)?;
-            Ok(cut(text))
+        Err(SweepFault::Cut { at, why }) => {
+            put_cut_at(&mut text, number_of(at), why)?;
+            Ok(cut_report(text))
         }
         // The command's shape is one that a heap may have.
         Err(SweepFault::BadShape) => unreachable!(),
@@ -153,7 +168,7 @@ fn swept(alloc: Global, script: &Script, budget: u32, shape: Shape) -> Result<Re
 }
 
 /// The report of a run that was cut, whose line is the text.
-fn cut(text: Vec<u8>) -> Report
+fn cut_report(text: Vec<u8>) -> Report
     ensures text { result.text ≡ text }
     ensures figures { result.figures ≡ no_figures }
     ensures status { result.status ≡ 3 }
@@ -165,19 +180,26 @@ fn cut(text: Vec<u8>) -> Report
     }
 }
 
-/// Both, one behind the other; where the script wasn't sized, that alone.
-fn checked(alloc: Global, script: &Script, budget: u32, shape: Shape) -> Result<Report, NoMemory>
+/// Both, the size first; where the script wasn't sized, the line of the cut alone.
+fn check_report(
+    alloc: Global,
+    script: &Script,
+    failures: Failures,
+    budget: u32,
+    shape: Shape,
+) -> Result<Report, NoMemory>
     requires script { IsTrue (is_script script.now) }
     requires least { 1 ≤ budget }
     requires greatest { budget ≤ LARGEST_BUDGET }
     requires shape { IsTrue (is_shape shape) }
-    ensures { IfOk result (λ r. IsCheckReport script.now budget shape r.text.items r.figures r.status) }
+    ensures { IfOk result (λ r. IsCheckReport failures script.now budget shape
+        r.text.items r.figures r.status) }
 {
-    let mut report = sized(alloc, script, budget, shape)?;
+    let mut report = size_report(alloc, script, budget, shape)?;
     if report.status == CUT {
         return Ok(report);
     }
-    let sweep = swept(alloc, script, budget, shape)?;
+    let sweep = sweep_report(alloc, script, failures, budget, shape)?;
     report.text.extend_from_slice(sweep.text.as_slice())?;
     report.figures = Figures::of_both(report.figures, sweep.figures);
     report.status = sweep.status;

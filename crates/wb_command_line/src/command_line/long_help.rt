@@ -11,8 +11,9 @@ Begin with a script, a text file with one statement a line:
     end
 
 `workbench run FILE` runs it and tells its leaks; `workbench check FILE` finds how long the heap must be, and
-which failed allocation leaks or panics. `workbench help run` has the options, docs/LANGUAGE.md each line of a
-script, and examples/ has scripts to learn from.";
+which failed allocation leaks or panics; `workbench sweep --every FILE` lets every n-th allocation fail.
+`workbench help run` has the options, docs/LANGUAGE.md each line of a script, and examples/ has scripts to
+learn from.";
 
 /// What the help of a subcommand says at its top, by its name.
 pub(crate) fn long_about(name: &str) -> &'static str {
@@ -40,14 +41,20 @@ Exit status: 0 the length is told, 2 the script is refused, 3 the run was cut,
 
 const SWEEP: &str = "Finds the first attempt whose failure leaks or panics
 
+With --every: the least n for which the script leaks or panics where every n-th attempt fails
+
 Example: workbench sweep examples/second-phase-leaks.oom
+Example: workbench sweep --every examples/fallback-leaks.oom
 
 Exit status: 0 no attempt's failure leaks or panics, 1 one does, 2 the script is refused, 3 a run was cut,
 4 no memory, 5 reading or writing failed, 6 command line";
 
 const CHECK: &str = "Does what size does, and then what sweep does
 
+With --every: the least n for which the script leaks or panics where every n-th attempt fails
+
 Example: workbench check examples/second-phase-leaks.oom
+Example: workbench check --every examples/fallback-leaks.oom
 
 Exit status: 0 no attempt's failure leaks or panics, 1 one does, 2 the script is refused, 3 a run was cut,
 4 no memory, 5 reading or writing failed, 6 command line";

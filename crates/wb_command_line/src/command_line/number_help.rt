@@ -1,4 +1,4 @@
-//! What options take that take a number, and what the help says of it. The options themselves stand in `command_line`.
+//! What options take that take a number, and what the help says of it. The options themselves stand in `parser`.
 
 ghost use Rattle.std.specs.Prelude.{◌≡◌, pos};
 
@@ -16,6 +16,7 @@ use wb_model::limits::{
 pub(crate) struct NumberHelp {
     pub limit: String,
     pub fail: String,
+    pub every: String,
     pub budget: String,
     pub min: String,
     pub step: String,
@@ -30,6 +31,7 @@ impl NumberHelp {
             fail: format!(in alloc;
                 "Refuses the attempt with number N, from 0 to {CEILING}; there is no attempt 0"
             )?,
+            every: format!(in alloc; "Lets every N-th attempt fail, N from 0 to {CEILING}")?,
             budget: format!(in alloc;
                 "The greatest number of steps of a run, from 1 to {LARGEST_BUDGET} \
                  [default: {DEFAULT_BUDGET}]"

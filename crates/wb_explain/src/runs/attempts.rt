@@ -1,5 +1,6 @@
 //! What is said of attempts: which one failed, and what came of it.
 
+use crate::runs::rates::put_rate;
 use crate::runs::script_file::ScriptFile;
 use crate::runs::watch::{Maker, Seen};
 use std::alloc::AllocError;
@@ -16,8 +17,9 @@ pub fn put_refused(
     seen: &Seen,
 ) -> Result<(), AllocError> {
     match rule {
-        Rule::Unlimited | Rule::Number(0) => Ok(()),
+        Rule::Unlimited | Rule::Number(0) | Rule::Every(0) => Ok(()),
         Rule::Number(number) => put_number(text, file, number, panicked_at, seen),
+        Rule::Every(rate) => put_every(text, file, rate, panicked_at, seen),
         Rule::Limit(limit) => put_limit(text, file, limit, panicked_at, seen),
     }
 }
@@ -48,6 +50,21 @@ fn put_never_made(
         text,
         "{name}: attempt {number} was never made, so that none failed: the run makes {made}\n"
     )
+}
+
+/// Says how many attempts failed under a rate. The first of them has the rate as its number.
+fn put_every(
+    text: &mut String,
+    file: ScriptFile<'_>,
+    rate: u32,
+    panicked_at: Option<u32>,
+    seen: &Seen,
+) -> Result<(), AllocError> {
+    put_rate(text, file.name, rate, seen.result.trace.as_slice())?;
+    match seen.attempt(rate) {
+        Some((attempt, maker)) => put_failed(text, file, attempt, maker, panicked_at, seen),
+        None => Ok(()),
+    }
 }
 
 fn put_limit(

@@ -4,7 +4,7 @@
 use crate::runs::Setting;
 use crate::runs::probe::{Origin, Probe, Reason};
 use crate::runs::script_file::ScriptFile;
-use crate::runs::watch::{Seen, watched};
+use crate::runs::watch::{Seen, watch_run};
 use std::alloc::Global;
 use wb_model::heap::Panic;
 use wb_model::limits::LARGEST_BUDGET;
@@ -55,7 +55,7 @@ pub fn blame_of(
         && let Some(origin) = probe.origin(again.last())
     {
         let word = file.first_word(line);
-        return Ok(judged(panic, word, origin, again.ended_with_new_line(), seen));
+        return Ok(judge(panic, word, origin, again.ended_with_new_line(), seen));
     }
     Ok(Blame {
         line,
@@ -89,7 +89,7 @@ fn run_of(
         budget: LARGEST_BUDGET,
         ..setting
     };
-    let Some(again) = watched(alloc, &script, setting)? else {
+    let Some(again) = watch_run(alloc, &script, setting)? else {
         return Ok(None);
     };
     match &again.result.outcome {
@@ -99,7 +99,7 @@ fn run_of(
 }
 
 /// The line to be named, by where the probe's last line is from, and whether it was begun in the last turn.
-fn judged(panic: Panic, word: &str, origin: Origin, is_new: bool, seen: &Seen) -> Blame {
+fn judge(panic: Panic, word: &str, origin: Origin, is_new: bool, seen: &Seen) -> Blame {
     if panic == Panic::ITEMS_LEFT {
         return Blame {
             line: seen.last_beside(origin.line),

@@ -65,8 +65,8 @@ fn put_failure(
 /// Whether a rule may refuse anything. A leave of a run under another is what the script means to do.
 fn refuses(rule: Rule) -> bool {
     match rule {
-        Rule::Unlimited | Rule::Number(0) => false,
-        Rule::Number(_) | Rule::Limit(_) => true,
+        Rule::Unlimited | Rule::Number(0) | Rule::Every(0) => false,
+        Rule::Number(_) | Rule::Every(_) | Rule::Limit(_) => true,
     }
 }
 

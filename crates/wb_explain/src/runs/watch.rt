@@ -127,7 +127,7 @@ impl Lines {
 
 /// Runs the script in this setting and watches it; `None` where the shape is none that a heap may have. The only error is
 /// that memory ran out.
-pub fn watched(alloc: Global, script: &Script, setting: Setting) -> Result<Option<Seen>, NoMemory>
+pub fn watch_run(alloc: Global, script: &Script, setting: Setting) -> Result<Option<Seen>, NoMemory>
     requires script { IsTrue (is_script script.now) }
     requires least { 1 ≤ setting.budget }
     requires greatest { setting.budget ≤ LARGEST_BUDGET }
@@ -150,7 +150,7 @@ pub fn watched(alloc: Global, script: &Script, setting: Setting) -> Result<Optio
         Err(RunFault::NoMemory) => return Err(NoMemory),
     };
     watch(&mut machine, &mut lines, budget)?;
-    Ok(Some(finished(machine, lines)?))
+    Ok(Some(finish(machine, lines)?))
 }
 
 /// Lets the machine take its turns, at most one for each step of the budget, the first, and the one that ends the run.
@@ -171,7 +171,7 @@ fn take_turn(machine: &mut Machine<'_>, lines: &mut Lines) -> Result<Turn, NoMem
 }
 
 /// The result of a run whose turns were watched. Those left, if any, are taken unwatched.
-fn finished(machine: Machine<'_>, lines: Lines) -> Result<Seen, NoMemory> {
+fn finish(machine: Machine<'_>, lines: Lines) -> Result<Seen, NoMemory> {
     Ok(Seen {
         result: machine.run_to_end()?,
         lines,

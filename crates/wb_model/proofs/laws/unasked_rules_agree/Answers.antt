@@ -2,4 +2,4 @@ use Rattle.wb_model.proofs.SameRuns.{same_run, past_the_last}
 use Rattle.wb_model.proofs.laws.unasked_rules_agree.Goals as goal
 
 pub returns : goal.returns
-returns c = record { rules = same_run; numbers = past_the_last }
+returns c = record { rules = same_run; failures = past_the_last }

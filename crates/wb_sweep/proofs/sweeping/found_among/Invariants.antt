@@ -1,23 +1,23 @@
 use Rattle.std.proofs.Common.{◌≡◌, ◌+◌, ◌-◌, ◌≤◌, false, cond}
-use Rattle.wb_model.specs.declared.heap.Rule.TheVariants.{Number}
-use Rattle.wb_model.specs.Sweeps.{run_at, AreFineBelow}
+use Rattle.wb_model.specs.Sweeps.{rule_of, AreFineBelow}
+use Rattle.wb_sweep.specs.Sweeping.{runs_beside}
 use Rattle.wb_sweep.proofs.sweeping.found_among.Given as goal
 
--- the run is the same, without failure, and the numbers of the attempts made so far are fine
-abbrev pub invariant-loop-lead : goal.invariant-loop-lead
-invariant-loop-lead l =
+-- the run is the same, without failure, and the failures up to the number of attempts made so far are fine
+abbrev pub invariant-loop-failures : goal.invariant-loop-failures
+invariant-loop-failures l =
     record {
       script : l.lead.script ≡ l.fn.lead.script;
-      rule : l.lead.rule ≡ Number 0;
+      rule : l.lead.rule ≡ rule_of l.fn.failures 0;
       budget : l.lead.budget ≡ l.fn.lead.budget;
       shape : l.lead.shape ≡ l.fn.lead.shape;
       within : l.lead.steps ≤ l.fn.lead.budget;
       first : l.lead.begun ≡ false → l.lead.steps ≡ 0;
       well : l.lead.failed ≡ false;
       lines : l.lead.keeps_rises ≡ false;
-      fine : AreFineBelow (run_at l.fn.lead.script l.fn.lead.budget l.fn.lead.shape) (l.lead.attempts + 1);
+      fine : AreFineBelow (runs_beside l.fn.failures l.fn.lead) (l.lead.attempts + 1);
     }
 
 -- the steps that are left, the first turn, and the end
-abbrev pub decreases-loop-lead : goal.decreases-loop-lead
-decreases-loop-lead l = cond l.lead.over 0 1 + (cond l.lead.begun 0 1 + (l.fn.lead.budget - l.lead.steps))
+abbrev pub decreases-loop-failures : goal.decreases-loop-failures
+decreases-loop-failures l = cond l.lead.over 0 1 + (cond l.lead.begun 0 1 + (l.fn.lead.budget - l.lead.steps))

@@ -1,0 +1,303 @@
+//! The words that `clap` is to read: the subcommands, and the options of each.
+
+ghost use Rattle.std.specs.Prelude.{◌≡◌, IfOk, false, fold};
+ghost use Rattle.clap.specs.Words.{app_of, rule_of, with_rule, with_subcommand};
+ghost use Rattle.clap.specs.declared.builder.command.Command.TheViews.{out-Command as fields_of};
+ghost use Rattle.wb_command_line.specs.CommandLine.{command_line, file_argument, json_flag, line_of, option_rule, own_options, rates_flag, shared_options, with_level, with_option, with_rules};
+
+use crate::command_line::long_help::{BEGIN, long_about};
+use crate::command_line::number_help::{NumberHelp, between};
+use clap::{Arg, ArgAction};
+use std::alloc::{AllocError, Global};
+use wb_model::limits::{CEILING, LARGEST_BUDGET, LARGEST_MINIMUM, LARGEST_STEP, SMALLEST_STEP};
+
+/// Which options a subcommand has beside those of all.
+#[derive(Clone, Copy)]
+enum Takes {
+    /// Those that give a rule: a limit, the number of an attempt, or a rate.
+    Rule,
+    /// The flag that asks for rates to be tried, and not numbers of attempts.
+    Failures,
+    Neither,
+}
+
+/// A subcommand, and what its help says of it.
+#[derive(Clone, Copy)]
+struct Level {
+    name: &'static str,
+    about: &'static str,
+    takes: Takes,
+}
+
+/// An option that takes a number, and what its help says of it.
+#[derive(Clone, Copy)]
+struct NumberOption<'a> {
+    name: &'a str,
+    value: &'a str,
+    least: u32,
+    most: u32,
+    help: &'a str,
+}
+
+/// The words that `clap` is to read.
+pub(super) fn parser<'a>(
+    alloc: Global,
+    help: &'a NumberHelp,
+) -> Result<clap::Command<'a>, AllocError>
+    ensures { IfOk result (λ line. app_of line ≡ command_line) }
+{
+    let line = clap::Command::new(alloc, "workbench")
+        .about("Runs scripts against a simulated heap that may refuse")
+        .long_about(BEGIN)
+        .subcommand_required(true);
+    with_levels(
+        alloc,
+        line,
+        &[
+            Level {
+                name: "run",
+                about: "Runs a script once and reports",
+                takes: Takes::Rule,
+            },
+            Level {
+                name: "size",
+                about: "Finds how long the heap must be, and what shorter heaps refuse",
+                takes: Takes::Neither,
+            },
+            Level {
+                name: "sweep",
+                about: "Finds the first attempt whose failure leaks or panics",
+                takes: Takes::Failures,
+            },
+            Level {
+                name: "check",
+                about: "Does what size does, and then what sweep does",
+                takes: Takes::Failures,
+            },
+        ],
+        help,
+    )
+}
+
+/// The command line with further subcommands.
+fn with_levels<'a>(
+    alloc: Global,
+    line: clap::Command<'a>,
+    levels: &[Level],
+    help: &'a NumberHelp,
+) -> Result<clap::Command<'a>, AllocError>
+    ensures { IfOk result (λ more. app_of more ≡ fold with_level (app_of line.entry) levels.now) }
+{
+    let mut line = line;
+    for level in levels {
+        line = with_level(line, subcommand(alloc, level, help)?)?;
+    }
+    Ok(line)
+}
+
+/// A subcommand that takes a script's file and options.
+fn subcommand<'a>(
+    alloc: Global,
+    level: &Level,
+    help: &'a NumberHelp,
+) -> Result<clap::Command<'a>, AllocError>
+    ensures words { IfOk result (λ line. app_of line ≡ line_of level.now) }
+    ensures own { IfOk result (λ line. (fields_of line).has_globals ≡ false) }
+{
+    let line = clap::Command::new(alloc, level.name)
+        .about(level.about)
+        .long_about(long_about(level.name));
+    let line = with_argument(line, file(alloc))?;
+    let line = with_own_options(alloc, line, level.takes, help)?;
+    with_shared_options(alloc, line, help)
+}
+
+/// The subcommand with the options that it has beside those of all.
+fn with_own_options<'a>(
+    alloc: Global,
+    line: clap::Command<'a>,
+    takes: Takes,
+    help: &'a NumberHelp,
+) -> Result<clap::Command<'a>, AllocError>
+    ensures added { IfOk result
+        (λ more. app_of more ≡ with_rules (app_of line.entry) (own_options takes)) }
+    ensures own { IfOk result
+        (λ more. (fields_of more).has_globals ≡ (fields_of line.entry).has_globals) }
+{
+    match takes {
+        Takes::Rule => with_rule_options(alloc, line, help),
+        Takes::Failures => with_argument(line, rates(alloc)),
+        Takes::Neither => Ok(line),
+    }
+}
+
+/// The subcommand with the options that give a rule.
+fn with_rule_options<'a>(
+    alloc: Global,
+    line: clap::Command<'a>,
+    help: &'a NumberHelp,
+) -> Result<clap::Command<'a>, AllocError>
+    ensures added { IfOk result
+        (λ more. app_of more ≡ with_rules (app_of line.entry) (own_options Takes.Rule)) }
+    ensures own { IfOk result
+        (λ more. (fields_of more).has_globals ≡ (fields_of line.entry).has_globals) }
+{
+    with_numbers(
+        alloc,
+        line,
+        &[
+            NumberOption {
+                name: "limit",
+                value: "L",
+                least: 0,
+                most: CEILING,
+                help: help.limit.as_str(),
+            },
+            NumberOption {
+                name: "fail",
+                value: "N",
+                least: 0,
+                most: CEILING,
+                help: help.fail.as_str(),
+            },
+            NumberOption {
+                name: "every",
+                value: "N",
+                least: 0,
+                most: CEILING,
+                help: help.every.as_str(),
+            },
+        ],
+    )
+}
+
+/// The subcommand with the options that all of them have.
+fn with_shared_options<'a>(
+    alloc: Global,
+    line: clap::Command<'a>,
+    help: &'a NumberHelp,
+) -> Result<clap::Command<'a>, AllocError>
+    ensures added { IfOk result
+        (λ more. app_of more ≡ with_rules (app_of line.entry) shared_options) }
+    ensures own { IfOk result
+        (λ more. (fields_of more).has_globals ≡ (fields_of line.entry).has_globals) }
+{
+    let line = with_numbers(
+        alloc,
+        line,
+        &[
+            NumberOption {
+                name: "budget",
+                value: "B",
+                least: 1,
+                most: LARGEST_BUDGET,
+                help: help.budget.as_str(),
+            },
+            NumberOption {
+                name: "min",
+                value: "M",
+                least: 0,
+                most: LARGEST_MINIMUM,
+                help: help.min.as_str(),
+            },
+            NumberOption {
+                name: "step",
+                value: "G",
+                least: SMALLEST_STEP,
+                most: LARGEST_STEP,
+                help: help.step.as_str(),
+            },
+        ],
+    )?;
+    with_argument(line, json(alloc))
+}
+
+/// The subcommand with further options.
+fn with_numbers<'a>(
+    alloc: Global,
+    line: clap::Command<'a>,
+    options: &[NumberOption<'a>],
+) -> Result<clap::Command<'a>, AllocError>
+    ensures added { IfOk result
+        (λ more. app_of more ≡ fold with_option (app_of line.entry) options.now) }
+    ensures own { IfOk result
+        (λ more. (fields_of more).has_globals ≡ (fields_of line.entry).has_globals) }
+{
+    let mut line = line;
+    for option in options {
+        line = with_argument(line, number(alloc, option))?;
+    }
+    Ok(line)
+}
+
+/// The command line with one subcommand more.
+fn with_level<'a>(
+    line: clap::Command<'a>,
+    level: clap::Command<'a>,
+) -> Result<clap::Command<'a>, AllocError>
+    requires { (fields_of level).has_globals ≡ false }
+    ensures { IfOk result
+        (λ more. app_of more ≡ with_subcommand (app_of line.entry) (app_of level.entry).top) }
+{
+    line.subcommand(level)
+}
+
+/// The script's file, which may be left out.
+fn file<'a>(alloc: Global) -> Arg<'a>
+    ensures rule { rule_of result ≡ file_argument }
+    ensures own { result.global ≡ false }
+{
+    Arg::new(alloc, "file").value_name("FILE").help(
+        "The script's file; without it the script is standard input",
+    )
+}
+
+/// The flag that asks for the report as JSON.
+fn json<'a>(alloc: Global) -> Arg<'a>
+    ensures rule { rule_of result ≡ json_flag }
+    ensures own { result.global ≡ false }
+{
+    Arg::new(alloc, "json")
+        .long("json")
+        .action(ArgAction::SetTrue)
+        .help("Writes the report as one JSON object")
+}
+
+/// The flag that asks for rates to be tried. Its id is not `every`, which is an option of `run` that takes a number.
+fn rates<'a>(alloc: Global) -> Arg<'a>
+    ensures rule { rule_of result ≡ rates_flag }
+    ensures own { result.global ≡ false }
+{
+    Arg::new(alloc, "rates")
+        .long("every")
+        .action(ArgAction::SetTrue)
+        .help(
+            "Lets every n-th attempt fail, and finds the least n with which the script leaks or panics",
+        )
+}
+
+/// The command with one argument more.
+fn with_argument<'a>(
+    line: clap::Command<'a>,
+    argument: Arg<'a>,
+) -> Result<clap::Command<'a>, AllocError>
+    requires { argument.global ≡ false }
+    ensures added { IfOk result
+        (λ more. app_of more ≡ with_rule (app_of line.entry) (rule_of argument.entry)) }
+    ensures own { IfOk result
+        (λ more. (fields_of more).has_globals ≡ (fields_of line.entry).has_globals) }
+{
+    line.arg(argument)
+}
+
+/// An option that takes a decimal number in a range.
+fn number<'a>(alloc: Global, option: &NumberOption<'a>) -> Arg<'a>
+    ensures rule { rule_of result ≡ option_rule option.now }
+    ensures own { result.global ≡ false }
+{
+    Arg::new(alloc, option.name)
+        .long(option.name)
+        .value_name(option.value)
+        .value_parser(between(option.least, option.most))
+        .help(option.help)
+}

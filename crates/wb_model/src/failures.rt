@@ -1,0 +1,48 @@
+//! Which failures a sweep tries, and which one it speaks of.
+
+ghost use Rattle.std.specs.Prelude.{◌≡◌};
+ghost use Rattle.wb_model.specs.Sweeps.{failing_at, rule_for};
+
+use crate::heap::Rule;
+
+/// The failures that a sweep tries one by one, from the least on. Source: this project's profile.
+#[derive(Clone, Copy, Debug, PartialEq, Eq)]
+pub enum Failures {
+    /// One attempt fails: its number is tried.
+    Single,
+    /// Every n-th attempt fails: the rate n is tried.
+    Every,
+}
+
+impl Failures {
+    /// The failure that is tried as `n`. Number 0 and rate 0 are the run without failure.
+    pub fn at(self, n: u32) -> Failing
+        ensures { result ≡ failing_at self n }
+    {
+        match self {
+            Failures::Single => Failing::Number(n),
+            Failures::Every => Failing::Every(n),
+        }
+    }
+}
+
+/// A failure of memory that a run is made under.
+#[derive(Clone, Copy, Debug, PartialEq, Eq)]
+pub enum Failing {
+    /// The attempt with this number fails. Attempts count from 1.
+    Number(u32),
+    /// Each attempt fails whose number is a multiple of this rate.
+    Every(u32),
+}
+
+impl Failing {
+    /// The rule under which the run meets this failure and no other.
+    pub fn rule(self) -> Rule
+        ensures { result ≡ rule_for self }
+    {
+        match self {
+            Failing::Number(number) => Rule::Number(number),
+            Failing::Every(rate) => Rule::Every(rate),
+        }
+    }
+}
