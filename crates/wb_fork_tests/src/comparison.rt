@@ -7,16 +7,18 @@ use crate::copies::compare_copies;
 use crate::forks::compare_forks;
 use std::alloc::Global;
 use wb_machine::RunFault;
+use wb_model::failures::{Failing, Failures};
 use wb_model::script::Script;
 use wb_script::read;
 
 /// What was found.
 #[derive(Clone, Copy, Debug, PartialEq, Eq)]
 pub(crate) enum Comparison {
-    /// So many forks were made, and each comes to what its run does; and as many copies are apart from their sources.
+    /// So many forks were made under numbers and as many under rates, and each comes to what its run does; and as many copies
+    /// are apart from their sources.
     Same(u32),
-    /// The fork in which the attempt with this number fails comes to something else than its run.
-    OtherFork(u32),
+    /// The fork under this failure comes to something else than its run.
+    OtherFork(Failing),
     /// The run that the forks were taken from comes to something else than without them.
     OtherRun,
     /// A copy that was taken before the attempt with this number differs from its source, or what was done to one of them was
@@ -35,8 +37,18 @@ pub(crate) fn compare(alloc: Global, bytes: &[u8]) -> Option<Comparison> {
 fn compare_script(alloc: Global, script: &Script) -> Result<Comparison, RunFault>
     requires { IsTrue (is_script script.now) }
 {
-    match compare_forks(alloc, script)? {
+    match compare_all_forks(alloc, script)? {
         Comparison::Same(forks) => compare_copies(alloc, script, forks),
+        other => Ok(other),
+    }
+}
+
+/// Compares the forks under numbers, and then those under rates, with their runs.
+fn compare_all_forks(alloc: Global, script: &Script) -> Result<Comparison, RunFault>
+    requires { IsTrue (is_script script.now) }
+{
+    match compare_forks(alloc, script, Failures::Single)? {
+        Comparison::Same(_) => compare_forks(alloc, script, Failures::Every),
         other => Ok(other),
     }
 }

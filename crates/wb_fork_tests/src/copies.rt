@@ -28,6 +28,9 @@ enum First {
     Copy,
 }
 
+/// The rule of a run without failure.
+const NONE: Rule = Rule::Number(0);
+
 /// Copies a script's run without failure before each of its attempts, of which there are so many, and tells whether each copy
 /// and its source are apart, whichever of the two ends first.
 pub(crate) fn compare_copies(
@@ -59,9 +62,9 @@ fn are_apart(alloc: Global, script: &Script, made: u32) -> Result<bool, RunFault
 fn one_waits(alloc: Global, script: &Script, made: u32, first: First) -> Result<bool, RunFault>
     requires { IsTrue (is_script script.now) }
 {
-    let mut source = Machine::new(alloc, script, Rule::Number(0), BUDGET, SHAPE)?;
+    let mut source = Machine::new(alloc, script, NONE, BUDGET, SHAPE)?;
     let is_copy_apart = is_copy_apart(alloc, script, made, first, &mut source);
-    let is_source_as_run = comes_to_run(alloc, script, source)?;
+    let is_source_as_run = comes_to_run(alloc, script, NONE, source)?;
     Ok(is_source_as_run && is_copy_apart?)
 }
 
@@ -78,7 +81,7 @@ fn is_copy_apart(
     go_to_attempt(source, made)?;
     let mut copy = source.try_copy()?;
     let stays = one_stays(first, source, &mut copy);
-    let is_copy_as_run = comes_to_run(alloc, script, copy)?;
+    let is_copy_as_run = comes_to_run(alloc, script, NONE, copy)?;
     Ok(is_copy_as_run && stays?)
 }
 

@@ -1,7 +1,8 @@
 //! Compares the forks of a script's run with the runs that they stand for, and copies of that run with their source.
 //!
-//! A fork is a copy of the run that goes on under another rule, so that an attempt fails which the run itself is granted. The
-//! program reads the script on standard input, and says how many forks there are. Where a fork or a copy comes to anything else
+//! A fork is a copy of the run that goes on under another rule, so that an attempt fails which the run itself is granted: it
+//! alone, or from it on each whose number is a multiple of its own. The program reads the script on standard input, and says how
+//! many forks there are. Where a fork or a copy comes to anything else
 //! than it should, the program says which, and ends with status 1.
 #![tactic(auto)]
 
@@ -14,6 +15,7 @@ use comparison::{Comparison, compare};
 use std::io;
 use std::io::Read;
 use std::process::ExitCode;
+use wb_model::failures::Failing;
 
 fn main(rt: HostRuntime) -> ExitCode {
     say(&rt).unwrap_or(ExitCode::FAILURE)
@@ -24,12 +26,17 @@ fn say(rt: &HostRuntime) -> io::Result<ExitCode> {
     match compare_input(rt)? {
         Some(Comparison::Same(forks)) => {
             println!(rt;
-                "{forks} forks, each as its run, and as many copies, each apart from its source"
+                "{forks} forks under numbers and as many under rates, each as its run, and as many copies, each apart from its source"
             )?;
             return Ok(ExitCode::SUCCESS);
         }
-        Some(Comparison::OtherFork(number)) => {
+        Some(Comparison::OtherFork(Failing::Number(number))) => {
             println!(rt; "another result where attempt {number} fails")?;
+        }
+        Some(Comparison::OtherFork(Failing::Every(rate))) => {
+            println!(rt;
+                "another result where every attempt fails whose number is a multiple of {rate}"
+            )?;
         }
         Some(Comparison::OtherRun) => println!(rt; "another result of the run itself")?,
         Some(Comparison::OtherCopy(number)) => {

@@ -19,28 +19,29 @@ pub(crate) const SHAPE: Shape = Shape {
 /// The first turn, one for each step, and one that cuts the run.
 pub(crate) const MOST_TURNS: u32 = BUDGET + 2;
 
-/// Whether a run under way, of this script and without failure, comes to what the whole run does.
+/// Whether a run under way, of this script and under this rule, comes to what the whole run does.
 pub(crate) fn comes_to_run(
     alloc: Global,
     script: &Script,
+    rule: Rule,
     machine: Machine,
 ) -> Result<bool, RunFault>
     requires { IsTrue (is_script script.now) }
 {
     let told = machine.run_to_end()?;
-    is_result(alloc, script, 0, &told)
+    is_result(alloc, script, rule, &told)
 }
 
-/// Whether the whole run of a script, in which the attempt with this number fails, comes to this result.
+/// Whether the whole run of a script under this rule comes to this result.
 pub(crate) fn is_result(
     alloc: Global,
     script: &Script,
-    number: u32,
+    rule: Rule,
     told: &RunResult,
 ) -> Result<bool, RunFault>
     requires { IsTrue (is_script script.now) }
 {
-    let whole = run(alloc, script, Rule::Number(number), BUDGET, SHAPE)?;
+    let whole = run(alloc, script, rule, BUDGET, SHAPE)?;
     Ok(is_same(&whole, told))
 }
 

@@ -1,0 +1,206 @@
+#!/usr/bin/env python3
+"""Makes scripts that are accepted and make attempts of many sorts, some of which leak, panic or are cut where attempts fail.
+
+    tools/made_scripts.py FOLDER [--scripts N] [--seed N]
+
+Each script is a `main` that calls some parts, each within a TRAP: cells, cells that grow, texts, objects, the cleanup stack, loops,
+requests with a fallback. Most scripts have one part with a mistake, which some failure or other shows; around the parts there may be
+`failnext`, `failevery`, `failnone` and heap marks. The same numbers give the same scripts. `tools/rates.py` tries the program on them, and `test`
+the program that compares forks.
+"""
+
+import argparse
+import random
+import sys
+from collections.abc import Callable
+from pathlib import Path
+
+SCRIPTS, SEED = 300, 1
+
+# what the parts share: an object that owns a text, and an operation
+SHARED = """\
+class Note 4
+    field text
+    construct
+        hnewl self.text 12
+        copy self.text "milk"
+    end
+    destroy
+        free self.text
+    end
+end
+op giveup cell
+    free cell
+end
+"""
+
+# the lines of a part's body; a mistake is in it where that is asked for
+Part = Callable[[random.Random, bool], list[str]]
+
+
+def lines(text: str) -> list[str]:
+    """The lines of a text, with a semicolon between; those that say nothing are left out."""
+    return [line for line in map(str.strip, text.split(";")) if line]
+
+
+def room(chance: random.Random) -> int:
+    """How many bytes a request asks for."""
+    return chance.choice((4, 16, 17, 40, 100, 240, 1000, 5000))
+
+
+def cell(chance: random.Random, is_wrong: bool) -> list[str]:
+    """A cell that is written; wrong: without a look at whether it is there."""
+    store = "store cell 0 7" if is_wrong else "if some cell; store cell 0 7; end"
+    return lines(f"ptr cell; alloc cell {room(chance)}; {store}; free cell")
+
+
+def grown_cell(chance: random.Random, is_wrong: bool) -> list[str]:
+    """A cell that grows; wrong: the answer replaces the only pointer to it."""
+    first = room(chance)
+    more = first + chance.choice((16, 100, 3000))
+    grow = f"realloc cell cell {more}" if is_wrong else f"realloc grown cell {more}; if some grown; set cell grown; end"
+    return lines(f"ptr cell; ptr grown; alloc cell {first}; if some cell; {grow}; end; free cell")
+
+
+def pair(chance: random.Random, is_wrong: bool) -> list[str]:
+    """Two cells on the cleanup stack; wrong: the first isn't pushed."""
+    push, pops = ("", "pop 1; free second; free first") if is_wrong else ("push first", "popdestroy 2")
+    return lines(f"ptr first; ptr second; allocl first {room(chance)}; {push}; allocl second {room(chance)}; push second; {pops}")
+
+
+def fallback(chance: random.Random, is_wrong: bool) -> list[str]:
+    """A large cell, or else a small one after some others; wrong: the others aren't given up where the small one is refused too."""
+    helpers = [f"helper{at}" for at in range(chance.randint(1, 3))]
+    made = [f"allocl {it} {room(chance)}; {'' if is_wrong else f'push {it}'}" for it in helpers]
+    given_up = [f"free {it}" for it in helpers] if is_wrong else [f"popdestroy {len(helpers)}"]
+    declared = "; ".join(f"ptr {it}" for it in helpers)
+    tried = f"alloc cell {room(chance) + 2000}; if null cell; {'; '.join(made)}; allocl cell 16; {'; '.join(given_up)}; end"
+    return lines(f"ptr cell; {declared}; {tried}; free cell")
+
+
+def text(chance: random.Random, is_wrong: bool) -> list[str]:
+    """A text that grows; wrong: the answer replaces the only pointer to it."""
+    first = chance.randint(2, 20)
+    more = first + chance.choice((6, 30, 200))
+    grow = f"hrealloc name name {more}; print name" if is_wrong else f"hrealloc grown name {more}; if some grown; set name grown; end"
+    return lines(f'ptr name; ptr grown; hnew name {first}; if some name; copy name "ab"; {grow}; append name "cd"; end; free name')
+
+
+def note(chance: random.Random, is_wrong: bool) -> list[str]:
+    """An object that is made in two phases; wrong: it isn't pushed between them."""
+    push, end = ("", "delete note") if is_wrong else ("pushobj note", "popdestroy 1")
+    return lines(f"ptr note Note; newleave note Note; {push}; construct note; print note.text; {end}")
+
+
+def operation(chance: random.Random, is_wrong: bool) -> list[str]:
+    """A cell that an operation gives up, and another request; wrong: the item comes off before that."""
+    request = f"allocl other {room(chance)}; free other"
+    rest = f"pop 1; {request}; free session" if is_wrong else f"{request}; popdestroy 1"
+    return lines(f"ptr session; ptr other; allocl session 8; pushop session giveup; {rest}")
+
+
+def many_pushes(chance: random.Random, is_wrong: bool) -> list[str]:
+    """So many pushes that the cleanup stack grows; wrong: with a cell that isn't pushed."""
+    count = chance.randint(6, 13)
+    pushes = f"repeat {count}; allocl cell 16; push cell; end"
+    kept = (f"allocl kept {room(chance)}", "free kept") if is_wrong else ("", "")
+    return lines(f"ptr cell; ptr kept; {kept[0]}; {pushes}; popdestroy {count}; {kept[1]}")
+
+
+def loop(chance: random.Random, is_wrong: bool) -> list[str]:
+    """A cell in each turn of a loop; wrong: a turn without memory goes on past the budget."""
+    waits = "if null cell; repeat 20000; end; end" if is_wrong else "if null cell; add missed 1; end"
+    turns = f"repeat {chance.randint(2, 5)}; alloc cell {room(chance)}; {waits}; free cell; null cell; end"
+    return lines(f"ptr cell; int missed; {turns}; print missed")
+
+
+def greed(chance: random.Random, is_wrong: bool) -> list[str]:
+    """Two cells; wrong: where the second is refused, so much is asked for that the heap comes to its ceiling."""
+    second = "if null second; repeat 40; alloc second 1048576; end; end" if is_wrong else ""
+    return lines(f"ptr first; ptr second; alloc first {room(chance)}; alloc second 32; {second}; free first; free second")
+
+
+def retry(chance: random.Random, is_wrong: bool) -> list[str]:
+    """Two cells that are asked for again; wrong: a turn that fails half way forgets the first."""
+    given_back = "" if is_wrong else "if null body; free header; null header; end"
+    turn = f"if null body; alloc header 16; if some header; alloc body {room(chance)}; {given_back}; end; end"
+    return lines(f"ptr header; ptr body; repeat 3; {turn}; end; free body; free header")
+
+
+def leave(chance: random.Random, is_wrong: bool) -> list[str]:
+    """A leave with a cell; wrong: that isn't pushed."""
+    push = "" if is_wrong else "push cell"
+    return lines(f"ptr cell; alloc cell {room(chance)}; if some cell; {push}; leave -20; end")
+
+
+def stale(chance: random.Random, is_wrong: bool) -> list[str]:
+    """A cell below another one; wrong: it is freed by its old pointer, which is right only as long as it can't grow."""
+    freed = "free cell" if is_wrong else "if some grown; set cell grown; end; free cell"
+    return lines(f"ptr cell; ptr above; ptr grown; allocl cell 16; push cell; allocl above 16; pop 1; realloc grown cell 64; free above; {freed}")
+
+
+def inner_trap(chance: random.Random, is_wrong: bool) -> list[str]:
+    """A TRAP of its own; wrong: nobody asks for the code."""
+    asked = "" if is_wrong else "leaveiferror code"
+    return lines(f"ptr name; int code; trap code; hnewl name {chance.randint(2, 30)}; end; {asked}; push name; copy name \"x\"; popdestroy 1")
+
+
+PARTS: tuple[Part, ...] = (
+    *(cell, grown_cell, pair, text, note, operation, many_pushes, loop, greed, retry, leave, stale, inner_trap),
+    # those that take more than one failure are the ones that rates are for
+    *(fallback, fallback, fallback, fallback),
+)
+
+
+def setting(chance: random.Random) -> str:
+    """A setting of the script's own."""
+    return chance.choice((f"failnext {chance.randint(1, 9)}", f"failevery {chance.randint(2, 7)}", "failnone"))
+
+
+def indented(body: list[str]) -> list[str]:
+    """The lines of a body, each as deep as its block."""
+    written, depth = [], 1
+    for line in body:
+        depth -= line == "end"
+        written.append("    " * depth + line)
+        depth += line.split()[0] in ("if", "repeat", "trap")
+    return written
+
+
+def script(number: int, seed: int = SEED) -> str:
+    """The script with this number."""
+    chance = random.Random(f"{seed} {number}")
+    parts = [chance.choice(PARTS) for _ in range(chance.choice((1, 2, 2, 3, 3, 4, 5)))]
+    wrong = chance.randrange(len(parts)) if chance.random() < 0.7 else None
+    is_marked, is_set = chance.random() < 0.3, chance.random() < 0.3
+    written, main = [], lines("int code")
+    for at, part in enumerate(parts):
+        written += [f"proc part{at}", *indented(part(chance, at == wrong)), "end"]
+        main += [setting(chance)] if is_set else []
+        main += ["mark"] if is_marked else []
+        main += lines(f"trap code; call part{at}; end; print code")
+        main += ["markend 0"] if is_marked else []
+    return SHARED + "\n".join([*written, "proc main", *indented(main), "end"]) + "\n"
+
+
+def scripts(count: int = SCRIPTS, seed: int = SEED) -> list[str]:
+    """The first so many scripts."""
+    return [script(number, seed) for number in range(count)]
+
+
+def main() -> int:
+    """Writes the scripts into files."""
+    parser = argparse.ArgumentParser(description=__doc__.splitlines()[0])
+    parser.add_argument("folder", type=Path, help="where the scripts go")
+    parser.add_argument("--scripts", type=int, default=SCRIPTS, metavar="N", help=f"how many scripts [default: {SCRIPTS}]")
+    parser.add_argument("--seed", type=int, default=SEED, metavar="N", help=f"which scripts [default: {SEED}]")
+    given = parser.parse_args()
+    given.folder.mkdir(parents=True, exist_ok=True)
+    for number, made in enumerate(scripts(given.scripts, given.seed)):
+        (given.folder / f"{number:03}.oom").write_text(made, encoding="ascii")
+    print(f"{given.scripts} scripts in {given.folder}")
+    return 0
+
+
+if __name__ == "__main__":
+    sys.exit(main())
