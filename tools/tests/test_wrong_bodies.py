@@ -9,7 +9,8 @@ from pathlib import Path
 
 TOOLS = Path(__file__).resolve().parent.parent
 sys.path.insert(0, str(TOOLS))
-from verdicts import FILE, Verdicts, without_bodies  # noqa: E402
+from crates import Crates  # noqa: E402
+from verdicts import FILE, USED_BY_NOTHING, Verdicts, without_bodies  # noqa: E402
 
 LOW = """\
 //! A number and the next one.
@@ -158,6 +159,14 @@ class WhatLinesStand(TinyRepository):
         self.write("crates/low/proofs/Lemmas.antt", "\n")
         self.assertEqual(self.standing(), [])
 
+    def test_worked_cases_below(self) -> None:
+        self.write("crates/low/proofs/WorkedCases.antt", "\n")
+        self.assertEqual(self.standing(), ["high"])
+
+    def test_a_definition_with_the_name_of_worked_cases_below(self) -> None:
+        self.write("crates/low/specs/WorkedCases.antt", "\n")
+        self.assertEqual(self.standing(), [])
+
     def test_a_changed_comment(self) -> None:
         self.replace("crates/low/src/lib.rt", "/// The number after", "/// The number that follows")
         self.assertEqual(self.standing(), ["low", "high"])
@@ -173,6 +182,17 @@ class WhatLinesStand(TinyRepository):
     def test_the_bodies_that_nobody_above_sees(self) -> None:
         self.assertNotIn("n + 1\n}", without_bodies(LOW))
         self.assertIn("result ≡ n + 1", without_bodies(LOW))
+
+
+class WhatNothingUses(unittest.TestCase):
+    """What verdicts leave out of a crate, in this repository: no file may use it."""
+
+    def test_worked_cases(self) -> None:
+        name = ".".join(USED_BY_NOTHING).removesuffix(".antt")
+        crates = Crates()
+        files = [it for crate in crates.lines for it in crates.files(crate)]
+        self.assertTrue(any(it.parts[-2:] == USED_BY_NOTHING for it in files))
+        self.assertEqual([it for it in files if f".{name}" in it.read_text(encoding="utf-8")], [])
 
 
 @unittest.skipUnless(shutil.which("rt"), "the toolchain is not on the path")
