@@ -1,13 +1,7 @@
 //! The number that a report gives: of the attempt that a sweep found, or the rate, or the number or rate whose run was cut.
 
 /// What comes before the number, in a report as lines and as JSON. No other line begins so, and no line holds a quote.
-static BEFORE: [&str; 5] = [
-    "\nnumber ",
-    "\nevery ",
-    "\"number\":",
-    "\ncut ",
-    "\"cut ",
-];
+static BEFORE: [&str; 5] = ["\nnumber ", "\nevery ", "\"number\":", "\ncut ", "\"cut "];
 
 /// Returns the number that a report gives, or `None` if it gives none.
 pub fn read_number(report: &[u8]) -> Option<u32> {
