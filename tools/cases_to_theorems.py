@@ -456,12 +456,13 @@ def arguments_of(words: list[str]) -> tuple[argparse.Namespace, list[str]]:
     """The program's own arguments, and those that name files."""
     parser = argparse.ArgumentParser(exit_on_error=False, add_help=False, allow_abbrev=False)
     parser.add_argument("task")
-    defaults = {"limit": None, "fail": None, "budget": 10000, "min": 4096, "step": 4096}
+    defaults = {"limit": None, "fail": None, "also": None, "budget": 10000, "min": 4096, "step": 4096}
     for name, default in defaults.items():
         parser.add_argument("--" + name, type=int, default=default)
     # a number of `run`, and a flag of the others
     every = {"type": int} if words[:1] == ["run"] else {"action": "store_true"}
     parser.add_argument("--every", **every)
+    parser.add_argument("--pairs", action="store_true")
     parser.add_argument("--json", action="store_true")
     try:
         known, files = parser.parse_known_args(words)
@@ -475,7 +476,12 @@ def arguments_of(words: list[str]) -> tuple[argparse.Namespace, list[str]]:
 
 def rule_of(a: argparse.Namespace) -> str:
     """The rule that the arguments ask for."""
-    given = [(a.limit, f"R.Limit {a.limit}"), (a.fail, f"R.Number {a.fail}"), (a.every, f"R.Every {a.every}")]
+    given = [
+        (a.limit, f"R.Limit {a.limit}"),
+        (a.also, f"R.Pair {a.fail} {a.also}"),
+        (a.fail, f"R.Number {a.fail}"),
+        (a.every, f"R.Every {a.every}"),
+    ]
     return next((rule for value, rule in given if value is not None), "R.Unlimited")
 
 
@@ -512,8 +518,8 @@ def case_at(path: Path, most_steps: int) -> Case | str:
     return Case(script.read_bytes().decode(), a, report)
 
 
-# The failures that a sweep tries, by the word of the line that names the one it found.
-FAILURES = {"number": "Single", "every": "Every"}
+# The failures that a sweep tries, by the word of the line that says that none was found.
+FAILURES = {"number": "Single", "every": "Every", "pair": "Pairs"}
 
 
 def size_claims(script: str, given: str, report: list[str]) -> list[str]:
@@ -529,6 +535,10 @@ def sweep_claims(script: str, given: str, report: list[str], tried: str) -> list
     """What a sweep text says of a script under a budget and a shape, where the failures of this word were tried."""
     failures = FAILURES[tried]
     least, runs = f"least_bad_or_cut {failures} {script} {given}", f"runs_of {failures} {script} {given}"
+    if tried == "pair":
+        if is_of_pairs(report):
+            return pair_claims(script, given, report)
+        tried = "number"
     if report[0].startswith("cut "):
         _, number, why = report[0].split(" ")
         return [f"{least} ≡ Some {number}", f"({runs} {number}).outcome ≡ {cut_term(why)}"]
@@ -539,6 +549,27 @@ def sweep_claims(script: str, given: str, report: list[str], tried: str) -> list
     if number == "none":
         return [*attempts, f"{least} ≡ None"]
     return [*attempts, f"{least} ≡ Some {number}", f"{runs} {number} ≡ {run_term(report[2:])}"]
+
+
+def is_of_pairs(report: list[str]) -> bool:
+    """Whether a sweep text speaks of pairs, and not of a single number that was found or cut before any pair was tried."""
+    return len(report[0].split(" ")) == 4 if report[0].startswith("cut ") else report[1].startswith("pair ")
+
+
+def pair_claims(script: str, given: str, report: list[str]) -> list[str]:
+    """What a sweep text says of pairs: no single number shows anything, and then which pair does."""
+    single = f"least_bad_or_cut Pairs {script} {given} ≡ None"
+    least, run = f"least_bad_or_cut_pair {script} {given}", f"pair_run {script} {given}"
+    if report[0].startswith("cut "):
+        _, first, second, why = report[0].split(" ")
+        return [single, f"{least} ≡ Some ({first}, {second})", f"({run} {first} {second}).outcome ≡ {cut_term(why)}"]
+    first_word, made = report[0].split(" ")
+    among(("attempts",), first_word, "the first word of a sweep text", "read it in `pair_claims`")
+    claims = [f"length (runs_of Pairs {script} {given} 0).trace ≡ {made}", single]
+    if report[1] == "pair none":
+        return [*claims, f"{least} ≡ None"]
+    _, first, second = report[1].split(" ")
+    return [*claims, f"{least} ≡ Some ({first}, {second})", f"{run} {first} {second} ≡ {run_term(report[2:])}"]
 
 
 def check_claims(script: str, given: str, report: list[str], tried: str) -> list[str]:
@@ -572,7 +603,7 @@ def theorem(name: str, case: Case) -> str:
     elif a.task == "size":
         claims = size_claims(script, given, case.report)
     else:
-        claims = CLAIMS[a.task](script, given, case.report, "every" if a.every else "number")
+        claims = CLAIMS[a.task](script, given, case.report, "every" if a.every else "pair" if a.pairs else "number")
     claim, proof = claims[0], "refl"
     if len(claims) > 1:
         claim, proof = " × ".join(f"({claim})" for claim in claims), f"({', '.join(['refl'] * len(claims))})"
@@ -586,7 +617,7 @@ def theorem(name: str, case: Case) -> str:
 
 # What is named from the crate's declared types.
 DECLARED = """
-failures.Failures.TheVariants.{Single, Every}; heap.Rule.TheVariants as R; heap.Panic.TheVariants as P; script.Holder.TheVariants as H; heap.Shape.{Shape}; heap.Answer.{Answer};
+failures.Failures.TheVariants.{Single, Every, Pairs}; heap.Rule.TheVariants as R; heap.Panic.TheVariants as P; script.Holder.TheVariants as H; heap.Shape.{Shape}; heap.Answer.{Answer};
 heap.Answer.TheVariants.{Granted, Simulated, Refused}; heap.Attempt.{Attempt}; run.Note.TheVariants.{Heap, Available, Compress};
 run.Why.TheVariants.{Budget, Ceiling}; run.Outcome.TheVariants.{Ended, Panicked, NoCleanup, Cut}; script.Script.{Script};
 script.Body.{Body}; size.Rise.{Rise}; script.Parameter.TheVariants as Par; script.Local.TheVariants.{OfPointer, OfNumber, OfBuffer, OfView}; script.Pointer.TheVariants.{Held, Field};
@@ -625,7 +656,7 @@ def head(crate: Path) -> str:
         shut += [f"{specs}.{file.stem}.{name}" for name in re.findall(r"^unfoldable pub (\S+)", file.read_text(), re.M)]
     uses = ["Rattle.std.specs.Prelude.{◌≡◌, refl, ℕ, pos, negsuc, List, [], ◌∷◌, length, Some, None, map}"]
     uses += [f"{specs}.declared.{use.strip()}" for use in DECLARED.split(";")]
-    uses += [f"{specs}.Run.{{run, required, rises}}", f"{specs}.Sweeps.{{runs_of, least_bad_or_cut}}", "Rattle.std.specs.Fmt.{digits}"]
+    uses += [f"{specs}.Run.{{run, required, rises}}", f"{specs}.Pairs.{{pair_run, least_bad_or_cut_pair}}", f"{specs}.Sweeps.{{runs_of, least_bad_or_cut}}", "Rattle.std.specs.Fmt.{digits}"]
     lines = ["-- Worked cases, each by computing: the definitions give what the files of cases/ say. Written by tools/cases_to_theorems.py;",
              "-- edit nothing here.", *(f"use {use}" for use in uses)]
     lines += ["", "-- what a run computes through", "unfoldable everything : Unit {0}"]

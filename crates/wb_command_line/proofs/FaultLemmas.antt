@@ -1,12 +1,13 @@
--- What becomes of an error of clap.
+-- What becomes of an error of clap, and of a fault of what a subcommand asks for.
 use Rattle.std.proofs.Common.{◌≡◌, ◌∙◌, Bool, cond, true, false, refl, sym, ap, List, true≢false, ⊎_elim}
 use Rattle.std.specs.Prelude.{◌≢◌}
-use Rattle.clap.specs.Words.{HasKind, Text, fault_of, kind_of}
+use Rattle.clap.specs.Words.{HasKind, Row, Text, fault_of, kind_of}
 use Rattle.clap.specs.declared.error.Error.{Error}
 use Rattle.clap.specs.declared.error.kind.ErrorKind.TheVariants.{OutOfMemory}
 use Rattle.wb_command_line.specs.CommandLine.{command_line}
-use Rattle.wb_command_line.specs.Fault.{IsFaultOf, fault_of_error, is_want_of_memory}
-use Rattle.wb_command_line.specs.declared.command.CommandFault.TheVariants.{Usage, NoMemory}
+use Rattle.wb_command_line.specs.Fault.{IsFaultOf, IsFaultOfOptions, IsFaultOfTask, fault_of_error, is_want_of_memory}
+use Rattle.wb_command_line.specs.declared.command.CommandFault.{CommandFault}
+use Rattle.wb_command_line.specs.declared.command.CommandFault.TheVariants.{Usage, Both, Also, Shape, NoMemory}
 
 pub want_of_memory : (e : Error) → kind_of e ≡ OutOfMemory → fault_of_error e ≡ NoMemory
 want_of_memory e is = rw is refl
@@ -19,3 +20,10 @@ fault_is words e kinds = go (is_want_of_memory (kind_of e)) refl
     go false isnt =
         let words_fault : kind_of e ≢ OutOfMemory = λ want. true≢false (sym (ap is_want_of_memory want) ∙ isnt) in
         (words_fault, ⊎_elim (λ want. absurd (words_fault want)) (λ among. among) kinds)
+
+pub task_fault : (name : Text) (rows : List Row) (fault : CommandFault) → IsFaultOfTask name rows fault → IsFaultOfOptions name rows fault
+task_fault name rows (Usage e) none = none
+task_fault name rows Both doubled = doubled
+task_fault name rows Also disordered = disordered
+task_fault name rows Shape none = absurd none
+task_fault name rows NoMemory none = absurd none

@@ -4,7 +4,7 @@ use Rattle.std.specs.Prelude.{◌==◌}
 use Rattle.std.specs.Str.{bytes_eq}
 use Rattle.clap.specs.Simple.{filled}
 use Rattle.clap.specs.Walk.{Row, Rule, Text, arg_by_index, arg_by_long, arg_by_short}
-use Rattle.wb_command_line.specs.CommandLine.{budget_option, every_option, fail_option, joined_level, json_flag, level, limit_option, min_option, rates_flag, step_option}
+use Rattle.wb_command_line.specs.CommandLine.{also_option, budget_option, every_option, fail_option, joined_level, json_flag, level, limit_option, min_option, pairs_flag, rates_flag, step_option}
 use Rattle.wb_command_line.specs.Passed.{IsIn, RowsPass}
 use Rattle.wb_command_line.specs.declared.command_line.parser.Takes.{Takes}
 use Rattle.wb_command_line.specs.declared.command_line.parser.Takes.TheVariants as taking
@@ -43,19 +43,21 @@ pub level_long : (called : Text) (takes : Takes) (name : Text) → is_option (op
 level_long called taking.Rule name e =
     let limit = first_false (bytes_eq (codes "limit") name) _ e in
     let fail = first_false (bytes_eq (codes "fail") name) _ limit.1 in
-    let every = first_false (bytes_eq (codes "every") name) _ fail.1 in
+    let also = first_false (bytes_eq (codes "also") name) _ fail.1 in
+    let every = first_false (bytes_eq (codes "every") name) _ also.1 in
     let budget = first_false (bytes_eq (codes "budget") name) _ every.1 in
     let min = first_false (bytes_eq (codes "min") name) _ budget.1 in
     let step = first_false (bytes_eq (codes "step") name) _ min.1 in
     let json = first_false (bytes_eq (codes "json") name) _ step.1 in
-    rw (limit.0, fail.0, every.0, budget.0, min.0, step.0, json.0) refl
+    rw (limit.0, fail.0, also.0, every.0, budget.0, min.0, step.0, json.0) refl
 level_long called taking.Failures name e =
     let every = first_false (bytes_eq (codes "every") name) _ e in
-    let budget = first_false (bytes_eq (codes "budget") name) _ every.1 in
+    let pairs = first_false (bytes_eq (codes "pairs") name) _ every.1 in
+    let budget = first_false (bytes_eq (codes "budget") name) _ pairs.1 in
     let min = first_false (bytes_eq (codes "min") name) _ budget.1 in
     let step = first_false (bytes_eq (codes "step") name) _ min.1 in
     let json = first_false (bytes_eq (codes "json") name) _ step.1 in
-    rw (every.0, budget.0, min.0, step.0, json.0) refl
+    rw (every.0, pairs.0, budget.0, min.0, step.0, json.0) refl
 level_long called taking.Neither name e =
     let budget = first_false (bytes_eq (codes "budget") name) _ e in
     let min = first_false (bytes_eq (codes "min") name) _ budget.1 in
@@ -81,16 +83,17 @@ own_rule_in : (a : Rule) → IsIn a (level [] taking.Rule).rules → IsIn a join
 own_rule_in a (inl file) = inl file
 own_rule_in a (inr (inl limit)) = inr (inl limit)
 own_rule_in a (inr (inr (inl fail))) = inr (inr (inl fail))
-own_rule_in a (inr (inr (inr (inl every)))) = inr (inr (inr (inl every)))
-own_rule_in a (inr (inr (inr (inr shared)))) = inr (inr (inr (inr (inr shared))))
+own_rule_in a (inr (inr (inr (inl also)))) = inr (inr (inr (inl also)))
+own_rule_in a (inr (inr (inr (inr (inl every))))) = inr (inr (inr (inr (inl every))))
+own_rule_in a (inr (inr (inr (inr (inr shared))))) = inr (inr (inr (inr (inr (inr (inr shared))))))
 
 failures_in : (a : Rule) → IsIn a (level [] taking.Failures).rules → IsIn a joined_level.rules
 failures_in a (inl file) = inl file
-failures_in a (inr rest) = inr (inr (inr (inr rest)))
+failures_in a (inr rest) = inr (inr (inr (inr (inr rest))))
 
 shared_in : (a : Rule) → IsIn a (level [] taking.Neither).rules → IsIn a joined_level.rules
 shared_in a (inl file) = inl file
-shared_in a (inr shared) = inr (inr (inr (inr (inr shared))))
+shared_in a (inr shared) = inr (inr (inr (inr (inr (inr (inr shared))))))
 
 wider_rows : (c d : List Rule) → ((a : Rule) → IsIn a c → IsIn a d) → (rows : List Row) → RowsPass c rows → RowsPass d rows
 wider_rows c d wide [] passed = tt
@@ -109,11 +112,17 @@ limit_rule = filled limit_option
 abbrev pub fail_rule : Rule
 fail_rule = filled fail_option
 
+abbrev pub also_rule : Rule
+also_rule = filled also_option
+
 abbrev pub every_rule : Rule
 every_rule = filled every_option
 
 abbrev pub rates_rule : Rule
 rates_rule = filled rates_flag
+
+abbrev pub pairs_rule : Rule
+pairs_rule = filled pairs_flag
 
 abbrev pub budget_rule : Rule
 budget_rule = filled budget_option
@@ -134,11 +143,17 @@ only_limit = only joined_level.rules (codes "limit") limit_rule refl
 pub only_fail : IsOnly joined_level.rules (codes "fail") fail_rule
 only_fail = only joined_level.rules (codes "fail") fail_rule refl
 
+pub only_also : IsOnly joined_level.rules (codes "also") also_rule
+only_also = only joined_level.rules (codes "also") also_rule refl
+
 pub only_every : IsOnly joined_level.rules (codes "every") every_rule
 only_every = only joined_level.rules (codes "every") every_rule refl
 
 pub only_rates : IsOnly joined_level.rules (codes "rates") rates_rule
 only_rates = only joined_level.rules (codes "rates") rates_rule refl
+
+pub only_pairs : IsOnly joined_level.rules (codes "pairs") pairs_rule
+only_pairs = only joined_level.rules (codes "pairs") pairs_rule refl
 
 pub only_budget : IsOnly joined_level.rules (codes "budget") budget_rule
 only_budget = only joined_level.rules (codes "budget") budget_rule refl

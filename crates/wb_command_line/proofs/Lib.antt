@@ -7,5 +7,7 @@ pub mod PassedRows
 pub mod PassedValues
 pub mod PassedWords
 pub mod RefusalLemmas
+pub mod RuleLemmas
 pub mod WordLemmas
+pub mod WorkedPairs
 pub mod WorkedWords

@@ -25,14 +25,14 @@ use Rattle.wb_model.specs.declared.heap.Shape.{Shape}
 use Rattle.wb_command_line.specs.Command.{is_sixteenfold}
 use Rattle.wb_command_line.specs.CommandLine.{command_line, joined_level}
 use Rattle.wb_command_line.specs.Fault.{IsAfterUsage, IsFaultOf, IsFaultOfOptions}
-use Rattle.wb_command_line.specs.Spelled.{IsMeantBy, IsSpelledBy, are_several, command_of, decimal, doubles, flag_of, gives_several, number_of, rule_by, rule_of, spell_both, spelled}
+use Rattle.wb_command_line.specs.Spelled.{IsMeantBy, IsSpelledBy, are_several, command_of, decimal, disorders, doubles, first_rule_of, flag_of, gives_several, number_of, rule_by, spell_both, spell_disorder, spelled}
 use Rattle.wb_command_line.specs.Subcommands.{Subcommand, subcommand_named}
 use Rattle.wb_command_line.specs.declared.command.Command.{Command}
 use Rattle.wb_command_line.specs.declared.command.CommandFault.{CommandFault}
-use Rattle.wb_command_line.specs.declared.command.CommandFault.TheVariants.{Usage, Both, NoMemory}
+use Rattle.wb_command_line.specs.declared.command.CommandFault.TheVariants.{Usage, Both, Also, NoMemory}
 use Rattle.wb_command_line.specs.declared.command.CommandFault.TheVariants as F
 use Rattle.wb_command_line.proofs.CommandLineLemmas.{one_is_met, text_is}
-use Rattle.wb_command_line.proofs.LevelLemmas.{budget_rule, every_rule, fail_rule, json_rule, level_wide, limit_rule, min_rule, only_budget, only_every, only_fail, only_json, only_limit, only_min, only_rates, only_step, rates_rule, step_rule}
+use Rattle.wb_command_line.proofs.LevelLemmas.{also_rule, budget_rule, every_rule, fail_rule, json_rule, level_wide, limit_rule, min_rule, only_also, only_budget, only_every, only_fail, only_json, only_limit, only_min, only_pairs, only_rates, only_step, pairs_rule, rates_rule, step_rule}
 use Rattle.wb_command_line.specs.Passed.{RowsPass}
 use Rattle.wb_command_line.proofs.PassedValues.{IsOnly, PassedAs, first_passed}
 
@@ -74,6 +74,7 @@ pub record IsParsed (words : List Text) (m : ArgMatches) (name : Text) (rows : L
   pub passed : RowsPass joined_level.rules rows
   pub meaning : spelled words ≡ command_of (name, rows)
   pub doubled : spell_both words ≡ doubles name rows
+  pub disordered : spell_disorder words ≡ disorders name rows
 
 pub is_parsed : (words : List Text) (m : ArgMatches) → MeetsParse words m → (name : Text) (rows : List Row)
     → Some name ≡ subcommand_name_of m → Some rows ≡ option_map (λ (p : Text × List Row). p.1) (subcommand_rows_of m) → IsParsed words m name rows
@@ -89,12 +90,18 @@ is_parsed words m met name rows is_name are_rows =
       passed = subst (RowsPass joined_level.rules) are met.passed;
       meaning = ap (option_and_then command_of) both;
       doubled = ap (λ (o : Option (Text × List Row)). option_map_or (λ p. doubles p.0 p.1) o false) both;
+      disordered = ap (λ (o : Option (Text × List Row)). option_map_or (λ p. disorders p.0 p.1) o false) both;
     }
 
 -- a command that the options mean is spelled by the words, and their fault is one of the words
 module _ (words : List Text) (m : ArgMatches) (name : Text) (rows : List Row) (met : IsParsed words m name rows) where
   pub spelled_by : (command : Command) → IsMeantBy name rows command → IsSpelledBy words command
-  spelled_by command meant = record { faultless = met.faultless; one_rule = met.doubled ∙ meant.one_rule; meaning = met.meaning ∙ meant.meaning }
+  spelled_by command meant = record {
+    faultless = met.faultless;
+    one_rule = met.doubled ∙ meant.one_rule;
+    in_order = met.disordered ∙ meant.in_order;
+    meaning = met.meaning ∙ meant.meaning;
+  }
 
   pub if_spelled : (r : Result Command CommandFault) → IfOk r (IsMeantBy name rows) → IfOk r (IsSpelledBy words)
   if_spelled (Ok command) meant = spelled_by command meant
@@ -103,14 +110,16 @@ module _ (words : List Text) (m : ArgMatches) (name : Text) (rows : List Row) (m
   pub fault_by : (fault : CommandFault) → IsFaultOfOptions name rows fault → IsFaultOf words fault
   fault_by (Usage e) none = absurd none
   fault_by Both doubled = record { faultless = met.faultless; doubled = met.doubled ∙ doubled }
+  fault_by Also bad = record { faultless = met.faultless; one_rule = met.doubled ∙ bad.one_rule; disordered = met.disordered ∙ bad.disordered }
   fault_by F.Shape bad = record { command = bad.command; spelled = spelled_by bad.command bad.meant; misshapen = bad.misshapen }
   fault_by NoMemory want = tt
 
   pub after_usage : (fault : CommandFault) → IsFaultOfOptions name rows fault → IsAfterUsage fault
   after_usage (Usage e) none = absurd none
   after_usage Both doubled = inl refl
-  after_usage F.Shape bad = inr (inl refl)
-  after_usage NoMemory want = inr (inr refl)
+  after_usage Also bad = inr (inl refl)
+  after_usage F.Shape bad = inr (inr (inl refl))
+  after_usage NoMemory want = inr (inr (inr refl))
 
 -- ---- numbers
 
@@ -119,7 +128,7 @@ pub record IsNumberOf (id : Text) (rows : List Row) (low high : ℕ) (r : Option
   pub is : r ≡ number_of id rows
   pub within : IfSome r (λ n. (low ≤ n) × (n ≤ high))
 
--- of the three that give a rule
+-- of the three that give a rule, without a second number
 pub record IsRuleRead (rows : List Row) (l n r : Option ℕ) : Type 0 where
   pub limit : IsNumberOf (codes "limit") rows 0 CEILING l
   pub number : IsNumberOf (codes "fail") rows 0 CEILING n
@@ -165,6 +174,9 @@ module _ (E : Type 0) (G : List ℕ → Result ℕ E → Type 0) (parses : (u : 
   pub fail_is : OptionRead (codes "fail") 0 CEILING
   fail_is f r passed = number_is joined_level.rules (codes "fail") fail_rule 0 CEILING f r refl (omega arith) only_fail passed
 
+  pub also_is : OptionRead (codes "also") 0 CEILING
+  also_is f r passed = number_is joined_level.rules (codes "also") also_rule 0 CEILING f r refl (omega arith) only_also passed
+
   pub every_is : OptionRead (codes "every") 0 CEILING
   every_is f r passed = number_is joined_level.rules (codes "every") every_rule 0 CEILING f r refl (omega arith) only_every passed
 
@@ -177,7 +189,7 @@ module _ (E : Type 0) (G : List ℕ → Result ℕ E → Type 0) (parses : (u : 
   pub step_is : OptionRead (codes "step") SMALLEST_STEP LARGEST_STEP
   step_is f r passed = number_is joined_level.rules (codes "step") step_rule SMALLEST_STEP LARGEST_STEP f r refl (omega arith) only_step passed
 
-  -- of the options that give a rule
+  -- of the options that give a rule, without a second number
   pub rule_read : (f : Found) (limit number rate : Option ℕ) → RowsPass joined_level.rules (rows_of f)
       → (one_text f (codes "limit") ≡ None → limit ≡ None) → ((t : Text) → one_text f (codes "limit") ≡ Some t → ReadsOne G t limit)
       → (one_text f (codes "fail") ≡ None → number ≡ None) → ((t : Text) → one_text f (codes "fail") ≡ Some t → ReadsOne G t number)
@@ -191,8 +203,8 @@ module _ (E : Type 0) (G : List ℕ → Result ℕ E → Type 0) (parses : (u : 
 
 -- the rule that is spelled, by what is there of the three, and whether more than one is
 module _ {rows : List Row} {limit number rate l n r : Option ℕ} (read : IsRuleRead rows limit number rate) (is_limit : limit ≡ l) (is_number : number ≡ n) (is_rate : rate ≡ r) where
-  pub rule_as : rule_by l n r ≡ rule_of rows
-  rule_as = λ i. rule_by ((sym is_limit ∙ read.limit.is) i) ((sym is_number ∙ read.number.is) i) ((sym is_rate ∙ read.rate.is) i)
+  pub rule_as : rule_by l n None r ≡ first_rule_of rows
+  rule_as = λ i. rule_by ((sym is_limit ∙ read.limit.is) i) ((sym is_number ∙ read.number.is) i) None ((sym is_rate ∙ read.rate.is) i)
 
   pub several_as : gives_several rows ≡ are_several l n r
   several_as = λ i. are_several ((sym read.limit.is ∙ is_limit) i) ((sym read.number.is ∙ is_number) i) ((sym read.rate.is ∙ is_rate) i)
@@ -231,6 +243,9 @@ json_is = flag_is (codes "json") json_rule only_json (λ t passed. passed) refl
 
 pub rates_is : FlagRead (codes "rates")
 rates_is = flag_is (codes "rates") rates_rule only_rates (λ t passed. passed) refl
+
+pub pairs_is : FlagRead (codes "pairs")
+pairs_is = flag_is (codes "pairs") pairs_rule only_pairs (λ t passed. passed) refl
 
 -- the number of an option, or the default, in its range
 pub record IsGivenOr (id : Text) (rows : List Row) (low high default n : ℕ) : Type 0 where

@@ -15,7 +15,7 @@ use Rattle.wb_model.specs.declared.failures.Failures.TheVariants.{Single}
 use Rattle.wb_model.specs.declared.heap.Rule.{Rule}
 use Rattle.wb_model.specs.declared.heap.Rule.TheVariants.{Unlimited}
 use Rattle.wb_command_line.specs.CommandLine.{level, level_of}
-use Rattle.wb_command_line.specs.Spelled.{command_of, command_with, doubles, failures_of, gives_several, rule_of, takes_rule, task_of}
+use Rattle.wb_command_line.specs.Spelled.{command_of, command_with, disorders, doubles, failures_of, gives_disorder, gives_more_than_one, rule_of, takes_rule, task_of}
 use Rattle.wb_command_line.specs.Subcommands.{Subcommand, subcommand_named}
 use Rattle.wb_command_line.specs.declared.command.Task.{Task}
 use Rattle.wb_command_line.specs.declared.command_line.parser.Takes.{Takes}
@@ -63,7 +63,8 @@ flag_turn called b position (x ∷ y ∷ ys) h text no_separator flag no_option 
 record Reads (called : Text) (b : Takes) (rest : List Text) (file : Option Text) : Type 0 where
   taken : level_passes (level called b) [] nothing_held rest false ≡ true
   faultless : level_fault (level called b) [] nothing_held rest false [] ≡ []
-  one_rule : gives_several (rows_after (level called b).rules [] rest) ≡ false
+  one_rule : gives_more_than_one b (rows_after (level called b).rules [] rest) ≡ false
+  in_order : gives_disorder (rows_after (level called b).rules [] rest) ≡ false
   rule : rule_of (rows_after (level called b).rules [] rest) ≡ Unlimited
   failures : failures_of (rows_after (level called b).rules [] rest) ≡ Single
   meaning : (task : Task) → command_with (rows_after (level called b).rules [] rest) task ≡ plain_command task file
@@ -78,21 +79,21 @@ below_fails called b rest f = level_fails (level called b) [] rest false [] true
 
 reads_none : (called : Text) (b : Takes) → Reads called b [] None
 unfolding defaults_fault walk_fault walk_passes walked
-reads_none called taking.Rule = record { taken = refl; faultless = refl; one_rule = refl; rule = refl; failures = refl; meaning = λ task. refl }
-reads_none called taking.Failures = record { taken = refl; faultless = refl; one_rule = refl; rule = refl; failures = refl; meaning = λ task. refl }
-reads_none called taking.Neither = record { taken = refl; faultless = refl; one_rule = refl; rule = refl; failures = refl; meaning = λ task. refl }
+reads_none called taking.Rule = record { taken = refl; faultless = refl; one_rule = refl; in_order = refl; rule = refl; failures = refl; meaning = λ task. refl }
+reads_none called taking.Failures = record { taken = refl; faultless = refl; one_rule = refl; in_order = refl; rule = refl; failures = refl; meaning = λ task. refl }
+reads_none called taking.Neither = record { taken = refl; faultless = refl; one_rule = refl; in_order = refl; rule = refl; failures = refl; meaning = λ task. refl }
 
 reads_separator : (called : Text) (b : Takes) → Reads called b (codes "--" ∷ []) None
 unfolding defaults_fault walk_fault walk_passes walked
-reads_separator called taking.Rule = record { taken = refl; faultless = refl; one_rule = refl; rule = refl; failures = refl; meaning = λ task. refl }
-reads_separator called taking.Failures = record { taken = refl; faultless = refl; one_rule = refl; rule = refl; failures = refl; meaning = λ task. refl }
-reads_separator called taking.Neither = record { taken = refl; faultless = refl; one_rule = refl; rule = refl; failures = refl; meaning = λ task. refl }
+reads_separator called taking.Rule = record { taken = refl; faultless = refl; one_rule = refl; in_order = refl; rule = refl; failures = refl; meaning = λ task. refl }
+reads_separator called taking.Failures = record { taken = refl; faultless = refl; one_rule = refl; in_order = refl; rule = refl; failures = refl; meaning = λ task. refl }
+reads_separator called taking.Neither = record { taken = refl; faultless = refl; one_rule = refl; in_order = refl; rule = refl; failures = refl; meaning = λ task. refl }
 
 reads_after_separator : (called : Text) (b : Takes) (f : Text) → Reads called b (codes "--" ∷ f ∷ []) (Some f)
 unfolding defaults_fault walk_fault walk_passes walked
-reads_after_separator called taking.Rule f = record { taken = refl; faultless = refl; one_rule = refl; rule = refl; failures = refl; meaning = λ task. refl }
-reads_after_separator called taking.Failures f = record { taken = refl; faultless = refl; one_rule = refl; rule = refl; failures = refl; meaning = λ task. refl }
-reads_after_separator called taking.Neither f = record { taken = refl; faultless = refl; one_rule = refl; rule = refl; failures = refl; meaning = λ task. refl }
+reads_after_separator called taking.Rule f = record { taken = refl; faultless = refl; one_rule = refl; in_order = refl; rule = refl; failures = refl; meaning = λ task. refl }
+reads_after_separator called taking.Failures f = record { taken = refl; faultless = refl; one_rule = refl; in_order = refl; rule = refl; failures = refl; meaning = λ task. refl }
+reads_after_separator called taking.Neither f = record { taken = refl; faultless = refl; one_rule = refl; in_order = refl; rule = refl; failures = refl; meaning = λ task. refl }
 
 abbrev none_found : Kinds
 none_found = []
@@ -104,6 +105,7 @@ reads_file called taking.Rule f no_separator is_plain =
       taken = rw (no_separator, none.0, none.1) (refl {a = true});
       faultless = rw (no_separator, none.0, none.1) (refl {a = none_found});
       one_rule = rw (no_separator, none.0, none.1) (refl {a = false});
+      in_order = rw (no_separator, none.0, none.1) (refl {a = false});
       rule = rw (no_separator, none.0, none.1) (refl {a = Unlimited});
       failures = rw (no_separator, none.0, none.1) (refl {a = Single});
       meaning = λ task. rw (no_separator, none.0, none.1) (refl {a = plain_command task (Some f)});
@@ -113,6 +115,7 @@ reads_file called taking.Failures f no_separator is_plain =
       taken = rw (no_separator, none.0, none.1) (refl {a = true});
       faultless = rw (no_separator, none.0, none.1) (refl {a = none_found});
       one_rule = rw (no_separator, none.0, none.1) (refl {a = false});
+      in_order = rw (no_separator, none.0, none.1) (refl {a = false});
       rule = rw (no_separator, none.0, none.1) (refl {a = Unlimited});
       failures = rw (no_separator, none.0, none.1) (refl {a = Single});
       meaning = λ task. rw (no_separator, none.0, none.1) (refl {a = plain_command task (Some f)});
@@ -121,7 +124,8 @@ reads_file called taking.Neither f no_separator is_plain =
     let none = no_flag f is_plain in record {
       taken = rw (no_separator, none.0, none.1) (refl {a = true});
       faultless = rw (no_separator, none.0, none.1) (refl {a = none_found});
-      one_rule = rw (no_separator, none.0, none.1) (refl {a = false});
+      one_rule = refl;
+      in_order = rw (no_separator, none.0, none.1) (refl {a = false});
       rule = rw (no_separator, none.0, none.1) (refl {a = Unlimited});
       failures = rw (no_separator, none.0, none.1) (refl {a = Single});
       meaning = λ task. rw (no_separator, none.0, none.1) (refl {a = plain_command task (Some f)});
@@ -134,6 +138,7 @@ reads_before_separator called taking.Rule f no_separator is_plain =
       taken = rw (no_separator, none.0, none.1) (refl {a = true});
       faultless = rw (no_separator, none.0, none.1) (refl {a = none_found});
       one_rule = rw (no_separator, none.0, none.1) (refl {a = false});
+      in_order = rw (no_separator, none.0, none.1) (refl {a = false});
       rule = rw (no_separator, none.0, none.1) (refl {a = Unlimited});
       failures = rw (no_separator, none.0, none.1) (refl {a = Single});
       meaning = λ task. rw (no_separator, none.0, none.1) (refl {a = plain_command task (Some f)});
@@ -143,6 +148,7 @@ reads_before_separator called taking.Failures f no_separator is_plain =
       taken = rw (no_separator, none.0, none.1) (refl {a = true});
       faultless = rw (no_separator, none.0, none.1) (refl {a = none_found});
       one_rule = rw (no_separator, none.0, none.1) (refl {a = false});
+      in_order = rw (no_separator, none.0, none.1) (refl {a = false});
       rule = rw (no_separator, none.0, none.1) (refl {a = Unlimited});
       failures = rw (no_separator, none.0, none.1) (refl {a = Single});
       meaning = λ task. rw (no_separator, none.0, none.1) (refl {a = plain_command task (Some f)});
@@ -151,7 +157,8 @@ reads_before_separator called taking.Neither f no_separator is_plain =
     let none = no_flag f is_plain in record {
       taken = rw (no_separator, none.0, none.1) (refl {a = true});
       faultless = rw (no_separator, none.0, none.1) (refl {a = none_found});
-      one_rule = rw (no_separator, none.0, none.1) (refl {a = false});
+      one_rule = refl;
+      in_order = rw (no_separator, none.0, none.1) (refl {a = false});
       rule = rw (no_separator, none.0, none.1) (refl {a = Unlimited});
       failures = rw (no_separator, none.0, none.1) (refl {a = Single});
       meaning = λ task. rw (no_separator, none.0, none.1) (refl {a = plain_command task (Some f)});
@@ -267,7 +274,9 @@ module _ (s : Subcommand) (is : IsSubcommand s) (name word : Text) (rest : List 
     spell = record {
       faultless = level_faults s name word rest is met ∙ r.faultless;
       one_rule = ap (λ (o : Option (Text × List Row)). option_map_or (λ p. doubles p.0 p.1) o false) (level_meaning s name word rest is met)
-          ∙ ap (λ both. option_map_or (λ x. takes_rule x.takes) (subcommand_named s.name) false && both) r.one_rule ∙ and_false _;
+          ∙ ap (λ (o : Option Subcommand). option_map_or (λ x. gives_more_than_one x.takes rows) o false) is.named ∙ r.one_rule;
+      in_order = ap (λ (o : Option (Text × List Row)). option_map_or (λ p. disorders p.0 p.1) o false) (level_meaning s name word rest is met)
+          ∙ ap (λ disordered. option_map_or (λ x. takes_rule x.takes) (subcommand_named s.name) false && disordered) r.in_order ∙ and_false _;
       meaning = ap (option_and_then command_of) (level_meaning s name word rest is met) ∙ ap (option_map (command_with rows)) (spelled_task r.rule r.failures)
           ∙ ap (λ x. Some x) (r.meaning (s.task Unlimited Single));
     };

@@ -24,6 +24,9 @@ limit_option = number_option (codes "limit") 0 CEILING
 abbrev pub fail_option : Rule
 fail_option = number_option (codes "fail") 0 CEILING
 
+abbrev pub also_option : Rule
+also_option = number_option (codes "also") 0 CEILING
+
 abbrev pub every_option : Rule
 every_option = number_option (codes "every") 0 CEILING
 
@@ -48,10 +51,13 @@ json_flag = flag (codes "json") (codes "json")
 abbrev pub rates_flag : Rule
 rates_flag = flag (codes "rates") (codes "every")
 
+abbrev pub pairs_flag : Rule
+pairs_flag = flag (codes "pairs") (codes "pairs")
+
 -- the options that a subcommand has beside those of all
 abbrev pub own_options : Takes → List Rule
-own_options taking.Rule = limit_option ∷ fail_option ∷ every_option ∷ []
-own_options taking.Failures = rates_flag ∷ []
+own_options taking.Rule = limit_option ∷ fail_option ∷ also_option ∷ every_option ∷ []
+own_options taking.Failures = rates_flag ∷ pairs_flag ∷ []
 own_options taking.Neither = []
 
 -- those that every subcommand has and that take a number
@@ -69,8 +75,8 @@ with_rules = fold with_rule
 abbrev pub line_with : Text → List Rule → App
 line_with name options = with_rules (new_app name) (file_argument ∷ options ++ shared_options)
 
--- `NAME [--limit L] [--fail N] [--every N] [--budget B] [--min M] [--step G] [--json] [FILE]`, the same
--- with a flag `--every` in the place of a rule, or with neither
+-- `NAME [--limit L] [--fail N] [--also J] [--every N] [--budget B] [--min M] [--step G] [--json] [FILE]`, the same
+-- with flags `--every` and `--pairs` in the place of a rule, or with none of them
 abbrev pub subcommand_line : Text → Takes → App
 subcommand_line name takes = line_with name (own_options takes)
 

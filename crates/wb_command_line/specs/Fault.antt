@@ -6,10 +6,10 @@ use Rattle.clap.specs.declared.error.kind.ErrorKind.{ErrorKind}
 use Rattle.clap.specs.declared.error.kind.ErrorKind.TheVariants.{OutOfMemory}
 use Rattle.wb_command_line.specs.CommandLine.{command_line}
 use Rattle.wb_command_line.specs.Command.{is_sixteenfold}
-use Rattle.wb_command_line.specs.Spelled.{IsMeantBy, IsSpelledBy, doubles, spell_both}
+use Rattle.wb_command_line.specs.Spelled.{IsMeantBy, IsSpelledBy, disorders, doubles, gives_disorder, gives_several, spell_both, spell_disorder}
 use Rattle.wb_command_line.specs.declared.command.Command.{Command}
 use Rattle.wb_command_line.specs.declared.command.CommandFault.{CommandFault}
-use Rattle.wb_command_line.specs.declared.command.CommandFault.TheVariants.{Usage, Both, Shape, NoMemory}
+use Rattle.wb_command_line.specs.declared.command.CommandFault.TheVariants.{Usage, Both, Also, Shape, NoMemory}
 
 abbrev pub is_want_of_memory : ErrorKind → Bool
 is_want_of_memory OutOfMemory = true
@@ -19,27 +19,39 @@ is_want_of_memory _ = false
 abbrev pub fault_of_error : Error → CommandFault
 fault_of_error e = if is_want_of_memory (kind_of e) then NoMemory else Usage e
 
--- clap takes the words, but they give more than one of a limit, the number of an attempt and a rate
+-- clap takes the words, but they give more than one of a limit, the number of an attempt and a rate, or ask for rates and
+-- for pairs
 pub record IsDoubled (words : List Text) : Type 0 where
   pub faultless : fault_of command_line words ≡ []
   pub doubled : spell_both words ≡ true
 
--- clap takes the words, and they don't do that, but the heap's minimum length or step that they spell is no multiple of 16
+-- clap takes the words, and they don't do that, but they give a second number that doesn't come after a first
+pub record IsDisordered (words : List Text) : Type 0 where
+  pub faultless : fault_of command_line words ≡ []
+  pub one_rule : spell_both words ≡ false
+  pub disordered : spell_disorder words ≡ true
+
+-- clap takes the words, and they do neither, but the heap's minimum length or step that they spell is no multiple of 16
 pub record IsMisshapen (words : List Text) : Type 0 where
   pub command : Command
   pub spelled : IsSpelledBy words command
   pub misshapen : is_sixteenfold command.shape ≡ false
 
--- the fault is one that clap's meaning finds in the words; where it finds none, of the rules that they spell, and then of
--- the shape; memory that ran out says nothing of them
+-- the fault is one that clap's meaning finds in the words; where it finds none, of the rules that they spell or the kinds of
+-- failures, then of the second number, and then of the shape; memory that ran out says nothing of them
 abbrev pub IsFaultOf : List Text → CommandFault → Type 0
 IsFaultOf words (Usage e) = (kind_of e ≢ OutOfMemory) × IsAmong (kind_of e) (fault_of command_line words)
 IsFaultOf words Both = IsDoubled words
+IsFaultOf words Also = IsDisordered words
 IsFaultOf words Shape = IsMisshapen words
 IsFaultOf words NoMemory = ⊤
 
--- no more than one of a limit, a number and a rate is given, but the heap's minimum length or step is no
--- multiple of 16
+-- what is given doubles nothing, but a second number doesn't come after a first
+pub record AreDisordered (name : Text) (rows : List Row) : Type 0 where
+  pub one_rule : doubles name rows ≡ false
+  pub disordered : disorders name rows ≡ true
+
+-- what is given is a command's, but the heap's minimum length or step is no multiple of 16
 pub record AreMisshapen (name : Text) (rows : List Row) : Type 0 where
   pub command : Command
   pub meant : IsMeantBy name rows command
@@ -49,16 +61,31 @@ pub record AreMisshapen (name : Text) (rows : List Row) : Type 0 where
 abbrev pub IsFaultOfOptions : Text → List Row → CommandFault → Type 0
 IsFaultOfOptions name rows (Usage e) = ⊥
 IsFaultOfOptions name rows Both = doubles name rows ≡ true
+IsFaultOfOptions name rows Also = AreDisordered name rows
 IsFaultOfOptions name rows Shape = AreMisshapen name rows
 IsFaultOfOptions name rows NoMemory = ⊤
 
+-- the fault is one of the rule or the failures that a subcommand is given, which clap has taken
+abbrev pub IsFaultOfTask : Text → List Row → CommandFault → Type 0
+IsFaultOfTask name rows Both = doubles name rows ≡ true
+IsFaultOfTask name rows Also = AreDisordered name rows
+IsFaultOfTask name rows _ = ⊥
+
+-- the fault is one of the options that give a rule, which clap has taken
+abbrev pub IsFaultOfRule : List Row → CommandFault → Type 0
+IsFaultOfRule rows Both = gives_several rows ≡ true
+IsFaultOfRule rows Also = (gives_several rows ≡ false) × (gives_disorder rows ≡ true)
+IsFaultOfRule rows _ = ⊥
+
 -- no fault of usage
 abbrev pub IsAfterUsage : CommandFault → Type 0
-IsAfterUsage fault = (fault ≡ Both) ⊎ ((fault ≡ Shape) ⊎ (fault ≡ NoMemory))
+IsAfterUsage fault =
+    (fault ≡ Both) ⊎ ((fault ≡ Also) ⊎ ((fault ≡ Shape) ⊎ (fault ≡ NoMemory)))
 
 -- the exit status of a program that got no command
 abbrev pub refusal_status : CommandFault → ℕ
 refusal_status (Usage e) = 6
 refusal_status Both = 6
+refusal_status Also = 6
 refusal_status Shape = 6
 refusal_status NoMemory = 4

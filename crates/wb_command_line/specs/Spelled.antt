@@ -1,6 +1,6 @@
 -- The command that words spell, by clap's meaning of the command line. The first word is the program's name, and is not
 -- looked at.
-use Rattle.std.specs.Prelude.{◌≡◌, ◌&&◌, ◌||◌, ℕ, List, [], Bool, true, false, if◌then◌else◌, Option, Some, codes, is_some, option_map, option_and_then, unwrap_or}
+use Rattle.std.specs.Prelude.{◌≡◌, ◌&&◌, ◌||◌, ℕ, List, [], Bool, true, false, not, if◌then◌else◌, Option, Some, None, codes, is_some, option_map, option_and_then, unwrap_or}
 use Rattle.std.specs.Option.{option_map_or}
 use Rattle.std.specs.Str.{bytes_eq}
 use Rattle.std.specs.Str.Parse.{digits_value, without_leading_plus}
@@ -8,9 +8,10 @@ use Rattle.clap.specs.Words.{Row, Text, fault_of, first_of, one_of, subcommand_o
 use Rattle.wb_model.specs.declared.failures.Failures.{Failures}
 use Rattle.wb_model.specs.declared.failures.Failures.TheVariants as failures
 use Rattle.wb_model.specs.declared.heap.Rule.{Rule}
-use Rattle.wb_model.specs.declared.heap.Rule.TheVariants.{Every, Limit, Number, Unlimited}
+use Rattle.wb_model.specs.declared.heap.Rule.TheVariants.{Every, Limit, Number, Pair, Unlimited}
 use Rattle.wb_model.specs.declared.heap.Shape.{Shape}
 use Rattle.wb_model.specs.declared.limits.TheConstants.{DEFAULT_BUDGET, DEFAULT_MINIMUM, DEFAULT_STEP}
+use Rattle.wb_command_line.specs.Command.{are_in_order}
 use Rattle.wb_command_line.specs.CommandLine.{command_line}
 use Rattle.wb_command_line.specs.Subcommands.{subcommand_named}
 use Rattle.wb_command_line.specs.declared.command.Command.{Command}
@@ -41,15 +42,48 @@ gives_several rows =
     are_several (number_of (codes "limit") rows) (number_of (codes "fail") rows)
     (number_of (codes "every") rows)
 
--- the rule of what is there of a limit, a number and a rate, where no more than one of them is
-abbrev pub rule_by : Option ℕ → Option ℕ → Option ℕ → Rule
-rule_by limit number rate =
-    option_map_or Limit limit (option_map_or Number number (option_map_or Every rate Unlimited))
+-- a second number is there, and no first that it comes after
+abbrev pub are_disordered : Option ℕ → Option ℕ → Bool
+are_disordered first second =
+    option_map_or (λ j. not (option_map_or (λ i. are_in_order i j) first false)) second false
+
+-- the number of a second attempt is given, and not that of a first that it comes after
+abbrev pub gives_disorder : List Row → Bool
+gives_disorder rows = are_disordered (number_of (codes "fail") rows) (number_of (codes "also") rows)
+
+-- the attempt with the first number fails, and where a second is there, that one too
+abbrev pub failing_rule : Option ℕ → ℕ → Rule
+failing_rule second first = option_map_or (Pair first) second (Number first)
+
+-- the rule of what is there of a limit, a number and a rate, where no more than one of them is, and a second number only
+-- beside the first
+abbrev pub rule_by : Option ℕ → Option ℕ → Option ℕ → Option ℕ → Rule
+rule_by limit number second rate =
+    option_map_or Limit limit
+    (option_map_or (failing_rule second) number (option_map_or Every rate Unlimited))
 
 abbrev pub rule_of : List Row → Rule
 rule_of rows =
     rule_by (number_of (codes "limit") rows) (number_of (codes "fail") rows)
+    (number_of (codes "also") rows) (number_of (codes "every") rows)
+
+-- the rule of the others, whatever second number is given
+abbrev pub first_rule_of : List Row → Rule
+first_rule_of rows =
+    rule_by (number_of (codes "limit") rows) (number_of (codes "fail") rows) None
     (number_of (codes "every") rows)
+
+-- the rule lets one attempt fail, and the other comes after it
+abbrev pub comes_before : Rule → ℕ → Bool
+comes_before (Number first) second = are_in_order first second
+comes_before _ second = false
+
+-- the rule lets the attempt fail that the first lets fail, and this one after it
+pub record IsPairOf (first : Rule) (second : ℕ) (rule : Rule) : Type 0 where
+  pub number : ℕ
+  pub alone : first ≡ Number number
+  pub ordered : are_in_order number second ≡ true
+  pub pair : rule ≡ Pair number second
 
 abbrev pub shape_of : List Row → Shape
 shape_of rows = record {
@@ -64,9 +98,18 @@ budget_of rows = unwrap_or (number_of (codes "budget") rows) DEFAULT_BUDGET
 abbrev pub flag_of : Text → List Row → Bool
 flag_of option rows = option_map_or (bytes_eq (codes "true")) (one_of option rows) false
 
--- the failures that are to be tried: rates with the flag `--every`, and without it numbers of attempts
+-- both flags are given of a subcommand that tries failures
+abbrev pub gives_both_flags : List Row → Bool
+gives_both_flags rows = flag_of (codes "rates") rows && flag_of (codes "pairs") rows
+
+-- the failures that are to be tried: rates with the flag `--every`, pairs of attempts with `--pairs`, and single attempts
+-- with neither
+abbrev pub failures_by : Bool → Bool → Failures
+failures_by rates pairs =
+    if rates then failures.Every else if pairs then failures.Pairs else failures.Single
+
 abbrev pub failures_of : List Row → Failures
-failures_of rows = if flag_of (codes "rates") rows then failures.Every else failures.Single
+failures_of rows = failures_by (flag_of (codes "rates") rows) (flag_of (codes "pairs") rows)
 
 -- what a subcommand asks for, by its name and matches
 abbrev pub task_of : Text → List Row → Option Task
@@ -92,27 +135,46 @@ takes_rule taking.Rule = true
 takes_rule taking.Failures = false
 takes_rule taking.Neither = false
 
--- the subcommand takes a rule, and more than one of a limit, a number and a rate is given to it
+-- more is given than one rule, or one kind of failures, by what a subcommand takes
+abbrev pub gives_more_than_one : Takes → List Row → Bool
+gives_more_than_one taking.Rule rows = gives_several rows
+gives_more_than_one taking.Failures rows = gives_both_flags rows
+gives_more_than_one taking.Neither rows = false
+
+-- the subcommand takes a rule, and more than one of a limit, a number and a rate is given to it; or failures, and both
+-- flags are
 abbrev pub doubles : Text → List Row → Bool
 doubles name rows =
-    option_map_or (λ s. takes_rule s.takes) (subcommand_named name) false && gives_several rows
+    option_map_or (λ s. gives_more_than_one s.takes rows) (subcommand_named name) false
 
--- no more than one of a limit, a number and a rate is given, and this is the command
+-- the subcommand takes a rule, and a second number is given to it that doesn't come after a first
+abbrev pub disorders : Text → List Row → Bool
+disorders name rows =
+    option_map_or (λ s. takes_rule s.takes) (subcommand_named name) false && gives_disorder rows
+
+-- no more than one rule is given, or one kind of failures, and a second number only after a first, and this is the command
 pub record IsMeantBy (name : Text) (rows : List Row) (command : Command) : Type 0 where
   pub one_rule : doubles name rows ≡ false
+  pub in_order : disorders name rows ≡ false
   pub meaning : command_of (name, rows) ≡ Some command
 
 -- the command that the words spell, where clap takes them
 abbrev pub spelled : List Text → Option Command
 spelled words = option_and_then command_of (subcommand_of command_line words)
 
--- the words give more than one of a limit, a number and a rate
+-- the words give more than one of a limit, a number and a rate, or both flags of failures
 abbrev pub spell_both : List Text → Bool
 spell_both words = option_map_or (λ p. doubles p.0 p.1) (subcommand_of command_line words) false
 
--- clap finds no fault in the words, no more than one of a limit, a number and a rate is there, and this is
--- what they spell
+-- they give a second number that doesn't come after a first
+abbrev pub spell_disorder : List Text → Bool
+spell_disorder words =
+    option_map_or (λ p. disorders p.0 p.1) (subcommand_of command_line words) false
+
+-- clap finds no fault in the words, no more than one rule or one kind of failures is there, a second number only after a
+-- first, and this is what they spell
 pub record IsSpelledBy (words : List Text) (command : Command) : Type 0 where
   pub faultless : fault_of command_line words ≡ []
   pub one_rule : spell_both words ≡ false
+  pub in_order : spell_disorder words ≡ false
   pub meaning : spelled words ≡ Some command

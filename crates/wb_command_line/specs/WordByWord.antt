@@ -31,8 +31,8 @@ shared_names = codes "budget" ∷ codes "min" ∷ codes "step" ∷ codes "json" 
 
 -- those that a subcommand has beside them
 abbrev pub own_names : Takes → List Text
-own_names taking.Rule = codes "limit" ∷ codes "fail" ∷ codes "every" ∷ []
-own_names taking.Failures = codes "every" ∷ []
+own_names taking.Rule = codes "limit" ∷ codes "fail" ∷ codes "also" ∷ codes "every" ∷ []
+own_names taking.Failures = codes "every" ∷ codes "pairs" ∷ []
 own_names taking.Neither = []
 
 -- the options of a subcommand, by what it takes

@@ -19,7 +19,7 @@ pub enum Task {
     /// The length of heap that the script needs, and what each shorter one refuses first.
     Size,
     /// The least of these failures that leaks or panics, and the run in which it does: the number of an attempt that
-    /// fails, or the rate at which attempts fail.
+    /// fails, the rate at which attempts fail, or the numbers of two that do.
     Sweep(Failures),
     /// `Size`, and then `Sweep` with these failures.
     Check(Failures),
@@ -45,10 +45,14 @@ pub enum CommandFault {
     /// `clap` refuses the words, or they call for help; its text is for the user.
     #[error("{0}")]
     Usage(clap::Error),
-    /// `clap` takes the words, but they give more than one of a limit, the number of an attempt and a rate. It comes
-    /// before `Shape`.
-    #[error("error: give one of '--limit', '--fail' and '--every'\n")]
+    /// `clap` takes the words, but they give more than one of a limit, the number of an attempt and a rate, or ask for
+    /// rates and for pairs to be tried. It comes before `Also`.
+    #[error("error: give one of '--limit', '--fail' and '--every', or one of '--every' and '--pairs'\n")]
     Both,
+    /// `clap` takes the words, but they give the number of a second attempt that fails, and not that of a first, or a first
+    /// that is 0 or not less than the second. It comes before `Shape`.
+    #[error("error: give '--also' with '--fail', and a number greater than that of '--fail', which is at least 1\n")]
+    Also,
     /// `clap` takes the words, but the heap's minimum length or step is no multiple of 16 bytes.
     #[error("error: the values of '--min' and '--step' are multiples of 16\n")]
     Shape,

@@ -1,15 +1,15 @@
-//! How the words of a command line are read: `workbench run [--limit L | --fail N | --every N] [--budget B] [--min M]
-//! [--step G] [--json] [FILE]`, the same with a flag `--every` in the place of a rule after `sweep` and `check`, and with
-//! neither after `size`. Nothing is opened or run here.
+//! How the words of a command line are read: `workbench run [--limit L | --fail N [--also J] | --every N] [--budget B]
+//! [--min M] [--step G] [--json] [FILE]`, the same with a flag `--every` or `--pairs` in the place of a rule after `sweep` and
+//! `check`, and with none of them after `size`. Nothing is opened or run here.
 ghost use Rattle.std.specs.Prelude.{◌≡◌, ◌≤◌, All, IfErr, IfOk, IsSome, IsTrue, List, Some, OnErr, OnOk, codes, false, map, true};
 ghost use Rattle.std.specs.Str.{IsUtf8};
 ghost use Rattle.clap.specs.Words.{Text, first_of, found_of, rows_of, takes};
 ghost use Rattle.wb_model.specs.Space.{is_shape};
 ghost use Rattle.wb_command_line.specs.Command.{is_answerable, is_in_range, is_sixteenfold};
 ghost use Rattle.wb_command_line.specs.CommandLine.{command_line, joined_level};
-ghost use Rattle.wb_command_line.specs.Fault.{IsAfterUsage, IsFaultOf, IsFaultOfOptions};
+ghost use Rattle.wb_command_line.specs.Fault.{IsAfterUsage, IsFaultOf, IsFaultOfOptions, IsFaultOfRule, IsFaultOfTask};
 ghost use Rattle.wb_command_line.specs.Passed.{RowsPass};
-ghost use Rattle.wb_command_line.specs.Spelled.{IsMeantBy, IsSpelledBy, budget_of as spelled_budget, doubles, failures_of as spelled_failures, flag_of, gives_several, rule_of as spelled_rule, shape_of as spelled_shape, task_of};
+ghost use Rattle.wb_command_line.specs.Spelled.{IsMeantBy, IsPairOf, IsSpelledBy, budget_of as spelled_budget, comes_before, disorders, doubles, failures_of as spelled_failures, first_rule_of, flag_of, gives_both_flags, gives_disorder, gives_several, rule_of as spelled_rule, shape_of as spelled_shape, task_of};
 ghost use Rattle.wb_command_line.specs.Subcommands.{subcommand_named};
 ghost use Rattle.wb_command_line.specs.WordByWord.{AreRead};
 
@@ -35,8 +35,9 @@ const GRANULE: u32 = 16;
 /// words don't say has its default, and the numbers are in their ranges.
 ///
 /// Words that `clap` doesn't take, and calls for help, are `Usage`. Where it takes them, more than one of a limit, the
-/// number of an attempt and a rate is `Both`, and else a minimum length or a step that is no multiple of 16 is `Shape`.
-/// `NoMemory` comes where a growth was refused, of the workbench or of `clap`, and says nothing of the words.
+/// number of an attempt and a rate is `Both`, and so are rates together with pairs. Else the number of a second attempt
+/// is `Also` where that of a first is missing, 0 or not less; and else a minimum length or a step that is no multiple of 16
+/// is `Shape`. `NoMemory` comes where a growth was refused, of the workbench or of `clap`, and says nothing of the words.
 pub fn command<'a, S: AsStr>(alloc: Global, words: &'a [S]) -> Result<Command, CommandFault>
     ensures spelled { IfOk result (IsSpelledBy (map S.text words.now)) }
     ensures numbers { IfOk result (λ command. IsTrue (is_answerable command)) }
@@ -51,7 +52,7 @@ pub fn command<'a, S: AsStr>(alloc: Global, words: &'a [S]) -> Result<Command, C
     command_in(alloc, name, options)
 }
 
-/// The command of a subcommand with these options, or `Both` or `Shape`.
+/// The command of a subcommand with these options, or `Both`, `Also` or `Shape`.
 fn command_in(alloc: Global, name: &str, options: &ArgMatches) -> Result<Command, CommandFault>
     requires named { IsSome (subcommand_named name.now) }
     requires passed { RowsPass joined_level.rules (rows_of (found_of options.now)) }
@@ -70,7 +71,7 @@ fn command_in(alloc: Global, name: &str, options: &ArgMatches) -> Result<Command
     })
 }
 
-/// What a subcommand asks for, or `Both`.
+/// What a subcommand asks for, or `Both` or `Also`.
 fn task_in(name: &str, options: &ArgMatches) -> Result<Task, CommandFault>
     requires named { IsSome (subcommand_named name.now) }
     requires passed { RowsPass joined_level.rules (rows_of (found_of options.now)) }
@@ -78,22 +79,38 @@ fn task_in(name: &str, options: &ArgMatches) -> Result<Task, CommandFault>
         (λ task. task_of name.now (rows_of (found_of options.now)) ≡ Some task) }
     ensures range { IfOk result (λ task. IsTrue (is_in_range task)) }
     ensures alone { OnOk result (doubles name.now (rows_of (found_of options.now)) ≡ false) }
-    ensures fault { IfErr result (λ fault. fault ≡ CommandFault.Both) }
-    ensures both { OnErr result (doubles name.now (rows_of (found_of options.now)) ≡ true) }
+    ensures ordered { OnOk result (disorders name.now (rows_of (found_of options.now)) ≡ false) }
+    ensures fault { IfErr result (IsFaultOfTask name.now (rows_of (found_of options.now))) }
 {
     match name {
         "run" => Ok(Task::Run(rule_in(options)?)),
         "size" => Ok(Task::Size),
-        "sweep" => Ok(Task::Sweep(failures_in(options))),
+        "sweep" => Ok(Task::Sweep(failures_in(options)?)),
         // There is no other.
-        _ => Ok(Task::Check(failures_in(options))),
+        _ => Ok(Task::Check(failures_in(options)?)),
     }
 }
 
-/// The rule that the options of `run` spell, or `Both`.
+/// The rule that the options of `run` spell, or `Both` or `Also`.
 fn rule_in(options: &ArgMatches) -> Result<Rule, CommandFault>
     requires { RowsPass joined_level.rules (rows_of (found_of options.now)) }
     ensures ok { IfOk result (λ rule. rule ≡ spelled_rule (rows_of (found_of options.now))) }
+    ensures range { IfOk result (λ rule. IsTrue (is_in_range (Task.Run rule))) }
+    ensures alone { OnOk result (gives_several (rows_of (found_of options.now)) ≡ false) }
+    ensures ordered { OnOk result (gives_disorder (rows_of (found_of options.now)) ≡ false) }
+    ensures fault { IfErr result (IsFaultOfRule (rows_of (found_of options.now))) }
+{
+    let first = first_rule_in(options)?;
+    match options.get_one::<u32>("also") {
+        None => Ok(first),
+        Some(second) => with_second(first, second),
+    }
+}
+
+/// The rule that these options spell without `--also`, or `Both`.
+fn first_rule_in(options: &ArgMatches) -> Result<Rule, CommandFault>
+    requires { RowsPass joined_level.rules (rows_of (found_of options.now)) }
+    ensures ok { IfOk result (λ rule. rule ≡ first_rule_of (rows_of (found_of options.now))) }
     ensures range { IfOk result (λ rule. IsTrue (is_in_range (Task.Run rule))) }
     ensures alone { OnOk result (gives_several (rows_of (found_of options.now)) ≡ false) }
     ensures fault { IfErr result (λ fault. fault ≡ CommandFault.Both) }
@@ -114,19 +131,36 @@ fn rule_in(options: &ArgMatches) -> Result<Rule, CommandFault>
     }
 }
 
-/// The failures that they ask to be tried.
-fn failures_in(options: &ArgMatches) -> Failures
-    requires { RowsPass joined_level.rules (rows_of (found_of options.now)) }
-    ensures { result ≡ spelled_failures (rows_of (found_of options.now)) }
+/// The rule by which the attempt with a second number fails as well, or `Also`.
+fn with_second(first: Rule, second: u32) -> Result<Rule, CommandFault>
+    ensures ok { IfOk result (IsPairOf first second) }
+    ensures fault { IfErr result (λ fault. fault ≡ CommandFault.Also) }
+    ensures disordered { OnErr result (comes_before first second ≡ false) }
 {
-    if options.get_flag("rates") {
-        Failures::Every
-    } else {
-        Failures::Single
+    match first {
+        Rule::Number(number) if 1 <= number && number < second => Ok(Rule::Pair(number, second)),
+        _ => Err(CommandFault::Also),
     }
 }
 
-/// The greatest number of steps that they spell.
+/// The failures that the options of `sweep` and `check` ask to be tried, or `Both`.
+fn failures_in(options: &ArgMatches) -> Result<Failures, CommandFault>
+    requires { RowsPass joined_level.rules (rows_of (found_of options.now)) }
+    ensures ok { IfOk result
+        (λ failures. failures ≡ spelled_failures (rows_of (found_of options.now))) }
+    ensures alone { OnOk result (gives_both_flags (rows_of (found_of options.now)) ≡ false) }
+    ensures fault { IfErr result (λ fault. fault ≡ CommandFault.Both) }
+    ensures both { OnErr result (gives_both_flags (rows_of (found_of options.now)) ≡ true) }
+{
+    match (options.get_flag("rates"), options.get_flag("pairs")) {
+        (false, false) => Ok(Failures::Single),
+        (true, false) => Ok(Failures::Every),
+        (false, true) => Ok(Failures::Pairs),
+        (true, true) => Err(CommandFault::Both),
+    }
+}
+
+/// The greatest number of steps that the options spell.
 fn budget_in(options: &ArgMatches) -> u32
     requires { RowsPass joined_level.rules (rows_of (found_of options.now)) }
     ensures is { result ≡ spelled_budget (rows_of (found_of options.now)) }

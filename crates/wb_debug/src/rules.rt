@@ -19,6 +19,9 @@ fn refusal(rule: Rule, number: u32, end: u32) -> Option<Answer>
         Rule::Number(failing) => (failing == number).then_some(Answer::Simulated),
         Rule::Every(0) => None,
         Rule::Every(rate) => (number % rate == 0).then_some(Answer::Simulated),
+        Rule::Pair(first, second) => {
+            (first == number || second == number).then_some(Answer::Simulated)
+        }
     }
 }
 
@@ -42,7 +45,7 @@ pub fn limit_under(rule: Rule) -> u32
 {
     match rule {
         Rule::Limit(limit) => limit.min(CEILING),
-        Rule::Unlimited | Rule::Number(_) | Rule::Every(_) => CEILING,
+        Rule::Unlimited | Rule::Number(_) | Rule::Every(_) | Rule::Pair(..) => CEILING,
     }
 }
 

@@ -5,6 +5,7 @@ ghost use Rattle.wb_model.specs.Sound.{is_script};
 
 use crate::copies::compare_copies;
 use crate::forks::compare_forks;
+use crate::pairs::compare_pairs;
 use std::alloc::Global;
 use wb_machine::RunFault;
 use wb_model::failures::{Failing, Failures};
@@ -14,9 +15,9 @@ use wb_script::read;
 /// What was found.
 #[derive(Clone, Copy, Debug, PartialEq, Eq)]
 pub(crate) enum Comparison {
-    /// So many forks were made under numbers and as many under rates, and each comes to what its run does; and as many copies
-    /// are apart from their sources.
-    Same(u32),
+    /// So many forks were made under numbers and as many under rates, and so many under pairs, and each comes to what its run
+    /// does; and as many copies as there are numbers are apart from their sources.
+    Same { forks: u32, pairs: u32 },
     /// The fork under this failure comes to something else than its run.
     OtherFork(Failing),
     /// The run that the forks were taken from comes to something else than without them.
@@ -38,17 +39,27 @@ fn compare_script(alloc: Global, script: &Script) -> Result<Comparison, RunFault
     requires { IsTrue (is_script script.now) }
 {
     match compare_all_forks(alloc, script)? {
-        Comparison::Same(forks) => compare_copies(alloc, script, forks),
+        Comparison::Same { forks, pairs } => compare_copies(alloc, script, forks, pairs),
+        other => Ok(other),
+    }
+}
+
+/// Compares the forks under numbers, those under rates, and then those under pairs, with their runs.
+fn compare_all_forks(alloc: Global, script: &Script) -> Result<Comparison, RunFault>
+    requires { IsTrue (is_script script.now) }
+{
+    match compare_single_forks(alloc, script)? {
+        Comparison::Same { forks, .. } => compare_pairs(alloc, script, forks),
         other => Ok(other),
     }
 }
 
 /// Compares the forks under numbers, and then those under rates, with their runs.
-fn compare_all_forks(alloc: Global, script: &Script) -> Result<Comparison, RunFault>
+fn compare_single_forks(alloc: Global, script: &Script) -> Result<Comparison, RunFault>
     requires { IsTrue (is_script script.now) }
 {
     match compare_forks(alloc, script, Failures::Single)? {
-        Comparison::Same(_) => compare_forks(alloc, script, Failures::Every),
+        Comparison::Same { .. } => compare_forks(alloc, script, Failures::Every),
         other => Ok(other),
     }
 }

@@ -31,21 +31,23 @@ enum First {
 /// The rule of a run without failure.
 const NONE: Rule = Rule::Number(0);
 
-/// Copies a script's run without failure before each of its attempts, of which there are so many, and tells whether each copy
-/// and its source are apart, whichever of the two ends first.
+/// Copies a script's run without failure before each of its attempts, of which there are as many as forks under numbers, and
+/// tells whether each copy and its source are apart, whichever of the two ends first. So many forks under pairs were compared
+/// before.
 pub(crate) fn compare_copies(
     alloc: Global,
     script: &Script,
-    attempts: u32,
+    forks: u32,
+    pairs: u32,
 ) -> Result<Comparison, RunFault>
     requires { IsTrue (is_script script.now) }
 {
-    for made in 0..attempts {
+    for made in 0..forks {
         if !are_apart(alloc, script, made)? {
             return Ok(Comparison::OtherCopy(made + 1));
         }
     }
-    Ok(Comparison::Same(attempts))
+    Ok(Comparison::Same { forks, pairs })
 }
 
 /// Whether a copy and its source are apart, where the copy is taken when so many attempts are made and the next is to come.

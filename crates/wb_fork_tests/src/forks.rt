@@ -58,7 +58,7 @@ fn walk(
             break;
         }
     }
-    Ok(Comparison::Same(forks))
+    Ok(Comparison::Same { forks, pairs: 0 })
 }
 
 /// Whether the fork in which the next attempt, which has this number, is the first to fail comes to what the whole run under

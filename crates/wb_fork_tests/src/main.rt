@@ -1,14 +1,15 @@
 //! Compares the forks of a script's run with the runs that they stand for, and copies of that run with their source.
 //!
 //! A fork is a copy of the run that goes on under another rule, so that an attempt fails which the run itself is granted: it
-//! alone, or from it on each whose number is a multiple of its own. The program reads the script on standard input, and says how
-//! many forks there are. Where a fork or a copy comes to anything else
-//! than it should, the program says which, and ends with status 1.
+//! alone, or from it on each whose number is a multiple of its own. From a fork in which one attempt has failed, further ones are
+//! taken, in each of which a later attempt fails as well. The program reads the script on standard input, and says how many forks
+//! there are. Where a fork or a copy comes to anything else than it should, the program says which, and ends with status 1.
 #![tactic(auto)]
 
 mod comparison;
 mod copies;
 mod forks;
+mod pairs;
 mod results;
 
 use comparison::{Comparison, compare};
@@ -24,9 +25,9 @@ fn main(rt: HostRuntime) -> ExitCode {
 /// Says what was found.
 fn say(rt: &HostRuntime) -> io::Result<ExitCode> {
     match compare_input(rt)? {
-        Some(Comparison::Same(forks)) => {
+        Some(Comparison::Same { forks, pairs }) => {
             println!(rt;
-                "{forks} forks under numbers and as many under rates, each as its run, and as many copies, each apart from its source"
+                "{forks} forks under numbers, as many under rates and {pairs} under pairs, each as its run, and {forks} copies, each apart from its source"
             )?;
             return Ok(ExitCode::SUCCESS);
         }
@@ -37,6 +38,9 @@ fn say(rt: &HostRuntime) -> io::Result<ExitCode> {
             println!(rt;
                 "another result where every attempt fails whose number is a multiple of {rate}"
             )?;
+        }
+        Some(Comparison::OtherFork(Failing::Pair(first, second))) => {
+            println!(rt; "another result where attempts {first} and {second} fail")?;
         }
         Some(Comparison::OtherRun) => println!(rt; "another result of the run itself")?,
         Some(Comparison::OtherCopy(number)) => {

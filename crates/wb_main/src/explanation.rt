@@ -4,10 +4,12 @@ ghost use Rattle.std.specs.Prelude.{◌≤◌, IsTrue};
 ghost use Rattle.wb_model.specs.Sound.{is_script};
 
 use crate::recorded::Record;
+use crate::told::Numbers;
 use std::alloc::Global;
 use wb_explain::files::{Deed, file_fault};
 use wb_explain::runs::{ScriptFile, Setting, lengths_found, run_found};
 use wb_mistakes::refused_script;
+use wb_model::failures::Failures;
 use wb_model::heap::Rule;
 use wb_model::limits::LARGEST_BUDGET;
 use wb_model::memory::NoMemory;
@@ -113,7 +115,7 @@ fn explain_runs(
     if let Task::Size | Task::Check(_) = command.task {
         found = lengths_found(alloc, file, script, budget_of(command), command.shape)?;
     }
-    if let Some(rule) = rule_to_explain(command.task, record.number, status) {
+    if let Some(rule) = rule_to_explain(command.task, record.numbers, status) {
         let run = run_found(alloc, file, script, setting_of(command, rule))?;
         found.push_str(run.as_str())?;
     }
@@ -121,13 +123,21 @@ fn explain_runs(
 }
 
 /// Returns the rule of the run to explain; `None` if it found nothing and nothing was to fail, and if the report gives no
-/// number.
-fn rule_to_explain(task: Task, number: Option<u32>, status: u8) -> Option<Rule> {
+/// numbers.
+fn rule_to_explain(task: Task, numbers: Option<Numbers>, status: u8) -> Option<Rule> {
     match task {
         Task::Run(Rule::Unlimited) if status == NOTHING_FOUND => None,
         Task::Run(rule) => Some(rule),
-        Task::Size => number.map(|it| Rule::Number(it)),
-        Task::Sweep(failures) | Task::Check(failures) => number.map(|it| failures.at(it).rule()),
+        Task::Size => numbers.map(|it| rule_of(Failures::Single, it)),
+        Task::Sweep(failures) | Task::Check(failures) => numbers.map(|it| rule_of(failures, it)),
+    }
+}
+
+/// The rule under which a run meets the failure that a report names by these numbers, where these failures were tried.
+fn rule_of(failures: Failures, numbers: Numbers) -> Rule {
+    match numbers {
+        Numbers::One(number) => failures.at(number).rule(),
+        Numbers::Two(first, second) => Rule::Pair(first, second),
     }
 }
 

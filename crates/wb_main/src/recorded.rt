@@ -1,9 +1,9 @@
 //! The process's files and streams, with a record of what went through them: the script's bytes, what failed first, and the
-//! number that a report gives. What is recorded changes nothing of what is read and written.
+//! numbers that a report gives. What is recorded changes nothing of what is read and written.
 
 ghost use Rattle.std.specs.Prelude.{⊤};
 
-use crate::told::read_number;
+use crate::told::{Numbers, read_numbers};
 use std::cell::RefCell;
 use std::fs::File;
 use std::io;
@@ -21,8 +21,8 @@ pub struct Record {
     pub is_short: bool,
     /// What failed first, and why.
     pub fault: Option<(Deed, ErrorKind)>,
-    /// The number that the report gives: of an attempt, or a rate.
-    pub number: Option<u32>,
+    /// The numbers that the report gives: of one attempt or two, or a rate.
+    pub numbers: Option<Numbers>,
     /// Something was written.
     pub has_report: bool,
 }
@@ -33,7 +33,7 @@ impl Record {
             bytes: Vec::new(alloc),
             is_short: false,
             fault: None,
-            number: None,
+            numbers: None,
             has_report: false,
         }
     }
@@ -60,7 +60,7 @@ impl Record {
     fn note_write(&mut self, written: &io::Result<usize>, bytes: &[u8]) {
         if !self.has_report {
             self.has_report = true;
-            self.number = read_number(bytes);
+            self.numbers = read_numbers(bytes);
         }
         match written {
             Ok(0) => self.note_fault(Deed::Writing, ErrorKind::WriteZero),

@@ -12,7 +12,10 @@ pub mod FreeRuns
 pub mod LimitedHeaps
 pub mod ObjectCells
 pub mod NewCells
+pub mod OnceFound
 pub mod Onward
+pub mod PairLemmas
+pub mod PairSearch
 pub mod Parts
 pub mod PrintableLemmas
 pub mod KeptCells

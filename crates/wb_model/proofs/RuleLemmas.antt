@@ -5,9 +5,10 @@ use Rattle.std.specs.Prelude.{nat_eq}
 use Rattle.std.proofs.Math.Nat.{mod-eq_of_lt}
 use Rattle.std.proofs.lemmas.Bool.{ne_eqb}
 use Rattle.wb_model.specs.declared.failures.Failures.{Failures}
-use Rattle.wb_model.specs.declared.failures.Failures.TheVariants.{Single, Every}
+use Rattle.wb_model.specs.declared.failures.Failures.TheVariants.{Single, Every, Pairs}
 use Rattle.wb_model.specs.declared.heap.Answer.TheVariants.{Simulated}
 use Rattle.wb_model.specs.declared.heap.Rule.{Rule}
+use Rattle.wb_model.specs.declared.heap.Rule.TheVariants.{Number}
 use Rattle.wb_model.specs.Agreement.{IsNoLimit}
 use Rattle.wb_model.specs.Rest.{Fits, SameSoFar}
 use Rattle.wb_model.specs.Rules.{limit_of, refusal_of, refusal_past, simulates}
@@ -36,15 +37,24 @@ unsimulated-open r number end no_limit e = ap (λ b. cond b (Some Simulated) (re
 pub failures-no_limit : (failures : Failures) (n : ℕ) → IsNoLimit (rule_of failures n)
 failures-no_limit Single n = refl
 failures-no_limit Every n = refl
+failures-no_limit Pairs n = refl
+
+zero-alone : (number end : ℕ) → 1 ≤ number → refusal_of (Number 0) number end ≡ None
+zero-alone number end first = unsimulated-open (Number 0) number end refl (ne_eqb 0 number (λ z. omega (arith, z, first)))
+
+later-alone : (n number end : ℕ) → number < n → refusal_of (Number n) number end ≡ None
+later-alone n number end before = unsimulated-open (Number n) number end refl (ne_eqb n number (λ z. omega (arith, z, before)))
 
 -- failure 0 refuses none of the attempts, which count from 1
 pub zero-refuses_none : (failures : Failures) (number end : ℕ) → 1 ≤ number → refusal_of (rule_of failures 0) number end ≡ None
-zero-refuses_none Single number end first = unsimulated-open (rule_of Single 0) number end refl (ne_eqb 0 number (λ z. omega (arith, z, first)))
+zero-refuses_none Single number end first = zero-alone number end first
 zero-refuses_none Every number end first = refl
+zero-refuses_none Pairs number end first = zero-alone number end first
 
 -- and no failure refuses an attempt with a lesser number
 pub later-refuses_none : (failures : Failures) (n number end : ℕ) → 1 ≤ number → number < n → refusal_of (rule_of failures n) number end ≡ None
-later-refuses_none Single n number end first before = unsimulated-open (rule_of Single n) number end refl (ne_eqb n number (λ z. omega (arith, z, before)))
+later-refuses_none Single n number end first before = later-alone n number end before
+later-refuses_none Pairs n number end first before = later-alone n number end before
 later-refuses_none Every n number end first before = unsimulated-open (rule_of Every n) number end refl (ap (λ b. cond b false (nat_eq (number % n) 0)) positive ∙ undivided)
   where
     positive : nat_eq n 0 ≡ false

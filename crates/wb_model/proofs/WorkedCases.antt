@@ -1,7 +1,7 @@
 -- Worked cases, each by computing: the definitions give what the files of cases/ say. Written by tools/cases_to_theorems.py;
 -- edit nothing here.
 use Rattle.std.specs.Prelude.{◌≡◌, refl, ℕ, pos, negsuc, [], ◌∷◌, length, Some, None}
-use Rattle.wb_model.specs.declared.failures.Failures.TheVariants.{Single, Every}
+use Rattle.wb_model.specs.declared.failures.Failures.TheVariants.{Single, Every, Pairs}
 use Rattle.wb_model.specs.declared.heap.Rule.TheVariants as R
 use Rattle.wb_model.specs.declared.heap.Panic.TheVariants as P
 use Rattle.wb_model.specs.declared.script.Holder.TheVariants as H
@@ -28,6 +28,7 @@ use Rattle.wb_model.specs.declared.script.Numbered.{Numbered}
 use Rattle.wb_model.specs.declared.script.Statement.TheOpen.{Statement-F}
 use Rattle.wb_model.specs.declared.script.Statement.TheViews.{out-Statement, roll-Statement}
 use Rattle.wb_model.specs.Run.{run, required, rises}
+use Rattle.wb_model.specs.Pairs.{pair_run, least_bad_or_cut_pair}
 use Rattle.wb_model.specs.Sweeps.{runs_of, least_bad_or_cut}
 use Rattle.std.specs.Fmt.{digits}
 
@@ -1297,6 +1298,69 @@ append_too_long_run : run script_append_too_long_run R.Unlimited 10000 (shaped 4
 unfolding everything
 append_too_long_run = refl
 
+abbrev script_clean_up_fails_every_sweep : Script
+script_clean_up_fails_every_sweep = record { classes = (record { line = 4; extra = 4; fields = None ∷ []; construct = Some (record { locals = []; statements = (on 7 (Statement-F.NewText (Field H.This 0 0) (Constant (pos 20)) Leaves)) ∷ (on 8 (Statement-F.Copy (InCell (Field H.This 0 0)) (Quoted 0))) ∷ [] }); destroy = Some (record { locals = []; statements = (on 11 (Statement-F.Free (Field H.This 0 0))) ∷ [] }) }) ∷ []; procedures = (record { line = 15; parameters = []; body = record { locals = (OfPointer None) ∷ []; statements = (on 17 (Statement-F.NewText (Held (H.Local 0)) (Constant (pos 30)) Leaves)) ∷ (on 18 (Statement-F.Copy (InCell (Held (H.Local 0))) (Quoted 1))) ∷ (on 19 (Statement-F.PrintText (Of (InCell (Held (H.Local 0)))))) ∷ (on 20 (Statement-F.Free (Held (H.Local 0)))) ∷ [] } }) ∷ (record { line = 23; parameters = []; body = record { locals = (OfPointer (Some 0)) ∷ OfNumber ∷ []; statements = (on 26 (Statement-F.New (Held (H.Local 0)) 0 Leaves)) ∷ (on 27 (Statement-F.Trap 1 ((on 28 (Statement-F.Construct (Held (H.Local 0)))) ∷ []))) ∷ (on 30 (Statement-F.If (Less (Variable 1) (Constant (pos 0))) ((on 32 (Statement-F.Call 0 [])) ∷ (on 33 (Statement-F.Delete (Held (H.Local 0)))) ∷ (on 34 (Statement-F.Leave (Variable 1))) ∷ []))) ∷ (on 36 (Statement-F.PrintText (Of (InCell (Field (H.Local 0) 0 0))))) ∷ (on 37 (Statement-F.Delete (Held (H.Local 0)))) ∷ [] } }) ∷ []; operations = []; literals = (65 ∷ 110 ∷ 110 ∷ 97 ∷ []) ∷ (110 ∷ 111 ∷ 32 ∷ 109 ∷ 101 ∷ 109 ∷ 111 ∷ 114 ∷ 121 ∷ 32 ∷ 102 ∷ 111 ∷ 114 ∷ 32 ∷ 97 ∷ 32 ∷ 99 ∷ 111 ∷ 110 ∷ 116 ∷ 97 ∷ 99 ∷ 116 ∷ []) ∷ []; main = 1 }
+
+clean_up_fails_every_sweep : (length (runs_of Every script_clean_up_fails_every_sweep 10000 (shaped 4096 4096) 0).trace ≡ 3) × (least_bad_or_cut Every script_clean_up_fails_every_sweep 10000 (shaped 4096 4096) ≡ None)
+unfolding everything
+clean_up_fails_every_sweep = (refl, refl)
+
+abbrev script_clean_up_fails_mended_pairs_sweep : Script
+script_clean_up_fails_mended_pairs_sweep = record { classes = (record { line = 2; extra = 4; fields = None ∷ []; construct = Some (record { locals = []; statements = (on 5 (Statement-F.NewText (Field H.This 0 0) (Constant (pos 20)) Leaves)) ∷ (on 6 (Statement-F.Copy (InCell (Field H.This 0 0)) (Quoted 0))) ∷ [] }); destroy = Some (record { locals = []; statements = (on 9 (Statement-F.Free (Field H.This 0 0))) ∷ [] }) }) ∷ []; procedures = (record { line = 13; parameters = []; body = record { locals = (OfPointer None) ∷ []; statements = (on 15 (Statement-F.NewText (Held (H.Local 0)) (Constant (pos 30)) Leaves)) ∷ (on 16 (Statement-F.Copy (InCell (Held (H.Local 0))) (Quoted 1))) ∷ (on 17 (Statement-F.PrintText (Of (InCell (Held (H.Local 0)))))) ∷ (on 18 (Statement-F.Free (Held (H.Local 0)))) ∷ [] } }) ∷ (record { line = 21; parameters = []; body = record { locals = (OfPointer (Some 0)) ∷ OfNumber ∷ []; statements = (on 24 (Statement-F.New (Held (H.Local 0)) 0 Leaves)) ∷ (on 25 (Statement-F.Trap 1 ((on 26 (Statement-F.Construct (Held (H.Local 0)))) ∷ []))) ∷ (on 28 (Statement-F.If (Less (Variable 1) (Constant (pos 0))) ((on 29 (Statement-F.Delete (Held (H.Local 0)))) ∷ (on 30 (Statement-F.Call 0 [])) ∷ (on 31 (Statement-F.Leave (Variable 1))) ∷ []))) ∷ (on 33 (Statement-F.PrintText (Of (InCell (Field (H.Local 0) 0 0))))) ∷ (on 34 (Statement-F.Delete (Held (H.Local 0)))) ∷ [] } }) ∷ []; operations = []; literals = (65 ∷ 110 ∷ 110 ∷ 97 ∷ []) ∷ (110 ∷ 111 ∷ 32 ∷ 109 ∷ 101 ∷ 109 ∷ 111 ∷ 114 ∷ 121 ∷ 32 ∷ 102 ∷ 111 ∷ 114 ∷ 32 ∷ 97 ∷ 32 ∷ 99 ∷ 111 ∷ 110 ∷ 116 ∷ 97 ∷ 99 ∷ 116 ∷ []) ∷ []; main = 1 }
+
+clean_up_fails_mended_pairs_sweep : (length (runs_of Pairs script_clean_up_fails_mended_pairs_sweep 10000 (shaped 4096 4096) 0).trace ≡ 3) × (least_bad_or_cut Pairs script_clean_up_fails_mended_pairs_sweep 10000 (shaped 4096 4096) ≡ None) × (least_bad_or_cut_pair script_clean_up_fails_mended_pairs_sweep 10000 (shaped 4096 4096) ≡ None)
+unfolding everything
+clean_up_fails_mended_pairs_sweep = (refl, refl, refl)
+
+abbrev script_clean_up_fails_mended_check : Script
+script_clean_up_fails_mended_check = record { classes = (record { line = 2; extra = 4; fields = None ∷ []; construct = Some (record { locals = []; statements = (on 5 (Statement-F.NewText (Field H.This 0 0) (Constant (pos 20)) Leaves)) ∷ (on 6 (Statement-F.Copy (InCell (Field H.This 0 0)) (Quoted 0))) ∷ [] }); destroy = Some (record { locals = []; statements = (on 9 (Statement-F.Free (Field H.This 0 0))) ∷ [] }) }) ∷ []; procedures = (record { line = 13; parameters = []; body = record { locals = (OfPointer None) ∷ []; statements = (on 15 (Statement-F.NewText (Held (H.Local 0)) (Constant (pos 30)) Leaves)) ∷ (on 16 (Statement-F.Copy (InCell (Held (H.Local 0))) (Quoted 1))) ∷ (on 17 (Statement-F.PrintText (Of (InCell (Held (H.Local 0)))))) ∷ (on 18 (Statement-F.Free (Held (H.Local 0)))) ∷ [] } }) ∷ (record { line = 21; parameters = []; body = record { locals = (OfPointer (Some 0)) ∷ OfNumber ∷ []; statements = (on 24 (Statement-F.New (Held (H.Local 0)) 0 Leaves)) ∷ (on 25 (Statement-F.Trap 1 ((on 26 (Statement-F.Construct (Held (H.Local 0)))) ∷ []))) ∷ (on 28 (Statement-F.If (Less (Variable 1) (Constant (pos 0))) ((on 29 (Statement-F.Delete (Held (H.Local 0)))) ∷ (on 30 (Statement-F.Call 0 [])) ∷ (on 31 (Statement-F.Leave (Variable 1))) ∷ []))) ∷ (on 33 (Statement-F.PrintText (Of (InCell (Field (H.Local 0) 0 0))))) ∷ (on 34 (Statement-F.Delete (Held (H.Local 0)))) ∷ [] } }) ∷ []; operations = []; literals = (65 ∷ 110 ∷ 110 ∷ 97 ∷ []) ∷ (110 ∷ 111 ∷ 32 ∷ 109 ∷ 101 ∷ 109 ∷ 111 ∷ 114 ∷ 121 ∷ 32 ∷ 102 ∷ 111 ∷ 114 ∷ 32 ∷ 97 ∷ 32 ∷ 99 ∷ 111 ∷ 110 ∷ 116 ∷ 97 ∷ 99 ∷ 116 ∷ []) ∷ []; main = 1 }
+
+clean_up_fails_mended_check : (required script_clean_up_fails_mended_check 10000 (shaped 4096 4096) ≡ 256) × (rises script_clean_up_fails_mended_check 10000 (shaped 4096 4096) ≡ (rise 1 144) ∷ (rise 2 192) ∷ (rise 3 256) ∷ []) × (length (runs_of Single script_clean_up_fails_mended_check 10000 (shaped 4096 4096) 0).trace ≡ 3) × (least_bad_or_cut Single script_clean_up_fails_mended_check 10000 (shaped 4096 4096) ≡ None)
+unfolding everything
+clean_up_fails_mended_check = (refl, refl, refl, refl)
+
+abbrev script_clean_up_fails_pair_run : Script
+script_clean_up_fails_pair_run = record { classes = (record { line = 4; extra = 4; fields = None ∷ []; construct = Some (record { locals = []; statements = (on 7 (Statement-F.NewText (Field H.This 0 0) (Constant (pos 20)) Leaves)) ∷ (on 8 (Statement-F.Copy (InCell (Field H.This 0 0)) (Quoted 0))) ∷ [] }); destroy = Some (record { locals = []; statements = (on 11 (Statement-F.Free (Field H.This 0 0))) ∷ [] }) }) ∷ []; procedures = (record { line = 15; parameters = []; body = record { locals = (OfPointer None) ∷ []; statements = (on 17 (Statement-F.NewText (Held (H.Local 0)) (Constant (pos 30)) Leaves)) ∷ (on 18 (Statement-F.Copy (InCell (Held (H.Local 0))) (Quoted 1))) ∷ (on 19 (Statement-F.PrintText (Of (InCell (Held (H.Local 0)))))) ∷ (on 20 (Statement-F.Free (Held (H.Local 0)))) ∷ [] } }) ∷ (record { line = 23; parameters = []; body = record { locals = (OfPointer (Some 0)) ∷ OfNumber ∷ []; statements = (on 26 (Statement-F.New (Held (H.Local 0)) 0 Leaves)) ∷ (on 27 (Statement-F.Trap 1 ((on 28 (Statement-F.Construct (Held (H.Local 0)))) ∷ []))) ∷ (on 30 (Statement-F.If (Less (Variable 1) (Constant (pos 0))) ((on 32 (Statement-F.Call 0 [])) ∷ (on 33 (Statement-F.Delete (Held (H.Local 0)))) ∷ (on 34 (Statement-F.Leave (Variable 1))) ∷ []))) ∷ (on 36 (Statement-F.PrintText (Of (InCell (Field (H.Local 0) 0 0))))) ∷ (on 37 (Statement-F.Delete (Held (H.Local 0)))) ∷ [] } }) ∷ []; operations = []; literals = (65 ∷ 110 ∷ 110 ∷ 97 ∷ []) ∷ (110 ∷ 111 ∷ 32 ∷ 109 ∷ 101 ∷ 109 ∷ 111 ∷ 114 ∷ 121 ∷ 32 ∷ 102 ∷ 111 ∷ 114 ∷ 32 ∷ 97 ∷ 32 ∷ 99 ∷ 111 ∷ 110 ∷ 116 ∷ 97 ∷ 99 ∷ 116 ∷ []) ∷ []; main = 1 }
+
+clean_up_fails_pair_run : run script_clean_up_fails_pair_run (R.Pair 3 4) 10000 (shaped 4096 4096) ≡ record { outcome = Ended (Some (negsuc 3)) ((record { number = 2; length = 48; place = 144 }) ∷ []); trace = (line 1 144 0 Granted) ∷ (line 2 48 144 Granted) ∷ (line 3 64 192 Simulated) ∷ (line 4 80 192 Simulated) ∷ []; lines = []; notes = []; steps = 7 }
+unfolding everything
+clean_up_fails_pair_run = refl
+
+abbrev script_clean_up_fails_pairs_json_check : Script
+script_clean_up_fails_pairs_json_check = record { classes = (record { line = 4; extra = 4; fields = None ∷ []; construct = Some (record { locals = []; statements = (on 7 (Statement-F.NewText (Field H.This 0 0) (Constant (pos 20)) Leaves)) ∷ (on 8 (Statement-F.Copy (InCell (Field H.This 0 0)) (Quoted 0))) ∷ [] }); destroy = Some (record { locals = []; statements = (on 11 (Statement-F.Free (Field H.This 0 0))) ∷ [] }) }) ∷ []; procedures = (record { line = 15; parameters = []; body = record { locals = (OfPointer None) ∷ []; statements = (on 17 (Statement-F.NewText (Held (H.Local 0)) (Constant (pos 30)) Leaves)) ∷ (on 18 (Statement-F.Copy (InCell (Held (H.Local 0))) (Quoted 1))) ∷ (on 19 (Statement-F.PrintText (Of (InCell (Held (H.Local 0)))))) ∷ (on 20 (Statement-F.Free (Held (H.Local 0)))) ∷ [] } }) ∷ (record { line = 23; parameters = []; body = record { locals = (OfPointer (Some 0)) ∷ OfNumber ∷ []; statements = (on 26 (Statement-F.New (Held (H.Local 0)) 0 Leaves)) ∷ (on 27 (Statement-F.Trap 1 ((on 28 (Statement-F.Construct (Held (H.Local 0)))) ∷ []))) ∷ (on 30 (Statement-F.If (Less (Variable 1) (Constant (pos 0))) ((on 32 (Statement-F.Call 0 [])) ∷ (on 33 (Statement-F.Delete (Held (H.Local 0)))) ∷ (on 34 (Statement-F.Leave (Variable 1))) ∷ []))) ∷ (on 36 (Statement-F.PrintText (Of (InCell (Field (H.Local 0) 0 0))))) ∷ (on 37 (Statement-F.Delete (Held (H.Local 0)))) ∷ [] } }) ∷ []; operations = []; literals = (65 ∷ 110 ∷ 110 ∷ 97 ∷ []) ∷ (110 ∷ 111 ∷ 32 ∷ 109 ∷ 101 ∷ 109 ∷ 111 ∷ 114 ∷ 121 ∷ 32 ∷ 102 ∷ 111 ∷ 114 ∷ 32 ∷ 97 ∷ 32 ∷ 99 ∷ 111 ∷ 110 ∷ 116 ∷ 97 ∷ 99 ∷ 116 ∷ []) ∷ []; main = 1 }
+
+clean_up_fails_pairs_json_check : (required script_clean_up_fails_pairs_json_check 10000 (shaped 4096 4096) ≡ 256) × (rises script_clean_up_fails_pairs_json_check 10000 (shaped 4096 4096) ≡ (rise 1 144) ∷ (rise 2 192) ∷ (rise 3 256) ∷ []) × (length (runs_of Pairs script_clean_up_fails_pairs_json_check 10000 (shaped 4096 4096) 0).trace ≡ 3) × (least_bad_or_cut Pairs script_clean_up_fails_pairs_json_check 10000 (shaped 4096 4096) ≡ None) × (least_bad_or_cut_pair script_clean_up_fails_pairs_json_check 10000 (shaped 4096 4096) ≡ Some (3, 4)) × (pair_run script_clean_up_fails_pairs_json_check 10000 (shaped 4096 4096) 3 4 ≡ record { outcome = Ended (Some (negsuc 3)) ((record { number = 2; length = 48; place = 144 }) ∷ []); trace = (line 1 144 0 Granted) ∷ (line 2 48 144 Granted) ∷ (line 3 64 192 Simulated) ∷ (line 4 80 192 Simulated) ∷ []; lines = []; notes = []; steps = 7 })
+unfolding everything
+clean_up_fails_pairs_json_check = (refl, refl, refl, refl, refl, refl)
+
+abbrev script_clean_up_fails_pairs_check : Script
+script_clean_up_fails_pairs_check = record { classes = (record { line = 4; extra = 4; fields = None ∷ []; construct = Some (record { locals = []; statements = (on 7 (Statement-F.NewText (Field H.This 0 0) (Constant (pos 20)) Leaves)) ∷ (on 8 (Statement-F.Copy (InCell (Field H.This 0 0)) (Quoted 0))) ∷ [] }); destroy = Some (record { locals = []; statements = (on 11 (Statement-F.Free (Field H.This 0 0))) ∷ [] }) }) ∷ []; procedures = (record { line = 15; parameters = []; body = record { locals = (OfPointer None) ∷ []; statements = (on 17 (Statement-F.NewText (Held (H.Local 0)) (Constant (pos 30)) Leaves)) ∷ (on 18 (Statement-F.Copy (InCell (Held (H.Local 0))) (Quoted 1))) ∷ (on 19 (Statement-F.PrintText (Of (InCell (Held (H.Local 0)))))) ∷ (on 20 (Statement-F.Free (Held (H.Local 0)))) ∷ [] } }) ∷ (record { line = 23; parameters = []; body = record { locals = (OfPointer (Some 0)) ∷ OfNumber ∷ []; statements = (on 26 (Statement-F.New (Held (H.Local 0)) 0 Leaves)) ∷ (on 27 (Statement-F.Trap 1 ((on 28 (Statement-F.Construct (Held (H.Local 0)))) ∷ []))) ∷ (on 30 (Statement-F.If (Less (Variable 1) (Constant (pos 0))) ((on 32 (Statement-F.Call 0 [])) ∷ (on 33 (Statement-F.Delete (Held (H.Local 0)))) ∷ (on 34 (Statement-F.Leave (Variable 1))) ∷ []))) ∷ (on 36 (Statement-F.PrintText (Of (InCell (Field (H.Local 0) 0 0))))) ∷ (on 37 (Statement-F.Delete (Held (H.Local 0)))) ∷ [] } }) ∷ []; operations = []; literals = (65 ∷ 110 ∷ 110 ∷ 97 ∷ []) ∷ (110 ∷ 111 ∷ 32 ∷ 109 ∷ 101 ∷ 109 ∷ 111 ∷ 114 ∷ 121 ∷ 32 ∷ 102 ∷ 111 ∷ 114 ∷ 32 ∷ 97 ∷ 32 ∷ 99 ∷ 111 ∷ 110 ∷ 116 ∷ 97 ∷ 99 ∷ 116 ∷ []) ∷ []; main = 1 }
+
+clean_up_fails_pairs_check : (required script_clean_up_fails_pairs_check 10000 (shaped 4096 4096) ≡ 256) × (rises script_clean_up_fails_pairs_check 10000 (shaped 4096 4096) ≡ (rise 1 144) ∷ (rise 2 192) ∷ (rise 3 256) ∷ []) × (length (runs_of Pairs script_clean_up_fails_pairs_check 10000 (shaped 4096 4096) 0).trace ≡ 3) × (least_bad_or_cut Pairs script_clean_up_fails_pairs_check 10000 (shaped 4096 4096) ≡ None) × (least_bad_or_cut_pair script_clean_up_fails_pairs_check 10000 (shaped 4096 4096) ≡ Some (3, 4)) × (pair_run script_clean_up_fails_pairs_check 10000 (shaped 4096 4096) 3 4 ≡ record { outcome = Ended (Some (negsuc 3)) ((record { number = 2; length = 48; place = 144 }) ∷ []); trace = (line 1 144 0 Granted) ∷ (line 2 48 144 Granted) ∷ (line 3 64 192 Simulated) ∷ (line 4 80 192 Simulated) ∷ []; lines = []; notes = []; steps = 7 })
+unfolding everything
+clean_up_fails_pairs_check = (refl, refl, refl, refl, refl, refl)
+
+abbrev script_clean_up_fails_pairs_sweep : Script
+script_clean_up_fails_pairs_sweep = record { classes = (record { line = 4; extra = 4; fields = None ∷ []; construct = Some (record { locals = []; statements = (on 7 (Statement-F.NewText (Field H.This 0 0) (Constant (pos 20)) Leaves)) ∷ (on 8 (Statement-F.Copy (InCell (Field H.This 0 0)) (Quoted 0))) ∷ [] }); destroy = Some (record { locals = []; statements = (on 11 (Statement-F.Free (Field H.This 0 0))) ∷ [] }) }) ∷ []; procedures = (record { line = 15; parameters = []; body = record { locals = (OfPointer None) ∷ []; statements = (on 17 (Statement-F.NewText (Held (H.Local 0)) (Constant (pos 30)) Leaves)) ∷ (on 18 (Statement-F.Copy (InCell (Held (H.Local 0))) (Quoted 1))) ∷ (on 19 (Statement-F.PrintText (Of (InCell (Held (H.Local 0)))))) ∷ (on 20 (Statement-F.Free (Held (H.Local 0)))) ∷ [] } }) ∷ (record { line = 23; parameters = []; body = record { locals = (OfPointer (Some 0)) ∷ OfNumber ∷ []; statements = (on 26 (Statement-F.New (Held (H.Local 0)) 0 Leaves)) ∷ (on 27 (Statement-F.Trap 1 ((on 28 (Statement-F.Construct (Held (H.Local 0)))) ∷ []))) ∷ (on 30 (Statement-F.If (Less (Variable 1) (Constant (pos 0))) ((on 32 (Statement-F.Call 0 [])) ∷ (on 33 (Statement-F.Delete (Held (H.Local 0)))) ∷ (on 34 (Statement-F.Leave (Variable 1))) ∷ []))) ∷ (on 36 (Statement-F.PrintText (Of (InCell (Field (H.Local 0) 0 0))))) ∷ (on 37 (Statement-F.Delete (Held (H.Local 0)))) ∷ [] } }) ∷ []; operations = []; literals = (65 ∷ 110 ∷ 110 ∷ 97 ∷ []) ∷ (110 ∷ 111 ∷ 32 ∷ 109 ∷ 101 ∷ 109 ∷ 111 ∷ 114 ∷ 121 ∷ 32 ∷ 102 ∷ 111 ∷ 114 ∷ 32 ∷ 97 ∷ 32 ∷ 99 ∷ 111 ∷ 110 ∷ 116 ∷ 97 ∷ 99 ∷ 116 ∷ []) ∷ []; main = 1 }
+
+clean_up_fails_pairs_sweep : (length (runs_of Pairs script_clean_up_fails_pairs_sweep 10000 (shaped 4096 4096) 0).trace ≡ 3) × (least_bad_or_cut Pairs script_clean_up_fails_pairs_sweep 10000 (shaped 4096 4096) ≡ None) × (least_bad_or_cut_pair script_clean_up_fails_pairs_sweep 10000 (shaped 4096 4096) ≡ Some (3, 4)) × (pair_run script_clean_up_fails_pairs_sweep 10000 (shaped 4096 4096) 3 4 ≡ record { outcome = Ended (Some (negsuc 3)) ((record { number = 2; length = 48; place = 144 }) ∷ []); trace = (line 1 144 0 Granted) ∷ (line 2 48 144 Granted) ∷ (line 3 64 192 Simulated) ∷ (line 4 80 192 Simulated) ∷ []; lines = []; notes = []; steps = 7 })
+unfolding everything
+clean_up_fails_pairs_sweep = (refl, refl, refl, refl)
+
+abbrev script_clean_up_fails_check : Script
+script_clean_up_fails_check = record { classes = (record { line = 4; extra = 4; fields = None ∷ []; construct = Some (record { locals = []; statements = (on 7 (Statement-F.NewText (Field H.This 0 0) (Constant (pos 20)) Leaves)) ∷ (on 8 (Statement-F.Copy (InCell (Field H.This 0 0)) (Quoted 0))) ∷ [] }); destroy = Some (record { locals = []; statements = (on 11 (Statement-F.Free (Field H.This 0 0))) ∷ [] }) }) ∷ []; procedures = (record { line = 15; parameters = []; body = record { locals = (OfPointer None) ∷ []; statements = (on 17 (Statement-F.NewText (Held (H.Local 0)) (Constant (pos 30)) Leaves)) ∷ (on 18 (Statement-F.Copy (InCell (Held (H.Local 0))) (Quoted 1))) ∷ (on 19 (Statement-F.PrintText (Of (InCell (Held (H.Local 0)))))) ∷ (on 20 (Statement-F.Free (Held (H.Local 0)))) ∷ [] } }) ∷ (record { line = 23; parameters = []; body = record { locals = (OfPointer (Some 0)) ∷ OfNumber ∷ []; statements = (on 26 (Statement-F.New (Held (H.Local 0)) 0 Leaves)) ∷ (on 27 (Statement-F.Trap 1 ((on 28 (Statement-F.Construct (Held (H.Local 0)))) ∷ []))) ∷ (on 30 (Statement-F.If (Less (Variable 1) (Constant (pos 0))) ((on 32 (Statement-F.Call 0 [])) ∷ (on 33 (Statement-F.Delete (Held (H.Local 0)))) ∷ (on 34 (Statement-F.Leave (Variable 1))) ∷ []))) ∷ (on 36 (Statement-F.PrintText (Of (InCell (Field (H.Local 0) 0 0))))) ∷ (on 37 (Statement-F.Delete (Held (H.Local 0)))) ∷ [] } }) ∷ []; operations = []; literals = (65 ∷ 110 ∷ 110 ∷ 97 ∷ []) ∷ (110 ∷ 111 ∷ 32 ∷ 109 ∷ 101 ∷ 109 ∷ 111 ∷ 114 ∷ 121 ∷ 32 ∷ 102 ∷ 111 ∷ 114 ∷ 32 ∷ 97 ∷ 32 ∷ 99 ∷ 111 ∷ 110 ∷ 116 ∷ 97 ∷ 99 ∷ 116 ∷ []) ∷ []; main = 1 }
+
+clean_up_fails_check : (required script_clean_up_fails_check 10000 (shaped 4096 4096) ≡ 256) × (rises script_clean_up_fails_check 10000 (shaped 4096 4096) ≡ (rise 1 144) ∷ (rise 2 192) ∷ (rise 3 256) ∷ []) × (length (runs_of Single script_clean_up_fails_check 10000 (shaped 4096 4096) 0).trace ≡ 3) × (least_bad_or_cut Single script_clean_up_fails_check 10000 (shaped 4096 4096) ≡ None)
+unfolding everything
+clean_up_fails_check = (refl, refl, refl, refl)
+
+abbrev script_clean_up_fails_sweep : Script
+script_clean_up_fails_sweep = record { classes = (record { line = 4; extra = 4; fields = None ∷ []; construct = Some (record { locals = []; statements = (on 7 (Statement-F.NewText (Field H.This 0 0) (Constant (pos 20)) Leaves)) ∷ (on 8 (Statement-F.Copy (InCell (Field H.This 0 0)) (Quoted 0))) ∷ [] }); destroy = Some (record { locals = []; statements = (on 11 (Statement-F.Free (Field H.This 0 0))) ∷ [] }) }) ∷ []; procedures = (record { line = 15; parameters = []; body = record { locals = (OfPointer None) ∷ []; statements = (on 17 (Statement-F.NewText (Held (H.Local 0)) (Constant (pos 30)) Leaves)) ∷ (on 18 (Statement-F.Copy (InCell (Held (H.Local 0))) (Quoted 1))) ∷ (on 19 (Statement-F.PrintText (Of (InCell (Held (H.Local 0)))))) ∷ (on 20 (Statement-F.Free (Held (H.Local 0)))) ∷ [] } }) ∷ (record { line = 23; parameters = []; body = record { locals = (OfPointer (Some 0)) ∷ OfNumber ∷ []; statements = (on 26 (Statement-F.New (Held (H.Local 0)) 0 Leaves)) ∷ (on 27 (Statement-F.Trap 1 ((on 28 (Statement-F.Construct (Held (H.Local 0)))) ∷ []))) ∷ (on 30 (Statement-F.If (Less (Variable 1) (Constant (pos 0))) ((on 32 (Statement-F.Call 0 [])) ∷ (on 33 (Statement-F.Delete (Held (H.Local 0)))) ∷ (on 34 (Statement-F.Leave (Variable 1))) ∷ []))) ∷ (on 36 (Statement-F.PrintText (Of (InCell (Field (H.Local 0) 0 0))))) ∷ (on 37 (Statement-F.Delete (Held (H.Local 0)))) ∷ [] } }) ∷ []; operations = []; literals = (65 ∷ 110 ∷ 110 ∷ 97 ∷ []) ∷ (110 ∷ 111 ∷ 32 ∷ 109 ∷ 101 ∷ 109 ∷ 111 ∷ 114 ∷ 121 ∷ 32 ∷ 102 ∷ 111 ∷ 114 ∷ 32 ∷ 97 ∷ 32 ∷ 99 ∷ 111 ∷ 110 ∷ 116 ∷ 97 ∷ 99 ∷ 116 ∷ []) ∷ []; main = 1 }
+
+clean_up_fails_sweep : (length (runs_of Single script_clean_up_fails_sweep 10000 (shaped 4096 4096) 0).trace ≡ 3) × (least_bad_or_cut Single script_clean_up_fails_sweep 10000 (shaped 4096 4096) ≡ None)
+unfolding everything
+clean_up_fails_sweep = (refl, refl)
+
 abbrev script_double_delete_mended_check : Script
 script_double_delete_mended_check = record { classes = (record { line = 2; extra = 4; fields = []; construct = None; destroy = None }) ∷ (record { line = 5; extra = 0; fields = (Some 0) ∷ None ∷ []; construct = None; destroy = Some (record { locals = []; statements = (on 9 (Statement-F.Delete (Field H.This 1 0))) ∷ (on 10 (Statement-F.Free (Field H.This 1 1))) ∷ [] }) }) ∷ []; procedures = (record { line = 14; parameters = (Par.OfPointer (Some 1)) ∷ (Par.OfPointer (Some 0)) ∷ []; body = record { locals = []; statements = (on 16 (Statement-F.Set (Field (H.Local 0) 1 0) (Held (H.Local 1)))) ∷ (on 17 (Statement-F.Alloc (Field (H.Local 0) 1 1) (Constant (pos 40)) Leaves)) ∷ [] } }) ∷ (record { line = 20; parameters = []; body = record { locals = (OfPointer (Some 1)) ∷ (OfPointer (Some 0)) ∷ OfNumber ∷ []; statements = (on 24 (Statement-F.New (Held (H.Local 0)) 1 Leaves)) ∷ (on 25 (Statement-F.PushObject (Held (H.Local 0)))) ∷ (on 26 (Statement-F.New (Held (H.Local 1)) 0 Leaves)) ∷ (on 27 (Statement-F.Trap 2 ((on 28 (Statement-F.Call 0 ((Passed (Held (H.Local 0))) ∷ (Passed (Held (H.Local 1))) ∷ []))) ∷ []))) ∷ (on 30 (Statement-F.LeaveIfError (Variable 2))) ∷ (on 31 (Statement-F.PopDestroy (Constant (pos 1)))) ∷ [] } }) ∷ []; operations = []; literals = []; main = 1 }
 
@@ -1346,12 +1410,26 @@ fallback_leaks_mended_every_sweep : (length (runs_of Every script_fallback_leaks
 unfolding everything
 fallback_leaks_mended_every_sweep = (refl, refl)
 
+abbrev script_fallback_leaks_mended_pairs_sweep : Script
+script_fallback_leaks_mended_pairs_sweep = record { classes = []; procedures = (record { line = 2; parameters = []; body = record { locals = (OfPointer None) ∷ (OfPointer None) ∷ []; statements = (on 5 (Statement-F.Alloc (Held (H.Local 0)) (Constant (pos 4000)) GivesNull)) ∷ (on 6 (Statement-F.If (IsNull (Held (H.Local 0))) ((on 7 (Statement-F.NewText (Held (H.Local 1)) (Constant (pos 20)) Leaves)) ∷ (on 8 (Statement-F.Push (Held (H.Local 1)))) ∷ (on 9 (Statement-F.Copy (InCell (Held (H.Local 1))) (Quoted 0))) ∷ (on 10 (Statement-F.Alloc (Held (H.Local 0)) (Constant (pos 500)) Leaves)) ∷ (on 11 (Statement-F.PrintText (Of (InCell (Held (H.Local 1)))))) ∷ (on 12 (Statement-F.PopDestroy (Constant (pos 1)))) ∷ []))) ∷ (on 14 (Statement-F.ReturnPointer (Held (H.Local 0)))) ∷ [] } }) ∷ (record { line = 17; parameters = []; body = record { locals = (OfPointer None) ∷ OfNumber ∷ []; statements = (on 20 (Statement-F.Trap 1 ((on 21 (Statement-F.CallTo 0 0 [])) ∷ []))) ∷ (on 23 (Statement-F.PrintNumber (Variable 1))) ∷ (on 24 (Statement-F.Free (Held (H.Local 0)))) ∷ [] } }) ∷ []; operations = []; literals = (105 ∷ 110 ∷ 32 ∷ 102 ∷ 101 ∷ 119 ∷ 32 ∷ 99 ∷ 111 ∷ 108 ∷ 111 ∷ 117 ∷ 114 ∷ 115 ∷ []) ∷ []; main = 1 }
+
+fallback_leaks_mended_pairs_sweep : (length (runs_of Pairs script_fallback_leaks_mended_pairs_sweep 10000 (shaped 4096 4096) 0).trace ≡ 2) × (least_bad_or_cut Pairs script_fallback_leaks_mended_pairs_sweep 10000 (shaped 4096 4096) ≡ None) × (least_bad_or_cut_pair script_fallback_leaks_mended_pairs_sweep 10000 (shaped 4096 4096) ≡ None)
+unfolding everything
+fallback_leaks_mended_pairs_sweep = (refl, refl, refl)
+
 abbrev script_fallback_leaks_mended_check : Script
 script_fallback_leaks_mended_check = record { classes = []; procedures = (record { line = 2; parameters = []; body = record { locals = (OfPointer None) ∷ (OfPointer None) ∷ []; statements = (on 5 (Statement-F.Alloc (Held (H.Local 0)) (Constant (pos 4000)) GivesNull)) ∷ (on 6 (Statement-F.If (IsNull (Held (H.Local 0))) ((on 7 (Statement-F.NewText (Held (H.Local 1)) (Constant (pos 20)) Leaves)) ∷ (on 8 (Statement-F.Push (Held (H.Local 1)))) ∷ (on 9 (Statement-F.Copy (InCell (Held (H.Local 1))) (Quoted 0))) ∷ (on 10 (Statement-F.Alloc (Held (H.Local 0)) (Constant (pos 500)) Leaves)) ∷ (on 11 (Statement-F.PrintText (Of (InCell (Held (H.Local 1)))))) ∷ (on 12 (Statement-F.PopDestroy (Constant (pos 1)))) ∷ []))) ∷ (on 14 (Statement-F.ReturnPointer (Held (H.Local 0)))) ∷ [] } }) ∷ (record { line = 17; parameters = []; body = record { locals = (OfPointer None) ∷ OfNumber ∷ []; statements = (on 20 (Statement-F.Trap 1 ((on 21 (Statement-F.CallTo 0 0 [])) ∷ []))) ∷ (on 23 (Statement-F.PrintNumber (Variable 1))) ∷ (on 24 (Statement-F.Free (Held (H.Local 0)))) ∷ [] } }) ∷ []; operations = []; literals = (105 ∷ 110 ∷ 32 ∷ 102 ∷ 101 ∷ 119 ∷ 32 ∷ 99 ∷ 111 ∷ 108 ∷ 111 ∷ 117 ∷ 114 ∷ 115 ∷ []) ∷ []; main = 1 }
 
 fallback_leaks_mended_check : (required script_fallback_leaks_mended_check 10000 (shaped 4096 4096) ≡ 4160) × (rises script_fallback_leaks_mended_check 10000 (shaped 4096 4096) ≡ (rise 1 144) ∷ (rise 2 4160) ∷ []) × (length (runs_of Single script_fallback_leaks_mended_check 10000 (shaped 4096 4096) 0).trace ≡ 2) × (least_bad_or_cut Single script_fallback_leaks_mended_check 10000 (shaped 4096 4096) ≡ None)
 unfolding everything
 fallback_leaks_mended_check = (refl, refl, refl, refl)
+
+abbrev script_fallback_leaks_pairs_sweep : Script
+script_fallback_leaks_pairs_sweep = record { classes = []; procedures = (record { line = 4; parameters = []; body = record { locals = (OfPointer None) ∷ (OfPointer None) ∷ []; statements = (on 7 (Statement-F.Alloc (Held (H.Local 0)) (Constant (pos 4000)) GivesNull)) ∷ (on 8 (Statement-F.If (IsNull (Held (H.Local 0))) ((on 9 (Statement-F.NewText (Held (H.Local 1)) (Constant (pos 20)) Leaves)) ∷ (on 10 (Statement-F.Copy (InCell (Held (H.Local 1))) (Quoted 0))) ∷ (on 12 (Statement-F.Alloc (Held (H.Local 0)) (Constant (pos 500)) Leaves)) ∷ (on 13 (Statement-F.PrintText (Of (InCell (Held (H.Local 1)))))) ∷ (on 14 (Statement-F.Free (Held (H.Local 1)))) ∷ []))) ∷ (on 16 (Statement-F.ReturnPointer (Held (H.Local 0)))) ∷ [] } }) ∷ (record { line = 19; parameters = []; body = record { locals = (OfPointer None) ∷ OfNumber ∷ []; statements = (on 22 (Statement-F.Trap 1 ((on 23 (Statement-F.CallTo 0 0 [])) ∷ []))) ∷ (on 25 (Statement-F.PrintNumber (Variable 1))) ∷ (on 26 (Statement-F.Free (Held (H.Local 0)))) ∷ [] } }) ∷ []; operations = []; literals = (105 ∷ 110 ∷ 32 ∷ 102 ∷ 101 ∷ 119 ∷ 32 ∷ 99 ∷ 111 ∷ 108 ∷ 111 ∷ 117 ∷ 114 ∷ 115 ∷ []) ∷ []; main = 1 }
+
+fallback_leaks_pairs_sweep : (length (runs_of Pairs script_fallback_leaks_pairs_sweep 10000 (shaped 4096 4096) 0).trace ≡ 2) × (least_bad_or_cut Pairs script_fallback_leaks_pairs_sweep 10000 (shaped 4096 4096) ≡ None) × (least_bad_or_cut_pair script_fallback_leaks_pairs_sweep 10000 (shaped 4096 4096) ≡ Some (2, 4)) × (pair_run script_fallback_leaks_pairs_sweep 10000 (shaped 4096 4096) 2 4 ≡ record { outcome = Ended None ((record { number = 3; length = 64; place = 144 }) ∷ []); trace = (line 1 144 0 Granted) ∷ (line 2 4016 144 Simulated) ∷ (line 3 64 144 Granted) ∷ (line 4 528 208 Simulated) ∷ []; lines = (45 ∷ 52 ∷ []) ∷ []; notes = []; steps = 9 })
+unfolding everything
+fallback_leaks_pairs_sweep = (refl, refl, refl, refl)
 
 abbrev script_fallback_leaks_refused_run : Script
 script_fallback_leaks_refused_run = record { classes = []; procedures = (record { line = 4; parameters = []; body = record { locals = (OfPointer None) ∷ (OfPointer None) ∷ []; statements = (on 7 (Statement-F.Alloc (Held (H.Local 0)) (Constant (pos 4000)) GivesNull)) ∷ (on 8 (Statement-F.If (IsNull (Held (H.Local 0))) ((on 9 (Statement-F.NewText (Held (H.Local 1)) (Constant (pos 20)) Leaves)) ∷ (on 10 (Statement-F.Copy (InCell (Held (H.Local 1))) (Quoted 0))) ∷ (on 12 (Statement-F.Alloc (Held (H.Local 0)) (Constant (pos 500)) Leaves)) ∷ (on 13 (Statement-F.PrintText (Of (InCell (Held (H.Local 1)))))) ∷ (on 14 (Statement-F.Free (Held (H.Local 1)))) ∷ []))) ∷ (on 16 (Statement-F.ReturnPointer (Held (H.Local 0)))) ∷ [] } }) ∷ (record { line = 19; parameters = []; body = record { locals = (OfPointer None) ∷ OfNumber ∷ []; statements = (on 22 (Statement-F.Trap 1 ((on 23 (Statement-F.CallTo 0 0 [])) ∷ []))) ∷ (on 25 (Statement-F.PrintNumber (Variable 1))) ∷ (on 26 (Statement-F.Free (Held (H.Local 0)))) ∷ [] } }) ∷ []; operations = []; literals = (105 ∷ 110 ∷ 32 ∷ 102 ∷ 101 ∷ 119 ∷ 32 ∷ 99 ∷ 111 ∷ 108 ∷ 111 ∷ 117 ∷ 114 ∷ 115 ∷ []) ∷ []; main = 1 }
@@ -2654,6 +2732,48 @@ script_popped_operation_does_not_run_run = record { classes = []; procedures = (
 popped_operation_does_not_run_run : run script_popped_operation_does_not_run_run R.Unlimited 10000 (shaped 4096 4096) ≡ record { outcome = Ended None []; trace = (line 1 144 0 Granted) ∷ (line 2 32 144 Granted) ∷ []; lines = []; notes = []; steps = 6 }
 unfolding everything
 popped_operation_does_not_run_run = refl
+
+abbrev script_eighth_push_grows_the_cleanup_cell_pairs_sweep : Script
+script_eighth_push_grows_the_cleanup_cell_pairs_sweep = record { classes = []; procedures = (record { line = 1; parameters = []; body = record { locals = (OfPointer None) ∷ []; statements = (on 3 (Statement-F.Repeat (Constant (pos 8)) ((on 4 (Statement-F.Alloc (Held (H.Local 0)) (Constant (pos 16)) Leaves)) ∷ (on 5 (Statement-F.Push (Held (H.Local 0)))) ∷ []))) ∷ (on 7 (Statement-F.PopDestroy (Constant (pos 8)))) ∷ [] } }) ∷ []; operations = []; literals = []; main = 0 }
+
+eighth_push_grows_the_cleanup_cell_pairs_sweep : (length (runs_of Pairs script_eighth_push_grows_the_cleanup_cell_pairs_sweep 10000 (shaped 4096 4096) 0).trace ≡ 10) × (least_bad_or_cut Pairs script_eighth_push_grows_the_cleanup_cell_pairs_sweep 10000 (shaped 4096 4096) ≡ None) × (least_bad_or_cut_pair script_eighth_push_grows_the_cleanup_cell_pairs_sweep 10000 (shaped 4096 4096) ≡ None)
+unfolding everything
+eighth_push_grows_the_cleanup_cell_pairs_sweep = (refl, refl, refl)
+
+abbrev script_leak_that_needs_two_failures_pair_run : Script
+script_leak_that_needs_two_failures_pair_run = record { classes = []; procedures = (record { line = 1; parameters = []; body = record { locals = (OfPointer None) ∷ (OfPointer None) ∷ (OfPointer None) ∷ []; statements = (on 5 (Statement-F.Alloc (Held (H.Local 0)) (Constant (pos 16)) GivesNull)) ∷ (on 6 (Statement-F.Alloc (Held (H.Local 1)) (Constant (pos 16)) GivesNull)) ∷ (on 7 (Statement-F.Alloc (Held (H.Local 2)) (Constant (pos 16)) GivesNull)) ∷ (on 8 (Statement-F.If (IsNull (Held (H.Local 0))) ((on 9 (Statement-F.If (IsNull (Held (H.Local 2))) ((on 10 (Statement-F.Leave (Constant (negsuc 3)))) ∷ []))) ∷ []))) ∷ (on 13 (Statement-F.Free (Held (H.Local 0)))) ∷ (on 14 (Statement-F.Free (Held (H.Local 1)))) ∷ (on 15 (Statement-F.Free (Held (H.Local 2)))) ∷ [] } }) ∷ []; operations = []; literals = []; main = 0 }
+
+leak_that_needs_two_failures_pair_run : run script_leak_that_needs_two_failures_pair_run (R.Pair 2 4) 10000 (shaped 4096 4096) ≡ record { outcome = Ended (Some (negsuc 3)) ((record { number = 3; length = 32; place = 144 }) ∷ []); trace = (line 1 144 0 Granted) ∷ (line 2 32 144 Simulated) ∷ (line 3 32 144 Granted) ∷ (line 4 32 176 Simulated) ∷ []; lines = []; notes = []; steps = 6 }
+unfolding everything
+leak_that_needs_two_failures_pair_run = refl
+
+abbrev script_leak_that_needs_two_failures_pairs_json_sweep : Script
+script_leak_that_needs_two_failures_pairs_json_sweep = record { classes = []; procedures = (record { line = 1; parameters = []; body = record { locals = (OfPointer None) ∷ (OfPointer None) ∷ (OfPointer None) ∷ []; statements = (on 5 (Statement-F.Alloc (Held (H.Local 0)) (Constant (pos 16)) GivesNull)) ∷ (on 6 (Statement-F.Alloc (Held (H.Local 1)) (Constant (pos 16)) GivesNull)) ∷ (on 7 (Statement-F.Alloc (Held (H.Local 2)) (Constant (pos 16)) GivesNull)) ∷ (on 8 (Statement-F.If (IsNull (Held (H.Local 0))) ((on 9 (Statement-F.If (IsNull (Held (H.Local 2))) ((on 10 (Statement-F.Leave (Constant (negsuc 3)))) ∷ []))) ∷ []))) ∷ (on 13 (Statement-F.Free (Held (H.Local 0)))) ∷ (on 14 (Statement-F.Free (Held (H.Local 1)))) ∷ (on 15 (Statement-F.Free (Held (H.Local 2)))) ∷ [] } }) ∷ []; operations = []; literals = []; main = 0 }
+
+leak_that_needs_two_failures_pairs_json_sweep : (length (runs_of Pairs script_leak_that_needs_two_failures_pairs_json_sweep 10000 (shaped 4096 4096) 0).trace ≡ 4) × (least_bad_or_cut Pairs script_leak_that_needs_two_failures_pairs_json_sweep 10000 (shaped 4096 4096) ≡ None) × (least_bad_or_cut_pair script_leak_that_needs_two_failures_pairs_json_sweep 10000 (shaped 4096 4096) ≡ Some (2, 4)) × (pair_run script_leak_that_needs_two_failures_pairs_json_sweep 10000 (shaped 4096 4096) 2 4 ≡ record { outcome = Ended (Some (negsuc 3)) ((record { number = 3; length = 32; place = 144 }) ∷ []); trace = (line 1 144 0 Granted) ∷ (line 2 32 144 Simulated) ∷ (line 3 32 144 Granted) ∷ (line 4 32 176 Simulated) ∷ []; lines = []; notes = []; steps = 6 })
+unfolding everything
+leak_that_needs_two_failures_pairs_json_sweep = (refl, refl, refl, refl)
+
+abbrev script_leak_that_needs_two_failures_pairs_sweep : Script
+script_leak_that_needs_two_failures_pairs_sweep = record { classes = []; procedures = (record { line = 1; parameters = []; body = record { locals = (OfPointer None) ∷ (OfPointer None) ∷ (OfPointer None) ∷ []; statements = (on 5 (Statement-F.Alloc (Held (H.Local 0)) (Constant (pos 16)) GivesNull)) ∷ (on 6 (Statement-F.Alloc (Held (H.Local 1)) (Constant (pos 16)) GivesNull)) ∷ (on 7 (Statement-F.Alloc (Held (H.Local 2)) (Constant (pos 16)) GivesNull)) ∷ (on 8 (Statement-F.If (IsNull (Held (H.Local 0))) ((on 9 (Statement-F.If (IsNull (Held (H.Local 2))) ((on 10 (Statement-F.Leave (Constant (negsuc 3)))) ∷ []))) ∷ []))) ∷ (on 13 (Statement-F.Free (Held (H.Local 0)))) ∷ (on 14 (Statement-F.Free (Held (H.Local 1)))) ∷ (on 15 (Statement-F.Free (Held (H.Local 2)))) ∷ [] } }) ∷ []; operations = []; literals = []; main = 0 }
+
+leak_that_needs_two_failures_pairs_sweep : (length (runs_of Pairs script_leak_that_needs_two_failures_pairs_sweep 10000 (shaped 4096 4096) 0).trace ≡ 4) × (least_bad_or_cut Pairs script_leak_that_needs_two_failures_pairs_sweep 10000 (shaped 4096 4096) ≡ None) × (least_bad_or_cut_pair script_leak_that_needs_two_failures_pairs_sweep 10000 (shaped 4096 4096) ≡ Some (2, 4)) × (pair_run script_leak_that_needs_two_failures_pairs_sweep 10000 (shaped 4096 4096) 2 4 ≡ record { outcome = Ended (Some (negsuc 3)) ((record { number = 3; length = 32; place = 144 }) ∷ []); trace = (line 1 144 0 Granted) ∷ (line 2 32 144 Simulated) ∷ (line 3 32 144 Granted) ∷ (line 4 32 176 Simulated) ∷ []; lines = []; notes = []; steps = 6 })
+unfolding everything
+leak_that_needs_two_failures_pairs_sweep = (refl, refl, refl, refl)
+
+abbrev script_leak_without_any_failure_pairs_sweep : Script
+script_leak_without_any_failure_pairs_sweep = record { classes = []; procedures = (record { line = 1; parameters = []; body = record { locals = (OfPointer None) ∷ []; statements = (on 3 (Statement-F.Alloc (Held (H.Local 0)) (Constant (pos 16)) GivesNull)) ∷ [] } }) ∷ []; operations = []; literals = []; main = 0 }
+
+leak_without_any_failure_pairs_sweep : (length (runs_of Pairs script_leak_without_any_failure_pairs_sweep 10000 (shaped 4096 4096) 0).trace ≡ 2) × (least_bad_or_cut Pairs script_leak_without_any_failure_pairs_sweep 10000 (shaped 4096 4096) ≡ Some 0) × (runs_of Pairs script_leak_without_any_failure_pairs_sweep 10000 (shaped 4096 4096) 0 ≡ record { outcome = Ended None ((record { number = 2; length = 32; place = 144 }) ∷ []); trace = (line 1 144 0 Granted) ∷ (line 2 32 144 Granted) ∷ []; lines = []; notes = []; steps = 1 })
+unfolding everything
+leak_without_any_failure_pairs_sweep = (refl, refl, refl)
+
+abbrev script_retry_that_fails_again_pairs_sweep : Script
+script_retry_that_fails_again_pairs_sweep = record { classes = []; procedures = (record { line = 1; parameters = []; body = record { locals = (OfPointer None) ∷ (OfPointer None) ∷ []; statements = (on 4 (Statement-F.Alloc (Held (H.Local 1)) (Constant (pos 16)) GivesNull)) ∷ (on 5 (Statement-F.Alloc (Held (H.Local 0)) (Constant (pos 16)) GivesNull)) ∷ (on 6 (Statement-F.If (IsNull (Held (H.Local 0))) ((on 7 (Statement-F.Alloc (Held (H.Local 0)) (Constant (pos 16)) GivesNull)) ∷ (on 8 (Statement-F.If (IsNull (Held (H.Local 0))) ((on 9 (Statement-F.Leave (Constant (negsuc 3)))) ∷ []))) ∷ []))) ∷ (on 12 (Statement-F.Free (Held (H.Local 0)))) ∷ (on 13 (Statement-F.Free (Held (H.Local 1)))) ∷ [] } }) ∷ []; operations = []; literals = []; main = 0 }
+
+retry_that_fails_again_pairs_sweep : (length (runs_of Pairs script_retry_that_fails_again_pairs_sweep 10000 (shaped 4096 4096) 0).trace ≡ 3) × (least_bad_or_cut Pairs script_retry_that_fails_again_pairs_sweep 10000 (shaped 4096 4096) ≡ None) × (least_bad_or_cut_pair script_retry_that_fails_again_pairs_sweep 10000 (shaped 4096 4096) ≡ Some (3, 4)) × (pair_run script_retry_that_fails_again_pairs_sweep 10000 (shaped 4096 4096) 3 4 ≡ record { outcome = Ended (Some (negsuc 3)) ((record { number = 2; length = 32; place = 144 }) ∷ []); trace = (line 1 144 0 Granted) ∷ (line 2 32 144 Granted) ∷ (line 3 32 176 Simulated) ∷ (line 4 32 176 Simulated) ∷ []; lines = []; notes = []; steps = 6 })
+unfolding everything
+retry_that_fails_again_pairs_sweep = (refl, refl, refl, refl)
 
 abbrev script_attempts_that_the_script_refuses_count_run : Script
 script_attempts_that_the_script_refuses_count_run = record { classes = []; procedures = (record { line = 1; parameters = []; body = record { locals = (OfPointer None) ∷ []; statements = (on 3 (Statement-F.FailEvery (Constant (pos 1)))) ∷ (on 4 (Statement-F.Alloc (Held (H.Local 0)) (Constant (pos 0)) GivesNull)) ∷ (on 5 (Statement-F.Alloc (Held (H.Local 0)) (Constant (pos 0)) GivesNull)) ∷ (on 6 Statement-F.FailNone) ∷ (on 7 (Statement-F.Alloc (Held (H.Local 0)) (Constant (pos 0)) GivesNull)) ∷ (on 8 (Statement-F.Alloc (Held (H.Local 0)) (Constant (pos 0)) GivesNull)) ∷ [] } }) ∷ []; operations = []; literals = []; main = 0 }

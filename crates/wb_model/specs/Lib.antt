@@ -19,6 +19,7 @@ pub mod Meaning
 pub mod Names
 pub mod ObjectCells
 pub mod Operands
+pub mod Pairs
 pub mod Passes
 pub mod Printable
 pub mod Quiet
@@ -43,5 +44,6 @@ pub mod Words
 pub mod Writing
 pub mod formers
 pub mod Sizes
+pub mod SweepAnswers
 pub mod Sweeps
 pub mod Traces

@@ -12,15 +12,18 @@ pub enum Failures {
     Single,
     /// Every n-th attempt fails: the rate n is tried.
     Every,
+    /// One attempt fails, and once that shows nothing, two do: each pair of them is tried.
+    Pairs,
 }
 
 impl Failures {
-    /// The failure that is tried as `n`. Number 0 and rate 0 are the run without failure.
+    /// The failure that is tried as `n`; for `Pairs` a single one, since these are tried before any pair. Number 0 and rate 0 are
+    /// the run without failure.
     pub fn at(self, n: u32) -> Failing
         ensures { result ≡ failing_at self n }
     {
         match self {
-            Failures::Single => Failing::Number(n),
+            Failures::Single | Failures::Pairs => Failing::Number(n),
             Failures::Every => Failing::Every(n),
         }
     }
@@ -33,6 +36,8 @@ pub enum Failing {
     Number(u32),
     /// Each attempt fails whose number is a multiple of this rate.
     Every(u32),
+    /// The attempts with these two numbers fail, of which the second is the greater.
+    Pair(u32, u32),
 }
 
 impl Failing {
@@ -43,6 +48,7 @@ impl Failing {
         match self {
             Failing::Number(number) => Rule::Number(number),
             Failing::Every(rate) => Rule::Every(rate),
+            Failing::Pair(first, second) => Rule::Pair(first, second),
         }
     }
 }

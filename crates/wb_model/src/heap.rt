@@ -84,6 +84,8 @@ pub enum Rule {
     /// Those whose number is a multiple of this rate; rate 0 refuses nothing. The attempts count from the run's first, whatever
     /// the script's own setting counts from.
     Every(u32),
+    /// The two with these numbers.
+    Pair(u32, u32),
 }
 
 /// The heap's minimum length and growth step, in bytes.
@@ -99,7 +101,7 @@ pub struct Shape {
 #[derive(Clone, Copy, Debug, PartialEq, Eq)]
 pub enum Answer {
     Granted,
-    /// Refused by the script's own setting, by `Rule::Number` or by `Rule::Every`.
+    /// Refused by the script's own setting, or by `Rule::Number`, `Rule::Every` or `Rule::Pair`.
     Simulated,
     /// Refused by `Rule::Limit`.
     Refused,

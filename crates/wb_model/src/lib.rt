@@ -19,4 +19,5 @@ pub mod run;
 pub mod script;
 pub mod script_lines;
 pub mod size;
+pub mod sweep_laws;
 pub mod text;

@@ -1,12 +1,12 @@
--- The failures up to one attempt more, where the lead goes on by a turn.
+-- The failures of a family up to one attempt more, where the lead goes on by a turn.
 use Rattle.std.proofs.Common.{◌≡◌, ◌+◌, ◌≤◌, ℕ, arith, inl, inr, Bool, true, false, refl, sym, ap, ◌∙◌, subst}
 use Rattle.std.proofs.lemmas.Bool.{cases_lt}
 use Rattle.wb_machine.specs.Seen.{Seen}
-use Rattle.wb_model.specs.declared.failures.Failures.{Failures}
 use Rattle.wb_model.specs.declared.heap.Shape.{Shape}
 use Rattle.wb_model.specs.declared.script.Script.{Script}
-use Rattle.wb_model.specs.Sweeps.{is_fine, runs_of, AreFineBelow}
-use Rattle.wb_sweep.specs.Sweeping.{next_run, runs_beside}
+use Rattle.wb_model.specs.Sweeps.{is_fine, runs_under, AreFineBelow}
+use Rattle.wb_sweep.specs.declared.family.Family.{Family}
+use Rattle.wb_sweep.specs.Families.{failing_in, next_run, runs_beside}
 
 -- a lead is that of another's script, budget and shape
 pub record IsOfSameRun (old lead : Seen) : Type 0 where
@@ -14,24 +14,30 @@ pub record IsOfSameRun (old lead : Seen) : Type 0 where
   pub budget : lead.budget ≡ old.budget
   pub shape : lead.shape ≡ old.shape
 
-pub same-runs : (failures : Failures) (old lead : Seen) (n : ℕ) → IsOfSameRun old lead → runs_beside failures lead n ≡ runs_beside failures old n
-same-runs failures old lead n same =
-    ap (λ (s : Script). runs_of failures s lead.budget lead.shape n) same.script
-    ∙ ap (λ (b : ℕ). runs_of failures old.script b lead.shape n) same.budget
-    ∙ ap (λ (s : Shape). runs_of failures old.script old.budget s n) same.shape
+-- what holds of its script, budget and shape holds of that other's
+pub of-same : (old lead : Seen) → IsOfSameRun old lead → (P : Script → ℕ → Shape → Type 0) → P lead.script lead.budget lead.shape → P old.script old.budget old.shape
+of-same old lead same P is =
+    subst (λ (s : Script). P s old.budget old.shape) same.script
+    (subst (λ (b : ℕ). P lead.script b old.shape) same.budget (subst (λ (h : Shape). P lead.script lead.budget h) same.shape is))
 
-pub fine-further : (failures : Failures) (old lead next : Seen) → IsOfSameRun old lead → AreFineBelow (runs_beside failures old) (lead.attempts + 1) →
-    next.attempts ≤ lead.attempts + 1 → (lead.asks ≡ false → next.attempts ≡ lead.attempts) → (lead.asks ≡ true → is_fine (next_run failures lead) ≡ true) →
-    AreFineBelow (runs_beside failures old) (next.attempts + 1)
-fine-further failures old lead next same fine more unasked asked n lt =
+pub same-runs : (family : Family) (old lead : Seen) (n : ℕ) → IsOfSameRun old lead → runs_beside family lead n ≡ runs_beside family old n
+same-runs family old lead n same =
+    ap (λ (s : Script). runs_under (failing_in family) s lead.budget lead.shape n) same.script
+    ∙ ap (λ (b : ℕ). runs_under (failing_in family) old.script b lead.shape n) same.budget
+    ∙ ap (λ (s : Shape). runs_under (failing_in family) old.script old.budget s n) same.shape
+
+pub fine-further : (family : Family) (old lead next : Seen) → IsOfSameRun old lead → AreFineBelow (runs_beside family old) (lead.attempts + 1) →
+    next.attempts ≤ lead.attempts + 1 → (lead.asks ≡ false → next.attempts ≡ lead.attempts) → (lead.asks ≡ true → is_fine (next_run family lead) ≡ true) →
+    AreFineBelow (runs_beside family old) (next.attempts + 1)
+fine-further family old lead next same fine more unasked asked n lt =
     elim (cases_lt n (lead.attempts + 1)) [
       | inl less ↦ fine n less
       | inr ge ↦ by lead.asks refl ge
     ]
   where
-    by : (b : Bool) → lead.asks ≡ b → lead.attempts + 1 ≤ n → is_fine (runs_beside failures old n) ≡ true
+    by : (b : Bool) → lead.asks ≡ b → lead.attempts + 1 ≤ n → is_fine (runs_beside family old n) ≡ true
     by false e ge = absurd (omega (arith, ge, lt, unasked e))
     by true e ge =
         let last : lead.attempts + 1 ≡ n = omega (arith, ge, lt, more) in
-        subst (λ k. is_fine (runs_beside failures old k) ≡ true) last
-        (ap is_fine (sym (same-runs failures old lead (lead.attempts + 1) same)) ∙ asked e)
+        subst (λ k. is_fine (runs_beside family old k) ≡ true) last
+        (ap is_fine (sym (same-runs family old lead (lead.attempts + 1) same)) ∙ asked e)

@@ -1,1 +1,5 @@
+mod AnswerLemmas
+mod FamilyLemmas
+mod FoundPairs
 mod Further
+mod PairsFurther

@@ -1,6 +1,5 @@
 -- What a sweep says of every failure: the least whose run is bad, or that none is.
 use Rattle.std.specs.Prelude.{◌≡◌, ℕ, ◌+◌, List, true, Some, None, IfSome, length, slice_get}
-use Rattle.wb_machine.specs.Seen.{Seen}
 use Rattle.wb_model.specs.declared.failures.Failing.{Failing}
 use Rattle.wb_model.specs.declared.failures.Failures.{Failures}
 use Rattle.wb_model.specs.declared.heap.Attempt.{Attempt}
@@ -8,7 +7,8 @@ use Rattle.wb_model.specs.declared.heap.Shape.{Shape}
 use Rattle.wb_model.specs.declared.run.RunResult.{RunResult}
 use Rattle.wb_model.specs.declared.script.Script.{Script}
 use Rattle.wb_model.specs.Run.{is_bad}
-use Rattle.wb_model.specs.Sweeps.{failing_at, runs_of, AreAllFine, IsFound}
+use Rattle.wb_model.specs.SweepAnswers.{IsFound, IsNoneFound}
+use Rattle.wb_model.specs.Sweeps.{runs_of}
 use Rattle.wb_sweep.specs.declared.found.Found.{Found}
 use Rattle.wb_sweep.specs.declared.found.Sweep.{Sweep}
 
@@ -22,19 +22,8 @@ pub record IsBadAt (at : Failing) (told : RunResult) (found : Found) : Type 0 wh
   pub failing : found.at ≡ at
   pub result : found.result ≡ told
 
--- the runs of a sweep whose lead is such a run under way
-abbrev pub runs_beside : Failures → Seen → ℕ → RunResult
-runs_beside failures lead = runs_of failures lead.script lead.budget lead.shape
-
--- the failure that is the first to refuse the attempt which a run makes next, and the run under it
-abbrev pub next_failing : Failures → Seen → Failing
-next_failing failures lead = failing_at failures (lead.attempts + 1)
-
-abbrev pub next_run : Failures → Seen → RunResult
-next_run failures lead = runs_beside failures lead (lead.attempts + 1)
-
 -- All failures are spoken of, also those past the last attempt.
 pub record IsSweep (failures : Failures) (script : Script) (budget : ℕ) (shape : Shape) (sweep : Sweep) : Type 0 where
   pub attempts : sweep.attempts ≡ length (runs_of failures script budget shape 0).trace
   pub found : IfSome sweep.found (λ found. IsFound failures script budget shape found.at found.result)
-  pub none : sweep.found ≡ None → AreAllFine (runs_of failures script budget shape)
+  pub none : sweep.found ≡ None → IsNoneFound failures script budget shape

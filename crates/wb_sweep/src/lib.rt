@@ -1,10 +1,13 @@
-//! The least number of an attempt, or the least rate of attempts, whose failure shows a panic or a leak.
+//! The least number of an attempt, the least rate, or the least pair of attempts, whose failure shows a panic or a leak.
 #![tactic(auto)]
 
+mod family;
 pub mod fault;
 pub mod fork;
 pub mod found;
+mod pairs;
 pub mod sweeping;
+mod walk;
 
 pub use fault::SweepFault;
 pub use fork::result_under;

@@ -9,10 +9,10 @@ use Rattle.std.proofs.lemmas.Str.Ascii.{IsAscii-cons, IsAscii-nil}
 use Rattle.wb_model.specs.declared.fault.ScriptFault.{ScriptFault}
 use Rattle.wb_model.specs.declared.fault.ScriptFault.TheVariants.{TooLong, NotAscii, Grammar, UnknownName, DoubleName, WrongKind, MayLeave, NoMain, TooMany, NoMemory}
 use Rattle.wb_model.specs.declared.failures.Failing.{Failing}
-use Rattle.wb_model.specs.declared.failures.Failing.TheVariants.{Number}
+use Rattle.wb_model.specs.declared.failures.Failing.TheVariants.{Number, Pair}
 use Rattle.wb_model.specs.declared.failures.Failing.TheVariants as failings
 use Rattle.wb_model.specs.declared.failures.Failures.{Failures}
-use Rattle.wb_model.specs.declared.failures.Failures.TheVariants.{Single, Every}
+use Rattle.wb_model.specs.declared.failures.Failures.TheVariants.{Single, Every, Pairs}
 use Rattle.wb_model.specs.declared.heap.Answer.{Answer}
 use Rattle.wb_model.specs.declared.heap.Answer.TheVariants.{Granted, Simulated, Refused}
 use Rattle.wb_model.specs.declared.heap.Attempt.{Attempt}
@@ -33,7 +33,8 @@ use Rattle.wb_model.specs.declared.size.Rise.{Rise}
 use Rattle.wb_model.specs.Lines.{ends_line, onto_first, pieces_from, quoted_after}
 use Rattle.wb_model.specs.Printable.{IsPrintable, ArePrintable}
 use Rattle.wb_model.specs.Run.{run}
-use Rattle.wb_model.specs.Sweeps.{failing_at, rule_of}
+use Rattle.wb_model.specs.Sweeps.{rule_for}
+use Rattle.wb_model.proofs.OnceFound.{found-run}
 use Rattle.wb_model.proofs.PrintableLemmas.{is_printable, printable_by_test, decimal-printable, hexadecimal-printable, signed_decimal-printable}
 use Rattle.wb_model.proofs.ThroughoutLemmas.{run-prints}
 use Rattle.wb_command_line.specs.declared.command.Command.{Command}
@@ -43,7 +44,7 @@ use Rattle.workbench.specs.declared.figures.Figures.{Figures}
 use Rattle.workbench.specs.Ascii.{HasPrintableLines, IsPrintableText, IsTextByte}
 use Rattle.workbench.specs.Report.{IsReport, IsTaskReport, fault_line, no_memory, read_fault, refused, refused_at}
 use Rattle.workbench.specs.RunText.{answer_word, attempt_line, cut_line, eight_digits, end_line, leak_line, leaks_text, line, note_line, outcome_text, panic_line, print_line, run_text}
-use Rattle.workbench.specs.TwoNumbers.{IsCheckReport, IsFailing, IsSized, IsSizeReport, IsSweepReport, attempts_line, cut_at_line, failing_line, found_text, none_line, refuses_line, size_text, table_text}
+use Rattle.workbench.specs.TwoNumbers.{IsCheckReport, IsFailing, IsSized, IsSizeReport, IsSweepReport, attempts_line, cut_at_line, failing_line, failing_text, found_text, none_line, refuses_line, size_text, table_text}
 
 -- ---- words and numbers
 
@@ -183,9 +184,18 @@ of_size required rises =
     both (first ++ table_text 0 rises) (line (codes "enough from " ++ decimal required))
     (both first (table_text 0 rises) (of_number (codes "required ") required refl) (of_table 0 rises)) (of_number (codes "enough from ") required refl)
 
-of_cut_at : (number : ℕ) (why : Why) → IsPrintableText (cut_at_line number why)
-of_cut_at number Budget = of_line (codes "cut " ++ decimal number ++ codes " budget") (and_word (codes "cut " ++ decimal number) (codes " budget") (one_number (codes "cut ") number refl) refl)
-of_cut_at number Ceiling = of_line (codes "cut " ++ decimal number ++ codes " ceiling") (and_word (codes "cut " ++ decimal number) (codes " ceiling") (one_number (codes "cut ") number refl) refl)
+failing_text-printable : (at : Failing) → ArePrintable (failing_text at)
+failing_text-printable (Number n) = decimal-printable n
+failing_text-printable (failings.Every n) = decimal-printable n
+failing_text-printable (Pair i j) = and_number (decimal i ++ codes " ") j (and_word (decimal i) (codes " ") (decimal-printable i) refl)
+
+of_cut_at : (at : Failing) (why : Why) → IsPrintableText (cut_at_line at why)
+of_cut_at at Budget =
+    let cut = All-append IsPrintable (codes "cut ") (failing_text at) (printable_by_test (codes "cut ") refl) (failing_text-printable at) in
+    of_line (codes "cut " ++ failing_text at ++ codes " budget") (and_word (codes "cut " ++ failing_text at) (codes " budget") cut refl)
+of_cut_at at Ceiling =
+    let cut = All-append IsPrintable (codes "cut ") (failing_text at) (printable_by_test (codes "cut ") refl) (failing_text-printable at) in
+    of_line (codes "cut " ++ failing_text at ++ codes " ceiling") (and_word (codes "cut " ++ failing_text at) (codes " ceiling") cut refl)
 
 of_attempts : (attempts : ℕ) → IsPrintableText (attempts_line attempts)
 of_attempts attempts = of_number (codes "attempts ") attempts refl
@@ -193,6 +203,7 @@ of_attempts attempts = of_number (codes "attempts ") attempts refl
 of_failing_line : (failing : Failing) → IsPrintableText (failing_line failing)
 of_failing_line (Number n) = of_number (codes "number ") n refl
 of_failing_line (failings.Every n) = of_number (codes "every ") n refl
+of_failing_line (Pair i j) = of_numbers (codes "pair ") i (codes " ") j refl refl
 
 of_found : (failing : Failing) (r : RunResult) → All ArePrintable r.lines → IsPrintableText (found_text failing r)
 of_found failing r are = both (failing_line failing) (run_text r) (of_failing_line failing) (of_run r are)
@@ -200,6 +211,7 @@ of_found failing r are = both (failing_line failing) (run_text r) (of_failing_li
 of_none : (failures : Failures) → IsPrintableText (none_line failures)
 of_none Single = of_word (codes "number none") refl
 of_none Every = of_word (codes "every none") refl
+of_none Pairs = of_word (codes "pair none") refl
 
 -- ---- the lines of a fault, and those that come in a report's place
 
@@ -238,30 +250,30 @@ module _ (script : Script) (budget : ℕ) (shape : Shape) where
 
   of_size_report : (text : List ℕ) (figures : Figures) (status : ℕ) → IsSizeReport script budget shape text figures status → IsPrintableText text
   of_size_report text figures status (inl is) = of_sized text figures is.0
-  of_size_report text figures status (inr is) = subst IsPrintableText (sym is.0.text_is) (of_cut_at 0 is.0.why)
+  of_size_report text figures status (inr is) = subst IsPrintableText (sym is.0.text_is) (of_cut_at (Number 0) is.0.why)
 
   of_failing : (failures : Failures) (text : List ℕ) (figures : Figures) → IsFailing failures script budget shape text figures
       → IsPrintableText text
   of_failing failures text figures is =
-      let failing : Failing = failing_at failures is.number in
+      let ran = found-run script budget shape failures is.at is.result is.found in
       let lines : All ArePrintable is.result.lines =
-      subst (λ (r : RunResult). All ArePrintable r.lines) (sym is.least.run_is) (run_lines (rule_of failures is.number)) in
+      subst (λ (r : RunResult). All ArePrintable r.lines) (sym ran) (run_lines (rule_for is.at)) in
       subst IsPrintableText (sym is.text_is)
-      (both (attempts_line _) (found_text failing is.result) (of_attempts _) (of_found failing is.result lines))
+      (both (attempts_line _) (found_text is.at is.result) (of_attempts _) (of_found is.at is.result lines))
 
   of_sweep_report : (failures : Failures) (text : List ℕ) (figures : Figures) (status : ℕ)
       → IsSweepReport failures script budget shape text figures status → IsPrintableText text
   of_sweep_report failures text figures status (inl is) = of_failing failures text figures is.0
   of_sweep_report failures text figures status (inr (inl is)) =
       subst IsPrintableText (sym is.0.text_is) (both (attempts_line _) (none_line failures) (of_attempts _) (of_none failures))
-  of_sweep_report failures text figures status (inr (inr is)) = subst IsPrintableText (sym is.0.text_is) (of_cut_at is.0.number is.0.why)
+  of_sweep_report failures text figures status (inr (inr is)) = subst IsPrintableText (sym is.0.text_is) (of_cut_at is.0.at is.0.why)
 
   of_check_report : (failures : Failures) (text : List ℕ) (figures : Figures) (status : ℕ)
       → IsCheckReport failures script budget shape text figures status → IsPrintableText text
   of_check_report failures text figures status (inl is) =
       subst IsPrintableText (sym is.text_is)
       (both is.first is.second (of_sized is.first is.size is.sized) (of_sweep_report failures is.second is.sweep status is.swept))
-  of_check_report failures text figures status (inr is) = subst IsPrintableText (sym is.0.text_is) (of_cut_at 0 is.0.why)
+  of_check_report failures text figures status (inr is) = subst IsPrintableText (sym is.0.text_is) (of_cut_at (Number 0) is.0.why)
 
   of_task : (task : Task) (text : List ℕ) (figures : Figures) (status : ℕ) → IsTaskReport task script budget shape text figures status → IsPrintableText text
   of_task (T.Run rule) text figures status is = subst IsPrintableText (sym is.text_is) (of_run (run script rule budget shape) (run_lines rule))

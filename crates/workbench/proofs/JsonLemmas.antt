@@ -6,8 +6,10 @@ use Rattle.serde_json.specs.View.{items_of}
 use Rattle.serde_json.specs.Written.{has_float, items_have_float}
 use Rattle.wb_command_line.specs.declared.command.Task.{Task}
 use Rattle.wb_command_line.specs.declared.command.Task.TheVariants as T
+use Rattle.wb_model.specs.declared.failures.Failing.TheVariants.{Number, Pair}
+use Rattle.wb_model.specs.declared.failures.Failing.TheVariants as failings
 use Rattle.wb_model.specs.declared.failures.Failures.{Failures}
-use Rattle.wb_model.specs.declared.failures.Failures.TheVariants.{Single, Every}
+use Rattle.wb_model.specs.declared.failures.Failures.TheVariants.{Single, Every, Pairs}
 use Rattle.wb_model.specs.declared.size.Rise.{Rise}
 use Rattle.wb_model.specs.Lines.{ends_line, lines_of, onto_first, pieces_from, quoted_after}
 use Rattle.workbench.specs.declared.figures.FailingNumber.{FailingNumber}
@@ -28,6 +30,7 @@ count_has_none (Some n) = refl
 failures_have_none : (failures : Failures) → has_float (failures_kind failures) ≡ false
 failures_have_none Single = refl
 failures_have_none Every = refl
+failures_have_none Pairs = refl
 
 kind_has_none : (task : Task) → has_float (kind_of task) ≡ false
 kind_has_none (T.Run rule) = refl
@@ -38,7 +41,9 @@ kind_has_none (T.Check failures) = failures_have_none failures
 number_has_none : (number : Option FailingNumber) → has_float (failing_number number) ≡ false
 number_has_none None = refl
 number_has_none (Some Never) = refl
-number_has_none (Some (At failing)) = refl
+number_has_none (Some (At (Number n))) = refl
+number_has_none (Some (At (failings.Every n))) = refl
+number_has_none (Some (At (Pair i j))) = refl
 
 lines_have_none : (text : List ℕ) → has_float (line_strings text) ≡ false
 lines_have_none text = each_has_none line_string (λ line. refl) (lines_of text)

@@ -6,6 +6,5 @@ pub mod KnownBytesLemmas
 pub mod OneReport
 pub mod ProgramLemmas
 pub mod RiseLemmas
-pub mod SweptLemmas
 pub mod WordsLemmas
 pub mod WorkedReports

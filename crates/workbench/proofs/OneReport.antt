@@ -2,17 +2,17 @@
 use Rattle.std.proofs.Common.{◌≡◌, ◌⊎◌, inl, inr, ℕ, ◌<◌, List, ◌++◌, refl, sym, ◌∙◌, ap, subst, Bool, true, false, le_refl}
 use Rattle.std.specs.Prelude.{IsSome}
 use Rattle.std.proofs.lemmas.Bool.{cases_order, false≢true}
+use Rattle.wb_model.specs.declared.failures.Failing.TheVariants.{Number}
 use Rattle.wb_model.specs.declared.failures.Failures.{Failures}
 use Rattle.wb_model.specs.declared.heap.Shape.{Shape}
 use Rattle.wb_model.specs.declared.run.Outcome.{Outcome}
 use Rattle.wb_model.specs.declared.run.Outcome.TheVariants.{Cut}
-use Rattle.wb_model.specs.declared.run.RunResult.{RunResult}
 use Rattle.wb_model.specs.declared.run.Why.{Why}
 use Rattle.wb_model.specs.declared.script.Script.{Script}
 use Rattle.wb_model.specs.declared.size.Rise.{Rise}
-use Rattle.wb_model.specs.Run.{is_bad, is_bad_outcome}
 use Rattle.wb_model.specs.Sizes.{IsHeapLength}
-use Rattle.wb_model.specs.Sweeps.{failing_at, runs_of, is_cut_outcome, is_fine, IsLeastBad, IsLeastCut}
+use Rattle.wb_model.specs.SweepAnswers.{IsNoneFound}
+use Rattle.wb_model.proofs.OnceFound.{cut-some, found-some, found-uncut, once-cut, once-found}
 use Rattle.wb_command_line.specs.declared.command.Command.{Command}
 use Rattle.wb_command_line.specs.declared.command.Task.{Task}
 use Rattle.wb_command_line.specs.declared.command.Task.TheVariants as T
@@ -30,21 +30,6 @@ Alike text figures text' figures' = (text ≡ text') × (figures ≡ figures')
 
 one_why : (a b : Why) (outcome : Outcome) → outcome ≡ Cut a → outcome ≡ Cut b → a ≡ b
 one_why a b outcome e f = cc
-
--- ---- one run is bad, cut or fine
-
-fine_not_bad : (r : RunResult) → is_fine r ≡ true → is_bad r ≡ true → ⊥
-fine_not_bad r fine bad = by (is_bad r) refl fine bad
-  where
-    by : (b : Bool) → is_bad r ≡ b → is_fine r ≡ true → is_bad r ≡ true → ⊥
-    by true e fine bad = cc
-    by false e fine bad = cc
-
-fine_not_cut : (r : RunResult) (why : Why) → is_fine r ≡ true → r.outcome ≡ Cut why → ⊥
-fine_not_cut r why fine cut = let yes : is_cut_outcome r.outcome ≡ true = ap is_cut_outcome cut in cc
-
-bad_not_cut : (outcome : Outcome) (why : Why) → is_bad_outcome outcome ≡ true → outcome ≡ Cut why → ⊥
-bad_not_cut outcome why bad cut = let no : is_bad_outcome outcome ≡ false = ap is_bad_outcome cut in cc
 
 -- ---- how long the heap must be
 
@@ -73,7 +58,7 @@ module _ (script : Script) (budget : ℕ) (shape : Shape) where
       → Alike text figures text' figures'
   one_cut text text' figures figures' s t =
       let why = one_why s.why t.why _ s.cut t.cut in
-      (s.text_is ∙ ap (cut_at_line 0) why ∙ sym t.text_is, s.figures_are ∙ sym t.figures_are)
+      (s.text_is ∙ ap (cut_at_line (Number 0)) why ∙ sym t.text_is, s.figures_are ∙ sym t.figures_are)
 
   never_both : (text text' : List ℕ) (figures figures' : Figures) → IsSized script budget shape text figures → IsUnsized script budget shape text' figures' → ⊥
   never_both text text' figures figures' s t = s.uncut t.why t.cut
@@ -88,60 +73,42 @@ module _ (script : Script) (budget : ℕ) (shape : Shape) where
 -- ---- which failure shows a leak or a panic
 
 module _ (failures : Failures) (script : Script) (budget : ℕ) (shape : Shape) where
-  abbrev runs : ℕ → RunResult
-  runs = runs_of failures script budget shape
-
-  -- of two runs that aren't fine, below which all are, neither comes first
-  one_unfine : (m n : ℕ) → (is_fine (runs m) ≡ true → ⊥) → (is_fine (runs n) ≡ true → ⊥)
-      → ((k : ℕ) → k < m → is_fine (runs k) ≡ true) → ((k : ℕ) → k < n → is_fine (runs k) ≡ true) → m ≡ n
-  one_unfine m n here there below under = by (cases_order m n)
-    where
-      by : (m ≡ n) ⊎ ((m < n) ⊎ (n < m)) → m ≡ n
-      by (inl e) = e
-      by (inr (inl less)) = absurd (here (under m less))
-      by (inr (inr less)) = absurd (there (below n less))
-
-  bad_unfine : (n : ℕ) (r : RunResult) → IsLeastBad runs n r → is_fine (runs n) ≡ true → ⊥
-  bad_unfine n r is fine = fine_not_bad (runs n) fine is.bad
-
-  cut_unfine : (n : ℕ) (why : Why) → IsLeastCut runs n why → is_fine (runs n) ≡ true → ⊥
-  cut_unfine n why is fine = fine_not_cut (runs n) why fine is.cut
-
   one_failing : (text text' : List ℕ) (figures figures' : Figures) → IsFailing failures script budget shape text figures → IsFailing failures script budget shape text' figures'
       → Alike text figures text' figures'
   one_failing text text' figures figures' s t =
-      let same : s.number ≡ t.number = one_unfine s.number t.number (bad_unfine _ _ s.least) (bad_unfine _ _ t.least) s.least.least t.least.least in
-      let results : s.result ≡ t.result = s.least.run_is ∙ ap runs same ∙ sym t.least.run_is in
-      let words : found_text (failing_at failures s.number) s.result ≡ found_text (failing_at failures t.number) t.result =
-      ap (λ n. found_text (failing_at failures n) s.result) same ∙ ap (found_text (failing_at failures t.number)) results in
+      let (same, results) = once-found script budget shape failures s.at t.at s.result t.result s.found t.found in
+      let words : found_text s.at s.result ≡ found_text t.at t.result = ap (λ f. found_text f s.result) same ∙ ap (found_text t.at) results in
       let attempts : ℕ = attempts_of failures script budget shape in (
         s.text_is ∙ ap (λ l. attempts_line attempts ++ l) words ∙ sym t.text_is,
-        s.figures_are ∙ ap (λ n. sweep_figures attempts (At (failing_at failures n))) same ∙ sym t.figures_are,
+        s.figures_are ∙ ap (λ f. sweep_figures attempts (At f)) same ∙ sym t.figures_are,
       )
 
   one_unswept : (text text' : List ℕ) (figures figures' : Figures) → IsUnswept failures script budget shape text figures → IsUnswept failures script budget shape text' figures'
       → Alike text figures text' figures'
   one_unswept text text' figures figures' s t =
-      let same : s.number ≡ t.number = one_unfine s.number t.number (cut_unfine _ _ s.least) (cut_unfine _ _ t.least) s.least.least t.least.least in
-      let why = one_why s.why t.why (runs t.number).outcome (subst (λ n. (runs n).outcome ≡ Cut s.why) same s.least.cut) t.least.cut in
-      (s.text_is ∙ ap (λ n. cut_at_line n s.why) same ∙ ap (cut_at_line t.number) why ∙ sym t.text_is, s.figures_are ∙ sym t.figures_are)
+      let (same, why) = once-cut script budget shape failures s.at t.at s.why t.why s.cut t.cut in
+      (s.text_is ∙ ap (λ f. cut_at_line f s.why) same ∙ ap (cut_at_line t.at) why ∙ sym t.text_is, s.figures_are ∙ sym t.figures_are)
 
   failing_or_cut : (text text' : List ℕ) (figures figures' : Figures) → IsFailing failures script budget shape text figures → IsUnswept failures script budget shape text' figures' → ⊥
-  failing_or_cut text text' figures figures' s t =
-      let same : s.number ≡ t.number = one_unfine s.number t.number (bad_unfine _ _ s.least) (cut_unfine _ _ t.least) s.least.least t.least.least in
-      bad_not_cut (runs t.number).outcome t.why (subst (λ n. is_bad (runs n) ≡ true) same s.least.bad) t.least.cut
+  failing_or_cut text text' figures figures' s t = found-uncut script budget shape failures s.at t.at s.result t.why s.found t.cut
+
+  failing_or_none : (text : List ℕ) (figures : Figures) → IsFailing failures script budget shape text figures → IsNoneFound failures script budget shape → ⊥
+  failing_or_none text figures s none = found-some script budget shape failures s.at s.result s.found none
+
+  cut_or_none : (text : List ℕ) (figures : Figures) → IsUnswept failures script budget shape text figures → IsNoneFound failures script budget shape → ⊥
+  cut_or_none text figures s none = cut-some script budget shape failures s.at s.why s.cut none
 
   one_sweep : (text text' : List ℕ) (figures figures' : Figures) (status status' : ℕ) → IsSweepReport failures script budget shape text figures status
       → IsSweepReport failures script budget shape text' figures' status' → Alike text figures text' figures' × (status ≡ status')
   one_sweep text text' figures figures' status status' (inl (s, e)) (inl (t, f)) = (one_failing text text' figures figures' s t, e ∙ sym f)
-  one_sweep text text' figures figures' status status' (inl (s, e)) (inr (inl (t, f))) = absurd (bad_unfine _ _ s.least (t.fine s.number))
+  one_sweep text text' figures figures' status status' (inl (s, e)) (inr (inl (t, f))) = absurd (failing_or_none text figures s t.none)
   one_sweep text text' figures figures' status status' (inl (s, e)) (inr (inr (t, f))) = absurd (failing_or_cut text text' figures figures' s t)
-  one_sweep text text' figures figures' status status' (inr (inl (s, e))) (inl (t, f)) = absurd (bad_unfine _ _ t.least (s.fine t.number))
+  one_sweep text text' figures figures' status status' (inr (inl (s, e))) (inl (t, f)) = absurd (failing_or_none text' figures' t s.none)
   one_sweep text text' figures figures' status status' (inr (inl (s, e))) (inr (inl (t, f))) =
       ((s.text_is ∙ sym t.text_is, s.figures_are ∙ sym t.figures_are), e ∙ sym f)
-  one_sweep text text' figures figures' status status' (inr (inl (s, e))) (inr (inr (t, f))) = absurd (cut_unfine _ _ t.least (s.fine t.number))
+  one_sweep text text' figures figures' status status' (inr (inl (s, e))) (inr (inr (t, f))) = absurd (cut_or_none text' figures' t s.none)
   one_sweep text text' figures figures' status status' (inr (inr (s, e))) (inl (t, f)) = absurd (failing_or_cut text' text figures' figures t s)
-  one_sweep text text' figures figures' status status' (inr (inr (s, e))) (inr (inl (t, f))) = absurd (cut_unfine _ _ s.least (t.fine s.number))
+  one_sweep text text' figures figures' status status' (inr (inr (s, e))) (inr (inl (t, f))) = absurd (cut_or_none text figures s t.none)
   one_sweep text text' figures figures' status status' (inr (inr (s, e))) (inr (inr (t, f))) = (one_unswept text text' figures figures' s t, e ∙ sym f)
 
   -- ---- both

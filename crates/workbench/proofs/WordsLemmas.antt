@@ -6,7 +6,7 @@ use Rattle.wb_command_line.specs.Fault.{IsFaultOf}
 use Rattle.wb_command_line.specs.Spelled.{IsSpelledBy}
 use Rattle.wb_command_line.specs.declared.command.Command.{Command}
 use Rattle.wb_command_line.specs.declared.command.CommandFault.{CommandFault}
-use Rattle.wb_command_line.specs.declared.command.CommandFault.TheVariants.{Usage, Both, Shape as Misshapen, NoMemory}
+use Rattle.wb_command_line.specs.declared.command.CommandFault.TheVariants.{Usage, Both, Also, Shape as Misshapen, NoMemory}
 use Rattle.workbench.specs.Program.{IsWordsFault}
 use Rattle.workbench.specs.declared.host.WordsFault.{WordsFault}
 use Rattle.workbench.specs.declared.host.WordsFault.TheVariants.{NotUtf8, Refused}
@@ -18,6 +18,7 @@ only_memory : (words : List Text) (command : Command) (fault : CommandFault) →
     → Refused fault ≡ Refused NoMemory
 only_memory words command (Usage e) spelled ranges found = absurd (subst (IsAmong (kind_of e)) spelled.faultless found.1)
 only_memory words command Both spelled ranges found = let no = spelled.one_rule in let yes = found.doubled in cc
+only_memory words command Also spelled ranges found = let no = spelled.in_order in let yes = found.disordered in cc
 only_memory words command Misshapen spelled ranges found =
     let same : Some command ≡ Some found.command = sym spelled.meaning ∙ found.spelled.meaning in
     let one : command ≡ found.command = cc in

@@ -7,7 +7,7 @@ use Rattle.serde_json.specs.Data.{array}
 use Rattle.serde_json.specs.View.{items_of}
 use Rattle.wb_command_line.specs.declared.command.Task.TheVariants as T
 use Rattle.wb_model.specs.declared.failures.Failing.TheVariants as failings
-use Rattle.wb_model.specs.declared.failures.Failures.TheVariants.{Single, Every}
+use Rattle.wb_model.specs.declared.failures.Failures.TheVariants.{Single, Every, Pairs}
 use Rattle.wb_model.specs.declared.fault.ScriptFault.TheVariants as F
 use Rattle.wb_model.specs.declared.heap.Answer.TheVariants.{Granted, Simulated, Refused}
 use Rattle.wb_model.specs.declared.heap.Panic.TheVariants.{User, Alloc, Workbench}
@@ -21,7 +21,7 @@ use Rattle.workbench.specs.Figures.{both_figures, no_figures, size_figures, swee
 use Rattle.workbench.specs.JsonReport.{json_text, line_string, line_strings, report_object}
 use Rattle.workbench.specs.Report.{fault_line}
 use Rattle.workbench.specs.RunText.{run_text, run_status, outcome_text, outcome_status, note_line, attempt_line, leak_line}
-use Rattle.workbench.specs.TwoNumbers.{failing_line, sweep_text}
+use Rattle.workbench.specs.TwoNumbers.{cut_at_line, failing_line, sweep_text}
 
 -- a cell that is never freed
 abbrev forgotten_cell : RunResult
@@ -147,9 +147,13 @@ every-text : sweep_text Every (record { attempts = 2; found = Some (record { at 
 unfolding digits note_line attempt_line leak_line
 every-text = refl
 
-failing-lines : (failing_line (failings.Number 12) ≡ codes "number 12\n") × (failing_line (failings.Every 12) ≡ codes "every 12\n")
+failing-lines : (failing_line (failings.Number 12) ≡ codes "number 12\n") × (failing_line (failings.Every 12) ≡ codes "every 12\n") × (failing_line (failings.Pair 7 12) ≡ codes "pair 7 12\n")
 unfolding digits note_line attempt_line leak_line
-failing-lines = (refl, refl)
+failing-lines = (refl, refl, refl)
+
+cut-lines : (cut_at_line (failings.Every 12) Budget ≡ codes "cut 12 budget\n") × (cut_at_line (failings.Pair 7 12) Ceiling ≡ codes "cut 7 12 ceiling\n")
+unfolding digits note_line attempt_line leak_line
+cut-lines = (refl, refl)
 
 number_none-text : sweep_text Single (record { attempts = 10; found = None }) ≡ codes "attempts 10\nnumber none\n"
 unfolding digits note_line attempt_line leak_line
@@ -158,6 +162,10 @@ number_none-text = refl
 every_none-text : sweep_text Every (record { attempts = 10; found = None }) ≡ codes "attempts 10\nevery none\n"
 unfolding digits note_line attempt_line leak_line
 every_none-text = refl
+
+pair_none-text : sweep_text Pairs (record { attempts = 10; found = None }) ≡ codes "attempts 10\npair none\n"
+unfolding digits note_line attempt_line leak_line
+pair_none-text = refl
 
 -- ---- as JSON
 
@@ -181,6 +189,11 @@ rate-json : json_text (T.Sweep Every) [] (sweep_figures 4 (At (failings.Every 2)
     ≡ codes "{\"attempts\":4,\"kind\":\"every\",\"lines\":[],\"number\":2,\"required\":null,\"rises\":null,\"status\":1,\"version\":2}\n"
 unfolding serde_json_on_literals digits report_object
 rate-json = refl
+
+pair-json : json_text (T.Sweep Pairs) [] (sweep_figures 4 (At (failings.Pair 2 4))) 1
+    ≡ codes "{\"attempts\":4,\"kind\":\"pairs\",\"lines\":[],\"number\":[2,4],\"required\":null,\"rises\":null,\"status\":1,\"version\":2}\n"
+unfolding serde_json_on_literals digits report_object
+pair-json = refl
 
 -- those of a refused script or a cut, by what was asked for
 plain-json : json_text (T.Run Unlimited) [] no_figures 2

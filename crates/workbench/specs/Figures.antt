@@ -1,16 +1,9 @@
 -- What a report says as values, beside its lines: of a run, of a size, of a sweep.
 use Rattle.std.specs.Prelude.{ℕ, List, Some, None, length}
-use Rattle.wb_model.specs.declared.failures.Failing.{Failing}
-use Rattle.wb_model.specs.declared.failures.Failing.TheVariants.{Number, Every}
 use Rattle.wb_model.specs.declared.run.RunResult.{RunResult}
 use Rattle.wb_model.specs.declared.size.Rise.{Rise}
 use Rattle.workbench.specs.declared.figures.FailingNumber.{FailingNumber}
 use Rattle.workbench.specs.declared.figures.Figures.{Figures}
-
--- the number of the attempt that fails, or the rate at which attempts fail
-abbrev pub number_of : Failing → ℕ
-number_of (Number n) = n
-number_of (Every n) = n
 
 -- of a refused script, and of a cut
 abbrev pub no_figures : Figures
@@ -23,8 +16,8 @@ run_figures r = record no_figures { attempts = Some (length r.trace) }
 abbrev pub size_figures : ℕ → List Rise → Figures
 size_figures required rises = record no_figures { required = Some required; rises = Some rises }
 
--- of a sweep that was finished: the attempts of the run without failure, and the failing number or
--- rate, or that there is none
+-- of a sweep that was finished: the attempts of the run without failure, and the failure that was found,
+-- or that there is none
 abbrev pub sweep_figures : ℕ → FailingNumber → Figures
 sweep_figures attempts number =
     record no_figures { attempts = Some attempts; number = Some number }

@@ -7,14 +7,16 @@ use Rattle.serde_json.specs.Written.{compact_text}
 use Rattle.wb_command_line.specs.declared.command.Command.{Command}
 use Rattle.wb_command_line.specs.declared.command.Task.{Task}
 use Rattle.wb_command_line.specs.declared.command.Task.TheVariants as T
+use Rattle.wb_model.specs.declared.failures.Failing.{Failing}
+use Rattle.wb_model.specs.declared.failures.Failing.TheVariants.{Number, Pair}
+use Rattle.wb_model.specs.declared.failures.Failing.TheVariants as failings
 use Rattle.wb_model.specs.declared.failures.Failures.{Failures}
-use Rattle.wb_model.specs.declared.failures.Failures.TheVariants.{Single, Every}
+use Rattle.wb_model.specs.declared.failures.Failures.TheVariants.{Single, Every, Pairs}
 use Rattle.wb_model.specs.declared.size.Rise.{Rise}
 use Rattle.wb_model.specs.Lines.{lines_of}
 use Rattle.workbench.specs.declared.figures.FailingNumber.{FailingNumber}
 use Rattle.workbench.specs.declared.figures.FailingNumber.TheVariants.{At, Never}
 use Rattle.workbench.specs.declared.figures.Figures.{Figures}
-use Rattle.workbench.specs.Figures.{number_of}
 use Rattle.workbench.specs.RunText.{line}
 
 abbrev pub count : ℕ → Data
@@ -24,10 +26,15 @@ abbrev pub count_or_null : Option ℕ → Data
 count_or_null None = null
 count_or_null (Some n) = count n
 
--- whether numbers of attempts or rates are tried
+-- two numbers as a list
+abbrev pub count_pair : ℕ → ℕ → Data
+count_pair first second = array (item (count first) (item (count second) no_items))
+
+-- whether numbers of attempts, rates or pairs are tried
 abbrev pub failures_kind : Failures → Data
 failures_kind Single = string (codes "single")
 failures_kind Every = string (codes "every")
+failures_kind Pairs = string (codes "pairs")
 
 -- which failures a task tries, whatever its report says; `null` where it tries none
 abbrev pub kind_of : Task → Data
@@ -43,15 +50,20 @@ line_string text = string text
 abbrev pub line_strings : List ℕ → Data
 line_strings text = array (items_of (map line_string (lines_of text)))
 
--- the number of an attempt, or a rate where rates are tried
+-- the number of an attempt, a rate, or the numbers of two attempts
+abbrev pub failing_value : Failing → Data
+failing_value (Number n) = count n
+failing_value (failings.Every n) = count n
+failing_value (Pair i j) = count_pair i j
+
 abbrev pub failing_number : Option FailingNumber → Data
 failing_number None = null
 failing_number (Some Never) = string (codes "none")
-failing_number (Some (At failing)) = count (number_of failing)
+failing_number (Some (At failing)) = failing_value failing
 
 -- `[number, top]`
 abbrev pub rise_pair : Rise → Data
-rise_pair rise = array (item (count rise.number) (item (count rise.top) no_items))
+rise_pair rise = count_pair rise.number rise.top
 
 abbrev pub rise_pairs : Option (List Rise) → Data
 rise_pairs None = null

@@ -1,14 +1,15 @@
 -- What `size`, `sweep` and `check` say, as lines and as figures, and what that means of runs: how
 -- long the heap must be, which attempt each shorter heap refuses first, and the least number of an
--- attempt whose simulated failure leaks or panics, or the least rate of attempts whose failures do.
+-- attempt whose simulated failure leaks or panics, the least rate of attempts whose failures do, or the
+-- least pair of attempts.
 use Rattle.std.specs.Prelude.{◌≡◌, ◌≢◌, ◌⊎◌, ℕ, List, [], ◌∷◌, ◌++◌, codes, length}
 use Rattle.std.specs.Fmt.{decimal}
 use Rattle.std.specs.Option.{option_map_or}
 use Rattle.wb_model.specs.declared.failures.Failing.{Failing}
-use Rattle.wb_model.specs.declared.failures.Failing.TheVariants.{Number}
+use Rattle.wb_model.specs.declared.failures.Failing.TheVariants.{Number, Pair}
 use Rattle.wb_model.specs.declared.failures.Failing.TheVariants as failings
 use Rattle.wb_model.specs.declared.failures.Failures.{Failures}
-use Rattle.wb_model.specs.declared.failures.Failures.TheVariants.{Single, Every}
+use Rattle.wb_model.specs.declared.failures.Failures.TheVariants.{Single, Every, Pairs}
 use Rattle.wb_model.specs.declared.heap.Rule.TheVariants.{Unlimited}
 use Rattle.wb_model.specs.declared.heap.Shape.{Shape}
 use Rattle.wb_model.specs.declared.run.Outcome.TheVariants.{Cut}
@@ -19,7 +20,8 @@ use Rattle.wb_model.specs.declared.script.Script.{Script}
 use Rattle.wb_model.specs.declared.size.Rise.{Rise}
 use Rattle.wb_model.specs.Run.{run, rises as rises_of}
 use Rattle.wb_model.specs.Sizes.{IsHeapLength}
-use Rattle.wb_model.specs.Sweeps.{failing_at, runs_of, AreAllFine, IsLeastBad, IsLeastCut}
+use Rattle.wb_model.specs.SweepAnswers.{IsCutShort, IsFound, IsNoneFound}
+use Rattle.wb_model.specs.Sweeps.{runs_of}
 use Rattle.wb_sweep.specs.declared.found.Sweep.{Sweep}
 use Rattle.workbench.specs.declared.figures.FailingNumber.TheVariants.{At, Never}
 use Rattle.workbench.specs.declared.figures.Figures.{Figures}
@@ -40,10 +42,16 @@ table_text from (rise ∷ rises) = refuses_line from rise.number ++ table_text r
 abbrev pub size_text : ℕ → List Rise → List ℕ
 size_text required rises = line (codes "required " ++ decimal required) ++ table_text 0 rises ++ line (codes "enough from " ++ decimal required)
 
--- the run under this number was cut
-abbrev pub cut_at_line : ℕ → Why → List ℕ
-cut_at_line number Budget = line (codes "cut " ++ decimal number ++ codes " budget")
-cut_at_line number Ceiling = line (codes "cut " ++ decimal number ++ codes " ceiling")
+-- the number of the attempt that fails, the rate at which attempts fail, or the numbers of the two that fail
+abbrev pub failing_text : Failing → List ℕ
+failing_text (Number n) = decimal n
+failing_text (failings.Every n) = decimal n
+failing_text (Pair i j) = decimal i ++ codes " " ++ decimal j
+
+-- the run under this failure was cut
+abbrev pub cut_at_line : Failing → Why → List ℕ
+cut_at_line at Budget = line (codes "cut " ++ failing_text at ++ codes " budget")
+cut_at_line at Ceiling = line (codes "cut " ++ failing_text at ++ codes " ceiling")
 
 -- The length is told. It is the least at which the run meets no refusal of the heap, and for each smaller one the line of the
 -- table whose range holds it names the first attempt that the heap refuses (`IsHeapLength`). The rows of the table are the rises of
@@ -61,7 +69,7 @@ pub record IsSized (script : Script) (budget : ℕ) (shape : Shape) (text : List
 pub record IsUnsized (script : Script) (budget : ℕ) (shape : Shape) (text : List ℕ) (figures : Figures) : Type 0 where
   pub why : Why
   pub cut : (run script Unlimited budget shape).outcome ≡ Cut why
-  pub text_is : text ≡ cut_at_line 0 why
+  pub text_is : text ≡ cut_at_line (Number 0) why
   pub figures_are : figures ≡ no_figures
 
 -- the report of `size`
@@ -79,10 +87,11 @@ abbrev pub attempts_of : Failures → Script → ℕ → Shape → ℕ
 attempts_of failures script budget shape =
     length (runs_of failures script budget shape 0).trace
 
--- the number of the attempt that fails, or the rate at which attempts fail
+-- which attempts fail
 abbrev pub failing_line : Failing → List ℕ
 failing_line (Number n) = line (codes "number " ++ decimal n)
 failing_line (failings.Every n) = line (codes "every " ++ decimal n)
+failing_line (Pair i j) = line (codes "pair " ++ decimal i ++ codes " " ++ decimal j)
 
 abbrev pub found_text : Failing → RunResult → List ℕ
 found_text failing result = failing_line failing ++ run_text result
@@ -90,6 +99,7 @@ found_text failing result = failing_line failing ++ run_text result
 abbrev pub none_line : Failures → List ℕ
 none_line Single = line (codes "number none")
 none_line Every = line (codes "every none")
+none_line Pairs = line (codes "pair none")
 
 -- what a sweep over such failures found, as it is printed
 abbrev pub sweep_text : Failures → Sweep → List ℕ
@@ -97,34 +107,32 @@ sweep_text failures sweep =
     attempts_line sweep.attempts
     ++ option_map_or (λ found. found_text found.at found.result) sweep.found (none_line failures)
 
--- A number or a rate is printed, and the run under that failure. It is the least whose run leaks or
--- panics; no smaller one's run is cut (`IsLeastBad`).
+-- A number, a rate or a pair is printed, and the run under that failure. It is the least whose run leaks
+-- or panics; no smaller one's run is cut (`IsFound`).
 pub record IsFailing (failures : Failures) (script : Script) (budget : ℕ) (shape : Shape)
     (text : List ℕ) (figures : Figures) : Type 0 where
-  pub number : ℕ
+  pub at : Failing
   pub result : RunResult
-  pub least : IsLeastBad (runs_of failures script budget shape) number result
-  pub text_is : text ≡ attempts_line (attempts_of failures script budget shape)
-      ++ found_text (failing_at failures number) result
-  pub figures_are : figures
-      ≡ sweep_figures (attempts_of failures script budget shape) (At (failing_at failures number))
+  pub found : IsFound failures script budget shape at result
+  pub text_is : text ≡ attempts_line (attempts_of failures script budget shape) ++ found_text at result
+  pub figures_are : figures ≡ sweep_figures (attempts_of failures script budget shape) (At at)
 
--- the run leaks or panics under no number or rate, of all from 0 on, and is cut under none of them
+-- the run leaks or panics under no failure of all that there are, and is cut under none of them
 pub record IsNeverFailing (failures : Failures) (script : Script) (budget : ℕ) (shape : Shape)
     (text : List ℕ) (figures : Figures) : Type 0 where
-  pub fine : AreAllFine (runs_of failures script budget shape)
+  pub none : IsNoneFound failures script budget shape
   pub text_is :
       text ≡ attempts_line (attempts_of failures script budget shape) ++ none_line failures
   pub figures_are : figures ≡ sweep_figures (attempts_of failures script budget shape) Never
 
--- there is no answer: the run under a number or a rate is cut, and no smaller one's run leaks,
--- panics or is cut (`IsLeastCut`)
+-- there is no answer: the run under a failure is cut, and no smaller one's run leaks, panics or is cut
+-- (`IsCutShort`)
 pub record IsUnswept (failures : Failures) (script : Script) (budget : ℕ) (shape : Shape)
     (text : List ℕ) (figures : Figures) : Type 0 where
-  pub number : ℕ
+  pub at : Failing
   pub why : Why
-  pub least : IsLeastCut (runs_of failures script budget shape) number why
-  pub text_is : text ≡ cut_at_line number why
+  pub cut : IsCutShort failures script budget shape at why
+  pub text_is : text ≡ cut_at_line at why
   pub figures_are : figures ≡ no_figures
 
 -- the report of `sweep`
@@ -136,7 +144,7 @@ IsSweepReport failures script budget shape text figures status =
 
 -- ---- both
 
--- the length, and then the number or the rate, or that there is none
+-- the length, and then the failure that was found, or that there is none
 pub record IsBoth (failures : Failures) (script : Script) (budget : ℕ) (shape : Shape)
     (text : List ℕ) (figures : Figures) (status : ℕ) : Type 0 where
   pub first : List ℕ

@@ -1,7 +1,7 @@
 //! What a report says as values, beside its lines. A JSON report has them under keys of their own.
 
 ghost use Rattle.std.specs.Prelude.{◌≡◌};
-ghost use Rattle.workbench.specs.Figures.{both_figures, no_figures, number_of, run_figures, size_figures, sweep_figures};
+ghost use Rattle.workbench.specs.Figures.{both_figures, no_figures, run_figures, size_figures, sweep_figures};
 
 use wb_model::failures::Failing;
 use wb_model::run::RunResult;
@@ -14,16 +14,6 @@ pub enum FailingNumber {
     Never,
     /// The least failure whose run does.
     At(Failing),
-}
-
-/// The number of the attempt that fails, or the rate at which attempts fail.
-pub fn number_of(failing: Failing) -> u32
-    ensures { result ≡ number_of failing }
-{
-    match failing {
-        Failing::Number(number) => number,
-        Failing::Every(rate) => rate,
-    }
 }
 
 /// The values of a report; `None` if its task has no such value.

@@ -5,14 +5,14 @@ ghost use Rattle.serde_json.specs.View.{view};
 ghost use Rattle.wb_model.specs.Lines.{lines_of};
 ghost use Rattle.wb_model.specs.Printable.{ArePrintable};
 ghost use Rattle.workbench.specs.Ascii.{HasPrintableLines};
-ghost use Rattle.workbench.specs.JsonReport.{count_or_null, failing_number, failures_kind, json_text, kind_of, line_string, line_strings, report_object, rise_pair, rise_pairs};
+ghost use Rattle.workbench.specs.JsonReport.{count_or_null, count_pair, failing_number, failing_value, failures_kind, json_text, kind_of, line_string, line_strings, report_object, rise_pair, rise_pairs};
 
-use crate::figures::{FailingNumber, number_of};
+use crate::figures::FailingNumber;
 use crate::report::Report;
 use serde_json::{Map, Value, put};
 use std::alloc::{AllocError, Global};
 use wb_command_line::command::Task;
-use wb_model::failures::Failures;
+use wb_model::failures::{Failing, Failures};
 use wb_model::memory::NoMemory;
 use wb_model::size::Rise;
 use wb_size::Rises;
@@ -74,6 +74,7 @@ fn failures_kind(alloc: Global, failures: Failures) -> Result<Value, AllocError>
     match failures {
         Failures::Single => Value::try_from_str(alloc, "single"),
         Failures::Every => Value::try_from_str(alloc, "every"),
+        Failures::Pairs => Value::try_from_str(alloc, "pairs"),
     }
 }
 
@@ -124,15 +125,34 @@ fn first_line<'a>(bytes: &'a [u8]) -> (&'a [u8], &'a [u8])
     (bytes, &bytes[bytes.len()..])
 }
 
-/// The number or the rate that a sweep found, or `null` where none was finished.
+/// The failure that a sweep found, or `null` where none was finished.
 fn failing_number(alloc: Global, number: Option<FailingNumber>) -> Result<Value, AllocError>
     ensures { IfOk result (λ value. view value ≡ failing_number number) }
 {
     match number {
-        Some(FailingNumber::At(failing)) => Ok(Value::from(number_of(failing))),
+        Some(FailingNumber::At(failing)) => failing_value(alloc, failing),
         Some(FailingNumber::Never) => Value::try_from_str(alloc, "none"),
         None => Ok(Value::Null),
     }
+}
+
+/// The number of the attempt that fails, the rate at which attempts fail, or the numbers of the two that fail.
+fn failing_value(alloc: Global, failing: Failing) -> Result<Value, AllocError>
+    ensures { IfOk result (λ value. view value ≡ failing_value failing) }
+{
+    match failing {
+        Failing::Number(number) => Ok(Value::from(number)),
+        Failing::Every(rate) => Ok(Value::from(rate)),
+        Failing::Pair(first, second) => count_pair(alloc, first, second),
+    }
+}
+
+/// Two numbers as a list.
+fn count_pair(alloc: Global, first: u32, second: u32) -> Result<Value, AllocError>
+    ensures { IfOk result (λ value. view value ≡ count_pair first second) }
+{
+    let pair = vec![in alloc; Value::from(first), Value::from(second)]?;
+    Ok(Value::Array(pair))
 }
 
 /// The table of rises, or `null` where there is none.
@@ -150,8 +170,7 @@ fn all_pairs(alloc: Global, rises: &[Rise]) -> Result<Vec<Value>, AllocError>
 {
     let mut pairs = Vec::new(alloc);
     for rise in rises {
-        let pair = vec![in alloc; Value::from(rise.number), Value::from(rise.top)]?;
-        pairs.push(Value::Array(pair))?;
+        pairs.push(count_pair(alloc, rise.number, rise.top)?)?;
     }
     Ok(pairs)
 }

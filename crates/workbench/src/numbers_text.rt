@@ -42,8 +42,8 @@ fn put_refuses(text: &mut Vec<u8>, from: u32, number: u32) -> Result<(), NoMemor
     appended(writeln!(text, "from {from} refuses {number}"))
 }
 
-/// Appends how many attempts the run without failure makes, and the number or the rate that was found, with the run under
-/// it, or that there is none.
+/// Appends how many attempts the run without failure makes, and the failure that was found, with the run under it, or that
+/// there is none.
 pub fn put_sweep(text: &mut Vec<u8>, failures: Failures, sweep: &Sweep) -> Result<(), NoMemory>
     ensures { OnOk result (text.new.items ≡ text.old.items ++ sweep_text failures sweep.now) }
 {
@@ -64,6 +64,7 @@ fn put_failing(text: &mut Vec<u8>, failing: Failing) -> Result<(), NoMemory>
     let put = match failing {
         Failing::Number(number) => writeln!(text, "number {number}"),
         Failing::Every(rate) => writeln!(text, "every {rate}"),
+        Failing::Pair(first, second) => writeln!(text, "pair {first} {second}"),
     };
     appended(put)
 }
@@ -74,17 +75,40 @@ fn put_none(text: &mut Vec<u8>, failures: Failures) -> Result<(), NoMemory>
     let put = match failures {
         Failures::Single => writeln!(text, "number none"),
         Failures::Every => writeln!(text, "every none"),
+        Failures::Pairs => writeln!(text, "pair none"),
     };
     appended(put)
 }
 
-/// Appends the line of a run that was cut, under the number of its failing attempt or the rate of those that fail.
-pub fn put_cut_at(text: &mut Vec<u8>, number: u32, why: Why) -> Result<(), NoMemory>
-    ensures { OnOk result (text.new.items ≡ text.old.items ++ cut_at_line number why) }
+/// Appends the line of a run that was cut under this failure.
+pub fn put_cut_at(text: &mut Vec<u8>, at: Failing, why: Why) -> Result<(), NoMemory>
+    ensures { OnOk result (text.new.items ≡ text.old.items ++ cut_at_line at why) }
+{
+    match at {
+        Failing::Number(number) => put_cut(text, number, why),
+        Failing::Every(rate) => put_cut(text, rate, why),
+        Failing::Pair(first, second) => put_cut_pair(text, first, second, why),
+    }
+}
+
+fn put_cut(text: &mut Vec<u8>, number: u32, why: Why) -> Result<(), NoMemory>
+    ensures { OnOk result (text.new.items
+        ≡ text.old.items ++ cut_at_line (Failing.Number number) why) }
 {
     let put = match why {
         Why::Budget => writeln!(text, "cut {number} budget"),
         Why::Ceiling => writeln!(text, "cut {number} ceiling"),
+    };
+    appended(put)
+}
+
+fn put_cut_pair(text: &mut Vec<u8>, first: u32, second: u32, why: Why) -> Result<(), NoMemory>
+    ensures { OnOk result (text.new.items
+        ≡ text.old.items ++ cut_at_line (Failing.Pair first second) why) }
+{
+    let put = match why {
+        Why::Budget => writeln!(text, "cut {first} {second} budget"),
+        Why::Ceiling => writeln!(text, "cut {first} {second} ceiling"),
     };
     appended(put)
 }

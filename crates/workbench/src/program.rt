@@ -97,7 +97,8 @@ fn status_of(fault: &WordsFault) -> u8
     match fault {
         WordsFault::Refused(CommandFault::NoMemory) => WANT_OF_MEMORY,
         WordsFault::NotUtf8
-        | WordsFault::Refused(CommandFault::Usage(_) | CommandFault::Both | CommandFault::Shape) =>
-            COMMAND_LINE_FAULT,
+        | WordsFault::Refused(
+            CommandFault::Usage(_) | CommandFault::Both | CommandFault::Also | CommandFault::Shape,
+        ) => COMMAND_LINE_FAULT,
     }
 }

@@ -10,14 +10,14 @@ ghost use Rattle.workbench.specs.Report.{IsRunReport, IsTaskReport};
 ghost use Rattle.workbench.specs.RunText.{outcome_status};
 ghost use Rattle.workbench.specs.TwoNumbers.{IsSizeReport, IsSweepReport, IsCheckReport};
 
-use crate::figures::{FailingNumber, Figures, number_of};
+use crate::figures::{FailingNumber, Figures};
 use crate::numbers_text::{put_cut_at, put_sizing, put_sweep};
 use crate::report::Report;
 use crate::run_text::put_run;
 use std::alloc::Global;
 use wb_command_line::command::{Command, Task};
 use wb_machine::RunFault;
-use wb_model::failures::Failures;
+use wb_model::failures::{Failing, Failures};
 use wb_model::heap::{Rule, Shape};
 use wb_model::limits::LARGEST_BUDGET;
 use wb_model::memory::NoMemory;
@@ -119,7 +119,7 @@ fn size_report(
             })
         }
         Err(SizeFault::Cut { number, why }) => {
-            put_cut_at(&mut text, number, why)?;
+            put_cut_at(&mut text, Failing::Number(number), why)?;
             Ok(cut_report(text))
         }
         // The command's shape is one that a heap may have.
@@ -158,7 +158,7 @@ fn sweep_report(
             })
         }
         Err(SweepFault::Cut { at, why }) => {
-            put_cut_at(&mut text, number_of(at), why)?;
+            put_cut_at(&mut text, at, why)?;
             Ok(cut_report(text))
         }
         // The command's shape is one that a heap may have.

@@ -16,6 +16,7 @@ use wb_model::limits::{
 pub(crate) struct NumberHelp {
     pub limit: String,
     pub fail: String,
+    pub also: String,
     pub every: String,
     pub budget: String,
     pub min: String,
@@ -31,7 +32,12 @@ impl NumberHelp {
             fail: format!(in alloc;
                 "Refuses the attempt with number N, from 0 to {CEILING}; there is no attempt 0"
             )?,
-            every: format!(in alloc; "Lets every N-th attempt fail, N from 0 to {CEILING}")?,
+            also: format!(in alloc;
+                "Refuses the attempt with number J as well, after that of --fail; J from 2 to {CEILING}"
+            )?,
+            every: format!(in alloc;
+                "Lets every N-th attempt fail, N from 0 to {CEILING}; 0 lets nothing fail"
+            )?,
             budget: format!(in alloc;
                 "The greatest number of steps of a run, from 1 to {LARGEST_BUDGET} \
                  [default: {DEFAULT_BUDGET}]"

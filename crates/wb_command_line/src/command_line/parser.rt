@@ -3,7 +3,7 @@
 ghost use Rattle.std.specs.Prelude.{◌≡◌, IfOk, false, fold};
 ghost use Rattle.clap.specs.Words.{app_of, rule_of, with_rule, with_subcommand};
 ghost use Rattle.clap.specs.declared.builder.command.Command.TheViews.{out-Command as fields_of};
-ghost use Rattle.wb_command_line.specs.CommandLine.{command_line, file_argument, json_flag, line_of, option_rule, own_options, rates_flag, shared_options, with_level, with_option, with_rules};
+ghost use Rattle.wb_command_line.specs.CommandLine.{command_line, file_argument, json_flag, line_of, number_option, option_rule, own_options, pairs_flag, rates_flag, shared_options, with_level, with_option, with_rules};
 
 use crate::command_line::long_help::{BEGIN, long_about};
 use crate::command_line::number_help::{NumberHelp, between};
@@ -14,9 +14,9 @@ use wb_model::limits::{CEILING, LARGEST_BUDGET, LARGEST_MINIMUM, LARGEST_STEP, S
 /// Which options a subcommand has beside those of all.
 #[derive(Clone, Copy)]
 enum Takes {
-    /// Those that give a rule: a limit, the number of an attempt, or a rate.
+    /// Those that give a rule: a limit, the number of an attempt and of a second one, or a rate.
     Rule,
-    /// The flag that asks for rates to be tried, and not numbers of attempts.
+    /// The flags that ask for rates to be tried, or pairs of attempts, and not single attempts alone.
     Failures,
     Neither,
 }
@@ -37,6 +37,21 @@ struct NumberOption<'a> {
     least: u32,
     most: u32,
     help: &'a str,
+}
+
+impl<'a> NumberOption<'a> {
+    /// An option that takes a number from 0 to the greatest length of a heap.
+    fn up_to_ceiling(name: &'a str, value: &'a str, help: &'a str) -> NumberOption<'a>
+        ensures { option_rule result ≡ number_option name.now 0 CEILING }
+    {
+        NumberOption {
+            name,
+            value,
+            least: 0,
+            most: CEILING,
+            help,
+        }
+    }
 }
 
 /// The words that `clap` is to read.
@@ -126,7 +141,7 @@ fn with_own_options<'a>(
 {
     match takes {
         Takes::Rule => with_rule_options(alloc, line, help),
-        Takes::Failures => with_argument(line, rates(alloc)),
+        Takes::Failures => with_argument(with_argument(line, rates(alloc))?, pairs(alloc)),
         Takes::Neither => Ok(line),
     }
 }
@@ -146,27 +161,10 @@ fn with_rule_options<'a>(
         alloc,
         line,
         &[
-            NumberOption {
-                name: "limit",
-                value: "L",
-                least: 0,
-                most: CEILING,
-                help: help.limit.as_str(),
-            },
-            NumberOption {
-                name: "fail",
-                value: "N",
-                least: 0,
-                most: CEILING,
-                help: help.fail.as_str(),
-            },
-            NumberOption {
-                name: "every",
-                value: "N",
-                least: 0,
-                most: CEILING,
-                help: help.every.as_str(),
-            },
+            NumberOption::up_to_ceiling("limit", "L", help.limit.as_str()),
+            NumberOption::up_to_ceiling("fail", "N", help.fail.as_str()),
+            NumberOption::up_to_ceiling("also", "J", help.also.as_str()),
+            NumberOption::up_to_ceiling("every", "N", help.every.as_str()),
         ],
     )
 }
@@ -273,6 +271,19 @@ fn rates<'a>(alloc: Global) -> Arg<'a>
         .action(ArgAction::SetTrue)
         .help(
             "Lets every n-th attempt fail, and finds the least n with which the script leaks or panics",
+        )
+}
+
+/// The flag that asks for pairs of attempts to be tried.
+fn pairs<'a>(alloc: Global) -> Arg<'a>
+    ensures rule { rule_of result ≡ pairs_flag }
+    ensures own { result.global ≡ false }
+{
+    Arg::new(alloc, "pairs")
+        .long("pairs")
+        .action(ArgAction::SetTrue)
+        .help(
+            "Where no single failure leaks or panics, lets two attempts fail, and finds the least pair that does",
         )
 }
 

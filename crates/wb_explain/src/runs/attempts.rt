@@ -1,14 +1,15 @@
-//! What is said of attempts: which one failed, and what came of it.
+//! What is said of attempts that a rule was to refuse: which of them failed, and what came of it.
 
+use crate::runs::failures::put_failed;
+use crate::runs::pairs::put_pair;
 use crate::runs::rates::put_rate;
 use crate::runs::script_file::ScriptFile;
-use crate::runs::watch::{Maker, Seen};
+use crate::runs::watch::Seen;
 use std::alloc::AllocError;
-use wb_model::heap::{Answer, Attempt, Rule};
-use wb_model::run::Outcome;
+use wb_model::heap::{Answer, Rule};
 
 /// Says where the attempt was made that the rule refused first, where it refuses any, and where the run went on, unless
-/// that is the line of its panic.
+/// that is the line of its panic; of a pair of attempts it says so of both.
 pub fn put_refused(
     text: &mut String,
     file: ScriptFile<'_>,
@@ -20,6 +21,7 @@ pub fn put_refused(
         Rule::Unlimited | Rule::Number(0) | Rule::Every(0) => Ok(()),
         Rule::Number(number) => put_number(text, file, number, panicked_at, seen),
         Rule::Every(rate) => put_every(text, file, rate, panicked_at, seen),
+        Rule::Pair(first, second) => put_pair(text, file, first, second, panicked_at, seen),
         Rule::Limit(limit) => put_limit(text, file, limit, panicked_at, seen),
     }
 }
@@ -84,73 +86,4 @@ fn put_limit(
         text,
         "{name}: a heap of {limit} bytes refuses nothing of this run\n"
     )
-}
-
-/// Says which line's attempt failed, and where the run went on.
-fn put_failed(
-    text: &mut String,
-    file: ScriptFile<'_>,
-    attempt: Attempt,
-    maker: Maker,
-    panicked_at: Option<u32>,
-    seen: &Seen,
-) -> Result<(), AllocError> {
-    let Attempt { number, length, .. } = attempt;
-    if maker.line == 0 {
-        let name = file.name;
-        return write!(
-            text,
-            "{name}: attempt {number} failed, the cell of the cleanup stack, so that `main` did not begin\n"
-        );
-    }
-    put_place(text, file, maker.line)?;
-    write!(
-        text,
-        "attempt {number} failed here, of a cell of {length} bytes"
-    )?;
-    file.put_below(text, maker.line)?;
-    put_came_out(text, file, maker, panicked_at, seen)
-}
-
-/// The place of a line, before what is said of it.
-pub fn put_place(text: &mut String, file: ScriptFile<'_>, line: u32) -> Result<(), AllocError> {
-    write!(text, "{}:{line}: ", file.name)
-}
-
-/// Says where the run went on after an attempt that failed, where it did. Of the line of a panic more is said than that.
-fn put_came_out(
-    text: &mut String,
-    file: ScriptFile<'_>,
-    maker: Maker,
-    panicked_at: Option<u32>,
-    seen: &Seen,
-) -> Result<(), AllocError> {
-    let again = maker.idle >= 2 && gives_null(file.first_word(maker.line));
-    let next = if again { maker.line } else { maker.after };
-    if panicked_at == Some(next) {
-        return Ok(());
-    }
-    if again {
-        return put_again(text, file, next);
-    }
-    if next != 0 {
-        return file.put(text, next, "the run went on here");
-    }
-    match &seen.result.outcome {
-        Outcome::Ended { left: None, .. } => {
-            write!(text, "{}: after that `main` came to its end\n", file.name)
-        }
-        _ => Ok(()),
-    }
-}
-
-/// Whether lines with this first word give null where their attempt fails, and go on.
-fn gives_null(word: &str) -> bool {
-    matches!(word, "alloc" | "realloc" | "new" | "hnew" | "hrealloc")
-}
-
-/// The line alone is what a `repeat` does.
-fn put_again(text: &mut String, file: ScriptFile<'_>, line: u32) -> Result<(), AllocError> {
-    put_place(text, file, line)?;
-    text.push_str("the run went on with the same line, in the next turn of its `repeat`\n")
 }

@@ -1,7 +1,7 @@
 //! What is said of a run that was cut: where, and what to raise.
 
-use crate::runs::attempts::put_place;
 use crate::runs::counts::plural;
+use crate::runs::failures::put_place;
 use crate::runs::script_file::ScriptFile;
 use crate::runs::watch::Seen;
 use std::alloc::AllocError;

@@ -1,10 +1,11 @@
 //! What is said of the end of a run: its panic, its leaks, or why it was cut.
 
 use crate::runs::Setting;
-use crate::runs::attempts::{put_place, put_refused};
+use crate::runs::attempts::put_refused;
 use crate::runs::blame::{Blame, Cause, blame_of};
 use crate::runs::cuts::put_cut;
 use crate::runs::destroyed::{OF_ANYTHING, OF_MAIN, OF_OBJECT, of_item};
+use crate::runs::failures::put_place;
 use crate::runs::panics::{meaning_of, symbian_of};
 use crate::runs::questions::question_of;
 use crate::runs::script_file::ScriptFile;
@@ -19,7 +20,7 @@ use wb_model::run::{Leak, Outcome};
 /// The most leaks that are told one by one.
 const MOST_LEAKS: usize = 20;
 
-/// Says what a run found: first which attempt failed, if one was to, and then its end.
+/// Says what a run found: first which attempts failed, if any were to, and then its end.
 pub fn put_findings(
     text: &mut String,
     file: ScriptFile<'_>,
@@ -42,7 +43,7 @@ pub fn put_findings(
     }
 }
 
-/// Says which attempt failed, if one was to, and tells what raised the panic, if the run ended with one.
+/// Says which attempts failed, if any were to, and tells what raised the panic, if the run ended with one.
 fn put_failure(
     text: &mut String,
     file: ScriptFile<'_>,
@@ -66,7 +67,7 @@ fn put_failure(
 fn refuses(rule: Rule) -> bool {
     match rule {
         Rule::Unlimited | Rule::Number(0) | Rule::Every(0) => false,
-        Rule::Number(_) | Rule::Every(_) | Rule::Limit(_) => true,
+        Rule::Number(_) | Rule::Every(_) | Rule::Pair(..) | Rule::Limit(_) => true,
     }
 }
 

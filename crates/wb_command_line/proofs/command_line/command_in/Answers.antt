@@ -5,20 +5,21 @@ use Rattle.clap.proofs.TakesLemmas.{passed_up}
 use Rattle.wb_command_line.specs.Fault.{AreMisshapen, IsFaultOfOptions}
 use Rattle.wb_command_line.specs.Spelled.{command_with}
 use Rattle.wb_command_line.specs.declared.command.Command.{Command}
+use Rattle.wb_command_line.proofs.FaultLemmas.{task_fault}
 use Rattle.wb_command_line.proofs.command_line.command_in.Goals as goal
 
 pub returns-in_err-task-clause-fault : goal.returns-in_err-task-clause-fault
 returns-in_err-task-clause-fault c =
     let rows = rows_of (found_of c.args.options.now) in
     passed_up c.from_residual.result _ (IsFaultOfOptions c.args.name.now rows) c.from_residual.ensures.1
-    (subst (IsFaultOfOptions c.args.name.now rows) (sym c.in_err-task.ensures.fault) c.in_err-task.ensures.both)
+    (task_fault c.args.name.now rows _ c.in_err-task.ensures.fault)
 
 pub returns-in_err-shape-clause-fault : goal.returns-in_err-shape-clause-fault
 returns-in_err-shape-clause-fault c =
     let rows = rows_of (found_of c.args.options.now) in
     let misshapen : AreMisshapen c.args.name.now rows = record {
       command = command_with rows c.in_ok-task.task;
-      meant = record { one_rule = c.in_ok-task.ensures.alone; meaning = ap (option_map (command_with rows)) c.in_ok-task.ensures.ok };
+      meant = record { one_rule = c.in_ok-task.ensures.alone; in_order = c.in_ok-task.ensures.ordered; meaning = ap (option_map (command_with rows)) c.in_ok-task.ensures.ok };
       misshapen = c.in_err-shape.ensures.misshapen;
     } in
     passed_up c.from_residual-in_err-shape.result _ (IsFaultOfOptions c.args.name.now rows) c.from_residual-in_err-shape.ensures.1
@@ -30,4 +31,8 @@ returns-clause-meant c =
     let task = c.in_ok-task.task in
     let command : ◌≡◌ {A = Command} (command_with rows task) (record { task = task; file = c.in_ok-file_in.field-0; budget = c.budget_in.result; shape = c.in_ok-shape.shape; json = c.json_in.result }) =
     λ i. record { task = task; file = sym c.in_ok-file_in.ensures i; budget = sym c.budget_in.ensures.is i; shape = sym c.in_ok-shape.ensures.ok i; json = sym c.json_in.ensures i } in
-    record { one_rule = c.in_ok-task.ensures.alone; meaning = ap (option_map (command_with rows)) c.in_ok-task.ensures.ok ∙ ap (λ x. Some x) command }
+    record {
+      one_rule = c.in_ok-task.ensures.alone;
+      in_order = c.in_ok-task.ensures.ordered;
+      meaning = ap (option_map (command_with rows)) c.in_ok-task.ensures.ok ∙ ap (λ x. Some x) command;
+    }

@@ -1,0 +1,76 @@
+-- The rule that options spell together with a second number.
+use Rattle.std.proofs.Common.{◌≡◌, ◌∙◌, ℕ, not, true, false, refl, sym, ap, Option, Some, None, Result, Ok, Err, List, codes, true≢false}
+use Rattle.std.specs.Prelude.{IfErr, IfOk, IsTrue, OnErr, OnOk}
+use Rattle.std.proofs.lemmas.Bool.{le-leb}
+use Rattle.clap.specs.Words.{Row}
+use Rattle.wb_model.specs.declared.heap.Rule.{Rule}
+use Rattle.wb_model.specs.declared.heap.Rule.TheVariants.{Number, Pair}
+use Rattle.wb_model.specs.declared.limits.TheConstants.{CEILING}
+use Rattle.wb_command_line.specs.Command.{is_in_range}
+use Rattle.wb_command_line.specs.Fault.{IsFaultOfRule}
+use Rattle.wb_command_line.specs.Spelled.{IsPairOf, are_disordered, are_several, comes_before, first_rule_of, gives_disorder, gives_several, number_of, rule_by, rule_of}
+use Rattle.wb_command_line.specs.declared.command.CommandFault.{CommandFault}
+use Rattle.wb_command_line.specs.declared.command.CommandFault.TheVariants.{Also}
+use Rattle.wb_command_line.specs.declared.command.Task.TheVariants.{Run}
+use Rattle.wb_command_line.proofs.MatchesLemmas.{IsNumberOf}
+
+-- where no more than one of the three is there, a rule that lets one attempt fail is that of the number
+one_attempt : (limit number rate : Option ℕ) (i j : ℕ) → are_several limit number rate ≡ false → rule_by limit number None rate ≡ Number i
+    → (number ≡ Some i) × (rule_by limit number (Some j) rate ≡ Pair i j)
+one_attempt (Some l) (Some n) rate i j one is = absurd (true≢false one)
+one_attempt (Some l) None rate i j one is = absurd (cc)
+one_attempt None (Some n) (Some r) i j one is = absurd (true≢false one)
+one_attempt None (Some n) None i j one is = let same : n ≡ i = cc in (ap (λ x. Some x) same, ap (λ x. Pair x j) same)
+one_attempt None None (Some r) i j one is = absurd (cc)
+one_attempt None None None i j one is = absurd (cc)
+
+-- and where the second number doesn't come after that of the rule, the numbers are not in order
+not_after : (limit number rate : Option ℕ) (j : ℕ) → are_several limit number rate ≡ false → comes_before (rule_by limit number None rate) j ≡ false
+    → are_disordered number (Some j) ≡ true
+not_after limit None rate j one isnt = refl
+not_after (Some l) (Some n) rate j one isnt = absurd (true≢false one)
+not_after None (Some n) (Some r) j one isnt = absurd (true≢false one)
+not_after None (Some n) None j one isnt = ap not isnt
+
+-- no second number was read
+module _ (rows : List Row) {read : Option ℕ} (also : IsNumberOf (codes "also") rows 0 CEILING read) (absent : read ≡ None) where
+  no_second : number_of (codes "also") rows ≡ None
+  no_second = sym also.is ∙ absent
+
+  pub alone_rule : first_rule_of rows ≡ rule_of rows
+  alone_rule = ap (λ s. rule_by (number_of (codes "limit") rows) (number_of (codes "fail") rows) s (number_of (codes "every") rows)) (sym no_second)
+
+  pub alone_ordered : gives_disorder rows ≡ false
+  alone_ordered = ap (are_disordered (number_of (codes "fail") rows)) no_second
+
+-- one was, beside what is no more than one of a limit, a number and a rate
+module _ (rows : List Row) {first : Rule} {read : Option ℕ} {j : ℕ} (is_first : first ≡ first_rule_of rows) (one : gives_several rows ≡ false)
+    (also : IsNumberOf (codes "also") rows 0 CEILING read) (given : read ≡ Some j) where
+  is_second : number_of (codes "also") rows ≡ Some j
+  is_second = sym also.is ∙ given
+
+  paired : (rule : Rule) (p : IsPairOf first j rule)
+      → (number_of (codes "fail") rows ≡ Some p.number)
+      × (rule_by (number_of (codes "limit") rows) (number_of (codes "fail") rows) (Some j) (number_of (codes "every") rows) ≡ Pair p.number j)
+  paired rule p = one_attempt (number_of (codes "limit") rows) (number_of (codes "fail") rows) (number_of (codes "every") rows) p.number j one (sym is_first ∙ p.alone)
+
+  pub second_rule : (r : Result Rule CommandFault) → IfOk r (IsPairOf first j) → IfOk r (λ rule. rule ≡ rule_of rows)
+  second_rule (Err fault) p = tt
+  second_rule (Ok rule) p =
+      p.pair ∙ sym (paired rule p).1
+      ∙ ap (λ s. rule_by (number_of (codes "limit") rows) (number_of (codes "fail") rows) s (number_of (codes "every") rows)) (sym is_second)
+
+  pub second_range : (r : Result Rule CommandFault) → IfOk r (IsPairOf first j) → IfOk r (λ rule. IsTrue (is_in_range (Run rule)))
+  second_range (Err fault) p = tt
+  second_range (Ok rule) p = let within = rw given at also.within in rw (p.pair, p.ordered, le-leb _ _ within.1) refl
+
+  pub second_ordered : (r : Result Rule CommandFault) → IfOk r (IsPairOf first j) → OnOk r (gives_disorder rows ≡ false)
+  second_ordered (Err fault) p = tt
+  second_ordered (Ok rule) p = rw (is_second, (paired rule p).0, p.ordered) refl
+
+  pub second_fault : (r : Result Rule CommandFault) → IfErr r (λ fault. fault ≡ Also) → OnErr r (comes_before first j ≡ false) → IfErr r (IsFaultOfRule rows)
+  second_fault (Ok rule) is isnt = tt
+  second_fault (Err fault) is isnt =
+      let not_before = sym (ap (λ f. comes_before f j) is_first) ∙ isnt in
+      let disordered = not_after (number_of (codes "limit") rows) (number_of (codes "fail") rows) (number_of (codes "every") rows) j one not_before in
+      rw is (one, ap (are_disordered (number_of (codes "fail") rows)) is_second ∙ disordered)

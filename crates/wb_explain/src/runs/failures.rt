@@ -1,0 +1,115 @@
+//! What is said of an attempt that failed: the line that made it, and where the run went on.
+
+use crate::runs::script_file::ScriptFile;
+use crate::runs::watch::{Maker, Seen};
+use std::alloc::AllocError;
+use wb_model::heap::Attempt;
+use wb_model::run::Outcome;
+
+/// Where a run went on after an attempt that failed, as far as it is said.
+#[derive(Clone, Copy, Debug, PartialEq, Eq)]
+pub enum Next {
+    /// Nothing is said of it: the run ended there, or with a panic of that line, of which more is said.
+    Unsaid,
+    /// With another line.
+    Line(u32),
+    /// With the same line, in the next turn of a `repeat` of this line alone.
+    Again(u32),
+    /// With the end of `main`.
+    End,
+}
+
+impl Next {
+    /// The line with which the run went on; `None` where there is none of which it is said.
+    pub fn line(self) -> Option<u32> {
+        match self {
+            Next::Line(line) | Next::Again(line) => Some(line),
+            Next::Unsaid | Next::End => None,
+        }
+    }
+}
+
+/// Says which line's attempt failed, and where the run went on.
+pub fn put_failed(
+    text: &mut String,
+    file: ScriptFile<'_>,
+    attempt: Attempt,
+    maker: Maker,
+    panicked_at: Option<u32>,
+    seen: &Seen,
+) -> Result<(), AllocError> {
+    let Attempt { number, .. } = attempt;
+    if maker.line == 0 {
+        let name = file.name;
+        return write!(
+            text,
+            "{name}: attempt {number} failed, the cell of the cleanup stack, so that `main` did not begin\n"
+        );
+    }
+    put_failed_here(text, file, attempt, maker.line, "")?;
+    put_next(text, file, next_after(file, maker, panicked_at, seen))
+}
+
+/// Says that an attempt failed in this line; `also` is what follows the word `here`, with a blank before it, or nothing.
+pub fn put_failed_here(
+    text: &mut String,
+    file: ScriptFile<'_>,
+    attempt: Attempt,
+    line: u32,
+    also: &str,
+) -> Result<(), AllocError> {
+    let Attempt { number, length, .. } = attempt;
+    put_place(text, file, line)?;
+    write!(
+        text,
+        "attempt {number} failed here{also}, of a cell of {length} bytes"
+    )?;
+    file.put_below(text, line)
+}
+
+/// The place of a line, before what is said of it.
+pub fn put_place(text: &mut String, file: ScriptFile<'_>, line: u32) -> Result<(), AllocError> {
+    write!(text, "{}:{line}: ", file.name)
+}
+
+/// Where the run went on after an attempt that failed, which a line of the script made.
+pub fn next_after(
+    file: ScriptFile<'_>,
+    maker: Maker,
+    panicked_at: Option<u32>,
+    seen: &Seen,
+) -> Next {
+    let again = maker.idle >= 2 && gives_null(file.first_word(maker.line));
+    let line = if again { maker.line } else { maker.after };
+    if panicked_at == Some(line) {
+        return Next::Unsaid;
+    }
+    if again {
+        return Next::Again(line);
+    }
+    if line != 0 {
+        return Next::Line(line);
+    }
+    match &seen.result.outcome {
+        Outcome::Ended { left: None, .. } => Next::End,
+        _ => Next::Unsaid,
+    }
+}
+
+/// Whether lines with this first word give null where their attempt fails, and go on.
+fn gives_null(word: &str) -> bool {
+    matches!(word, "alloc" | "realloc" | "new" | "hnew" | "hrealloc")
+}
+
+/// Says where the run went on. Of a line that went on with itself the place alone is shown.
+pub fn put_next(text: &mut String, file: ScriptFile<'_>, next: Next) -> Result<(), AllocError> {
+    match next {
+        Next::Unsaid => Ok(()),
+        Next::Line(line) => file.put(text, line, "the run went on here"),
+        Next::Again(line) => {
+            put_place(text, file, line)?;
+            text.push_str("the run went on with the same line, in the next turn of its `repeat`\n")
+        }
+        Next::End => write!(text, "{}: after that `main` came to its end\n", file.name),
+    }
+}

@@ -1,0 +1,90 @@
+//! What is said of two attempts of which both were to fail.
+
+use crate::runs::failures::{Next, next_after, put_failed, put_failed_here, put_next};
+use crate::runs::script_file::ScriptFile;
+use crate::runs::watch::{Maker, Seen};
+use std::alloc::AllocError;
+use wb_model::heap::Attempt;
+
+/// Says which lines' attempts failed, those with these two numbers, and where the run went on after each. Where the run
+/// makes the first alone, or neither, it says that.
+pub fn put_pair(
+    text: &mut String,
+    file: ScriptFile<'_>,
+    first: u32,
+    second: u32,
+    panicked_at: Option<u32>,
+    seen: &Seen,
+) -> Result<(), AllocError> {
+    let Some((attempt, maker)) = seen.attempt(first) else {
+        return put_neither_made(text, file, first, second, seen);
+    };
+    match seen.attempt(second) {
+        Some(later) => put_both(text, file, (attempt, maker), later, panicked_at, seen),
+        None => {
+            put_failed(text, file, attempt, maker, panicked_at, seen)?;
+            put_second_not_made(text, file, second, seen)
+        }
+    }
+}
+
+/// The run made both. The first isn't the cell of the cleanup stack: a run in which that one fails makes no other.
+fn put_both(
+    text: &mut String,
+    file: ScriptFile<'_>,
+    first: (Attempt, Maker),
+    second: (Attempt, Maker),
+    panicked_at: Option<u32>,
+    seen: &Seen,
+) -> Result<(), AllocError> {
+    let (attempt, maker) = first;
+    let (later, later_maker) = second;
+    let next = next_after(file, maker, panicked_at, seen);
+    let later_next = next_after(file, later_maker, panicked_at, seen);
+    put_failed_here(text, file, attempt, maker.line, "")?;
+    if names_new_line(next, later_maker.line, later_next) {
+        put_next(text, file, next)?;
+    }
+    put_failed_here(text, file, later, later_maker.line, " as well")?;
+    put_next(text, file, later_next)
+}
+
+/// Whether the run went on after the first failure with a line that nothing names later: neither that of the second
+/// attempt that failed, nor that with which the run went on after it.
+fn names_new_line(next: Next, later_line: u32, later_next: Next) -> bool {
+    match next.line() {
+        Some(line) => line != later_line && later_next.line() != Some(line),
+        None => false,
+    }
+}
+
+/// No attempt has the number of the second that was to fail.
+fn put_second_not_made(
+    text: &mut String,
+    file: ScriptFile<'_>,
+    second: u32,
+    seen: &Seen,
+) -> Result<(), AllocError> {
+    let name = file.name;
+    let made = seen.result.trace.len();
+    write!(
+        text,
+        "{name}: attempt {second} was never made, so that it could not fail as well: the run makes {made}\n"
+    )
+}
+
+/// No attempt has either number.
+fn put_neither_made(
+    text: &mut String,
+    file: ScriptFile<'_>,
+    first: u32,
+    second: u32,
+    seen: &Seen,
+) -> Result<(), AllocError> {
+    let name = file.name;
+    let made = seen.result.trace.len();
+    write!(
+        text,
+        "{name}: attempts {first} and {second} were never made, so that neither failed: the run makes {made}\n"
+    )
+}

@@ -1,0 +1,127 @@
+//! Forks of forks: copies of a run in which one attempt has failed, so that a later one fails too, each beside the whole run in
+//! which both fail.
+
+ghost use Rattle.std.specs.Prelude.{◌≡◌, ◌+◌, ◌≤◌, false, IsTrue};
+ghost use Rattle.wb_model.specs.Sound.{is_script};
+ghost use Rattle.wb_model.specs.declared.heap.Rule.TheVariants as rules;
+
+use crate::comparison::Comparison;
+use crate::results::{BUDGET, MOST_TURNS, SHAPE, comes_to_run, is_result};
+use std::alloc::Global;
+use wb_machine::{Machine, RunFault, Turn};
+use wb_model::failures::Failing;
+use wb_model::heap::Rule;
+use wb_model::script::Script;
+use wb_sweep::result_under;
+
+/// How many attempts after one that fails are tried as the second at most.
+const MOST_AFTER: u32 = 40;
+
+/// Compares the forks of a script's run under pairs with the runs that they are made in place of. So many forks under numbers
+/// were compared before.
+pub(crate) fn compare_pairs(
+    alloc: Global,
+    script: &Script,
+    forks: u32,
+) -> Result<Comparison, RunFault>
+    requires { IsTrue (is_script script.now) }
+{
+    let mut lead = Machine::new(alloc, script, Rule::Number(0), BUDGET, SHAPE)?;
+    let mut pairs = 0;
+    for _ in 0..MOST_TURNS {
+        if let Some(other) = other_with_next(alloc, script, &lead, &mut pairs)? {
+            return Ok(Comparison::OtherFork(other));
+        }
+        if let Turn::Ended = lead.step()? {
+            break;
+        }
+    }
+    Ok(Comparison::Same { forks, pairs })
+}
+
+/// The first pair whose fork comes to something else, of those of which the first attempt is the one that the next turn makes, if
+/// it makes one; or the number of that attempt, where the run in which it alone fails comes to something else once forks were
+/// taken from it. The pairs that are compared are counted.
+fn other_with_next(
+    alloc: Global,
+    script: &Script,
+    lead: &Machine,
+    pairs: &mut u32,
+) -> Result<Option<Failing>, RunFault>
+    requires script { IsTrue (is_script script.now) }
+    requires rule { lead.now.rule ≡ rules.Number 0 }
+    requires few { lead.now.attempts ≤ MOST_TURNS }
+    requires lines { lead.now.keeps_rises ≡ false }
+{
+    if !lead.will_attempt() {
+        return Ok(None);
+    }
+    let first = lead.attempts() + 1;
+    let rule = Rule::Number(first);
+    let mut fork = lead.try_copy()?;
+    fork.set_rule(rule);
+    let other = match fork.step()? {
+        Turn::GoesOn => other_after(alloc, script, first, &mut fork, pairs)?,
+        Turn::Ended => None,
+    };
+    if comes_to_run(alloc, script, rule, fork)? {
+        Ok(other)
+    } else {
+        Ok(Some(Failing::Number(first)))
+    }
+}
+
+/// The first pair whose fork comes to something else, of those with this first attempt, which has failed in the run that they
+/// are taken from.
+fn other_after(
+    alloc: Global,
+    script: &Script,
+    first: u32,
+    fork: &mut Machine,
+    pairs: &mut u32,
+) -> Result<Option<Failing>, RunFault>
+    requires script { IsTrue (is_script script.now) }
+    requires rule { fork.old.rule ≡ rules.Number first }
+    requires failed { first ≤ fork.old.attempts }
+    requires few { fork.old.attempts ≤ MOST_TURNS + 1 }
+    requires lines { fork.old.keeps_rises ≡ false }
+{
+    for _ in 0..MOST_TURNS {
+        if fork.will_attempt() {
+            let second = fork.attempts() + 1;
+            if second - first > MOST_AFTER {
+                break;
+            }
+            if !is_pair_as_run(alloc, script, fork, first, second)? {
+                return Ok(Some(Failing::Pair(first, second)));
+            }
+            *pairs = pairs.saturating_add(1);
+        }
+        if let Turn::Ended = fork.step()? {
+            break;
+        }
+    }
+    Ok(None)
+}
+
+/// Whether the fork in which the next attempt fails too, which has the second number, comes to what the whole run does in which
+/// both fail.
+fn is_pair_as_run(
+    alloc: Global,
+    script: &Script,
+    fork: &Machine,
+    first: u32,
+    second: u32,
+) -> Result<bool, RunFault>
+    requires script { IsTrue (is_script script.now) }
+    requires rule { fork.now.rule ≡ rules.Number first }
+    requires failed { first ≤ fork.now.attempts }
+    requires next { second ≡ fork.now.attempts + 1 }
+    requires going { fork.now.over ≡ false }
+    requires well { fork.now.failed ≡ false }
+    requires lines { fork.now.keeps_rises ≡ false }
+{
+    let rule = Rule::Pair(first, second);
+    let told = result_under(fork, rule)?;
+    is_result(alloc, script, rule, &told)
+}

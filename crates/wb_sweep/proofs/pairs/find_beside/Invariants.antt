@@ -1,0 +1,24 @@
+use Rattle.std.proofs.Common.{◌≡◌, ◌+◌, ◌-◌, ◌≤◌, false, cond}
+use Rattle.wb_model.specs.declared.heap.Rule.TheVariants as rules
+use Rattle.wb_model.specs.Pairs.{pair_run}
+use Rattle.wb_sweep.proofs.PairsFurther.{ArePairsFineUpTo}
+use Rattle.wb_sweep.proofs.pairs.find_beside.Given as goal
+
+-- the run is the same, without failure, and the pairs whose first attempt was made so far are fine
+abbrev pub invariant-loop-lead : goal.invariant-loop-lead
+invariant-loop-lead l =
+    record {
+      script : l.lead.script ≡ l.fn.lead.script;
+      rule : l.lead.rule ≡ rules.Number 0;
+      budget : l.lead.budget ≡ l.fn.lead.budget;
+      shape : l.lead.shape ≡ l.fn.lead.shape;
+      within : l.lead.steps ≤ l.fn.lead.budget;
+      first : l.lead.begun ≡ false → l.lead.steps ≡ 0;
+      well : l.lead.failed ≡ false;
+      lines : l.lead.keeps_rises ≡ false;
+      fine : ArePairsFineUpTo (pair_run l.fn.lead.script l.fn.lead.budget l.fn.lead.shape) l.lead.attempts;
+    }
+
+-- the steps that are left, the first turn, and the end
+abbrev pub decreases-loop-lead : goal.decreases-loop-lead
+decreases-loop-lead l = cond l.lead.over 0 1 + (cond l.lead.begun 0 1 + (l.fn.lead.budget - l.lead.steps))

@@ -1,0 +1,23 @@
+use Rattle.std.proofs.Common.{◌≡◌, ◌+◌, ◌-◌, ◌≤◌, false, cond}
+use Rattle.wb_model.specs.Sweeps.{AreFineBelow}
+use Rattle.wb_sweep.specs.Families.{rule_in, runs_beside}
+use Rattle.wb_sweep.proofs.walk.find_among.Given as goal
+
+-- the run is the same, under the family's failure 0, and the failures up to the number of attempts made so far are fine
+abbrev pub invariant-loop-family : goal.invariant-loop-family
+invariant-loop-family l =
+    record {
+      script : l.lead.script ≡ l.fn.lead.script;
+      rule : l.lead.rule ≡ rule_in l.fn.family 0;
+      budget : l.lead.budget ≡ l.fn.lead.budget;
+      shape : l.lead.shape ≡ l.fn.lead.shape;
+      within : l.lead.steps ≤ l.fn.lead.budget;
+      first : l.lead.begun ≡ false → l.lead.steps ≡ 0;
+      well : l.lead.failed ≡ false;
+      lines : l.lead.keeps_rises ≡ false;
+      fine : AreFineBelow (runs_beside l.fn.family l.fn.lead) (l.lead.attempts + 1);
+    }
+
+-- the steps that are left, the first turn, and the end
+abbrev pub decreases-loop-family : goal.decreases-loop-family
+decreases-loop-family l = cond l.lead.over 0 1 + (cond l.lead.begun 0 1 + (l.fn.lead.budget - l.lead.steps))

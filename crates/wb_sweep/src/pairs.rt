@@ -1,0 +1,105 @@
+//! A sweep over pairs of failures, once no single failure shows anything: a walk along the run without failure, and beside it
+//! one along each run in which an attempt fails.
+
+ghost use Rattle.std.specs.Prelude.{◌≡◌, ◌≢◌, ◌+◌, ◌≤◌, None, true, false, length, IfOk, IfSome, IsTrue};
+ghost use Rattle.wb_model.specs.Pairs.{failing_with, pair_run, AreAllPairsFine, ArePairsFineWith, IsCutPair, IsFoundPair};
+ghost use Rattle.wb_model.specs.Sound.{is_script};
+ghost use Rattle.wb_model.specs.Space.{is_shape};
+ghost use Rattle.wb_model.specs.Sweeps.{runs_of, AreAllFine, IsCutAmong, IsFoundAmong};
+ghost use Rattle.wb_model.specs.declared.failures.Failures.TheVariants.{Single};
+ghost use Rattle.wb_model.specs.declared.heap.Rule.TheVariants as rules;
+ghost use Rattle.wb_model.specs.declared.run.Why.{Why};
+
+use crate::family::Family;
+use crate::fault::SweepFault;
+use crate::fork::result_under;
+use crate::found::Found;
+use crate::walk::{attempts_in, find_among};
+use std::alloc::Global;
+use wb_machine::Machine;
+use wb_model::failures::Failing;
+use wb_model::heap::{Rule, Shape};
+use wb_model::limits::LARGEST_BUDGET;
+use wb_model::script::Script;
+
+/// The least pair whose run is bad, of those of which the attempt that the lead makes next, of this number, is the first;
+/// `None` if the run of each is fine, and if the next turn makes no attempt.
+fn find_with_next(lead: &Machine, number: u32) -> Result<Option<Found>, SweepFault>
+    requires number { number ≡ lead.now.attempts + 1 }
+    requires rule { lead.now.rule ≡ rules.Number 0 }
+    requires lines { lead.now.keeps_rises ≡ false }
+    requires within { lead.now.steps ≤ lead.now.budget }
+    requires alone { AreAllFine (runs_of Single lead.now.script lead.now.budget lead.now.shape) }
+    ensures fine { IfOk result (λ found. found ≡ None → lead.now.asks ≡ true → ArePairsFineWith
+        (pair_run lead.now.script lead.now.budget lead.now.shape) number) }
+    ensures found { IfOk result (λ found. IfSome found (λ bad. IsFoundAmong (failing_with number)
+        lead.now.script lead.now.budget lead.now.shape bad.at bad.result)) }
+    ensures cut { (at : Failing) (why : Why) → result ≡ Err (SweepFault.Cut at why) →
+        IsCutAmong (failing_with number) lead.now.script lead.now.budget lead.now.shape at why }
+    ensures shape { result ≢ Err SweepFault.BadShape }
+{
+    if !lead.will_attempt() {
+        return Ok(None);
+    }
+    let rule = Rule::Number(number);
+    let alone = result_under(lead, rule)?;
+    let last = attempts_in(alone.trace.as_slice());
+    let mut fork = lead.try_copy()?;
+    fork.set_rule(rule);
+    fork.step()?;
+    find_among(&mut fork, Family::With(number), last)
+}
+
+/// The least pair whose run is bad; `None` if the run of each pair is fine. No single failure shows anything, and the run
+/// without failure, which begins here, makes `last` attempts.
+fn find_beside(lead: &mut Machine, last: u32) -> Result<Option<Found>, SweepFault>
+    requires rule { lead.old.rule ≡ rules.Number 0 }
+    requires first { (lead.old.begun ≡ false) × (lead.old.attempts ≡ 0) × (lead.old.steps ≡ 0) }
+    requires well { lead.old.failed ≡ false }
+    requires lines { lead.old.keeps_rises ≡ false }
+    requires last { last ≡
+        length (runs_of Single lead.old.script lead.old.budget lead.old.shape 0).trace }
+    requires alone { AreAllFine (runs_of Single lead.old.script lead.old.budget lead.old.shape) }
+    ensures none { IfOk result (λ found. found ≡ None →
+        AreAllPairsFine (pair_run lead.old.script lead.old.budget lead.old.shape)) }
+    ensures found { IfOk result (λ found. IfSome found (λ bad.
+        IsFoundPair lead.old.script lead.old.budget lead.old.shape bad.at bad.result)) }
+    ensures cut { (at : Failing) (why : Why) → result ≡ Err (SweepFault.Cut at why) →
+        IsCutPair lead.old.script lead.old.budget lead.old.shape at why }
+    ensures shape { result ≢ Err SweepFault.BadShape }
+{
+    while lead.attempts() < last {
+        let found = find_with_next(lead, lead.attempts() + 1)?;
+        if found.is_some() {
+            return Ok(found);
+        }
+        lead.step()?;
+    }
+    Ok(None)
+}
+
+/// The least pair whose run is bad; `None` if the run of each pair is fine. No single failure shows anything, and the run
+/// without failure makes `last` attempts.
+pub(crate) fn find_pair(
+    alloc: Global,
+    script: &Script,
+    budget: u32,
+    shape: Shape,
+    last: u32,
+) -> Result<Option<Found>, SweepFault>
+    requires script { IsTrue (is_script script.now) }
+    requires least { 1 ≤ budget }
+    requires greatest { budget ≤ LARGEST_BUDGET }
+    requires last { last ≡ length (runs_of Single script.now budget shape 0).trace }
+    requires alone { AreAllFine (runs_of Single script.now budget shape) }
+    ensures none { IfOk result (λ found. found ≡ None →
+        AreAllPairsFine (pair_run script.now budget shape)) }
+    ensures found { IfOk result (λ found. IfSome found (λ bad.
+        IsFoundPair script.now budget shape bad.at bad.result)) }
+    ensures cut { (at : Failing) (why : Why) → result ≡ Err (SweepFault.Cut at why) →
+        IsCutPair script.now budget shape at why }
+    ensures shape { result ≡ Err SweepFault.BadShape → is_shape shape ≡ false }
+{
+    let mut lead = Machine::new(alloc, script, Rule::Number(0), budget, shape)?;
+    find_beside(&mut lead, last)
+}

@@ -1,0 +1,99 @@
+//! A walk along a run, from which copies part under failures: each before the attempt that is the first to fail in it.
+
+ghost use Rattle.std.specs.Prelude.{◌≡◌, ◌≢◌, ◌⊎◌, ◌+◌, ◌≤◌, None, true, false, length, IfOk, IfErr, IfSome};
+ghost use Rattle.wb_model.specs.Sweeps.{is_fine, AreFineBelow, IsCutAmong, IsFoundAmong};
+ghost use Rattle.wb_model.specs.declared.run.Outcome.TheVariants as outcomes;
+ghost use Rattle.wb_model.specs.declared.run.Why.{Why};
+ghost use Rattle.wb_sweep.specs.Families.{failing_in, next_failing, next_run, rule_in, runs_beside};
+ghost use Rattle.wb_sweep.specs.Sweeping.{IsBadAt, IsNumbered};
+
+use crate::family::Family;
+use crate::fault::SweepFault;
+use crate::fork::result_under;
+use crate::found::Found;
+use wb_machine::Machine;
+use wb_model::failures::Failing;
+use wb_model::heap::Attempt;
+use wb_model::run::{Outcome, RunResult};
+
+/// What the run under a failure amounts to: found where it is bad, `Cut` where it is cut, and `None` if it is fine. A
+/// leave alone is fine, and so is a run without its cleanup stack.
+pub(crate) fn found_at(at: Failing, told: RunResult) -> Result<Option<Found>, SweepFault>
+    ensures fine { IfOk result (λ found. found ≡ None → is_fine told ≡ true) }
+    ensures bad { IfOk result (λ found. IfSome found (IsBadAt at told)) }
+    ensures cut { IfErr result (λ fault.
+        (why : Why) × (fault ≡ SweepFault.Cut at why) × (told.outcome ≡ outcomes.Cut why)) }
+{
+    let is_bad = match &told.outcome {
+        Outcome::Ended { leaks, .. } => leaks.len() > 0,
+        Outcome::Panicked(_) => true,
+        Outcome::NoCleanup => false,
+        Outcome::Cut(why) => return Err(SweepFault::Cut { at, why: *why }),
+    };
+    Ok(is_bad.then_some(Found { at, result: told }))
+}
+
+/// How many attempts a trace has: the number of the last.
+pub(crate) fn attempts_in(trace: &[Attempt]) -> u32
+    requires { IsNumbered trace.now }
+    ensures { result ≡ length trace.now }
+{
+    match trace.last() {
+        Some(attempt) => attempt.number,
+        None => 0,
+    }
+}
+
+/// The run in which the attempt that the lead makes next, of this number, is the first to fail: found where it is bad; `None` if
+/// it is fine, and if the next turn makes no attempt.
+fn try_next(lead: &Machine, family: Family, number: u32) -> Result<Option<Found>, SweepFault>
+    requires number { number ≡ lead.now.attempts + 1 }
+    requires rule { lead.now.rule ≡ rule_in family 0 }
+    requires lines { lead.now.keeps_rises ≡ false }
+    ensures fine { IfOk result (λ found. found ≡ None → lead.now.asks ≡ true →
+        is_fine (next_run family lead.now) ≡ true) }
+    ensures bad { IfOk result (λ found.
+        IfSome found (IsBadAt (next_failing family lead.now) (next_run family lead.now))) }
+    ensures cut { IfErr result (λ fault. (fault ≡ SweepFault.NoMemory) ⊎ ((why : Why) ×
+        (fault ≡ SweepFault.Cut (next_failing family lead.now) why)
+        × ((next_run family lead.now).outcome ≡ outcomes.Cut why))) }
+{
+    if !lead.will_attempt() {
+        return Ok(None);
+    }
+    let failing = family.at(number);
+    let told = result_under(lead, failing.rule())?;
+    found_at(failing, told)
+}
+
+/// The least failure of a family whose run is bad, among those up to the last attempt of the lead's own run, which is under
+/// the family's failure 0; `None` if they are all fine. Those up to the attempts that the lead has made are.
+pub(crate) fn find_among(
+    lead: &mut Machine,
+    family: Family,
+    last: u32,
+) -> Result<Option<Found>, SweepFault>
+    requires rule { lead.old.rule ≡ rule_in family 0 }
+    requires first { lead.old.begun ≡ false → lead.old.steps ≡ 0 }
+    requires within { lead.old.steps ≤ lead.old.budget }
+    requires well { lead.old.failed ≡ false }
+    requires lines { lead.old.keeps_rises ≡ false }
+    requires last { last ≡ length (runs_beside family lead.old 0).trace }
+    requires fine { AreFineBelow (runs_beside family lead.old) (lead.old.attempts + 1) }
+    ensures fine { IfOk result (λ found. found ≡ None →
+        AreFineBelow (runs_beside family lead.old) (last + 1)) }
+    ensures found { IfOk result (λ found. IfSome found (λ bad. IsFoundAmong (failing_in family)
+        lead.old.script lead.old.budget lead.old.shape bad.at bad.result)) }
+    ensures cut { (at : Failing) (why : Why) → result ≡ Err (SweepFault.Cut at why) →
+        IsCutAmong (failing_in family) lead.old.script lead.old.budget lead.old.shape at why }
+    ensures shape { result ≢ Err SweepFault.BadShape }
+{
+    while lead.attempts() < last {
+        let found = try_next(lead, family, lead.attempts() + 1)?;
+        if found.is_some() {
+            return Ok(found);
+        }
+        lead.step()?;
+    }
+    Ok(None)
+}
