@@ -4,8 +4,9 @@
     tools/fuzz.py PROGRAM [--scripts N] [--seed N] [--keep FOLDER]
 
 Each script is made of worked cases by a few changes: lines are dropped, doubled, moved, or taken from another script; words are put
-in the place of others; bytes are cut off, changed or put in. `check` with a small budget, of each second script with `--every`, must
-answer each with a status from 0 to 3 within a second. A script that it answers otherwise is kept in the folder, and named. The last line is `N passed, M failed`.
+in the place of others; bytes are cut off, changed or put in. `check` with a small budget must answer each with a status from 0 to 3 within
+a second: one script in three by itself, one with `--every`, and one with `--pairs` and a smaller budget still. A script that it answers
+otherwise is kept in the folder, and named. The last line is `N passed, M failed`.
 """
 
 import argparse
@@ -24,6 +25,9 @@ NUMBER = re.compile(rb"(?<= )-?[0-9]+\b")
 NUMBERS = [b"0", b"1", b"-1", b"15", b"16", b"80", b"255", b"65536", b"524286", b"1048576", b"999999999", b"-999999999"]
 # how many scripts a process makes at once
 SHARE = 500
+# what the program is asked for in turn; pairs are as many as half the square of the attempts
+COMMANDS = (["check", "--budget", "200"], ["check", "--budget", "200", "--every"], ["check", "--budget", "50", "--pairs"])
+SECONDS = 1
 
 
 def seeds() -> list[bytes]:
@@ -89,18 +93,18 @@ def share_of(seed: int, program: Path, keep: Path) -> tuple[int, list[str], dict
     faults, statuses = [], {}
     for number in range(SHARE):
         text = damaged(chance, scripts, words)
+        command = COMMANDS[number % len(COMMANDS)]
         try:
-            words = ["check", "--budget", "200", *(["--every"] if number % 2 else [])]
-            ran = subprocess.run([program, *words], input=text, capture_output=True, timeout=1)
+            ran = subprocess.run([program, *command], input=text, capture_output=True, timeout=SECONDS)
             status, fault = ran.returncode, None if 0 <= ran.returncode <= 3 else f"status {ran.returncode}, {ran.stdout[:80]!r}"
         except subprocess.TimeoutExpired:
-            status, fault = -1, "no answer within a second"
+            status, fault = -1, f"no answer within {SECONDS} s"
         statuses[status] = statuses.get(status, 0) + 1
         if fault:
             keep.mkdir(exist_ok=True, parents=True)
             file = keep / f"{seed}-{number}.oom"
             file.write_bytes(text)
-            faults.append(f"{file}: {fault}")
+            faults.append(f"{file}: {' '.join(command)}: {fault}")
     return SHARE - len(faults), faults, statuses
 
 

@@ -4,9 +4,9 @@
     tools/made_scripts.py FOLDER [--scripts N] [--seed N]
 
 Each script is a `main` that calls some parts, each within a TRAP: cells, cells that grow, texts, objects, the cleanup stack, loops,
-requests with a fallback. Most scripts have one part with a mistake, which some failure or other shows; around the parts there may be
-`failnext`, `failevery`, `failnone` and heap marks. The same numbers give the same scripts. `tools/rates.py` tries the program on them, and `test`
-the program that compares forks.
+requests with a fallback. Most scripts have one part with a mistake, which some failure or other shows: of a single attempt, or only of two. Around
+the parts there may be `failnext`, `failevery`, `failnone` and heap marks. The same numbers give the same scripts. `tools/rates.py` and
+`tools/pairs.py` try the program on them, and `test` the program that compares forks.
 """
 
 import argparse
@@ -62,7 +62,7 @@ def grown_cell(chance: random.Random, is_wrong: bool) -> list[str]:
     return lines(f"ptr cell; ptr grown; alloc cell {first}; if some cell; {grow}; end; free cell")
 
 
-def pair(chance: random.Random, is_wrong: bool) -> list[str]:
+def two_cells(chance: random.Random, is_wrong: bool) -> list[str]:
     """Two cells on the cleanup stack; wrong: the first isn't pushed."""
     push, pops = ("", "pop 1; free second; free first") if is_wrong else ("push first", "popdestroy 2")
     return lines(f"ptr first; ptr second; allocl first {room(chance)}; {push}; allocl second {room(chance)}; push second; {pops}")
@@ -145,10 +145,92 @@ def inner_trap(chance: random.Random, is_wrong: bool) -> list[str]:
     return lines(f"ptr name; int code; trap code; hnewl name {chance.randint(2, 30)}; end; {asked}; push name; copy name \"x\"; popdestroy 1")
 
 
+def clean_up(chance: random.Random, is_wrong: bool) -> list[str]:
+    """Gives up what it has where there is no memory, and asks for memory to report that; wrong: without any it gives up too early."""
+    early = "leaveifnull report" if is_wrong else ""
+    given_up = f"alloc report {room(chance)}; {early}; free report; free session; leave -4"
+    return lines(f"ptr session; ptr work; ptr report; allocl session 16; alloc work {room(chance)}; if null work; {given_up}; end; free work; free session")
+
+
+def report(chance: random.Random, is_wrong: bool) -> list[str]:
+    """A text that says that a TRAP was left; wrong: without a look at whether it is there."""
+    said = 'copy report "failed"' if is_wrong else 'if some report; copy report "failed"; end'
+    tried = f"trap code; hnewl name {chance.randint(2, 30)}; end; if less code 0; hnew report 8; {said}; end"
+    return lines(f"ptr name; ptr report; int code; {tried}; free report; free name")
+
+
+def second_try(chance: random.Random, is_wrong: bool) -> list[str]:
+    """A request that is made once more; wrong: where that is refused too, the other cell is forgotten."""
+    body = f"alloc body {room(chance)}"
+    given_up = "" if is_wrong else "free header"
+    return lines(f"ptr header; ptr body; allocl header 16; {body}; if null body; {body}; end; if null body; {given_up}; leave -4; end; free body; free header")
+
+
+def turns(chance: random.Random, is_wrong: bool) -> list[str]:
+    """A request that is made in each of two turns, as long as there is nothing; wrong: nobody looks whether the second came about."""
+    store = "store cell 0 7" if is_wrong else "if some cell; store cell 0 7; end"
+    return lines(f"ptr cell; repeat 2; if null cell; alloc cell {room(chance)}; end; end; {store}; free cell")
+
+
+def fallback_of_fallback(chance: random.Random, is_wrong: bool) -> list[str]:
+    """A large cell, or else a smaller one, or else a small one with a helper; wrong: nobody gives up the helper."""
+    last = f"alloc helper {room(chance)}; alloc cell 16; {'' if is_wrong else 'free helper'}"
+    tried = f"alloc cell {room(chance) + 5000}; if null cell; alloc cell {room(chance)}; if null cell; {last}; end; end"
+    return lines(f"ptr cell; ptr helper; {tried}; free cell")
+
+
+def spare(chance: random.Random, is_wrong: bool) -> list[str]:
+    """Two cells of which one is enough; wrong: where there is none, a third is forgotten."""
+    given_up = "" if is_wrong else "free kept"
+    tried = f"allocl kept 16; alloc first {room(chance)}; alloc second {room(chance)}; if null first; if null second; {given_up}; leave -4; end; end"
+    return lines(f"ptr kept; ptr first; ptr second; {tried}; free first; free second; free kept")
+
+
+def growth(chance: random.Random, is_wrong: bool) -> list[str]:
+    """A cell that grows by much, or else by little; wrong: the second answer replaces the only pointer to it."""
+    first = room(chance)
+    less = f"realloc {'cell' if is_wrong else 'grown'} cell {first + 40}"
+    grow = f"realloc grown cell {first + 3000}; if null grown; {less}; end; if some grown; set cell grown; end"
+    return lines(f"ptr cell; ptr grown; alloc cell {first}; if some cell; {grow}; end; free cell")
+
+
+def second_note(chance: random.Random, is_wrong: bool) -> list[str]:
+    """An object, and one in its place where there is no memory for what it owns; wrong: the second isn't pushed."""
+    first = "trap code; newleave note Note; pushobj note; construct note; pop 1; end"
+    push, end = ("", "") if is_wrong else ("pushobj note", "pop 1")
+    second = f"if less code 0; null note; newleave note Note; {push}; construct note; {end}; end"
+    return lines(f"ptr note Note; int code; {first}; {second}; delete note")
+
+
+def many_pushes_instead(chance: random.Random, is_wrong: bool) -> list[str]:
+    """So many small cells in the place of a large one that the cleanup stack grows; wrong: with one that isn't pushed."""
+    count = chance.randint(2, 9)
+    push, end = ("", "; free kept") if is_wrong else ("push kept", "")
+    small = f"allocl kept {room(chance)}; {push}; repeat {count}; allocl cell 16; push cell; end; popdestroy {count + (not is_wrong)}{end}; null cell"
+    return lines(f"ptr cell; ptr kept; alloc cell {room(chance) + 2000}; if null cell; {small}; end; free cell")
+
+
+def wait(chance: random.Random, is_wrong: bool) -> list[str]:
+    """A request that is made once more; wrong: where that is refused too, it waits past the budget."""
+    waits = "if null cell; repeat 20000; end; end" if is_wrong else ""
+    body = f"alloc cell {room(chance)}"
+    return lines(f"ptr cell; {body}; if null cell; {body}; {waits}; end; free cell")
+
+
+def hoard(chance: random.Random, is_wrong: bool) -> list[str]:
+    """Two cells; wrong: where both are refused, so much is asked for that the heap comes to its ceiling."""
+    hoards = "if null first; if null second; repeat 40; alloc second 1048576; end; end; end" if is_wrong else ""
+    return lines(f"ptr first; ptr second; alloc first {room(chance)}; alloc second {room(chance)}; {hoards}; free first; free second")
+
+
+# parts whose mistakes a single failure shows, and those whose mistakes take two; what is named once more comes twice as often
 PARTS: tuple[Part, ...] = (
-    *(cell, grown_cell, pair, text, note, operation, many_pushes, loop, greed, retry, leave, stale, inner_trap),
-    # those that take more than one failure are the ones that rates are for
-    *(fallback, fallback, fallback, fallback),
+    *(cell, grown_cell, two_cells, text, note, operation, many_pushes, loop, greed, retry, leave, stale, inner_trap),
+    *(loop,),
+)
+PARTS_OF_TWO: tuple[Part, ...] = (
+    *(fallback, clean_up, report, second_try, turns, fallback_of_fallback, spare, growth, second_note, many_pushes_instead, wait, hoard),
+    *(fallback, wait),
 )
 
 
@@ -170,8 +252,8 @@ def indented(body: list[str]) -> list[str]:
 def script(number: int, seed: int = SEED) -> str:
     """The script with this number."""
     chance = random.Random(f"{seed} {number}")
-    parts = [chance.choice(PARTS) for _ in range(chance.choice((1, 2, 2, 3, 3, 4, 5)))]
-    wrong = chance.randrange(len(parts)) if chance.random() < 0.7 else None
+    parts = [chance.choice(chance.choice((PARTS, PARTS_OF_TWO))) for _ in range(chance.choice((1, 2, 3, 3, 4, 5, 6)))]
+    wrong = chance.randrange(len(parts)) if chance.random() < 0.75 else None
     is_marked, is_set = chance.random() < 0.3, chance.random() < 0.3
     written, main = [], lines("int code")
     for at, part in enumerate(parts):

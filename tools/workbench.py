@@ -17,10 +17,10 @@ from crates import NOT_BUILT, PROGRAM, PROGRAM_CRATE, ROOT, Crates, is_being_bui
 
 NAME = "workbench"
 
-# the commands that read a script, and the options that take a further word; `--every` does so of `run` alone
+# the commands that read a script, and the options that take a further word; those of the second set do so of `run` alone
 COMMANDS = {"run", "size", "sweep", "check"}
 WITH_VALUE = {"--min", "--step", "--budget", "--limit", "--fail"}
-OF_RUN = {"--every"}
+OF_RUN = {"--also", "--every"}
 
 # the program reads one byte more than the longest script has
 LONGEST_INPUT = 65_537

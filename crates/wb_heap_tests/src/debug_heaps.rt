@@ -10,7 +10,7 @@ use wb_model::heap::{Attempt, Kind, Panic, Rule, Shape};
 /// The shape of most heaps here.
 const SHAPE: Shape = Shape { min: 0, step: 4096 };
 
-static ATTEMPTS: [WorkedDebugHeap; 15] = [
+static ATTEMPTS: [WorkedDebugHeap; 16] = [
     WorkedDebugHeap {
         about: "the next attempt fails once",
         rule: Rule::Unlimited,
@@ -124,6 +124,31 @@ static ATTEMPTS: [WorkedDebugHeap; 15] = [
             Call::FailNext(1),
             Call::NoAlloc(16),
             Call::Alloc(16, (176, 4)),
+        ],
+    },
+    WorkedDebugHeap {
+        about: "two attempts fail beside those that the setting refuses",
+        rule: Rule::Pair(2, 5),
+        shape: SHAPE,
+        calls: &[
+            Call::NoAlloc(16),
+            Call::FailNext(2),
+            Call::Alloc(16, (144, 3)),
+            Call::NoRealloc((144, 3), 48),
+            Call::NoRealloc((144, 3), 48),
+            Call::FailNext(1),
+            Call::NoAlloc(16),
+            Call::Alloc(16, (176, 7)),
+            Call::AllocPastCeiling(16_777_216),
+            Call::Trace(&[
+                (1, 144, 0, Granted),
+                (2, 32, 144, Simulated),
+                (3, 32, 144, Granted),
+                (4, 64, 144, Simulated),
+                (5, 64, 144, Simulated),
+                (6, 32, 176, Simulated),
+                (7, 32, 176, Granted),
+            ]),
         ],
     },
     WorkedDebugHeap {

@@ -206,6 +206,7 @@ fn a_stack_whose_first_cell_is_refused(rt: HostRuntime) -> Result<(), Fail> {
         Rule::Limit(143),
         Rule::Number(1),
         Rule::Every(1),
+        Rule::Pair(1, 2),
     ] {
         assert!(rt; begun(rt.alloc(), rule)?.is_none());
     }
@@ -215,6 +216,7 @@ fn a_stack_whose_first_cell_is_refused(rt: HostRuntime) -> Result<(), Fail> {
         Rule::Number(0),
         Rule::Every(2),
         Rule::Every(0),
+        Rule::Pair(2, 3),
     ] {
         assert!(rt; begun(rt.alloc(), rule)?.is_some());
     }

@@ -1,14 +1,20 @@
-//! Nothing but tests: of turns of a machine, shapes that no heap has, lengths that a table tells, rates at which attempts fail, and of
-//! the program over words, hosts and streams in memory, by the public calls of the crates that have these. They stand here so that those
+//! Nothing but tests: of turns of a machine, shapes that no heap has, lengths that a table tells, attempts that fail at a rate or two
+//! at once, and of the program over words, hosts and streams in memory, by the public calls of the crates that have these. They stand here so that those
 //! crates are proved once, and not again with their tests. What a worked case can show stands in none of them.
 #![tactic(auto)]
 
 #[cfg(test)]
 mod answers;
 #[cfg(test)]
+mod failing;
+#[cfg(test)]
+mod faults;
+#[cfg(test)]
 mod lengths;
 #[cfg(test)]
 mod notes;
+#[cfg(test)]
+mod pairs;
 #[cfg(test)]
 mod programs;
 #[cfg(test)]

@@ -120,13 +120,20 @@ static COMMANDS: [(&[&str], Wanted); 4] = [
 ];
 
 /// Words behind the program's name that are no command. What is said of them stands in worked cases.
-static REFUSED: [&[&str]; 21] = [
+static REFUSED: [&[&str]; 28] = [
     &["run", "-", "--limit", "176", "--fail", "2"],
     &["run", "-", "--limit", "176", "--every", "2"],
     &["run", "-", "--fail", "2", "--every", "2"],
     &["run", "-", "--every"],
+    &["run", "-", "--also", "2"],
+    &["run", "-", "--fail", "2", "--also"],
+    &["run", "-", "--fail", "2", "--also", "2"],
+    &["run", "-", "--pairs"],
     &["size", "-", "--every"],
+    &["size", "-", "--pairs"],
     &["sweep", "--every=2", "-"],
+    &["sweep", "-", "--fail", "2", "--also", "4"],
+    &["check", "-", "--every", "--pairs"],
     &["run", "--min", "8"],
     &["walk"],
     &["--help"],

@@ -1,35 +1,10 @@
 //! Runs, sweeps and reports where every attempt fails whose number is a multiple of a rate.
 
-ghost use Rattle.std.specs.Prelude.{IsTrue};
-ghost use Rattle.wb_command_line.specs.Command.{is_answerable};
-
-use std::alloc::Global;
+use crate::failing::{FALLBACK, SETS, SETS_NONE, Wanted, are_answered, found_in, is_answered};
 use std::test::Fail;
-use wb_machine::run;
 use wb_model::failures::{Failing, Failures};
 use wb_model::heap::Answer::{Granted, Simulated};
-use wb_model::heap::{Answer, Rule, Shape};
-use wb_script::read;
-use wb_sweep::sweeping::sweep;
-use workbench::answer::answer;
-use workbench::{Command, Task};
-
-const SHAPE: Shape = Shape {
-    min: 4096,
-    step: 4096,
-};
-
-/// A large cell, or a smaller one in its place. Where both fail, the line that leaves forgets the cell between them.
-const FALLBACK: &[u8] =
-    b"proc main\nptr page\nptr note\nalloc page 256\nalloc note 16\nif null page\nallocl page 64\nend\nfree note\nfree page\nend\n";
-
-/// A cell, and six more of which the script's own setting refuses every second.
-const SETS: &[u8] =
-    b"proc main\nptr a\nalloc a 1\nfree a\nfailevery 2\nrepeat 6\nalloc a 1\nfree a\nend\nend\n";
-
-/// Three cells, after a line that ends all settings of the script.
-const SETS_NONE: &[u8] =
-    b"proc main\nptr a\nfailevery 1\nfailnone\nrepeat 3\nalloc a 1\nfree a\nend\nend\n";
+use wb_model::heap::{Answer, Rule};
 
 /// Scripts, rules, and how the attempts of the run are answered.
 static RUNS: [(&[u8], Rule, &[Answer]); 9] = [
@@ -74,51 +49,26 @@ static RUNS: [(&[u8], Rule, &[Answer]); 9] = [
     ),
 ];
 
-/// The answers to the attempts of a run.
-fn answers_of(alloc: Global, script: &[u8], rule: Rule) -> Result<Vec<Answer>, Fail> {
-    let script = read(alloc, script)?;
-    let told = run(alloc, &script, rule, 99, SHAPE)?;
-    let mut answers = Vec::new(alloc);
-    for attempt in told.trace.as_slice() {
-        answers.push(attempt.answer)?;
-    }
-    Ok(answers)
-}
-
 #[test]
 fn a_rate_refuses_its_multiples(rt: HostRuntime) -> Result<(), Fail> {
     for (row, (script, rule, wanted)) in RUNS.iter().enumerate() {
-        let answers = answers_of(rt.alloc(), script, *rule)?;
-        assert!(rt; answers.as_slice() == *wanted, "run {row}");
+        assert!(rt;
+            are_answered(rt.alloc(), script, *rule, wanted)?,
+            "run {row}"
+        );
     }
     Ok(())
-}
-
-/// What a sweep of a script finds among these failures.
-fn found_in(alloc: Global, script: &[u8], failures: Failures) -> Result<Option<Failing>, Fail> {
-    let script = read(alloc, script)?;
-    let swept = sweep(alloc, &script, failures, 99, SHAPE)?;
-    Ok(swept.found.as_ref().map(|found| found.at))
 }
 
 #[test]
 fn a_rate_finds_what_no_number_does(rt: HostRuntime) -> Result<(), Fail> {
-    assert_eq!(rt; found_in(rt.alloc(), FALLBACK, Failures::Single)?, None);
+    assert_eq!(rt; found_in(rt.alloc(), FALLBACK, Failures::Single)?, Ok(None));
     let rate = found_in(rt.alloc(), FALLBACK, Failures::Every)?;
-    assert_eq!(rt; rate, Some(Failing::Every(2)));
+    assert_eq!(rt; rate, Ok(Some(Failing::Every(2))));
     Ok(())
 }
 
-/// What a sweep or a check writes of the script with a fallback, in lines or as JSON, and its status.
-struct Wanted {
-    /// Whether it is a check.
-    is_check: bool,
-    failures: Failures,
-    json: bool,
-    report: &'static str,
-    status: u8,
-}
-
+/// What sweeps and checks write of the script with a fallback, without rates and with them.
 static REPORTS: [Wanted; 4] = [
     Wanted {
         is_check: false,
@@ -159,31 +109,6 @@ steps 4
         status: 1,
     },
 ];
-
-fn command_of(wanted: &Wanted) -> Command
-    ensures { IsTrue (is_answerable result) }
-{
-    let failures = wanted.failures;
-    Command {
-        task: if wanted.is_check {
-            Task::Check(failures)
-        } else {
-            Task::Sweep(failures)
-        },
-        file: None,
-        budget: 10_000,
-        shape: SHAPE,
-        json: wanted.json,
-    }
-}
-
-/// Whether the command has its report and its status.
-fn is_answered(alloc: Global, wanted: &Wanted) -> bool {
-    let mut script = FALLBACK;
-    let mut report = Vec::new(alloc);
-    let status = answer(alloc, &command_of(wanted), &mut script, &mut report);
-    report.as_slice() == wanted.report.as_bytes() && status == wanted.status
-}
 
 #[test]
 fn reports_of_rates(rt: HostRuntime) {

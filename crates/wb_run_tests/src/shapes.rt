@@ -34,7 +34,7 @@ fn no_size_has_it(rt: HostRuntime) -> Result<(), Fail> {
 #[test]
 fn no_sweep_has_it(rt: HostRuntime) -> Result<(), Fail> {
     let script = read(rt.alloc(), EMPTY)?;
-    for failures in [Failures::Single, Failures::Every] {
+    for failures in [Failures::Single, Failures::Every, Failures::Pairs] {
         let told = sweep(rt.alloc(), &script, failures, 3, ODD);
         assert_eq!(rt; told.err(), Some(SweepFault::BadShape));
     }

@@ -96,7 +96,7 @@ fn turns_tell(machine: &mut Machine, turns: &[Told]) -> bool {
 }
 
 /// Runs whose attempts lie in calls, turns and TRAPs, or aren't made where a statement is refused before.
-static SETTINGS: [Setting; 20] = [
+static SETTINGS: [Setting; 22] = [
     (TWO_CELLS, Rule::Unlimited, 9),
     (TWO_CELLS, Rule::Number(1), 9),
     (TWO_CELLS, Rule::Number(2), 9),
@@ -146,6 +146,8 @@ static SETTINGS: [Setting; 20] = [
     (GROWS_THREE_TIMES, Rule::Limit(383), 99),
     (TWO_CELLS, Rule::Every(2), 9),
     (GROWS_THREE_TIMES, Rule::Every(4), 99),
+    (TWO_CELLS, Rule::Pair(2, 3), 9),
+    (TWO_ROUNDS, Rule::Pair(4, 12), 99),
     (TWO_ROUNDS, Rule::Number(10), 99),
     // The budget cuts before the 8th push, and before an item is destroyed.
     (GROWS_THREE_TIMES, Rule::Unlimited, 17),

@@ -100,7 +100,7 @@ static AFTER_EACH: [(&[&str], Spelled); 16] = [
 ];
 
 /// Words that spell a run of the default budget, its rule, its shape and its file.
-static RUNS: [(&[&str], Rule, Shape, Option<&str>); 22] = [
+static RUNS: [(&[&str], Rule, Shape, Option<&str>); 25] = [
     (
         &["workbench", "run", "a.oom"],
         Rule::Unlimited,
@@ -210,6 +210,24 @@ static RUNS: [(&[&str], Rule, Shape, Option<&str>); 22] = [
         None,
     ),
     (
+        &["workbench", "run", "--fail", "2", "--also", "4"],
+        Rule::Pair(2, 4),
+        DEFAULT_SHAPE,
+        None,
+    ),
+    (
+        &["workbench", "run", "--also=16777216", "a.oom", "--fail=+1"],
+        Rule::Pair(1, 16_777_216),
+        DEFAULT_SHAPE,
+        Some("a.oom"),
+    ),
+    (
+        &["workbench", "run", "--fail=1", "--also=2", "--", "--also"],
+        Rule::Pair(1, 2),
+        DEFAULT_SHAPE,
+        Some("--also"),
+    ),
+    (
         &["workbench", "run", "--every", "3"],
         Rule::Every(3),
         DEFAULT_SHAPE,
@@ -250,10 +268,12 @@ static RUNS: [(&[&str], Rule, Shape, Option<&str>); 22] = [
     ),
 ];
 
-/// The subcommands that take the flag `--every`, and what each asks for with it.
-static WITH_RATES: [(&str, Task); 2] = [
-    ("sweep", Task::Sweep(Failures::Every)),
-    ("check", Task::Check(Failures::Every)),
+/// The subcommands that take the flags `--every` and `--pairs`, and what each asks for with one of them.
+static WITH_A_FLAG: [(&str, &str, Task); 4] = [
+    ("sweep", "--every", Task::Sweep(Failures::Every)),
+    ("check", "--every", Task::Check(Failures::Every)),
+    ("sweep", "--pairs", Task::Sweep(Failures::Pairs)),
+    ("check", "--pairs", Task::Check(Failures::Pairs)),
 ];
 
 /// Whether the command has this task and these options.
@@ -284,15 +304,15 @@ fn takes_words_after_each_subcommand(rt: HostRuntime) -> Result<(), Fail> {
 
 /// The flag comes first, before all that every subcommand takes, so that a word after it is no number of its own.
 #[test]
-fn takes_the_flag_for_rates(rt: HostRuntime) -> Result<(), Fail> {
-    for (name, task) in &WITH_RATES {
+fn takes_flags_for_failures(rt: HostRuntime) -> Result<(), Fail> {
+    for (name, flag, task) in &WITH_A_FLAG {
         for (index, (rest, spelled)) in AFTER_EACH.iter().enumerate() {
-            let mut words = vec![in rt.alloc(); "workbench", name, "--every"]?;
+            let mut words = vec![in rt.alloc(); "workbench", name, flag]?;
             words.extend_from_slice(rest)?;
             let command = command(rt.alloc(), words.as_slice())?;
             assert!(rt;
                 is_spelled(&command, *task, *spelled),
-                "{name}, row {index}"
+                "{name} {flag}, row {index}"
             );
         }
     }

@@ -1,0 +1,101 @@
+//! Scripts that are run, swept and reported of while attempts fail, and what must come of it.
+
+ghost use Rattle.std.specs.Prelude.{IsTrue};
+ghost use Rattle.wb_command_line.specs.Command.{is_answerable};
+
+use std::alloc::Global;
+use std::test::Fail;
+use wb_machine::run;
+use wb_model::failures::{Failing, Failures};
+use wb_model::heap::{Answer, Rule, Shape};
+use wb_script::read;
+use wb_sweep::fault::SweepFault;
+use wb_sweep::sweeping::sweep;
+use workbench::answer::answer;
+use workbench::{Command, Task};
+
+const SHAPE: Shape = Shape {
+    min: 4096,
+    step: 4096,
+};
+
+/// A large cell, or a smaller one in its place. Where both fail, the line that leaves forgets the cell between them.
+pub(crate) const FALLBACK: &[u8] =
+    b"proc main\nptr page\nptr note\nalloc page 256\nalloc note 16\nif null page\nallocl page 64\nend\nfree note\nfree page\nend\n";
+
+/// A cell, and six more of which the script's own setting refuses every second.
+pub(crate) const SETS: &[u8] =
+    b"proc main\nptr a\nalloc a 1\nfree a\nfailevery 2\nrepeat 6\nalloc a 1\nfree a\nend\nend\n";
+
+/// Three cells, after a line that ends all settings of the script.
+pub(crate) const SETS_NONE: &[u8] =
+    b"proc main\nptr a\nfailevery 1\nfailnone\nrepeat 3\nalloc a 1\nfree a\nend\nend\n";
+
+/// The answers to the attempts of a run.
+fn answers_of(alloc: Global, script: &[u8], rule: Rule) -> Result<Vec<Answer>, Fail> {
+    let script = read(alloc, script)?;
+    let told = run(alloc, &script, rule, 99, SHAPE)?;
+    let mut answers = Vec::new(alloc);
+    for attempt in told.trace.as_slice() {
+        answers.push(attempt.answer)?;
+    }
+    Ok(answers)
+}
+
+/// Whether the attempts of a run are answered so.
+pub(crate) fn are_answered(
+    alloc: Global,
+    script: &[u8],
+    rule: Rule,
+    wanted: &[Answer],
+) -> Result<bool, Fail> {
+    Ok(answers_of(alloc, script, rule)?.as_slice() == wanted)
+}
+
+/// What a sweep of a script finds among these failures, or why it has no answer.
+pub(crate) fn found_in(
+    alloc: Global,
+    script: &[u8],
+    failures: Failures,
+) -> Result<Result<Option<Failing>, SweepFault>, Fail> {
+    let script = read(alloc, script)?;
+    Ok(match sweep(alloc, &script, failures, 99, SHAPE) {
+        Ok(swept) => Ok(swept.found.as_ref().map(|found| found.at)),
+        Err(fault) => Err(fault),
+    })
+}
+
+/// What a sweep or a check writes of the script with a fallback, in lines or as JSON, and its status.
+pub(crate) struct Wanted {
+    /// Whether it is a check.
+    pub(crate) is_check: bool,
+    pub(crate) failures: Failures,
+    pub(crate) json: bool,
+    pub(crate) report: &'static str,
+    pub(crate) status: u8,
+}
+
+fn command_of(wanted: &Wanted) -> Command
+    ensures { IsTrue (is_answerable result) }
+{
+    let failures = wanted.failures;
+    Command {
+        task: if wanted.is_check {
+            Task::Check(failures)
+        } else {
+            Task::Sweep(failures)
+        },
+        file: None,
+        budget: 10_000,
+        shape: SHAPE,
+        json: wanted.json,
+    }
+}
+
+/// Whether the command has its report and its status.
+pub(crate) fn is_answered(alloc: Global, wanted: &Wanted) -> bool {
+    let mut script = FALLBACK;
+    let mut report = Vec::new(alloc);
+    let status = answer(alloc, &command_of(wanted), &mut script, &mut report);
+    report.as_slice() == wanted.report.as_bytes() && status == wanted.status
+}

@@ -1,0 +1,69 @@
+//! Words that `clap` takes, and that are no command all the same.
+
+use std::alloc::Global;
+use std::test::Fail;
+use workbench::{CommandFault, command};
+
+/// The faults of such words, in the order in which they are looked for.
+#[derive(Clone, Copy, Debug, PartialEq, Eq)]
+enum Fault {
+    Both,
+    Also,
+    Shape,
+}
+
+/// Words behind the program's name, and their fault.
+static FAULTS: [(&[&str], Fault); 23] = [
+    (&["run", "--limit", "176", "--fail", "2"], Fault::Both),
+    (&["run", "--limit", "176", "--every", "2"], Fault::Both),
+    (&["run", "--fail", "2", "--every", "2"], Fault::Both),
+    (
+        &["run", "--fail", "2", "--every", "2", "--limit", "176"],
+        Fault::Both,
+    ),
+    (
+        &["run", "--also", "3", "--fail", "2", "--limit", "176"],
+        Fault::Both,
+    ),
+    (
+        &["run", "--also", "1", "--fail", "2", "--every", "2"],
+        Fault::Both,
+    ),
+    (&["sweep", "--every", "--pairs"], Fault::Both),
+    (&["sweep", "--pairs", "a.oom", "--every"], Fault::Both),
+    (&["check", "--pairs", "--every", "--json"], Fault::Both),
+    (&["check", "--every", "--pairs", "--min=8"], Fault::Both),
+    (&["run", "--also", "2"], Fault::Also),
+    (&["run", "--also", "0"], Fault::Also),
+    (&["run", "--also", "2", "--fail", "0"], Fault::Also),
+    (&["run", "--also", "0", "--fail", "0"], Fault::Also),
+    (&["run", "--also", "2", "--fail", "2"], Fault::Also),
+    (&["run", "--also=2", "--fail=3", "a.oom"], Fault::Also),
+    (&["run", "--also=16777216", "--fail=16777216"], Fault::Also),
+    (&["run", "--also", "3", "--every", "2"], Fault::Also),
+    (&["run", "--also", "3", "--limit", "2"], Fault::Also),
+    (&["run", "--also", "2", "--step", "40"], Fault::Also),
+    (&["run", "--also=3", "--fail=2", "--step=40"], Fault::Shape),
+    (&["sweep", "--pairs", "--min", "8"], Fault::Shape),
+    (&["check", "--pairs", "--step", "40"], Fault::Shape),
+];
+
+/// The fault of the words behind the program's name, if they have one of these.
+fn fault_of(alloc: Global, rest: &[&str]) -> Result<Option<Fault>, Fail> {
+    let mut words = vec![in alloc; "workbench"]?;
+    words.extend_from_slice(rest)?;
+    Ok(match command(alloc, words.as_slice()) {
+        Err(CommandFault::Both) => Some(Fault::Both),
+        Err(CommandFault::Also) => Some(Fault::Also),
+        Err(CommandFault::Shape) => Some(Fault::Shape),
+        _ => None,
+    })
+}
+
+#[test]
+fn refuses_words_that_contradict_one_another(rt: HostRuntime) -> Result<(), Fail> {
+    for (index, (rest, fault)) in FAULTS.iter().enumerate() {
+        assert_eq!(rt; fault_of(rt.alloc(), rest)?, Some(*fault), "row {index}");
+    }
+    Ok(())
+}

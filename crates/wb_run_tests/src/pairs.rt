@@ -1,0 +1,164 @@
+//! Runs, sweeps and reports where two attempts fail.
+
+use crate::failing::{FALLBACK, SETS, SETS_NONE, Wanted, are_answered, found_in, is_answered};
+use std::test::Fail;
+use wb_model::failures::{Failing, Failures};
+use wb_model::heap::Answer::{Granted, Simulated};
+use wb_model::heap::{Answer, Rule};
+use wb_model::run::Why;
+use wb_sweep::fault::SweepFault;
+
+/// Scripts, rules, and how the attempts of the run are answered.
+static RUNS: [(&[u8], Rule, &[Answer]); 9] = [
+    (FALLBACK, Rule::Pair(1, 2), &[Simulated]),
+    (
+        FALLBACK,
+        Rule::Pair(2, 3),
+        &[Granted, Simulated, Simulated, Granted],
+    ),
+    // The second is made in the place of the first.
+    (
+        FALLBACK,
+        Rule::Pair(2, 4),
+        &[Granted, Simulated, Granted, Simulated],
+    ),
+    // Only where attempt 2 fails is there a fourth.
+    (FALLBACK, Rule::Pair(3, 4), &[Granted, Granted, Simulated]),
+    (FALLBACK, Rule::Pair(4, 5), &[Granted, Granted, Granted]),
+    (
+        FALLBACK,
+        Rule::Pair(2, 16_777_216),
+        &[Granted, Simulated, Granted, Granted],
+    ),
+    // Of these the setting refuses one too: each is refused once.
+    (
+        SETS,
+        Rule::Pair(3, 4),
+        &[
+            Granted, Granted, Simulated, Simulated, Granted, Simulated, Granted, Simulated,
+        ],
+    ),
+    // A pair counts from attempt 1, and not from the setting's line.
+    (
+        SETS,
+        Rule::Pair(5, 7),
+        &[
+            Granted, Granted, Granted, Simulated, Simulated, Simulated, Simulated, Simulated,
+        ],
+    ),
+    // The script can't end a pair.
+    (
+        SETS_NONE,
+        Rule::Pair(2, 4),
+        &[Granted, Simulated, Granted, Simulated],
+    ),
+];
+
+#[test]
+fn a_pair_refuses_both(rt: HostRuntime) -> Result<(), Fail> {
+    for (row, (script, rule, wanted)) in RUNS.iter().enumerate() {
+        assert!(rt;
+            are_answered(rt.alloc(), script, *rule, wanted)?,
+            "run {row}"
+        );
+    }
+    Ok(())
+}
+
+/// The script with a fallback, with a cell that grows in the end: where attempt 4 fails alone, it is forgotten.
+const FALLBACK_AND_GROWTH: &[u8] =
+    b"proc main\nptr page\nptr note\nalloc page 256\nalloc note 16\nif null page\nallocl page 64\nend\nrealloc note note 99\nfree note\nfree page\nend\n";
+
+/// Two cells. Where both fail, the run waits past its budget.
+const WAITS: &[u8] =
+    b"proc main\nptr a\nptr b\nalloc a 1\nalloc b 1\nif null a\nif null b\nrepeat 99\nend\nend\nend\nfree a\nfree b\nend\n";
+
+/// The same, where a third cell is forgotten once attempts 3 and 4 fail, which is after the wait of 2 and 3.
+const WAITS_AND_FORGETS: &[u8] =
+    b"proc main\nptr a\nptr b\nptr c\nalloc a 1\nalloc b 1\nalloc c 1\nif null b\nif null a\nrepeat 99\nend\nend\nif null c\nnull a\nend\nend\nfree a\nfree b\nfree c\nend\n";
+
+/// Three cells, of which the first is forgotten where the others fail: that comes before the wait of 3 and 5.
+const FORGETS_AND_WAITS: &[u8] =
+    b"proc main\nptr a\nptr b\nptr c\nalloc a 1\nalloc b 1\nalloc c 1\nif null b\nif null c\nnull a\nend\nalloc b 1\nif null b\nrepeat 99\nend\nend\nend\nfree a\nfree b\nfree c\nend\n";
+
+/// A single cell for which the run waits.
+const WAITS_FOR_ONE: &[u8] =
+    b"proc main\nptr a\nalloc a 1\nif null a\nrepeat 99\nend\nend\nfree a\nend\n";
+
+/// A cell that is never freed.
+const LEAKS: &[u8] = b"proc main\nptr a\nalloc a 1\nend\n";
+
+/// Scripts, and what a sweep over pairs finds.
+static SWEEPS: [(&[u8], Result<Option<Failing>, SweepFault>); 8] = [
+    (FALLBACK, Ok(Some(Failing::Pair(2, 4)))),
+    (SETS_NONE, Ok(None)),
+    // A single number comes before all pairs, also before those with lesser attempts.
+    (FALLBACK_AND_GROWTH, Ok(Some(Failing::Number(4)))),
+    (LEAKS, Ok(Some(Failing::Number(0)))),
+    (
+        WAITS,
+        Err(SweepFault::Cut {
+            at: Failing::Pair(2, 3),
+            why: Why::Budget,
+        }),
+    ),
+    (
+        WAITS_AND_FORGETS,
+        Err(SweepFault::Cut {
+            at: Failing::Pair(2, 3),
+            why: Why::Budget,
+        }),
+    ),
+    (FORGETS_AND_WAITS, Ok(Some(Failing::Pair(3, 4)))),
+    (
+        WAITS_FOR_ONE,
+        Err(SweepFault::Cut {
+            at: Failing::Number(2),
+            why: Why::Budget,
+        }),
+    ),
+];
+
+#[test]
+fn pairs_are_found_in_their_order(rt: HostRuntime) -> Result<(), Fail> {
+    for (row, (script, wanted)) in SWEEPS.iter().enumerate() {
+        let found = found_in(rt.alloc(), script, Failures::Pairs)?;
+        assert_eq!(rt; found, *wanted, "sweep {row}");
+    }
+    Ok(())
+}
+
+/// What sweeps and checks over pairs write of the script with a fallback.
+static REPORTS: [Wanted; 2] = [
+    Wanted {
+        is_check: false,
+        failures: Failures::Pairs,
+        json: false,
+        report: "attempts 3
+pair 2 4
+attempt 1 length 144 place 0 granted
+attempt 2 length 272 place 144 simulated
+attempt 3 length 32 place 144 granted
+attempt 4 length 80 place 176 simulated
+left -4
+leaks 1
+leak 3 length 32 place 144
+steps 4
+",
+        status: 1,
+    },
+    Wanted {
+        is_check: true,
+        failures: Failures::Pairs,
+        json: true,
+        report: "{\"attempts\":3,\"kind\":\"pairs\",\"lines\":[\"required 448\",\"from 0 refuses 1\",\"from 144 refuses 2\",\"from 416 refuses 3\",\"enough from 448\",\"attempts 3\",\"pair 2 4\",\"attempt 1 length 144 place 0 granted\",\"attempt 2 length 272 place 144 simulated\",\"attempt 3 length 32 place 144 granted\",\"attempt 4 length 80 place 176 simulated\",\"left -4\",\"leaks 1\",\"leak 3 length 32 place 144\",\"steps 4\"],\"number\":[2,4],\"required\":448,\"rises\":[[1,144],[2,416],[3,448]],\"status\":1,\"version\":2}\n",
+        status: 1,
+    },
+];
+
+#[test]
+fn reports_of_pairs(rt: HostRuntime) {
+    for (row, wanted) in REPORTS.iter().enumerate() {
+        assert!(rt; is_answered(rt.alloc(), wanted), "report {row}");
+    }
+}
