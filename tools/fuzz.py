@@ -4,9 +4,9 @@
     tools/fuzz.py PROGRAM [--scripts N] [--seed N] [--keep FOLDER]
 
 Each script is made of worked cases by a few changes: lines are dropped, doubled, moved, or taken from another script; words are put
-in the place of others; bytes are cut off, changed or put in. `check` with a small budget must answer each with a status from 0 to 3 within
-a second: one script in three by itself, one with `--every`, and one with `--pairs` and a smaller budget still. A script that it answers
-otherwise is kept in the folder, and named. The last line is `N passed, M failed`.
+in the place of others; bytes are cut off, changed or put in. `check` with a small budget must answer each with a status from 0 to 3: of
+three scripts one by itself and one with `--every` within a second, and one with `--pairs` and a smaller budget within five. A script that
+it answers otherwise is kept in the folder, and named. The last line is `N passed, M failed`.
 """
 
 import argparse
@@ -25,9 +25,8 @@ NUMBER = re.compile(rb"(?<= )-?[0-9]+\b")
 NUMBERS = [b"0", b"1", b"-1", b"15", b"16", b"80", b"255", b"65536", b"524286", b"1048576", b"999999999", b"-999999999"]
 # how many scripts a process makes at once
 SHARE = 500
-# what the program is asked for in turn; pairs are as many as half the square of the attempts
-COMMANDS = (["check", "--budget", "200"], ["check", "--budget", "200", "--every"], ["check", "--budget", "50", "--pairs"])
-SECONDS = 1
+# what the program is asked for in turn, and within how many seconds; there are about half as many pairs as the square of the attempts
+COMMANDS = ((["check", "--budget", "200"], 1), (["check", "--budget", "200", "--every"], 1), (["check", "--budget", "50", "--pairs"], 5))
 
 
 def seeds() -> list[bytes]:
@@ -93,12 +92,12 @@ def share_of(seed: int, program: Path, keep: Path) -> tuple[int, list[str], dict
     faults, statuses = [], {}
     for number in range(SHARE):
         text = damaged(chance, scripts, words)
-        command = COMMANDS[number % len(COMMANDS)]
+        command, seconds = COMMANDS[number % len(COMMANDS)]
         try:
-            ran = subprocess.run([program, *command], input=text, capture_output=True, timeout=SECONDS)
+            ran = subprocess.run([program, *command], input=text, capture_output=True, timeout=seconds)
             status, fault = ran.returncode, None if 0 <= ran.returncode <= 3 else f"status {ran.returncode}, {ran.stdout[:80]!r}"
         except subprocess.TimeoutExpired:
-            status, fault = -1, f"no answer within {SECONDS} s"
+            status, fault = -1, f"no answer within {seconds} s"
         statuses[status] = statuses.get(status, 0) + 1
         if fault:
             keep.mkdir(exist_ok=True, parents=True)

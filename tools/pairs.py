@@ -96,8 +96,8 @@ def pair_of(sweep: Answer) -> Pair | None:
 
 
 def pairs_made(lasts: list[int]) -> Iterator[Pair]:
-    """All pairs of attempts that a run makes, in order: the first of the run without failure, whose number of attempts comes first among
-    these, and the second of the run in which the first fails, whose number of attempts stands at its place."""
+    """All pairs of attempts that are made, in order, where these are the numbers of the last attempts: of the run without failure, and then
+    of the run in which attempt 1 fails, attempt 2, and so on."""
     for first, last in enumerate(lasts):
         if first:
             yield from ((first, second) for second in range(first + 1, last + 1))
