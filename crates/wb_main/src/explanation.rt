@@ -52,10 +52,24 @@ fn explain_command(
     if status == READ_OR_WRITE_FAULT {
         return explain_fault(alloc, command, record);
     }
+    if has_nothing_to_say(command.task, record.numbers, status) {
+        return Ok(String::new(alloc));
+    }
     if record.is_short {
         return Err(NoMemory);
     }
     explain_script(alloc, command, record, status)
+}
+
+/// Whether there is nothing to say of a report: nothing was found, no attempt was to fail, and no length is reported. Then the
+/// script isn't read once more.
+fn has_nothing_to_say(task: Task, numbers: Option<Numbers>, status: u8) -> bool {
+    match task {
+        Task::Size | Task::Check(_) => false,
+        Task::Run(_) | Task::Sweep(_) => {
+            status == NOTHING_FOUND && rule_to_explain(task, numbers, status).is_none()
+        }
+    }
 }
 
 /// Why the script's file could not be read, or the report not written.
