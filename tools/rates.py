@@ -19,7 +19,7 @@ sys.path.insert(0, str(Path(__file__).resolve().parent))
 from sweep_checks import CUT, FINE, Answer, Script, Wanted, attempts_of, compare_scripts, failing_of, must, swept  # noqa: E402
 
 # a rate alone is one where no single failure shows anything
-WANTED: Wanted = {"no rate": 20, "rate 0": 2, "rate 2": 8, "a rate above 2": 8, "a rate alone": 5, "a cut at the budget": 2, "a cut at the ceiling": 1}
+WANTED: Wanted = {"no rate": 20, "rate 0": 2, "rate 2": 10, "a rate above 2": 10, "a rate alone": 5, "a cut at the budget": 2, "a cut at the ceiling": 1}
 
 
 class RatedScript(Script):
