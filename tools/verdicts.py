@@ -1,10 +1,12 @@
 """Which crates' wrong bodies were all refused, by a committed file that has a line for each.
 
 What the prover says of a wrong body follows from what its check reads: the toolchain, the crate and its wrong bodies, and
-what is seen of the crates below it. A line holds the checksum of these, so it stands only while all of them are the same."""
+what is seen of the crates below it. A line holds the checksum of these, so it stands only while all of them are the same. Of
+the toolchain its logic counts: kits of one logic prove the same statements, so a line stands in each of them."""
 
 import hashlib
 import re
+import subprocess
 from dataclasses import dataclass
 from datetime import date
 from functools import cache
@@ -23,6 +25,15 @@ LINE = re.compile(r"(\w+) (\d+) (\d{4}-\d\d-\d\d) ([0-9a-f]{64})")
 USED_BY_NOTHING = ("proofs", "WorkedCases.antt")
 # where a function begins, by the layout that `rt fmt` gives
 FUNCTION = re.compile(r"( *)(?:pub(?:\([^)]*\))? )?(?:const |unsafe )*fn \w+")
+# what `rt version` says of the logic
+LOGIC = re.compile(r"\blogic [0-9a-f]+")
+
+
+def logic_of_toolchain() -> str:
+    """The logic by which the toolchain proves: of what `rt version` prints, or all of that where it names none."""
+    said = subprocess.run(["rt", "version"], stdout=subprocess.PIPE, text=True, check=True).stdout.strip()
+    named = LOGIC.search(said)
+    return named[0] if named else said
 
 
 @dataclass(frozen=True)
@@ -37,9 +48,9 @@ class Verdict:
 class Verdicts:
     """The file of verdicts of a repository."""
 
-    def __init__(self, root: Path, version: str) -> None:
+    def __init__(self, root: Path, logic: str) -> None:
         self.crates = Crates(root)
-        self.version = version
+        self.logic = logic
         self.file = root / FILE
 
     def read(self) -> dict[str, Verdict]:
@@ -63,7 +74,7 @@ class Verdicts:
     def checksum(self, crate: str) -> str:
         """The checksum of all that a check of the crate's wrong bodies reads."""
         folder = self.crates.folder(crate)
-        whole = hashlib.sha256(f"{self.version}\n{self.crates.lines[crate]}\n".encode())
+        whole = hashlib.sha256(f"{self.logic}\n{self.crates.lines[crate]}\n".encode())
         for file in [*self.crates.files(crate), *sorted((folder / WRONG_BODIES).glob("*"))]:
             add(whole, file.relative_to(self.crates.root), text_of(file))
         for lower in self.crates.below(crate):

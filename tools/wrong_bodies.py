@@ -34,7 +34,7 @@ from threading import Lock
 
 from build import Unproved, build_below
 from crates import ROOT, Crates, Step, processors, run_steps
-from verdicts import WRONG_BODIES, Verdicts
+from verdicts import WRONG_BODIES, Verdicts, logic_of_toolchain
 from wrong_body_checks import Verdict, check, make_room
 from wrong_body_edits import MUST_FAIL, Edit, edited_files, read_edits
 from wrong_body_twins import Twins, add_proof_files
@@ -160,8 +160,7 @@ def main() -> int:
     for it in given.crates:
         if it not in crates.lines:
             parser.error(f"crates.txt lists no crate {it}")
-    version = subprocess.run(["rt", "version"], stdout=subprocess.PIPE, text=True, check=True).stdout.strip()
-    verdicts = Verdicts(ROOT, version)
+    verdicts = Verdicts(ROOT, logic_of_toolchain())
     kinds = [WRONG_BODIES, MUST_FAIL] if given.must_fail else [WRONG_BODIES]
     names = [it for it in given.crates or crates.lines if any((crates.folder(it) / kind).is_dir() for kind in kinds)]
     if not given.crates and not given.all:

@@ -10,7 +10,7 @@ from pathlib import Path
 TOOLS = Path(__file__).resolve().parent.parent
 sys.path.insert(0, str(TOOLS))
 from crates import Crates  # noqa: E402
-from verdicts import FILE, USED_BY_NOTHING, Verdicts, without_bodies  # noqa: E402
+from verdicts import FILE, USED_BY_NOTHING, Verdicts, logic_of_toolchain, without_bodies  # noqa: E402
 
 LOW = """\
 //! A number and the next one.
@@ -106,13 +106,13 @@ class TinyRepository(unittest.TestCase):
         self.assertIn(old, text)
         self.write(name, text.replace(old, new))
 
-    def verdicts(self, version: str = "a kit") -> Verdicts:
-        """The verdicts of the repository, by a toolchain of that name."""
-        return Verdicts(self.root, version)
+    def verdicts(self, logic: str = "logic 0") -> Verdicts:
+        """The verdicts of the repository, by a toolchain of that logic."""
+        return Verdicts(self.root, logic)
 
-    def standing(self, version: str = "a kit") -> list[str]:
+    def standing(self, logic: str = "logic 0") -> list[str]:
         """The crates whose line stands."""
-        verdicts = self.verdicts(version)
+        verdicts = self.verdicts(logic)
         return [it for it in ("low", "high") if verdicts.stands(it)]
 
 
@@ -129,7 +129,7 @@ class WhatLinesStand(TinyRepository):
         self.assertEqual(self.standing(), ["low", "high"])
 
     def test_another_kit(self) -> None:
-        self.assertEqual(self.standing("another kit"), [])
+        self.assertEqual(self.standing("logic 1"), [])
 
     def test_a_changed_edit(self) -> None:
         self.write("crates/high/wrong-bodies/too-little.edit", RIGHT_EDIT)
@@ -211,11 +211,11 @@ class WhatIsTried(TinyRepository):
         self.assertEqual(status, 0)
         # an edit that is proved, with a line that says it was refused
         self.write("crates/high/wrong-bodies/right.edit", RIGHT_EDIT)
-        version = subprocess.run(["rt", "version"], stdout=subprocess.PIPE, text=True).stdout.strip()
-        self.assertEqual(self.standing(version), ["low"])
-        verdicts = self.verdicts(version)
+        logic = logic_of_toolchain()
+        self.assertEqual(self.standing(logic), ["low"])
+        verdicts = self.verdicts(logic)
         verdicts.write("high", 2, verdicts.checksum("high"))
-        self.assertEqual(self.standing(version), ["low", "high"])
+        self.assertEqual(self.standing(logic), ["low", "high"])
         lines, status = self.try_bodies()
         self.assertIn("high/right: PROVED", lines)
         self.assertEqual((lines[-1], status), ("2 passed, 1 failed", 1))
