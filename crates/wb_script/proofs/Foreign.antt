@@ -1,9 +1,10 @@
 -- A loop over bytes that counts lines, against the lines.
-use Rattle.std.proofs.Common.{◌≡◌, ℕ, suc, ◌+◌, ◌<◌, ◌≤◌, List, [], ◌∷◌, length, get_or, drop, Bool, true, false, Option, nat_eq, refl, sym, ap, ◌∙◌, add-one, drop-cons, arith}
+use Rattle.std.proofs.Common.{◌≡◌, ℕ, suc, ◌+◌, ◌<◌, ◌≤◌, List, [], ◌∷◌, length, get_or, drop, Bool, true, false, ◌||◌, Option, None, nat_eq, refl, sym, ap, ◌∙◌, add-one, drop-cons, arith}
+use Rattle.std.proofs.lemmas.Bool.{false≢true}
 use Rattle.std.proofs.lemmas.Bool.Decides.{nat_tests}
 use Rattle.std.proofs.lemmas.Grind.{common_steps}
 use Rattle.std.specs.List.{list_any, position_from}
-use Rattle.wb_model.specs.Lines.{is_foreign, is_too_long, quoted_after, onto_first, ends_line, pieces_from, lines_of}
+use Rattle.wb_model.specs.Lines.{is_foreign, first_foreign_line, is_too_long, quoted_after, onto_first, ends_line, pieces_from, lines_of}
 
 pub at_most : (bytes : List ℕ) → is_too_long bytes ≡ false → length bytes ≤ 65536
 at_most bytes short = grind (arith, common_steps, nat_tests)
@@ -40,3 +41,23 @@ module _ (bytes : List ℕ) (i line : ℕ) where
       let differs : nat_eq byte 10 ≡ false = grind (arith, nat_tests) in
       let here : lines_of (drop i bytes) ≡ onto_first byte (pieces_from ends_line (quoted_after false byte) rest) = rw (drop-cons bytes i 0 within) (rw (differs, pieces_from) refl) in
       ap (first_foreign line) (here ∙ ap (onto_first byte) (unquoted rest (quoted_after false byte))) ∙ onto_fine byte line (lines_of rest) fine ∙ ap (λ n. first_foreign line (lines_of (drop n bytes))) (sym (add-one i))
+
+neither : (a b : Bool) → (a || b) ≡ false → (a ≡ false) × (b ≡ false)
+neither false b is = (refl, is)
+neither true b is = absurd (false≢true (sym is))
+
+-- where no byte is foreign, no line has one
+none_from : (bytes : List ℕ) (line : ℕ) → list_any is_foreign bytes ≡ false → first_foreign line (lines_of bytes) ≡ None
+none_from [] line none = refl
+none_from (byte ∷ bytes) line none =
+    let parts = neither (is_foreign byte) (list_any is_foreign bytes) none in
+    go (nat_eq byte 10) (λ n. none_from bytes n parts.1) parts.0
+  where
+    go : (b : Bool) → ((n : ℕ) → first_foreign n (lines_of bytes) ≡ None) → is_foreign byte ≡ false →
+        first_foreign line (elim b as (λ _. List (List ℕ)) [ true ↦ [] ∷ pieces_from ends_line false bytes | false ↦ onto_first byte (pieces_from ends_line (quoted_after false byte) bytes) ]) ≡ None
+    go true others fine = others (line + 1)
+    go false others fine =
+        ap (λ ls. first_foreign line (onto_first byte ls)) (unquoted bytes (quoted_after false byte)) ∙ onto_fine byte line (lines_of bytes) fine ∙ others line
+
+pub none_foreign : (bytes : List ℕ) → list_any is_foreign bytes ≡ false → first_foreign_line bytes ≡ None
+none_foreign bytes none = none_from bytes 1 none

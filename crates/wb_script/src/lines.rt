@@ -2,6 +2,7 @@
 //! of the language the words are.
 
 pub(crate) mod bytes;
+pub(crate) mod first_bytes;
 pub(crate) mod forms;
 pub(crate) mod keys;
 pub(crate) mod pieces;

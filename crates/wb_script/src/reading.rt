@@ -32,7 +32,7 @@ use wb_nesting::first_misfit;
 fn roles<N>(alloc: Global, forms: &[Form<N>]) -> Result<Vec<Role>, AllocError>
     ensures { IfOk result (λ found. found.items ≡ map role_of_form forms.now) }
 {
-    let mut found = Vec::new(alloc);
+    let mut found = Vec::with_capacity(alloc, forms.len())?;
     for form in forms {
         add(&mut found, role(form))?;
     }

@@ -263,7 +263,7 @@ fn resolved_operands(
     ensures { IfOk result (λ found. found.items ≡ resolved_operands (lent_items items.now) (known_in known.now) key (letters_for key (length operands.now)) (lent_operands operands.now)) }
 {
     let letters = Letters::of(key);
-    let mut found = Vec::new(alloc);
+    let mut found = Vec::with_capacity(alloc, operands.len())?;
     for (index, operand) in operands.iter().enumerate() {
         let Some(letter) = letters.at(index) else {
             return Ok(found);

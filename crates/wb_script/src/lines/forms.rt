@@ -9,8 +9,9 @@ ghost use Rattle.wb_model.specs.declared.script_lines.WordKind.TheVariants as ki
 ghost use Rattle.wb_model.specs.Keys.{keys, letters_with, letters_for, text_of};
 ghost use Rattle.wb_script.specs.Lent.{lent_text, lent_texts, lent_operand, lent_operands, lent_form, lent_forms};
 
-use crate::lines::keys::{ALL, Letters, role_of, text_of, word_kinds};
-use crate::lines::pieces::words;
+use crate::lines::first_bytes::keys_with_first;
+use crate::lines::keys::{Letters, role_of, text_of, word_kinds};
+use crate::lines::pieces::add_words;
 use crate::lines::words::{
     base_name, declared_name, field_name, is_keyword, literal_of, number_of, parameter_name,
     parameter_taken, used_name,
@@ -154,7 +155,7 @@ fn operands_of<'a>(
     if !letters.admit(words.len()) {
         return Ok(None);
     }
-    let mut found = Vec::new(alloc);
+    let mut found = Vec::with_capacity(alloc, words.len())?;
     for (index, word) in words.iter().enumerate() {
         match operand_at(letters, index, word) {
             None => return Ok(None),
@@ -199,7 +200,7 @@ fn form_in<'a>(
     Ok(Form::Unknown)
 }
 
-/// The form of words that are no comment, by the tables.
+/// The form of words that are no comment, by the tables: of the keys whose words begin as the first word does.
 fn keyed_form<'a>(
     alloc: Global,
     first: &[u8],
@@ -207,7 +208,10 @@ fn keyed_form<'a>(
 ) -> Result<Form<&'a [u8]>, AllocError>
     ensures { IfOk result (λ form. lent_form form ≡ form_in keys first.now (lent_texts words.now)) }
 {
-    form_in(alloc, &ALL, first, words)
+    match first {
+        [byte, ..] => form_in(alloc, keys_with_first(*byte), first, words),
+        [] => Ok(Form::Unknown),
+    }
 }
 
 fn begins_comment(word: &[u8]) -> bool
@@ -231,22 +235,28 @@ fn form_of<'a>(alloc: Global, words: &[&'a [u8]]) -> Result<Form<&'a [u8]>, Allo
     }
 }
 
-/// The form of a line, without its line feed.
-pub(crate) fn line_form<'a>(alloc: Global, line: &'a [u8]) -> Result<Form<&'a [u8]>, AllocError>
+/// The form of a line, without its line feed. The words are made anew in what held those of another line.
+fn line_form<'a>(
+    alloc: Global,
+    words: &mut Vec<&'a [u8]>,
+    line: &'a [u8],
+) -> Result<Form<&'a [u8]>, AllocError>
     ensures { IfOk result (λ form. lent_form form ≡ line_form line.now) }
 {
-    let words = words(alloc, line)?;
-    form_of(alloc, &words)
+    words.clear();
+    add_words(words, line)?;
+    form_of(alloc, words)
 }
 
 fn add_form<'a>(
     alloc: Global,
     forms: &mut Vec<Form<&'a [u8]>>,
+    words: &mut Vec<&'a [u8]>,
     line: &'a [u8],
 ) -> Result<(), AllocError>
     ensures { OnOk result (lent_forms forms.new.items ≡ lent_forms forms.old.items ++ line_form line.now ∷ []) }
 {
-    add(forms, line_form(alloc, line)?)
+    add(forms, line_form(alloc, words, line)?)
 }
 
 /// The forms of lines, one for each.
@@ -256,9 +266,10 @@ pub(crate) fn forms<'a>(
 ) -> Result<Vec<Form<&'a [u8]>>, AllocError>
     ensures { IfOk result (λ found. lent_forms found.items ≡ forms_of (lent_texts lines.now)) }
 {
-    let mut found = Vec::new(alloc);
+    let mut found = Vec::with_capacity(alloc, lines.len())?;
+    let mut words = Vec::new(alloc);
     for line in lines {
-        add_form(alloc, &mut found, line)?;
+        add_form(alloc, &mut found, &mut words, line)?;
     }
     Ok(found)
 }

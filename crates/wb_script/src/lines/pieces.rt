@@ -1,7 +1,6 @@
 //! Bytes cut into lines, and lines into words.
 
-ghost use Rattle.std.specs.Prelude.{◌≡◌, ◌≢◌, ◌∷◌, ◌<◌, [], length, IfOk};
-ghost use Rattle.std.specs.List.{flat_map};
+ghost use Rattle.std.specs.Prelude.{◌≡◌, ◌≢◌, ◌∷◌, ◌++◌, ◌<◌, [], length, IfOk, OnOk};
 ghost use Rattle.std.specs.Option.{option_map, option_to_list};
 ghost use Rattle.wb_model.specs.Lines.{quoted_after, pieces, lines_of, words_of, unless_empty};
 ghost use Rattle.wb_script.specs.Lent.{lent_text, lent_texts};
@@ -42,10 +41,13 @@ fn first_piece<'a>(cut: Cut, bytes: &'a [u8]) -> (&'a [u8], &'a [u8])
 {
     let mut quoted = false;
     for (index, byte) in bytes.iter().enumerate() {
-        if cut.ends_at(quoted, *byte) {
-            return (&bytes[..index], &bytes[index + 1..]);
+        // What ends a line or a word, and a quote, are at most a quote; most bytes are above it.
+        if *byte <= b'"' {
+            if cut.ends_at(quoted, *byte) {
+                return (&bytes[..index], &bytes[index + 1..]);
+            }
+            quoted = quoted_after(quoted, *byte);
         }
-        quoted = quoted_after(quoted, *byte);
     }
     (bytes, &bytes[bytes.len()..])
 }
@@ -69,16 +71,6 @@ fn unless_empty<'a>(piece: &'a [u8]) -> Option<&'a [u8]>
     if piece.is_empty() { None } else { Some(piece) }
 }
 
-fn nonempty<'a>(alloc: Global, pieces: &[&'a [u8]]) -> Result<Vec<&'a [u8]>, AllocError>
-    ensures { IfOk result (λ found. lent_texts found.items ≡ flat_map unless_empty (lent_texts pieces.now)) }
-{
-    let mut found = Vec::new(alloc);
-    for piece in pieces {
-        add_some(&mut found, unless_empty(piece))?;
-    }
-    Ok(found)
-}
-
 /// The lines of a script, without their line feeds.
 pub(crate) fn lines<'a>(alloc: Global, bytes: &'a [u8]) -> Result<Vec<&'a [u8]>, AllocError>
     ensures { IfOk result (λ found. lent_texts found.items ≡ lines_of bytes.now) }
@@ -86,10 +78,15 @@ pub(crate) fn lines<'a>(alloc: Global, bytes: &'a [u8]) -> Result<Vec<&'a [u8]>,
     pieces(alloc, Cut::Lines, bytes)
 }
 
-/// The words of a line. A blank between quotes ends no word.
-pub(crate) fn words<'a>(alloc: Global, line: &'a [u8]) -> Result<Vec<&'a [u8]>, AllocError>
-    ensures { IfOk result (λ found. lent_texts found.items ≡ words_of line.now) }
+/// Appends the words of a line. A blank between quotes ends no word.
+pub(crate) fn add_words<'a>(words: &mut Vec<&'a [u8]>, line: &'a [u8]) -> Result<(), AllocError>
+    ensures { OnOk result (lent_texts words.new.items ≡ lent_texts words.old.items ++ words_of line.now) }
 {
-    let pieces = pieces(alloc, Cut::Words, line)?;
-    nonempty(alloc, &pieces)
+    let mut rest = line;
+    while !rest.is_empty() {
+        let (piece, after) = first_piece(Cut::Words, rest);
+        add_some(words, unless_empty(piece))?;
+        rest = after;
+    }
+    Ok(())
 }

@@ -1,8 +1,11 @@
 use Rattle.std.proofs.Common.{ℕ, ◌+◌, ap, sym, ◌∙◌, arith, drop}
 use Rattle.wb_model.specs.Lines.{lines_of}
-use Rattle.wb_script.proofs.Foreign.{first_foreign, at_most, next_line, same_line}
+use Rattle.wb_script.proofs.Foreign.{first_foreign, at_most, next_line, none_foreign, same_line}
 use Rattle.wb_script.proofs.lines.bytes.first_foreign_line.Goals as goal
 use Rattle.wb_script.proofs.lines.bytes.first_foreign_line.Goals.{then-byte-eq10, else-byte-eq10}
+
+pub returns-then-not-has_foreign : goal.returns-then-not-has_foreign
+returns-then-not-has_foreign c = sym (none_foreign c.args.bytes.now (sym c.has_foreign.ensures ∙ c.if-not-has_foreign.true))
 
 pub overflow_add-line : goal.overflow_add-line
 overflow_add-line c = let short = at_most c.args.bytes.now c.requires in omega arith
