@@ -218,7 +218,8 @@ impl DebugHeap {
         let added = self.log.push(line)?;
         let gave = match line.answer {
             Answer::Granted => {
-                let granted = self.heap.alloc(length, kind, line.number, self.level);
+                let heap = &mut self.heap;
+                let granted = heap.alloc_at(place, length, kind, line.number, self.level);
                 granted_or_undone(granted, &mut self.log, added)?
             }
             Answer::Simulated | Answer::Refused => Gave::Denied,
@@ -252,20 +253,17 @@ impl DebugHeap {
         let length = cell_length(bytes);
         let cell = self.heap.header(ptr).unwrap();
         if length <= cell.length {
-            let number = self.attempts + 1;
-            return match self.heap.realloc(ptr, length, number) {
-                Ok(ptr) => Ok(Gave::Granted(ptr)),
-                Err(_) => unreachable!(),
-            };
+            self.heap.shorten(cell, length);
+            return Ok(Gave::Granted(ptr));
         }
-        let place = self.heap.place_for_realloc(ptr, length);
+        let place = self.heap.place_to_grow(cell, length);
         let Some(line) = self.next_line(length, place) else {
             return Ok(Gave::Ceiling);
         };
         let added = self.log.push(line)?;
         let gave = match line.answer {
             Answer::Granted => {
-                let granted = self.heap.realloc(ptr, length, line.number);
+                let granted = self.heap.lengthen(cell, place, length, line.number);
                 granted_or_undone(granted, &mut self.log, added)?
             }
             Answer::Simulated | Answer::Refused => Gave::Denied,

@@ -1,5 +1,5 @@
 -- Where a cell goes that becomes longer, and what a pointer to it is.
-use Rattle.std.proofs.Common.{cond, All, IfSome, ◌≡◌, ◌≢◌, ℕ, ◌+◌, ◌-◌, ◌*◌, ◌/◌, ◌≤◌, ◌<◌, Bool, true, false, List, length, Option, Some, None, option_map, Result, Ok, Err, OnOk, IsSomeAnd, refl, sym, ◌∙◌, ap, subst, arith}
+use Rattle.std.proofs.Common.{cond, All, IfSome, ◌≡◌, ◌≢◌, ℕ, ◌+◌, ◌-◌, ◌*◌, ◌/◌, ◌%◌, ◌≤◌, ◌<◌, Bool, true, false, List, length, Option, Some, None, option_map, Result, Ok, Err, OnOk, IsSomeAnd, refl, sym, ◌∙◌, ap, subst, arith}
 use Rattle.std.specs.Prelude.{nat_eq, nat_le, nat_lt}
 use Rattle.std.proofs.lemmas.Bool.{leb-true, leb-false, le-leb, lt-leb, lt-ltb, le-ltb, cond-true, cond-false, false_from_ne_true}
 use Rattle.wb_model.specs.declared.heap.Header.{Header}
@@ -76,6 +76,11 @@ pub grows-within : (heap : LimitedHeap) (h : Header) (length : ℕ) → IsCellLe
     place_to_grow heap h length ≤ heap.committed
 grows-within heap h length long is e =
     (place_to_grow-is heap (pointer_to h) (cell-of (pointer_to h) heap.row h) length long is (whole-cell (pointer_to h) heap.row h e)).within
+
+pub grows-aligned : (heap : LimitedHeap) (h : Header) (length : ℕ) → IsCellLength length → IsSoundHeap heap → Names (pointer_to h) heap.row h →
+    place_to_grow heap h length % 16 ≡ 0
+grows-aligned heap h length long is e =
+    (place_to_grow-is heap (pointer_to h) (cell-of (pointer_to h) heap.row h) length long is (whole-cell (pointer_to h) heap.row h e)).aligned
 
 -- the words of its payload
 pub words-of : (p : Ptr) (row : List (Cell (List ℕ))) (h : Header) → All IsFilled row → Names p row h → (h.length - 16) / 4 ≡ length (payload_of p row)

@@ -128,14 +128,33 @@ impl Heap {
         ensures sound { IsSoundHeap self.new }
     {
         let place = self.place_for(length);
+        self.alloc_at(place, length, kind, number, level)
+    }
+
+    /// The same where the place is known: it is the one that `place_for` gives, so that it need not be sought again.
+    pub fn alloc_at(
+        &mut self,
+        place: u32,
+        length: u32,
+        kind: Kind,
+        number: u32,
+        level: u32,
+    ) -> Result<Ptr, HeapFault>
+        requires placed { place ≡ place_in self.old length }
+        requires length { IsCellLength length }
+        requires numbered { 1 ≤ number }
+        requires unused { All (λ h. h.number ≢ number) (headers self.old.row) }
+        ensures pointer { IfOk result (λ ptr. ptr ≡ record { place = place_in self.old length; number = number }) }
+        ensures granted { OnOk result (self.new ≡ heap_with self.old length kind number level) }
+        ensures short { (result ≡ Err HeapFault.TooShort) ↔ (self.old.limit < place_in self.old length + length) }
+        ensures no_other { IfErr result (λ fault. fault ≢ HeapFault.TooShort → fault ≡ HeapFault.NoMemory) }
+        ensures no_growth { committed_with self.old length ≤ self.old.held → result ≢ Err HeapFault.NoMemory }
+        ensures err { OnErr result (self.new ≡ self.old) }
+        ensures sound { IsSoundHeap self.new }
+    {
+        let (limit, shape) = (self.limit, self.shape);
         let end = place + length;
-        let committed = room::hold_for(
-            &mut self.cells,
-            self.limit,
-            self.shape,
-            self.committed,
-            end,
-        )?;
+        let committed = room::hold_for(&mut self.cells, limit, shape, self.committed, end)?;
         let header = Header {
             place,
             length,
@@ -168,10 +187,20 @@ impl Heap {
         let Some(header) = self.header(ptr) else {
             return Err(HeapFault::BadCell);
         };
+        self.free_cell(ptr, header);
+        Ok(())
+    }
+
+    /// The same where the header is known: it is the one that `header` gives for the pointer, so that it need not be
+    /// read again.
+    pub fn free_cell(&mut self, ptr: Ptr, cell: Header)
+        requires { option_map (λ c. c.head) (cell_at ptr self.old.row) ≡ Some cell }
+        ensures freed { self.new ≡ heap_without self.old ptr }
+        ensures sound { IsSoundHeap self.new }
+    {
         self.cells.give(ptr);
         self.count -= 1;
-        self.total -= header.length;
-        Ok(())
+        self.total -= cell.length;
     }
 
     /// The header of the cell that the pointer names, or `None` exactly where it names no live cell. Its payload has a

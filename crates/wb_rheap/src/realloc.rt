@@ -32,8 +32,8 @@ impl Heap {
         self.place_to_grow(cell, length)
     }
 
-    /// The same, of a live cell's header.
-    fn place_to_grow(&self, cell: Header, length: u32) -> u32
+    /// The same where the header is known: it is that of a live cell.
+    pub fn place_to_grow(&self, cell: Header, length: u32) -> u32
         requires live { option_map (λ c. c.head) (cell_at (pointer_to cell) self.now.row) ≡ Some cell }
         requires length { IsCellLength length }
         requires longer { cell.length < length }
@@ -100,11 +100,20 @@ impl Heap {
             self.shorten(cell, length);
             return Ok(ptr);
         }
-        self.lengthen(cell, length, number)
+        let place = self.place_to_grow(cell, length);
+        self.lengthen(cell, place, length, number)
     }
 
-    /// Makes a live cell longer, and answers the pointer that names it then.
-    fn lengthen(&mut self, cell: Header, length: u32, number: u32) -> Result<Ptr, HeapFault>
+    /// What `realloc` does to a cell that becomes longer, where its header and its place are known: the place is the one
+    /// that `place_to_grow` gives, so that it need not be sought again.
+    pub fn lengthen(
+        &mut self,
+        cell: Header,
+        place: u32,
+        length: u32,
+        number: u32,
+    ) -> Result<Ptr, HeapFault>
+        requires placed { place ≡ place_to_grow self.old cell length }
         requires live { option_map (λ c. c.head) (cell_at (pointer_to cell) self.old.row) ≡ Some cell }
         requires longer { cell.length < length }
         requires length { IsCellLength length }
@@ -120,23 +129,17 @@ impl Heap {
 
         ensures sound { IsSoundHeap self.new }
     {
-        let place = self.place_to_grow(cell, length);
-        let new_end = place + length;
-        let committed = room::hold_for(
-            &mut self.cells,
-            self.limit,
-            self.shape,
-            self.committed,
-            new_end,
-        )?;
+        let (limit, shape) = (self.limit, self.shape);
+        let end = place + length;
+        let committed = room::hold_for(&mut self.cells, limit, shape, self.committed, end)?;
         let ptr = moves::lengthen(&mut self.cells, cell, place, length, number);
         self.committed = committed;
         self.total += length - cell.length;
         Ok(ptr)
     }
 
-    /// Makes a live cell shorter where it stands, or leaves its length.
-    fn shorten(&mut self, cell: Header, length: u32)
+    /// What `realloc` does to a cell that becomes no longer, where its header is known.
+    pub fn shorten(&mut self, cell: Header, length: u32)
         requires live { option_map (λ c. c.head) (cell_at (pointer_to cell) self.old.row) ≡ Some cell }
         requires shorter { length ≤ cell.length }
         requires length { IsCellLength length }

@@ -12,7 +12,7 @@ use wb_model::limits::CEILING;
 /// Asks the limit for a cell with this end, and answers the committed length that the cell needs, which is held then.
 ///
 /// `TooShort` exactly where the end passes the limit, and else `NoMemory` at worst, and not even that where that length
-/// is held already.
+/// is held already. No memory is asked for where the end is within the committed length.
 pub fn hold_for(
     cells: &mut Cells,
     limit: u32,
@@ -25,6 +25,7 @@ pub fn hold_for(
     requires aligned { committed % 16 ≡ 0 }
     requires within { committed ≤ bound_below limit }
     requires rounded { end % 16 ≡ 0 }
+    requires covered { committed ≤ cells.old.held }
     ensures committed { IfOk result (λ bytes. bytes ≡ committed_by (space_below (bound_below limit) shape) committed end) }
     ensures covers { IfOk result (λ bytes. end ≤ bytes) }
     ensures fits { OnOk result (end ≤ limit) }
@@ -39,6 +40,9 @@ pub fn hold_for(
         return Err(HeapFault::TooShort);
     }
     let bytes = space::committed_for(limit, shape, committed, end);
+    if bytes == committed {
+        return Ok(bytes);
+    }
     cells.reserve(bytes)?;
     Ok(bytes)
 }

@@ -1,4 +1,4 @@
-use Rattle.std.proofs.Common.{◌≡◌, ◌/◌, ◌%◌, subst, sym, arith}
+use Rattle.std.proofs.Common.{◌≡◌, ap, sym, ◌/◌, ◌%◌, subst, arith}
 use Rattle.std.proofs.Math.Nat.{mul-mod_left}
 use Rattle.wb_model.specs.Space.{space_below, bound_below}
 use Rattle.wb_model.proofs.LimitedHeaps.{shape_is, committed_by-is}
@@ -10,3 +10,7 @@ reserve-requires-clause-rounded c =
     subst (λ n. n % 16 ≡ 0) (sym c.committed_for-bytes.ensures)
     (committed_by-is (space_below (bound_below c.args.limit) c.args.shape) c.args.committed c.args.end (omega (arith, shape.step_least)) shape.step_aligned
     (mul-mod_left (c.args.limit / 16) 16) c.requires.aligned c.requires.within (omega (arith, c.if-limit-end.false, c.requires.rounded))).aligned
+
+pub returns-then-bytes-committed-clause-held : goal.returns-then-bytes-committed-clause-held
+returns-then-bytes-committed-clause-held c =
+    ap (λ n. record c.args.cells.now { held = n }) (omega (arith, c.requires.covered, c.if-bytes-committed.true))

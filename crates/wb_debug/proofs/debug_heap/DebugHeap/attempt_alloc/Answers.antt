@@ -22,8 +22,8 @@ returns-in_err-added-clause-sound c =
 
 pub returns-in_err-gave-in-Granted-clause-sound : goal.returns-in_err-gave-in-Granted-clause-sound
 returns-in_err-gave-in-Granted-clause-sound c =
-    kept-sound _ (set-kept c.self.inside c.alloc-granted.new.self c.self.inside.level c.self.inside.setting c.granted_or_undone.new.log
-    (on-err c.alloc-granted.result _ c.in_err-gave-in-Granted.ensures.wanting c.alloc-granted.ensures.err)
+    kept-sound _ (set-kept c.self.inside c.alloc_at-granted.new.self c.self.inside.level c.self.inside.setting c.granted_or_undone.new.log
+    (on-err c.alloc_at-granted.result _ c.in_err-gave-in-Granted.ensures.wanting c.alloc_at-granted.ensures.err)
     (c.in_err-gave-in-Granted.ensures.undone c.self.inside.log c.in-Some.line c.in_ok-added.ensures.pushed (sym c.in_ok-added.ensures.added)) c.self.invariant)
 
 pub returns-in_err-gave-in-Granted-clause-quiet : goal.returns-in_err-gave-in-Granted-clause-quiet
@@ -39,12 +39,12 @@ returns-in_err-gave-in-Granted-clause-quiet c measuring same =
     let within = granted-within d.rule (number_of_next d) t (answer ∙ ap Some c.in-Granted.is) in
     let limit = c.self.invariant.limit ∙ ap (λ (x : Debug). limit_under x.rule) c.self.view_is in
     let places = ap (λ (t : Request). t.place + t.length) asked in
-    absurd (no_want inside line _ c.alloc-granted.result c.self.invariant
+    absurd (no_want inside line _ c.alloc_at-granted.result c.self.invariant
     (end-of-grant line (number_of_next d) (request_at d.heap c.place_for-place.result c.cell_length-length.result) c.in-Some.ensures.line c.in-Granted.is ∙ ap (λ p. p + c.cell_length-length.result) c.place_for-place.ensures.place)
     (subst (λ (x : Debug). is_some x.rises ≡ true) (sym c.self.view_is) measuring)
     (subst (λ (x : Debug). rises_with x.rises line ≡ x.rises) (sym c.self.view_is) stays)
-    (omega (arith, within, limit, places, c.place_for-place.ensures.place)) c.in_err-gave-in-Granted.ensures.wanting c.alloc-granted.ensures.no_other
-    (λ e. c.alloc-granted.ensures.short.0 e) c.alloc-granted.ensures.no_growth)
+    (omega (arith, within, limit, places, c.place_for-place.ensures.place)) c.in_err-gave-in-Granted.ensures.wanting c.alloc_at-granted.ensures.no_other
+    (λ e. c.alloc_at-granted.ensures.short.0 e) c.alloc_at-granted.ensures.no_growth)
 
 pub invariant_of-self-2 : goal.invariant_of-self-2
 invariant_of-self-2 c =
@@ -52,11 +52,11 @@ invariant_of-self-2 c =
     elim c.match-line.branch [
       | in-Granted+in_ok-gave-in-Granted w ↦
           subst (λ (x : Inside). IsKept (record x { setting = c.counted-self-inside.result; attempts = c.in-Some.line.number })) (sym w.self-inside-is)
-          (granted-kept c.self.inside w.alloc-granted.new.self c.counted-self-inside.result w.granted_or_undone.new.log c.in-Some.line _ _ _
-          (on-ok w.alloc-granted.result _ _ w.in_ok-gave-in-Granted.ensures.granted w.alloc-granted.ensures.granted)
+          (granted-kept c.self.inside w.alloc_at-granted.new.self c.counted-self-inside.result w.granted_or_undone.new.log c.in-Some.line _ _ _
+          (on-ok w.alloc_at-granted.result _ _ w.in_ok-gave-in-Granted.ensures.granted w.alloc_at-granted.ensures.granted)
           next
           (end-of-grant c.in-Some.line _ (request_at c.args.self.now.heap c.place_for-place.result c.cell_length-length.result) c.in-Some.ensures.line w.in-Granted.is ∙ ap (λ p. p + c.cell_length-length.result) c.place_for-place.ensures.place)
-          w.alloc-granted.ensures.sound
+          w.alloc_at-granted.ensures.sound
           (w.in_ok-gave-in-Granted.ensures.kept ∙ c.in_ok-added.ensures.pushed) c.self.invariant)
       | in-Simulated w ↦
           subst (λ (x : Inside). IsKept (record x { setting = c.counted-self-inside.result; attempts = c.in-Some.line.number })) (sym w.self-inside-is)

@@ -15,6 +15,9 @@ returns-then-length-cell-clause-done c =
     done-shorter c.args.self.now c.args.ptr c.in-Some.cell c.args.length c.args.number c.in-Some.ensures.sound (sym c.in-Some.ensures.header) c.shorten.new.self
     c.if-length-cell.true c.shorten.ensures.shortened
 
+pub place_to_grow-place-requires-clause-live : goal.place_to_grow-place-requires-clause-live
+place_to_grow-place-requires-clause-live c = own-named c.args.self.now c.args.ptr c.in-Some.cell c.in-Some.ensures.sound (sym c.in-Some.ensures.header)
+
 pub lengthen-requires-clause-live : goal.lengthen-requires-clause-live
 lengthen-requires-clause-live c = own-named c.args.self.now c.args.ptr c.in-Some.cell c.in-Some.ensures.sound (sym c.in-Some.ensures.header)
 
