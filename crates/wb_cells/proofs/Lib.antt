@@ -5,6 +5,7 @@ pub mod Growing
 pub mod Finding
 pub mod Changing
 pub mod Halving
+pub mod Runs
 pub mod Searching
 pub mod Linking
 pub mod Hollow

@@ -25,7 +25,7 @@ use wb_model::memory::NoMemory;
 /// pass for a header.
 #[derive(Drop)]
 pub struct Cells {
-    words: Chunk,
+    pub(crate) words: Chunk,
     starts: Starts,
     ends: Ends,
 }

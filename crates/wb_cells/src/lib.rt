@@ -8,4 +8,5 @@ pub use wb_model::memory::NoMemory;
 pub mod cells;
 mod free_list;
 mod layout;
+mod payloads;
 mod starts;

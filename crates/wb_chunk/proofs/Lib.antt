@@ -1,1 +1,2 @@
 mod RegionSteps
+pub mod WrittenHalves

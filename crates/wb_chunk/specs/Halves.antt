@@ -1,5 +1,5 @@
 -- A list of words as halves of 16 bits: half 2k is the low half of word k, and half 2k + 1 the high one.
-use Rattle.std.specs.Prelude.{ℕ, ◌+◌, ◌*◌, ◌/◌, ◌%◌, ◌^◌, List, nat_eq, if◌then◌else◌, slice_index, slice_set}
+use Rattle.std.specs.Prelude.{◌≡◌, ℕ, zero, suc, ◌+◌, ◌*◌, ◌/◌, ◌%◌, ◌^◌, ◌<◌, List, [], ◌∷◌, ◌++◌, length, nat_eq, if◌then◌else◌, slice_index, slice_set}
 
 -- the half at a place
 abbrev pub half_of : List ℕ → ℕ → ℕ
@@ -12,3 +12,21 @@ abbrev pub with_half : List ℕ → ℕ → ℕ → List ℕ
 with_half words i v =
     let word = slice_index words (i / 2) in
     slice_set words (i / 2) (if nat_eq (i % 2) 0 then word / 2 ^ 16 * 2 ^ 16 + v else v * 2 ^ 16 + word % 2 ^ 16)
+
+-- a number of halves, from a place on
+abbrev pub halves_from : List ℕ → ℕ → ℕ → List ℕ
+halves_from words i zero = []
+halves_from words i (suc n) = half_of words i ∷ halves_from words (suc i) n
+
+-- the words with other halves from a place on
+abbrev pub with_halves : List ℕ → ℕ → List ℕ → List ℕ
+with_halves words i [] = words
+with_halves words i (v ∷ vs) = with_half (with_halves words (suc i) vs) i v
+
+-- the word of the high half of one and the low half of another
+abbrev pub high_and_low : ℕ → ℕ → ℕ
+high_and_low word next = word / 2 ^ 16 + next % 2 ^ 16 * 2 ^ 16
+
+-- each half stands one place before where it stood, with the low half of another word behind them
+abbrev pub AreShifted : List ℕ → ℕ → List ℕ → Type 0
+AreShifted old next new = (k : ℕ) → k < length old → slice_index new k ≡ high_and_low (slice_index old k) (slice_index (old ++ next ∷ []) (k + 1))

@@ -6,7 +6,7 @@
 
 ghost use Rattle.std.specs.Prelude.{◌≡◌, ◌+◌, ◌*◌, ◌^◌, ◌<◌, ◌≤◌, [], ◌++◌, length, replicate, slice_index, slice_set, slice_range, IfOk, IsOk, OnOk, OnErr};
 ghost use Rattle.std.specs.List.{All, replace_range};
-ghost use Rattle.wb_chunk.specs.Halves.{half_of, with_half};
+ghost use Rattle.wb_chunk.specs.Halves.{half_of, halves_from, with_half, with_halves};
 
 use growth::{append_words, append_zeros, larger};
 use region::Region;
@@ -14,6 +14,7 @@ use std::alloc::{AllocError, Global};
 use std::marker::Model;
 
 mod growth;
+mod halves;
 mod region;
 
 /// The most words that a chunk can have: 16,777,216 bytes, the ceiling of a simulated heap.
@@ -145,12 +146,7 @@ impl Chunk {
         requires { i < 2 * length self.now }
         ensures { result ≡ half_of self.now i }
     {
-        let word = self.word(i / 2);
-        if i % 2 == 0 {
-            (word % 0x1_0000) as u16
-        } else {
-            (word / 0x1_0000) as u16
-        }
+        halves::half(self.as_slice(), i as usize)
     }
 
     /// Puts other 16 bits at an index of halves, and leaves the word's other half.
@@ -158,13 +154,42 @@ impl Chunk {
         requires { i < 2 * length self.old }
         ensures { self.new ≡ with_half self.old i v }
     {
-        let word = self.word(i / 2);
-        let mixed = if i % 2 == 0 {
-            word / 0x1_0000 * 0x1_0000 + v as u32
-        } else {
-            v as u32 * 0x1_0000 + word % 0x1_0000
-        };
-        self.set_word(i / 2, mixed);
+        if let Some(region) = &mut self.region {
+            halves::set_half(region.as_mut_slice(self.count), i as usize, v);
+        }
+    }
+
+    /// Makes the `n` halves from `i` on 0.
+    pub fn zero_halves(&mut self, i: u32, n: u32)
+        requires { i + n ≤ 2 * length self.old }
+        ensures { self.new ≡ with_halves self.old i (replicate n 0) }
+    {
+        if let Some(region) = &mut self.region {
+            halves::zero(region.as_mut_slice(self.count), i as usize, n as usize);
+        }
+    }
+
+    /// Writes halves from `i` on.
+    pub fn write_halves(&mut self, i: u32, halves: &[u16])
+        requires { i + length halves.now ≤ 2 * length self.old }
+        ensures { self.new ≡ with_halves self.old i halves.now }
+    {
+        if let Some(region) = &mut self.region {
+            halves::write(region.as_mut_slice(self.count), i as usize, halves);
+        }
+    }
+
+    /// Puts the `n` halves from `from` on at `to`, as if all had been read before any was written: the two ranges may
+    /// overlap.
+    pub fn copy_halves(&mut self, from: u32, to: u32, n: u32)
+        requires source { from + n ≤ 2 * length self.old }
+        requires target { to + n ≤ 2 * length self.old }
+        ensures { self.new ≡ with_halves self.old to (halves_from self.old from n) }
+    {
+        if let Some(region) = &mut self.region {
+            let words = region.as_mut_slice(self.count);
+            halves::copy(words, from as usize, to as usize, n as usize);
+        }
     }
 
     /// Makes the `n` words from `i` on 0.

@@ -1,7 +1,7 @@
 //! The words of payloads. Words and their halves are counted from 0; the half 2k is the low half of word k.
 
-ghost use Rattle.std.specs.Prelude.{◌≡◌, ◌*◌, ◌<◌, ◌≤◌, ◌++◌, length, take, drop, slice_index, slice_set, IsSome};
-ghost use Rattle.wb_chunk.specs.Halves.{half_of, with_half};
+ghost use Rattle.std.specs.Prelude.{◌≡◌, ◌+◌, ◌*◌, ◌<◌, ◌≤◌, ◌++◌, length, take, drop, replicate, slice_index, slice_set, IsSome};
+ghost use Rattle.wb_chunk.specs.Halves.{half_of, halves_from, with_half, with_halves};
 ghost use Rattle.wb_model.specs.CellRow.{payload_of};
 ghost use Rattle.wb_model.specs.LimitedHeap.{IsSoundHeap, heap_changed};
 ghost use Rattle.wb_model.specs.Row.{cell_at};
@@ -54,5 +54,38 @@ impl Heap {
         ensures sound { IsSoundHeap self.new }
     {
         self.cells.copy_payload(from, to, n);
+    }
+
+    /// Makes the `n` halves of a payload from an index on 0, and changes nothing else.
+    pub fn zero_halves(&mut self, ptr: Ptr, i: u32, n: u32)
+        requires live { IsSome (cell_at ptr self.old.row) }
+        requires within { i + n ≤ 2 * length (payload_of ptr self.old.row) }
+        ensures changed { self.new ≡ heap_changed self.old ptr (with_halves (payload_of ptr self.old.row) i (replicate n 0)) }
+        ensures sound { IsSoundHeap self.new }
+    {
+        self.cells.zero_halves(ptr, i, n);
+    }
+
+    /// Writes halves into a payload from an index on, and changes nothing else.
+    pub fn write_halves(&mut self, ptr: Ptr, i: u32, halves: &[u16])
+        requires live { IsSome (cell_at ptr self.old.row) }
+        requires within { i + length halves.now ≤ 2 * length (payload_of ptr self.old.row) }
+        ensures changed { self.new ≡ heap_changed self.old ptr (with_halves (payload_of ptr self.old.row) i halves.now) }
+        ensures sound { IsSoundHeap self.new }
+    {
+        self.cells.write_halves(ptr, i, halves);
+    }
+
+    /// Puts the `n` halves of one payload from `fi` on at `ti` of another, or of the same, as if all had been read before
+    /// any was written.
+    pub fn copy_halves(&mut self, from: Ptr, fi: u32, to: Ptr, ti: u32, n: u32)
+        requires from_live { IsSome (cell_at from self.old.row) }
+        requires to_live { IsSome (cell_at to self.old.row) }
+        requires source { fi + n ≤ 2 * length (payload_of from self.old.row) }
+        requires target { ti + n ≤ 2 * length (payload_of to self.old.row) }
+        ensures changed { self.new ≡ heap_changed self.old to (with_halves (payload_of to self.old.row) ti (halves_from (payload_of from self.old.row) fi n)) }
+        ensures sound { IsSoundHeap self.new }
+    {
+        self.cells.copy_halves(from, fi, to, ti, n);
     }
 }

@@ -1,0 +1,147 @@
+//! Halves of words, read and written one by one and many at once: plain code over the words. Runs of halves go by whole
+//! words but for the halves at their ends.
+
+ghost use Rattle.std.specs.Prelude.{◌≡◌, ◌+◌, ◌*◌, ◌%◌, ◌^◌, ◌<◌, ◌≤◌, length, replicate};
+ghost use Rattle.std.specs.List.{All};
+ghost use Rattle.wb_chunk.specs.Halves.{AreShifted, half_of, halves_from, with_half, with_halves};
+
+/// The half at a place.
+pub(crate) fn half(words: &[u32], i: usize) -> u16
+    requires { i < 2 * length words.now }
+    ensures { result ≡ half_of words.now i }
+{
+    let word = words[i / 2];
+    if i % 2 == 0 {
+        (word % 0x1_0000) as u16
+    } else {
+        (word / 0x1_0000) as u16
+    }
+}
+
+/// Puts another half at a place, and leaves the word's other half.
+pub(crate) fn set_half(words: &mut [u32], i: usize, v: u16)
+    requires { i < 2 * length words.old }
+    ensures { words.new ≡ with_half words.old i v }
+{
+    let word = words[i / 2];
+    words[i / 2] = if i % 2 == 0 {
+        word / 0x1_0000 * 0x1_0000 + v as u32
+    } else {
+        v as u32 * 0x1_0000 + word % 0x1_0000
+    };
+}
+
+/// Makes the `n` halves from a place on 0.
+pub(crate) fn zero(words: &mut [u32], i: usize, n: usize)
+    requires { i + n ≤ 2 * length words.old }
+    ensures { words.new ≡ with_halves words.old i (replicate n 0) }
+{
+    if i % 2 == 0 {
+        zero_from_word(words, i, n);
+    } else if 0 < n {
+        zero_from_word(words, i + 1, n - 1);
+        set_half(words, i, 0);
+    }
+}
+
+/// The same from the beginning of a word.
+fn zero_from_word(words: &mut [u32], i: usize, n: usize)
+    requires even { i % 2 ≡ 0 }
+    requires within { i + n ≤ 2 * length words.old }
+    ensures { words.new ≡ with_halves words.old i (replicate n 0) }
+{
+    words[i / 2..(i + n) / 2].fill(0);
+    if n % 2 != 0 {
+        set_half(words, i + n - 1, 0);
+    }
+}
+
+/// Writes halves from a place on.
+pub(crate) fn write(words: &mut [u32], i: usize, halves: &[u16])
+    requires { i + length halves.now ≤ 2 * length words.old }
+    ensures { words.new ≡ with_halves words.old i halves.now }
+{
+    if i % 2 == 0 {
+        write_from_word(words, i, halves);
+    } else if 0 < halves.len() {
+        write_from_word(words, i + 1, &halves[1..]);
+        set_half(words, i, halves[0]);
+    }
+}
+
+/// The same from the beginning of a word.
+fn write_from_word(words: &mut [u32], i: usize, halves: &[u16])
+    requires even { i % 2 ≡ 0 }
+    requires within { i + length halves.now ≤ 2 * length words.old }
+    ensures { words.new ≡ with_halves words.old i halves.now }
+{
+    let n = halves.len();
+    for k in 0..n / 2 {
+        words[i / 2 + k] = u32::from(halves[2 * k]) + u32::from(halves[2 * k + 1]) * 0x1_0000;
+    }
+    if n % 2 != 0 {
+        set_half(words, i + n - 1, halves[n - 1]);
+    }
+}
+
+/// Puts the `n` halves from `from` on at `to`, as if all had been read before any was written.
+pub(crate) fn copy(words: &mut [u32], from: usize, to: usize, n: usize)
+    requires fit { All (λ w. w < 2 ^ 32) words.old }
+    requires source { from + n ≤ 2 * length words.old }
+    requires target { to + n ≤ 2 * length words.old }
+    ensures { words.new ≡ with_halves words.old to (halves_from words.old from n) }
+{
+    if to % 2 == 0 {
+        copy_to_word(words, from, to, n);
+    } else if 0 < n {
+        let first = half(words, from);
+        copy_to_word(words, from + 1, to + 1, n - 1);
+        set_half(words, to, first);
+    }
+}
+
+/// The same to the beginning of a word.
+fn copy_to_word(words: &mut [u32], from: usize, to: usize, n: usize)
+    requires even { to % 2 ≡ 0 }
+    requires fit { All (λ w. w < 2 ^ 32) words.old }
+    requires source { from + n ≤ 2 * length words.old }
+    requires target { to + n ≤ 2 * length words.old }
+    ensures { words.new ≡ with_halves words.old to (halves_from words.old from n) }
+{
+    if n % 2 == 0 {
+        copy_pairs(words, from, to / 2, n / 2);
+    } else {
+        let last = half(words, from + n - 1);
+        copy_pairs(words, from, to / 2, n / 2);
+        set_half(words, to + n - 1, last);
+    }
+}
+
+/// Puts `n` pairs of halves at the words from `to` on.
+fn copy_pairs(words: &mut [u32], from: usize, to: usize, n: usize)
+    requires fit { All (λ w. w < 2 ^ 32) words.old }
+    requires source { from + 2 * n ≤ 2 * length words.old }
+    requires target { to + n ≤ length words.old }
+    ensures { words.new ≡ with_halves words.old (2 * to) (halves_from words.old from (2 * n)) }
+{
+    let start = from / 2;
+    if from % 2 == 0 {
+        words.copy_within(start..start + n, to);
+    } else if 0 < n {
+        let next = words[start + n];
+        words.copy_within(start..start + n, to);
+        shift(&mut words[to..to + n], next);
+    }
+}
+
+/// Moves each half to the place before it; the first is lost, and the low half of `next` comes last.
+fn shift(words: &mut [u32], next: u32)
+    requires { 1 ≤ length words.old }
+    ensures { AreShifted words.old next words.new }
+{
+    let last = words.len() - 1;
+    for i in 0..last {
+        words[i] = words[i] / 0x1_0000 + words[i + 1] % 0x1_0000 * 0x1_0000;
+    }
+    words[last] = words[last] / 0x1_0000 + next % 0x1_0000 * 0x1_0000;
+}

@@ -1,0 +1,8 @@
+use Rattle.wb_debug.proofs.Kept.{kept-sound, changed-kept}
+use Rattle.wb_debug.proofs.debug_heap.DebugHeap.write_halves.Goals as goal
+
+pub invariant_of-self : goal.invariant_of-self
+invariant_of-self c = changed-kept c.self.inside c.write_halves.new.self _ _ c.write_halves.ensures.changed c.write_halves.ensures.sound c.self.invariant
+
+pub returns-clause-sound : goal.returns-clause-sound
+returns-clause-sound c = kept-sound _ (invariant_of-self c)
