@@ -10,35 +10,29 @@ pub enum Numbers {
     Two(u32, u32),
 }
 
-/// What comes before the numbers, in a report as lines and as JSON. No other line begins so, and no line holds a quote.
-static BEFORE: [&str; 7] = [
-    "\nnumber ",
-    "\nevery ",
-    "\npair ",
-    "\"number\":",
-    "\"number\":[",
-    "\ncut ",
-    "\"cut ",
-];
-
 /// Returns the numbers that a report gives, or `None` if it gives none.
+///
+/// Only lines about lengths and about how many attempts there are come before them, also in JSON, where a quote ends a line as
+/// a line feed does, and what stands between strings has no blank. So the first other line ends the search.
 pub fn read_numbers(report: &[u8]) -> Option<Numbers> {
-    let text = str::from_utf8(report).ok()?;
-    if let Some(rest) = text.strip_prefix("cut ") {
-        return leading_numbers(rest);
-    }
-    for before in &BEFORE {
-        if let Some((_, rest)) = text.split_once(*before) {
-            if let Some(numbers) = leading_numbers(rest) {
-                return Some(numbers);
+    for line in report.split(|byte| matches!(*byte, b'\n' | b'"')) {
+        let Some(blank) = line.iter().position(|byte| *byte == b' ') else {
+            continue;
+        };
+        match &line[..blank] {
+            b"number" | b"every" | b"pair" | b"cut" => {
+                return leading_numbers(&line[blank + 1..]);
             }
+            b"required" | b"from" | b"enough" | b"attempts" => {}
+            _ => return None,
         }
     }
     None
 }
 
 /// The number that a text begins with, or the two, where one character is between them, as a blank or a comma.
-fn leading_numbers(text: &str) -> Option<Numbers> {
+fn leading_numbers(text: &[u8]) -> Option<Numbers> {
+    let text = str::from_utf8(text).ok()?;
     let mut pieces = text.split(|it: char| !it.is_ascii_digit());
     let first = whole_number(pieces.next()?)?;
     match pieces.next() {
