@@ -7,5 +7,7 @@ pub use wb_model::memory::NoMemory;
 
 pub mod cells;
 mod free_list;
+mod gap_index;
 mod layout;
+mod maxima;
 mod starts;
