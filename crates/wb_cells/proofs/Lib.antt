@@ -1,4 +1,3 @@
-pub mod FreeLists
 pub mod Words
 pub mod Laying
 pub mod Growing
@@ -24,3 +23,10 @@ pub mod Behind
 pub mod Lengths
 pub mod Levels
 pub mod Resizing
+pub mod Spans
+pub mod RowGaps
+pub mod Fitting
+pub mod Nearest
+pub mod Around
+pub mod Listing
+pub mod Indexed

@@ -1,12 +1,9 @@
--- The free segments as the words link them, and first fit among them.
-use Rattle.std.proofs.Common.{◌≡◌, ℕ, suc, ◌+◌, ◌*◌, ◌/◌, ◌%◌, ◌<◌, ◌≤◌, List, [], ◌∷◌, ◌++◌, length, get_or, Bool, true, false, cond, drop, refl, sym, ◌∙◌, ap, arith, add-zero, append_assoc, length-append}
-use Rattle.std.specs.Prelude.{nat_le}
+-- The free segments as the words link them.
+use Rattle.std.proofs.Common.{◌≡◌, ℕ, suc, ◌+◌, ◌*◌, ◌/◌, ◌%◌, ◌<◌, ◌≤◌, List, [], ◌∷◌, ◌++◌, length, get_or, Bool, drop, refl, sym, ◌∙◌, ap, arith, add-zero, append_assoc, length-append}
 use Rattle.std.proofs.lemmas.List.{get_or-drop, length-drop, drop-drop, drop_at}
-use Rattle.std.proofs.lemmas.Bool.{le-leb, lt-leb, leb-true, leb-false}
-use Rattle.wb_model.specs.Row.{headers, place_from}
-use Rattle.wb_cells.specs.FreeList.{NO_PLACE, Gap, Links, fit_among}
+use Rattle.wb_cells.specs.FreeList.{NO_PLACE, Gap, Links}
 use Rattle.wb_cells.specs.Inside.{IsLaid}
-use Rattle.wb_cells.specs.Segments.{Segment, live, free, state_of, total, first_free, words_of, row_from, AreWhole, AreMerged}
+use Rattle.wb_cells.specs.Segments.{Segment, live, free, state_of, total, first_free, words_of, AreWhole}
 use Rattle.wb_cells.proofs.Laying.{length-words_of}
 
 -- the free segments
@@ -58,23 +55,3 @@ module _ (words : List ℕ) (starts : List Bool) (top first : ℕ) (laid : IsLai
 
   pub links_laid : Links words first (gaps_from 0 laid.segments)
   links_laid = rw laid.linked (links_from words laid.spare laid.segments 0 refl laid.whole (omega (arith, below_none)) laid.spelled)
-
--- first fit, gap by gap
-pub place_from-row : (xs : List Segment) (at bytes top : ℕ) → AreMerged xs → 16 ≤ bytes → at + total xs ≡ top →
-    place_from at (headers (row_from at xs)) bytes ≡ fit_among (gaps_from at xs) bytes top
-place_from-row [] at bytes top m long ends = sym (add-zero at) ∙ ends
-place_from-row (live kind level number body ∷ xs) at bytes top m long ends =
-    rw (lt-leb (at + bytes) at (omega arith)) (place_from-row xs (at + (16 + 4 * length body)) bytes top m long (omega (arith, ends)))
-place_from-row (free body ∷ []) at bytes top m long ends = absurd m.0
-place_from-row (free body ∷ free body' ∷ xs) at bytes top m long ends = absurd m.0
-place_from-row (free body ∷ live kind level number body' ∷ xs) at bytes top m long ends =
-    let next = at + (16 + 4 * length body) + (16 + 4 * length body') in
-    go (nat_le bytes (16 + 4 * length body)) refl (place_from-row xs next bytes top m.1 long (omega (arith, ends)))
-  where
-    go : (b : Bool) → nat_le bytes (16 + 4 * length body) ≡ b →
-        place_from (at + (16 + 4 * length body) + (16 + 4 * length body')) (headers (row_from (at + (16 + 4 * length body) + (16 + 4 * length body')) xs)) bytes ≡
-        fit_among (gaps_from (at + (16 + 4 * length body) + (16 + 4 * length body')) xs) bytes top →
-        cond (nat_le (at + bytes) (at + (16 + 4 * length body))) at (place_from (at + (16 + 4 * length body) + (16 + 4 * length body')) (headers (row_from (at + (16 + 4 * length body) + (16 + 4 * length body')) xs)) bytes)
-        ≡ cond b at (fit_among (gaps_from (at + (16 + 4 * length body) + (16 + 4 * length body')) xs) bytes top)
-    go true e rest = rw (le-leb (at + bytes) (at + (16 + 4 * length body)) (omega (arith, leb-true bytes (16 + 4 * length body) e))) refl
-    go false e rest = rw (lt-leb (at + bytes) (at + (16 + 4 * length body)) (omega (arith, leb-false bytes (16 + 4 * length body) e))) rest

@@ -241,7 +241,7 @@ stays_down after place before xs here last whole merged closed = record {
 }
 
 -- segments before a free one don't end in one
-merged_before : (xs : List Segment) (body : List ℕ) (ys : List Segment) → AreMerged (xs ++ free body ∷ ys) → AreMerged xs
+pub merged_before : (xs : List Segment) (body : List ℕ) (ys : List Segment) → AreMerged (xs ++ free body ∷ ys) → AreMerged xs
 merged_before [] body ys m = tt
 merged_before (live kind level number body' ∷ xs) body ys m = merged_before xs body ys m
 merged_before (free body' ∷ []) body ys m = absurd m.0

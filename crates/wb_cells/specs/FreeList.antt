@@ -1,5 +1,5 @@
 -- The free cells that words link, in order of place.
-use Rattle.std.specs.Prelude.{ℕ, ◌+◌, ◌-◌, ◌*◌, ◌/◌, ◌≡◌, ◌≤◌, ◌<◌, List, [], ◌∷◌, length, slice_index, slice_set, nat_eq, nat_le, if◌then◌else◌}
+use Rattle.std.specs.Prelude.{ℕ, ◌+◌, ◌-◌, ◌*◌, ◌/◌, ◌≡◌, ◌≤◌, ◌<◌, List, [], ◌∷◌, length, slice_index, slice_set, nat_eq, if◌then◌else◌}
 use Rattle.std.specs.List.{replace_range}
 use Rattle.wb_chunk.specs.declared.TheConstants.{MOST_WORDS}
 
@@ -18,11 +18,6 @@ Links words at [] = at ≡ NO_PLACE
 Links words at (g ∷ gs) =
     (at ≡ g.place) × (slice_index words (g.place / 16 * 4) ≡ g.length) × (g.place / 16 * 4 + 4 ≤ length words) × (g.place < NO_PLACE)
     × (g.place < slice_index words (g.place / 16 * 4 + 2)) × Links words (slice_index words (g.place / 16 * 4 + 2)) gs
-
--- the first that is long enough, or the place above them all
-abbrev pub fit_among : List Gap → ℕ → ℕ → ℕ
-fit_among [] length top = top
-fit_among (g ∷ gs) length top = if nat_le length g.length then g.place else fit_among gs length top
 
 -- the place of the last one, or of what came before where there is none
 abbrev pub last_place_or : List Gap → ℕ → ℕ

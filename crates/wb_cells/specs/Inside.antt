@@ -1,10 +1,12 @@
--- What every value of `Cells` keeps: its words are segments, and its bits are where live cells begin.
+-- What every value of `Cells` keeps: its words are segments, its bits are where live cells begin, and its lengths by place
+-- are those of the free cells.
 use Rattle.std.specs.Prelude.{ℕ, ◌*◌, ◌%◌, ◌≡◌, ◌≢◌, ◌≤◌, List, ◌++◌, Bool, false, length, replicate, AllPairs}
 use Rattle.wb_chunk.specs.declared.TheConstants.{MOST_WORDS}
 use Rattle.wb_model.specs.CellRow.{CellRow}
 use Rattle.wb_model.specs.Row.{headers}
 use Rattle.wb_model.specs.Spelling.{spelled}
 use Rattle.wb_cells.specs.FreeList.{NO_PLACE}
+use Rattle.wb_cells.specs.RowGaps.{AreGapsOf}
 use Rattle.wb_cells.specs.Segments.{Segment, total, first_free, words_of, row_from, starts_of, AreWhole, AreMerged}
 
 -- the row that words spell up to a top, and the bytes held
@@ -27,3 +29,8 @@ pub record IsLaid (words : List ℕ) (starts : List Bool) (top first : ℕ) : Ty
   pub covered : length words ≤ 4 * length starts
   pub rounded : length words % 4 ≡ 0
   pub bounded : length words ≤ MOST_WORDS
+
+pub record IsIndexed (words : List ℕ) (starts : List Bool) (gaps : List ℕ) (top first : ℕ) : Type 0 where
+  pub laid : IsLaid words starts top first
+  pub listed : AreGapsOf (spelled words top) gaps
+  pub room : length words ≤ 4 * length gaps

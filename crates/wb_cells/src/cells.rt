@@ -5,9 +5,11 @@ ghost use Rattle.std.specs.Prelude.{◌≡◌, ◌≢◌, ◌+◌, ◌*◌, ◌%
 ghost use Rattle.wb_chunk.specs.Halves.{half_of, with_half};
 ghost use Rattle.wb_model.specs.CellRow.{CellRow, FitsInPlace, IsGap, IsSoundCells, payload_of, room_behind, with_length, with_level, with_payload};
 ghost use Rattle.wb_model.specs.LimitedHeap.{next_live_of, zero_words};
+ghost use Rattle.wb_model.specs.Space.{free_runs, longest};
 ghost use Rattle.wb_model.specs.Row.{IsLeastPlace, cell_at, headers, inserted, place_of, top_of, without};
 
 use crate::free_list::{self, Ends};
+use crate::gap_index::GapIndex;
 use crate::layout::{self, NONE};
 use crate::starts::Starts;
 use std::alloc::Global;
@@ -22,23 +24,25 @@ use wb_model::memory::NoMemory;
 ///
 /// A free cell lies between two live ones, or before the first; the words link the free cells in order of place. No two
 /// free cells touch. One bit for each place of 16 bytes says whether a live cell begins there, so that no payload can
-/// pass for a header.
+/// pass for a header. An index of the free cells' lengths finds one without a walk: no call's cost grows with how many
+/// cells there are, live or free.
 #[derive(Drop)]
 pub struct Cells {
     pub(crate) words: Chunk,
     starts: Starts,
+    gaps: GapIndex,
     ends: Ends,
 }
 
 impl Model for Cells {
     ghost use Rattle.wb_model.specs.CellRow.{CellRow};
-    ghost use Rattle.wb_cells.specs.Inside.{cells_in, IsLaid};
+    ghost use Rattle.wb_cells.specs.Inside.{cells_in, IsIndexed};
 
     ghost Value = { CellRow };
 
     ghost view = { λ c. cells_in c.words c.ends.top };
 
-    ghost invariant = { λ c. IsLaid c.words c.starts c.ends.top c.ends.first };
+    ghost invariant = { λ c. IsIndexed c.words c.starts c.gaps c.ends.top c.ends.first };
 }
 
 impl Cells {
@@ -49,6 +53,7 @@ impl Cells {
         Cells {
             words: Chunk::new(alloc),
             starts: Starts::new(alloc),
+            gaps: GapIndex::new(alloc),
             ends: Ends {
                 top: 0,
                 first: NONE,
@@ -64,6 +69,7 @@ impl Cells {
         Ok(Cells {
             words: self.words.try_copy()?,
             starts: self.starts.try_copy()?,
+            gaps: self.gaps.try_copy()?,
             ends: self.ends,
         })
     }
@@ -79,6 +85,7 @@ impl Cells {
         ensures sound { IsSoundCells self.new }
     {
         self.starts.grow_to(bytes / 16)?;
+        self.gaps.grow_to(bytes / 16)?;
         layout::grow_to(&mut self.words, layout::words_in(bytes))?;
         Ok(())
     }
@@ -100,7 +107,7 @@ impl Cells {
     }
 
     /// The lowest place where a cell of this length fits; the space above the last live cell counts as free without
-    /// end. It walks the free cells below that place. Source: Symbian OS v9 SDK reference, RHeap (first fit in address
+    /// end. Source: Symbian OS v9 SDK reference, RHeap (first fit in address
     /// order).
     pub fn first_fit(&self, length: u32) -> u32
         requires { 16 ≤ length }
@@ -110,7 +117,18 @@ impl Cells {
         ensures low { result ≤ top_of (headers self.now.row) }
         ensures sound { IsSoundCells self.now }
     {
-        free_list::first_fit(&self.words, self.ends, length)
+        match self.gaps.first_long(length) {
+            Some(at) => 16 * at,
+            None => self.ends.top,
+        }
+    }
+
+    /// The length of the longest free cell, or 0 where there is none; what lies above the last live cell is none.
+    pub fn longest_gap(&self) -> u32
+        ensures gap { result ≡ longest (free_runs 0 (headers self.now.row) (top_of (headers self.now.row))) }
+        ensures sound { IsSoundCells self.now }
+    {
+        self.gaps.longest()
     }
 
     /// Inserts a live cell with this header, whose payload is zeros whatever stood there. What a free cell has past the
@@ -127,7 +145,8 @@ impl Cells {
         ensures taken { self.new ≡ record self.old { row = inserted (record { head = header; content = zero_words length }) self.old.row } }
         ensures sound { IsSoundCells self.new }
     {
-        let ends = free_list::open(&mut self.words, self.ends, place, length);
+        let ends = free_list::open(&mut self.words, &self.gaps, self.ends, place, length);
+        self.gaps.open(self.ends.top, place, length);
         self.ends = ends;
         layout::write_header(
             &mut self.words,
@@ -143,14 +162,16 @@ impl Cells {
     }
 
     /// Removes the cell that the pointer names. Its bytes and the free cells that touch it become one free cell, or
-    /// part of the space above the last live cell where none follows. It walks the free cells below the place.
+    /// part of the space above the last live cell where none follows.
     pub fn give(&mut self, ptr: Ptr)
         requires { IsSome (cell_at ptr self.old.row) }
         ensures given { self.new ≡ record self.old { row = without ptr self.old.row } }
         ensures sound { IsSoundCells self.new }
     {
-        let around = free_list::around(&self.words, self.ends.first, ptr.place);
+        let end = ptr.place + free_list::length_at(&self.words, ptr.place);
+        let around = free_list::around(&self.words, &self.gaps, self.ends.first, ptr.place);
         let hole = free_list::hole_left(&self.words, ptr.place, around);
+        self.gaps.close(self.ends.top, end, hole);
         let ends = free_list::close(&mut self.words, self.ends, hole);
         self.ends = ends;
         self.starts.set(ptr.place / 16, false);
@@ -158,7 +179,7 @@ impl Cells {
 
     /// Gives the cell that the pointer names another length where it stands. What it gains is zeros; what it loses, or
     /// leaves of a free cell behind it, becomes one free cell, or part of the space above the last live cell. It takes no
-    /// memory, and walks the free cells below the place.
+    /// memory.
     pub fn resize(&mut self, ptr: Ptr, length: u32)
         requires live { IsSome (cell_at ptr self.old.row) }
         requires rounded { length % 16 ≡ 0 }
@@ -169,9 +190,10 @@ impl Cells {
         ensures sound { IsSoundCells self.new }
     {
         let old = free_list::length_at(&self.words, ptr.place);
-        let around = free_list::around(&self.words, self.ends.first, ptr.place);
+        let around = free_list::around(&self.words, &self.gaps, self.ends.first, ptr.place);
         let mut hole = free_list::hole_behind(&self.words, ptr.place, around);
         hole.start = ptr.place + length;
+        self.gaps.close(self.ends.top, ptr.place + old, hole);
         self.words.set_word(layout::words_in(ptr.place), length);
         self.words.zero(
             layout::words_in(ptr.place + old),
@@ -219,10 +241,10 @@ impl Cells {
         ensures sound { IsSoundCells self.now }
     {
         let end = ptr.place + free_list::length_at(&self.words, ptr.place);
-        match self.next_live(end) {
-            Some(next) => Some(next.place - end),
-            None => None,
+        if end == self.ends.top {
+            return None;
         }
+        Some(self.gaps.length_at(end / 16))
     }
 
     /// Puts the cell that the pointer names under another nesting level of heap marks.

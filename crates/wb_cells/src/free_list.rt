@@ -1,10 +1,13 @@
-//! The free cells, linked in order of place: the walks along them, and what a grant and a release make of them. Of live
+//! The free cells, linked in order of place: those round a place, and what a grant and a release make of them. Of live
 //! cells nothing here reads but the length of the one that is released.
 
-ghost use Rattle.std.specs.Prelude.{◌≡◌, ◌≢◌, ◌+◌, ◌*◌, ◌/◌, ◌%◌, ◌<◌, ◌≤◌, ◌⊎◌, [], ◌++◌, List, length, slice_index, slice_set, if◌then◌else◌, nat_eq};
-ghost use Rattle.wb_cells.specs.FreeList.{Gap, Links, NO_PLACE, fit_among, AreBelow, AreFrom, last_place, IsRound, IsWithin, linked_first, linked_words, next_past, parted_words};
+ghost use Rattle.std.specs.Prelude.{◌≡◌, ◌≢◌, ◌+◌, ◌*◌, ◌/◌, ◌%◌, ◌<◌, ◌≤◌, ◌⊎◌, [], ◌++◌, ℕ, List, Option, length, slice_index, slice_set, if◌then◌else◌, nat_eq};
+ghost use Rattle.wb_cells.specs.FreeList.{Gap, Links, NO_PLACE, AreBelow, AreFrom, last_place, IsRound, IsWithin, linked_first, linked_words, next_past, parted_words};
+ghost use Rattle.wb_cells.specs.Maxima.{IsLast};
+ghost use Rattle.wb_cells.specs.RowGaps.{AreListed, found_or};
 ghost use Rattle.wb_cells.specs.Holes.{IsOpenable, IsOpened, IsRaised, hole_of, hole_past, closed_words, closed_ends};
 
+use crate::gap_index::GapIndex;
 use crate::layout::{self, NONE};
 use wb_chunk::Chunk;
 use wb_model::limits::CEILING;
@@ -36,42 +39,43 @@ pub fn link_at(words: &Chunk, place: u32) -> u32
     words.word(layout::words_in(place) + 2)
 }
 
-/// The free cells round a place. It walks those below it.
-pub fn around(words: &Chunk, first: u32, place: u32) -> Neighbours
+/// The free cells round a place.
+pub fn around(words: &Chunk, gaps: &GapIndex, first: u32, place: u32) -> Neighbours
     requires below { place < NO_PLACE }
-    requires linked { (gaps : List Gap) × Links words.now first gaps }
+    requires rounded { place % 16 ≡ 0 }
+    requires linked { (cells : List Gap) × Links words.now first cells }
+    requires listed { (cells : List Gap) → Links words.now first cells → AreListed cells gaps.now }
     ensures under { result.before ≢ NO_PLACE → result.before < place }
     ensures round { (low high : List Gap) → Links words.now first (low ++ high) → AreBelow place low → AreFrom place high
         → IsRound low high result.prior result.before result.after }
 {
-    let mut prior = NONE;
-    let mut before = NONE;
-    let mut after = first;
-    while after < place {
-        prior = before;
-        before = after;
-        after = link_at(words, after);
+    let none = Neighbours {
+        prior: NONE,
+        before: NONE,
+        after: first,
+    };
+    if place <= first {
+        return none;
     }
-    Neighbours {
-        prior,
-        before,
-        after,
+    match gaps.last_below(place / 16) {
+        None => none,
+        Some(before) => Neighbours {
+            prior: place_before(gaps, before),
+            before: 16 * before,
+            after: link_at(words, 16 * before),
+        },
     }
 }
 
-/// The first free cell that is long enough, or the top where none is.
-pub fn first_fit(words: &Chunk, ends: Ends, bytes: u32) -> u32
-    requires { (gaps : List Gap) × Links words.now ends.first gaps }
-    ensures { (gaps : List Gap) → Links words.now ends.first gaps → result ≡ fit_among gaps bytes ends.top }
+/// Where the last free cell before one begins, both counted by place, or NONE.
+fn place_before(gaps: &GapIndex, at: u32) -> u32
+    requires { 16 * at < NO_PLACE }
+    ensures { (found : Option ℕ) × (IsLast (slice_index gaps.now) 0 at found × (result ≡ found_or found NO_PLACE)) }
 {
-    let mut at = ends.first;
-    while at != NONE {
-        if bytes <= length_at(words, at) {
-            return at;
-        }
-        at = link_at(words, at);
+    match gaps.last_below(at) {
+        None => NONE,
+        Some(prior) => 16 * prior,
     }
-    ends.top
 }
 
 /// Makes one free cell follow another, or be the first. Answers the first one.
@@ -116,10 +120,11 @@ pub struct Ends {
 }
 
 /// Makes room for a cell, in a free cell or at the top. The room is no free cell then, and its words are as they were.
-pub fn open(words: &mut Chunk, ends: Ends, place: u32, bytes: u32) -> Ends
+pub fn open(words: &mut Chunk, gaps: &GapIndex, ends: Ends, place: u32, bytes: u32) -> Ends
     requires rounded { bytes % 16 ≡ 0 }
     requires below { place + bytes ≤ CEILING }
-    requires linked { (gaps : List Gap) × Links words.old ends.first gaps }
+    requires linked { (cells : List Gap) × Links words.old ends.first cells }
+    requires listed { (cells : List Gap) → Links words.old ends.first cells → AreListed cells gaps.now }
     requires gap { place ≢ ends.top → IsOpenable words.old place bytes }
     ensures count { length words.new ≡ length words.old }
     ensures top { place ≡ ends.top → IsRaised words.old words.new ends.first place bytes result }
@@ -132,7 +137,7 @@ pub fn open(words: &mut Chunk, ends: Ends, place: u32, bytes: u32) -> Ends
             first: ends.first,
         };
     }
-    let around = around(words, ends.first, place);
+    let around = around(words, gaps, ends.first, place);
     let next = split(words, place, bytes);
     Ends {
         top: ends.top,

@@ -7,6 +7,8 @@ pub use wb_model::memory::NoMemory;
 
 pub mod cells;
 mod free_list;
+mod gap_index;
 mod layout;
+mod maxima;
 mod payloads;
 mod starts;

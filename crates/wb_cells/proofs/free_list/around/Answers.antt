@@ -1,21 +1,24 @@
 use Rattle.std.proofs.Common.{arith}
-use Rattle.wb_cells.proofs.FreeLists.{at_gap, walked_on, walked}
+use Rattle.wb_cells.proofs.Nearest.{round_first, round_none, round_some, within_listed}
 use Rattle.wb_cells.proofs.free_list.around.Goals as goal
 
-pub link_at-after-requires : goal.link_at-after-requires
-link_at-after-requires c =
-    (at_gap c.args.words.now c.loop-after.after c.loop-after.invariant.0.0 c.loop-after.invariant.0.1 (λ e. omega (arith, e, c.requires.below))).within
+pub returns-then-place-first-clause-round : goal.returns-then-place-first-clause-round
+returns-then-place-first-clause-round c =
+    λ low high links below above. round_first _ _ _ _ c.requires.rounded low high links (c.requires.listed _ links) below above c.if-place-first.true
 
-pub loop-after-smaller : goal.loop-after-smaller
-loop-after-smaller c =
-    let gap = at_gap c.args.words.now c.loop-after.after c.loop-after.invariant.0.0 c.loop-after.invariant.0.1 (λ e. omega (arith, e, c.requires.below)) in
-    omega (arith, gap.rises, c.link_at-after.ensures)
+pub returns-in-None-clause-round : goal.returns-in-None-clause-round
+returns-in-None-clause-round c =
+    λ low high links below above. round_none _ _ _ _ c.requires.rounded low high links (c.requires.listed _ links) below above c.in-None.ensures
 
-pub loop-after-preserved : goal.loop-after-preserved
-loop-after-preserved c =
-    let gap = at_gap c.args.words.now c.loop-after.after c.loop-after.invariant.0.0 c.loop-after.invariant.0.1 (λ e. omega (arith, e, c.requires.below)) in
-    rw c.link_at-after.ensures
-    ((gap.rest, gap.linked), (λ _. c.loop-after-test.true), walked_on c.args.words.now c.args.first c.args.place c.loop-after.prior c.loop-after.before c.loop-after.after c.loop-after-test.true c.requires.below c.loop-after.invariant.2)
+pub link_at-requires : goal.link_at-requires
+link_at-requires c =
+    let cells = c.requires.linked.0 in
+    let links = c.requires.linked.1 in
+    within_listed c.args.words.now cells c.args.first c.in-Some.before links (omega (arith, c.in-Some.ensures.2, (c.requires.listed cells links).listed c.in-Some.before))
 
-pub returns : goal.returns
-returns c = record { under = c.loop-after.invariant.1; round = walked c.args.words.now c.args.first c.args.place c.loop-after.prior c.loop-after.before c.loop-after.after c.loop-after-test.false c.loop-after.invariant.2 }
+pub returns-in-Some-clause-round : goal.returns-in-Some-clause-round
+returns-in-Some-clause-round c =
+    λ low high links below above.
+    let found = c.place_before.ensures in
+    let round = round_some _ _ _ _ c.requires.rounded low high links (c.requires.listed _ links) below above c.in-Some.before found.0 c.in-Some.ensures found.1.0 in
+    rw (found.1.1, c.link_at.ensures) round

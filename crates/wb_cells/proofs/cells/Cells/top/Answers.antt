@@ -6,8 +6,8 @@ use Rattle.wb_cells.proofs.cells.Cells.top.Goals as goal
 
 pub returns-clause-end : goal.returns-clause-end
 returns-clause-end c =
-    let laid = c.self.invariant in
+    let laid = c.self.invariant.laid in
     laid.ends ∙ sym (ap (λ v. top_of (headers v.row)) (sym c.self.view_is) ∙ ap (λ r. top_of (headers r)) (spelled-laid _ _ _ _ laid) ∙ top_from-row laid.segments 0 laid.merged ∙ zero-add _)
 
 pub returns-clause-sound : goal.returns-clause-sound
-returns-clause-sound c = sound_now _ _ _ _ c.self.invariant c.args.self.now c.self.view_is
+returns-clause-sound c = sound_now _ _ _ _ c.self.invariant.laid c.args.self.now c.self.view_is

@@ -2,37 +2,38 @@ use Rattle.std.proofs.Common.{ℕ, ◌+◌, ◌*◌, ◌≤◌, length, replicat
 use Rattle.std.proofs.lemmas.List.{length-replicate}
 use Rattle.wb_chunk.specs.Halves.{with_halves}
 use Rattle.wb_chunk.proofs.WrittenHalves.{length-with_halves}
-use Rattle.wb_cells.proofs.Changing.{valid, some_cell, payload_within, laid_changed, view_changed}
+use Rattle.wb_cells.proofs.Changing.{valid, some_cell, payload_within, view_changed}
+use Rattle.wb_cells.proofs.Indexed.{indexed_changed}
 use Rattle.wb_cells.proofs.Runs.{run_holds}
 use Rattle.wb_cells.proofs.Sound.{sound_laid}
 use Rattle.wb_cells.proofs.cells.Cells.zero_halves.Goals as goal
 
 pub overflow_add-payload_at : goal.overflow_add-payload_at
 overflow_add-payload_at c =
-    let v = valid _ _ _ _ c.self.invariant c.args.ptr _ (ap (λ v. v.row) c.self.view_is) (some_cell c.args.ptr c.args.self.now.row c.requires.live) in
-    omega (arith, payload_within _ _ _ _ v.cell, ap length v.payload, c.requires.within, c.self.invariant.bounded, c.payload_at.ensures)
+    let v = valid _ _ _ _ c.self.invariant.laid c.args.ptr _ (ap (λ v. v.row) c.self.view_is) (some_cell c.args.ptr c.args.self.now.row c.requires.live) in
+    omega (arith, payload_within _ _ _ _ v.cell, ap length v.payload, c.requires.within, c.self.invariant.laid.bounded, c.payload_at.ensures)
 
 pub zero_halves-requires : goal.zero_halves-requires
 zero_halves-requires c =
-    let v = valid _ _ _ _ c.self.invariant c.args.ptr _ (ap (λ v. v.row) c.self.view_is) (some_cell c.args.ptr c.args.self.now.row c.requires.live) in
+    let v = valid _ _ _ _ c.self.invariant.laid c.args.ptr _ (ap (λ v. v.row) c.self.view_is) (some_cell c.args.ptr c.args.self.now.row c.requires.live) in
     omega (arith, payload_within _ _ _ _ v.cell, ap length v.payload, c.requires.within, c.payload_at.ensures)
 
 pub invariant_of-self : goal.invariant_of-self
 invariant_of-self c =
-    let v = valid _ _ _ _ c.self.invariant c.args.ptr _ (ap (λ v. v.row) c.self.view_is) (some_cell c.args.ptr c.args.self.now.row c.requires.live) in
+    let v = valid _ _ _ _ c.self.invariant.laid c.args.ptr _ (ap (λ v. v.row) c.self.view_is) (some_cell c.args.ptr c.args.self.now.row c.requires.live) in
     let within = subst (λ b. c.args.i + c.args.n ≤ 2 * length b) v.payload c.requires.within in
     let holds = c.zero_halves.ensures ∙ ap (λ k. with_halves c.self.inside.words (2 * k + c.args.i) (replicate c.args.n 0)) c.payload_at.ensures
     ∙ run_holds _ _ _ _ v.cell c.args.i (replicate c.args.n 0) (omega (arith, within, length-replicate {A = ℕ} c.args.n 0)) in
-    laid_changed _ _ _ _ c.self.invariant c.args.ptr v.cell _ _ (length-with_halves v.cell.body c.args.i (replicate c.args.n 0)) holds
+    indexed_changed _ _ _ _ _ c.self.invariant c.args.ptr v.cell _ _ (length-with_halves v.cell.body c.args.i (replicate c.args.n 0)) holds
 
 pub returns-clause-changed : goal.returns-clause-changed
 returns-clause-changed c =
-    let v = valid _ _ _ _ c.self.invariant c.args.ptr _ (ap (λ v. v.row) c.self.view_is) (some_cell c.args.ptr c.args.self.now.row c.requires.live) in
+    let v = valid _ _ _ _ c.self.invariant.laid c.args.ptr _ (ap (λ v. v.row) c.self.view_is) (some_cell c.args.ptr c.args.self.now.row c.requires.live) in
     let within = subst (λ b. c.args.i + c.args.n ≤ 2 * length b) v.payload c.requires.within in
     let holds = c.zero_halves.ensures ∙ ap (λ k. with_halves c.self.inside.words (2 * k + c.args.i) (replicate c.args.n 0)) c.payload_at.ensures
     ∙ run_holds _ _ _ _ v.cell c.args.i (replicate c.args.n 0) (omega (arith, within, length-replicate {A = ℕ} c.args.n 0)) in
-    view_changed _ _ _ _ c.self.invariant c.args.ptr v.cell _ (λ b. with_halves b c.args.i (replicate c.args.n 0)) (length-with_halves v.cell.body c.args.i (replicate c.args.n 0)) holds
+    view_changed _ _ _ _ c.self.invariant.laid c.args.ptr v.cell _ (λ b. with_halves b c.args.i (replicate c.args.n 0)) (length-with_halves v.cell.body c.args.i (replicate c.args.n 0)) holds
     c.args.self.now c.self.view_is v.payload
 
 pub returns-clause-sound : goal.returns-clause-sound
-returns-clause-sound c = sound_laid _ _ _ _ (invariant_of-self c)
+returns-clause-sound c = sound_laid _ _ _ _ (invariant_of-self c).laid

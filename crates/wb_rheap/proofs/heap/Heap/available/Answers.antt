@@ -10,8 +10,8 @@ use Rattle.wb_rheap.proofs.heap.Heap.available.Goals as goal
 pub overflow_sub-result : goal.overflow_sub-result
 overflow_sub-result c = omega (arith, total-within (heap_of c.self.inside) c.self.invariant.sound, c.self.invariant.totalled)
 
-pub longest_run-requires-clause-within : goal.longest_run-requires-clause-within
-longest_run-requires-clause-within c = top_of-committed (heap_of c.self.inside) c.self.invariant.sound
+pub longest_run-requires : goal.longest_run-requires
+longest_run-requires c = top_of-committed (heap_of c.self.inside) c.self.invariant.sound
 
 pub returns-clause-total : goal.returns-clause-total
 returns-clause-total c =

@@ -1,0 +1,44 @@
+-- Numbers in a row, the greatest of each 64 of them, and searches among them.
+use Rattle.std.specs.Prelude.{ℕ, ◌+◌, ◌*◌, ◌≡◌, ◌≢◌, ◌≤◌, ◌<◌, List, length, slice_index, Option, Some, None}
+use Rattle.wb_chunk.specs.declared.TheConstants.{MOST_WORDS}
+
+-- the first number from one index on, below another, that is so great, or none is
+abbrev pub IsFirst : (ℕ → ℕ) → ℕ → ℕ → ℕ → Option ℕ → Type 0
+IsFirst f from end least None = (k : ℕ) → from ≤ k → k < end → f k < least
+IsFirst f from end least (Some at) =
+    (from ≤ at) × (at < end) × (least ≤ f at) × ((k : ℕ) → from ≤ k → k < at → f k < least)
+
+-- the last number from one index on, below another, that is not 0, or all are
+abbrev pub IsLast : (ℕ → ℕ) → ℕ → ℕ → Option ℕ → Type 0
+IsLast f from end None = (k : ℕ) → from ≤ k → k < end → f k ≡ 0
+IsLast f from end (Some at) =
+    (from ≤ at) × (at < end) × (0 < f at) × ((k : ℕ) → at < k → k < end → f k ≡ 0)
+
+-- the first number of all that is so great, or none is
+abbrev pub IsFirstLong : (ℕ → ℕ) → ℕ → Option ℕ → Type 0
+IsFirstLong f least None = (k : ℕ) → f k < least
+IsFirstLong f least (Some at) = (least ≤ f at) × ((k : ℕ) → k < at → f k < least)
+
+-- an index from one on, below another, where the number is this one
+pub record IsThere (f : ℕ → ℕ) (from end number : ℕ) : Type 0 where
+  pub at : ℕ
+  pub above : from ≤ at
+  pub below : at < end
+  pub is : f at ≡ number
+
+-- the greatest of the numbers from one index on, below another, or 0 where there is none
+pub record IsGreatest (f : ℕ → ℕ) (from end greatest : ℕ) : Type 0 where
+  pub most : (k : ℕ) → from ≤ k → k < end → f k ≤ greatest
+  pub some : greatest ≢ 0 → IsThere f from end greatest
+
+-- the greatest of each 64
+abbrev pub AreGreatest : (ℕ → ℕ) → List ℕ → Type 0
+AreGreatest f spans = (j : ℕ) → IsGreatest f (64 * j) (64 * j + 64) (slice_index spans j)
+
+-- the greatest of each 64 numbers, and of each 64 of these
+pub record AreMaxima (numbers blocks regions : List ℕ) : Type 0 where
+  pub of_blocks : AreGreatest (slice_index numbers) blocks
+  pub of_regions : AreGreatest (slice_index blocks) regions
+  pub room : length numbers ≤ 64 * length blocks
+  pub more_room : length blocks ≤ 64 * length regions
+  pub bounded : length numbers ≤ MOST_WORDS
