@@ -90,8 +90,11 @@ impl GapIndex {
         requires { at < length self.old }
         ensures { self.new ≡ slice_set self.old at bytes }
     {
-        let block = at / SPAN;
         let length = self.lengths.word(at);
+        if length == bytes {
+            return;
+        }
+        let block = at / SPAN;
         let greatest = self.blocks.word(block);
         self.lengths.set_word(at, bytes);
         maxima::renew(&self.lengths, &mut self.blocks, at, length);

@@ -1,6 +1,12 @@
-use Rattle.std.proofs.Common.{slice_index, length, sym, ◌∙◌, ap, arith}
-use Rattle.std.proofs.lemmas.List.{get_or-set_other, length-set}
+use Rattle.std.proofs.Common.{◌≡◌, slice_set, slice_index, length, sym, ◌∙◌, ap, arith}
+use Rattle.std.proofs.lemmas.List.{get_or-set_other, length-set, set-get_or}
 use Rattle.wb_cells.proofs.gap_index.GapIndex.set.Goals as goal
+
+pub returns-then-length-bytes : goal.returns-then-length-bytes
+returns-then-length-bytes c =
+    let lengths = c.self.inside.lengths in
+    let same : slice_index lengths c.args.at ≡ c.args.bytes = sym c.word-length.ensures ∙ c.if-length-bytes.true in
+    sym c.self.view_is ∙ sym (ap (slice_set lengths c.args.at) (sym same) ∙ set-get_or lengths c.args.at 0) ∙ ap (λ l. slice_set l c.args.at c.args.bytes) c.self.view_is
 
 pub invariant_of-self : goal.invariant_of-self
 invariant_of-self c =
