@@ -5,12 +5,13 @@ use Rattle.std.proofs.lemmas.Bool.{ne_eqb}
 use Rattle.std.proofs.lemmas.List.Elements.{All-cons, All-nil}
 use Rattle.wb_model.specs.declared.heap.TheConstants.Panic.{NO_OPEN_MARK}
 use Rattle.wb_model.specs.declared.heap.Panic.{Panic}
-use Rattle.wb_model.specs.Debug.{Debug, check_refusal}
+use Rattle.wb_model.specs.Debug.{Debug, check_all_refusal, check_refusal}
 use Rattle.wb_model.specs.Heap.{is_cleanup, lower, lowered, mark_end_refusal}
 use Rattle.wb_model.specs.LimitedHeap.{LimitedHeap, IsSoundHeap}
 use Rattle.wb_model.specs.Row.{Cell, headers}
 use Rattle.wb_debug.specs.declared.debug_heap.DebugHeap.TheInside.{Inside}
 use Rattle.wb_debug.specs.Debug.{IsKept}
+use Rattle.wb_debug.specs.Tally.{Tally, IsTally}
 use Rattle.wb_debug.proofs.Kept.{row-kept, set-kept}
 
 -- below the outermost level it refuses what a check does
@@ -18,6 +19,13 @@ pub mark_end-checks : (d e : Debug) (n : ℕ) (panic : Panic) → d ≡ e → d.
 mark_end-checks d e n panic is deeper refused =
     subst (λ (x : Debug). mark_end_refusal x.heap n ≡ Some panic) is
     (ap (λ b. cond b (Some NO_OPEN_MARK) (check_refusal d n)) (ne_eqb d.heap.level 0 deeper) ∙ refused)
+
+-- what a check refuses of what the heap holds, as callers see it
+pub check-refused : (d e : Debug) (n : ℕ) (panic : Panic) → d ≡ e → check_refusal d n ≡ Some panic → check_refusal e n ≡ Some panic
+check-refused d e n panic is refused = subst (λ (x : Debug). check_refusal x n ≡ Some panic) is refused
+
+pub check_all-refused : (d e : Debug) (n : ℕ) (panic : Panic) → d ≡ e → check_all_refusal d n ≡ Some panic → check_all_refusal e n ≡ Some panic
+check_all-refused d e n panic is refused = subst (λ (x : Debug). check_all_refusal x n ≡ Some panic) is refused
 
 -- the cells keep their numbers
 All-lowered : (most level : ℕ) (row : List (Cell (List ℕ))) → All (λ h. h.number ≤ most) (headers row) → All (λ h. h.number ≤ most) (headers (lowered level row))
@@ -30,8 +38,10 @@ All-lowered most level (c ∷ cs) all =
     by true = all 0 c.head (omega arith)
     by false = all 0 c.head (omega arith)
 
-pub lowered-kept : (inside : Inside) (heap : LimitedHeap) (from level : ℕ) → heap ≡ record inside.heap { row = lowered from inside.heap.row } →
-    IsSoundHeap heap → IsKept inside → IsKept (record inside { heap = heap; level = level })
-lowered-kept inside heap from level is sound kept =
-    set-kept (record inside { heap = heap }) heap level inside.setting inside.log refl refl
-    (row-kept inside heap (lowered from inside.heap.row) inside.heap.committed is (All-lowered inside.attempts from inside.heap.row kept.numbered) sound kept)
+pub lowered-kept : (inside : Inside) (heap : LimitedHeap) (from level : ℕ) (tally : Tally) → heap ≡ record inside.heap { row = lowered from inside.heap.row } →
+    IsSoundHeap heap → ((row : List (Cell (List ℕ))) → IsTally inside.tally (headers row) → IsTally tally (headers (lowered from row))) → IsKept inside →
+    IsKept (record inside { heap = heap; level = level; tally = tally })
+lowered-kept inside heap from level tally is sound lower kept =
+    set-kept (record inside { heap = heap; tally = tally }) heap level inside.setting inside.log refl refl
+    (row-kept inside heap (lowered from inside.heap.row) inside.heap.committed tally is (All-lowered inside.attempts from inside.heap.row kept.numbered)
+    (lower inside.heap.row kept.tallied) sound kept)

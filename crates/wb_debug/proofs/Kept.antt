@@ -1,5 +1,5 @@
 -- What each call leaves of the heap's fields, and what that tells callers.
-use Rattle.std.proofs.Common.{◌≡◌, ◌⊎◌, inl, inr, ℕ, suc, ◌+◌, ◌%◌, ◌≤◌, ◌++◌, max, Result, Ok, Err, IsErr, IsOkAnd, IfOk, OnErr, OnOk, All, List, [], ◌∷◌, length, length-append, Option, Some, None, is_some, IfSome, option_map, find, Bool, true, false, cond, refl, sym, ap, subst, ◌∙◌, arith}
+use Rattle.std.proofs.Common.{◌≡◌, ◌⊎◌, inl, inr, ℕ, suc, ◌+◌, ◌%◌, ◌≤◌, ◌<◌, ◌^◌, ◌++◌, max, Result, Ok, Err, IsErr, IsOkAnd, IfOk, OnErr, OnOk, All, List, [], ◌∷◌, length, length-append, Option, Some, None, is_some, IfSome, option_map, find, Bool, true, false, cond, refl, sym, ap, subst, ◌∙◌, arith}
 use Rattle.std.specs.Prelude.{nat_lt}
 use Rattle.std.proofs.lemmas.List.Elements.{All-cons, All-nil}
 use Rattle.wb_model.specs.declared.heap.Header.{Header}
@@ -12,16 +12,22 @@ use Rattle.wb_model.specs.declared.size.Rise.{Rise}
 use Rattle.wb_model.specs.Debug.{Debug, IsLiveIn, IsSoundDebug}
 use Rattle.wb_model.specs.LimitedHeap.{LimitedHeap, IsSoundHeap, space_in, place_in, fresh_cell, heap_with, heap_without, heap_changed, heap_compressed}
 use Rattle.wb_model.specs.Rises.{end_of_line, granted_end, rise_of, rises_with, top_of_rises, trace_with}
-use Rattle.wb_model.specs.Row.{Cell, IsSpacedFrom, headers, end_of, is_at, cell_at}
+use Rattle.wb_model.specs.Row.{Cell, IsSpacedFrom, headers, end_of, inserted, is_at, cell_at, without}
 use Rattle.wb_model.specs.Space.{bound_below, space_below}
 use Rattle.wb_model.proofs.AccountLemmas.{last-rise}
-use Rattle.wb_model.proofs.LimitedHeaps.{All-heap_with, All-heap_without}
+use Rattle.wb_model.proofs.LimitedHeaps.{top_of-committed, All-heap_with, All-heap_without}
 use Rattle.wb_model.proofs.Rows.{headers-changed, head-cell_at}
 use Rattle.wb_debug.specs.declared.debug_heap.DebugHeap.TheInside.{Inside}
 use Rattle.wb_debug.specs.declared.setting.Setting.{Setting}
 use Rattle.wb_debug.specs.Debug.{debug_of, IsStepped, IsKept}
 use Rattle.wb_debug.specs.Log.{Log, logged, top_in}
+use Rattle.wb_debug.specs.Tally.{Tally, IsMore, IsTally}
+use Rattle.wb_rheap.proofs.Growing.{cell-of, whole-cell}
 use Rattle.wb_debug.proofs.Room.{HasRoom, held-stepped, inserted-has, same-room}
+use Rattle.wb_debug.proofs.Counting.{row-within}
+use Rattle.wb_debug.proofs.Tallies.{inserted-more, number-within, without-less}
+use Rattle.wb_debug.specs.Levels.{is_counted}
+use Rattle.wb_debug.specs.declared.marks.Levels.TheVariants as levels
 
 -- each cell of a row
 record IsSpaced (h : Header) : Type 0 where
@@ -68,9 +74,11 @@ cell-live inside d p is kept =
     (find-All (IsLiveIn (debug_of inside)) (is_at p) (headers inside.heap.row) (kept-sound inside kept).live))
 
 -- other cells or another committed length, of the same memory
-pub heap-kept : (inside : Inside) (row : List (Cell (List ℕ))) (committed : ℕ) → All (λ h. h.number ≤ inside.attempts) (headers row) →
-    let heap : LimitedHeap = record inside.heap { row = row; committed = committed } in IsSoundHeap heap → IsKept inside → IsKept (record inside { heap = heap })
-heap-kept inside row committed numbered sound kept = record {
+pub heap-kept : (inside : Inside) (row : List (Cell (List ℕ))) (committed : ℕ) (tally : Tally) → All (λ h. h.number ≤ inside.attempts) (headers row) →
+    IsTally tally (headers row) →
+    let heap : LimitedHeap = record inside.heap { row = row; committed = committed } in
+    IsSoundHeap heap → IsKept inside → IsKept (record inside { heap = heap; tally = tally })
+heap-kept inside row committed tally numbered tallied sound kept = record {
   sound = sound;
   limit = kept.limit;
   numbered = numbered;
@@ -78,26 +86,33 @@ heap-kept inside row committed numbered sound kept = record {
   untraced = kept.untraced;
   stepped = kept.stepped;
   reached = kept.reached;
+  tallied = tallied;
 }
 
 -- the same of a heap that is equal to that
-pub row-kept : (inside : Inside) (heap : LimitedHeap) (row : List (Cell (List ℕ))) (committed : ℕ) → heap ≡ record inside.heap { row = row; committed = committed } →
-    All (λ h. h.number ≤ inside.attempts) (headers row) → IsSoundHeap heap → IsKept inside → IsKept (record inside { heap = heap })
-row-kept inside heap row committed is numbered sound kept =
-    subst (λ (h : LimitedHeap). IsKept (record inside { heap = h })) (sym is) (heap-kept inside row committed numbered (subst IsSoundHeap is sound) kept)
+pub row-kept : (inside : Inside) (heap : LimitedHeap) (row : List (Cell (List ℕ))) (committed : ℕ) (tally : Tally) →
+    heap ≡ record inside.heap { row = row; committed = committed } → All (λ h. h.number ≤ inside.attempts) (headers row) → IsTally tally (headers row) →
+    IsSoundHeap heap → IsKept inside → IsKept (record inside { heap = heap; tally = tally })
+row-kept inside heap row committed tally is numbered tallied sound kept =
+    subst (λ (h : LimitedHeap). IsKept (record inside { heap = h; tally = tally })) (sym is)
+    (heap-kept inside row committed tally numbered tallied (subst IsSoundHeap is sound) kept)
 
 -- another payload
 pub changed-kept : (inside : Inside) (heap : LimitedHeap) (p : Ptr) (words : List ℕ) → heap ≡ heap_changed inside.heap p words → IsSoundHeap heap → IsKept inside →
     IsKept (record inside { heap = heap })
 changed-kept inside heap p words is sound kept =
-    row-kept inside heap _ inside.heap.committed is
-    (subst (All (λ g. g.number ≤ inside.attempts)) (sym (headers-changed p (λ _. words) inside.heap.row)) kept.numbered) sound kept
+    let same = sym (headers-changed p (λ _. words) inside.heap.row) in
+    row-kept inside heap _ inside.heap.committed inside.tally is
+    (subst (All (λ g. g.number ≤ inside.attempts)) same kept.numbered) (subst (IsTally inside.tally) same kept.tallied) sound kept
 
 -- a release
-pub released-kept : (inside : Inside) (heap : LimitedHeap) (p : Ptr) → heap ≡ heap_without inside.heap p → IsSoundHeap heap → IsKept inside →
-    IsKept (record inside { heap = heap })
-released-kept inside heap p is sound kept =
-    row-kept inside heap _ inside.heap.committed is (All-heap_without (λ g. g.number ≤ inside.attempts) inside.heap p kept.numbered) sound kept
+pub released-kept : (inside : Inside) (heap : LimitedHeap) (p : Ptr) (h : Header) (tally : Tally) → option_map (λ c. c.head) (cell_at p inside.heap.row) ≡ Some h →
+    heap ≡ heap_without inside.heap p → IsSoundHeap heap →
+    ((row less : List Header) → IsMore less row h → IsTally inside.tally row → IsTally tally less) → IsKept inside → IsKept (record inside { heap = heap; tally = tally })
+released-kept inside heap p h tally e is sound fewer kept =
+    row-kept inside heap _ inside.heap.committed tally is (All-heap_without (λ g. g.number ≤ inside.attempts) inside.heap p kept.numbered)
+    (fewer (headers inside.heap.row) (headers (without p inside.heap.row))
+    (without-less p inside.heap.row (cell-of p inside.heap.row h) kept.sound.row.numbered (whole-cell p inside.heap.row h e)) kept.tallied) sound kept
 
 -- the heap as it was
 pub same-kept : (inside : Inside) (heap : LimitedHeap) → heap ≡ inside.heap → IsKept inside → IsKept (record inside { heap = heap })
@@ -117,6 +132,7 @@ set-kept inside heap level setting log is same kept =
       untraced = kept.untraced;
       stepped = kept.stepped;
       reached = kept.reached;
+      tallied = kept.tallied;
     }))
 
 -- one more attempt has its line
@@ -146,11 +162,12 @@ top_after (Some rs) line = by (nat_lt (top_of_rises rs) (end_of_line line)) refl
     by false e = omega arith
 
 -- an attempt that was counted
-pub counted-kept : (inside : Inside) (heap : LimitedHeap) (setting : Setting) (log : Log) (line : Attempt) → HasRoom inside.heap heap (end_of_line line) →
-    All (λ h. h.number ≤ inside.attempts + 1) (headers heap.row) → IsSoundHeap heap → log ≡ logged inside.log line → line.number ≡ inside.attempts + 1 →
-    IsKept inside → IsKept (record inside { heap = heap; setting = setting; attempts = line.number; log = log })
-counted-kept inside heap setting log line room numbered sound more next kept =
-    subst (λ (l : Log). IsKept (record inside { heap = heap; setting = setting; attempts = line.number; log = l })) (sym more) (record {
+pub counted-kept : (inside : Inside) (heap : LimitedHeap) (setting : Setting) (log : Log) (tally : Tally) (line : Attempt) →
+    HasRoom inside.heap heap (end_of_line line) → All (λ h. h.number ≤ inside.attempts + 1) (headers heap.row) → IsTally tally (headers heap.row) → IsSoundHeap heap →
+    log ≡ logged inside.log line → line.number ≡ inside.attempts + 1 →
+    IsKept inside → IsKept (record inside { heap = heap; setting = setting; attempts = line.number; log = log; tally = tally })
+counted-kept inside heap setting log tally line room numbered tallied sound more next kept =
+    subst (λ (l : Log). IsKept (record inside { heap = heap; setting = setting; attempts = line.number; log = l; tally = tally })) (sym more) (record {
       sound = sound;
       limit = room.limit ∙ kept.limit;
       numbered = λ k h lt. omega (arith, numbered k h lt, next);
@@ -159,14 +176,18 @@ counted-kept inside heap setting log line room numbered sound more next kept =
       stepped = subst (λ (s : Shape). IsStepped (space_below (bound_below heap.limit) s) heap.held) (sym room.shape)
           (subst (λ l. IsStepped (space_below (bound_below l) inside.heap.shape) heap.held) (sym room.limit) room.stepped);
       reached = omega (arith, top_after inside.log.rises line, kept.reached, room.more, room.reaches);
+      tallied = tallied;
     })
 
 -- one that was granted
-pub granted-kept : (inside : Inside) (heap : LimitedHeap) (setting : Setting) (log : Log) (line : Attempt) (bytes : ℕ) (kind : Kind) (level : ℕ) →
-    heap ≡ heap_with inside.heap bytes kind line.number level → line.number ≡ inside.attempts + 1 → end_of_line line ≡ place_in inside.heap bytes + bytes →
+pub granted-kept : (inside : Inside) (heap : LimitedHeap) (setting : Setting) (log : Log) (tally : Tally) (line : Attempt) (place bytes : ℕ) (kind : Kind) (level : ℕ) →
+    heap ≡ heap_with inside.heap bytes kind line.number level → line.number ≡ inside.attempts + 1 → place ≡ place_in inside.heap bytes → end_of_line line ≡ place + bytes →
     IsSoundHeap heap → log ≡ logged inside.log line →
-    IsKept inside → IsKept (record inside { heap = heap; setting = setting; attempts = line.number; log = log })
-granted-kept inside heap setting log line bytes kind level is next end sound more kept =
+    ((row more : List Header) → IsMore row more (record { place = place; length = bytes; kind = kind; level = level; number = line.number }) → IsTally inside.tally row →
+    IsTally tally more) →
+    IsKept inside → IsKept (record inside { heap = heap; setting = setting; attempts = line.number; log = log; tally = tally })
+granted-kept inside heap setting log tally line place bytes kind level is next at ends sound more counts kept =
+    let end : end_of_line line ≡ place_in inside.heap bytes + bytes = ends ∙ ap (λ p. p + bytes) at in
     let old = inside.heap in
     let new : LimitedHeap = heap_with old bytes kind line.number level in
     let sound' : IsSoundHeap new = subst IsSoundHeap is sound in
@@ -179,10 +200,16 @@ granted-kept inside heap setting log line bytes kind level is next end sound mor
       more = omega arith;
       reaches = omega (arith, end, covered, sound'.covered);
     } in
-    counted-kept inside heap setting log line (subst (λ (h : LimitedHeap). HasRoom old h (end_of_line line)) (sym is) room)
+    let row : heap.row ≡ inserted (fresh_cell place bytes kind line.number level) old.row =
+    ap (λ (h : LimitedHeap). h.row) is ∙ ap (λ p. inserted (fresh_cell p bytes kind line.number level) old.row) (sym at) in
+    let tallied : IsTally tally (headers heap.row) =
+    counts (headers old.row) (headers heap.row)
+    (subst (λ r. IsMore (headers old.row) (headers r) (fresh_cell place bytes kind line.number level).head) (sym row)
+    (inserted-more (fresh_cell place bytes kind line.number level) old.row)) kept.tallied in
+    counted-kept inside heap setting log tally line (subst (λ (h : LimitedHeap). HasRoom old h (end_of_line line)) (sym is) room)
     (subst (λ (h : LimitedHeap). All (λ g. g.number ≤ inside.attempts + 1) (headers h.row)) (sym is)
     (All-heap_with (λ g. g.number ≤ inside.attempts + 1) old bytes kind line.number level (omega (arith, next)) (λ k h lt. omega (arith, kept.numbered k h lt))))
-    sound more next kept
+    tallied sound more next kept
 
 -- what isn't granted ends nowhere
 pub no-end : (line : Attempt) → (line.answer ≡ Simulated) ⊎ (line.answer ≡ Refused) → end_of_line line ≡ 0
@@ -194,9 +221,9 @@ pub refused-kept : (inside : Inside) (setting : Setting) (log : Log) (line : Att
     line.number ≡ inside.attempts + 1 → (line.answer ≡ Simulated) ⊎ (line.answer ≡ Refused) → IsKept inside →
     IsKept (record inside { setting = setting; attempts = line.number; log = log })
 refused-kept inside setting log line more next denied kept =
-    counted-kept inside inside.heap setting log line
+    counted-kept inside inside.heap setting log inside.tally line
     (subst (HasRoom inside.heap inside.heap) (sym (no-end line denied)) (same-room inside.heap kept.stepped))
-    (λ k h lt. omega (arith, kept.numbered k h lt)) kept.sound more next kept
+    (λ k h lt. omega (arith, kept.numbered k h lt)) kept.tallied kept.sound more next kept
 
 -- what a result says beside its value
 pub on-ok : {T E : Type 0} (r : Result T E) (P : T → Type 0) (Q : Type 0) → IsOkAnd r P → OnOk r Q → Q
@@ -214,4 +241,17 @@ on-err (Err e) Q given q = q
 
 -- a compression
 pub compressed-kept : (inside : Inside) (heap : LimitedHeap) → heap ≡ heap_compressed inside.heap → IsSoundHeap heap → IsKept inside → IsKept (record inside { heap = heap })
-compressed-kept inside heap is sound kept = row-kept inside heap inside.heap.row _ is kept.numbered sound kept
+compressed-kept inside heap is sound kept = row-kept inside heap inside.heap.row _ inside.tally is kept.numbered kept.tallied sound kept
+
+-- there are fewer cells than a word counts
+pub tally-room : (inside : Inside) → IsKept inside → inside.tally.total + 1 < 2 ^ 32
+tally-room inside kept =
+    omega (
+      arith,
+      kept.tallied.total,
+      number-within (is_counted levels.All) (headers inside.heap.row),
+      row-within (headers inside.heap.row) 0 kept.sound.row.spaced,
+      top_of-committed inside.heap kept.sound,
+      kept.sound.bound,
+      kept.sound.limit,
+    )

@@ -2,7 +2,10 @@ pub mod Closing
 pub mod Counting
 pub mod Kept
 pub mod Leaks
+pub mod LevelCounts
 pub mod Longer
+pub mod LoweredTallies
 pub mod Lowering
 pub mod Rises
 pub mod Room
+pub mod Tallies

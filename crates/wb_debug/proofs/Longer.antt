@@ -1,5 +1,5 @@
 -- A reallocation to a longer cell, from what was asked of the heap, comes to what the definitions make of it.
-use Rattle.std.proofs.Common.{◌≡◌, ◌≢◌, ◌⊎◌, inl, inr, Result, Err, IsErr, IfErr, is_some, ℕ, ◌+◌, ◌<◌, ◌≤◌, All, List, Option, Some, IfSome, Bool, true, false, cond, refl, sym, ap, subst, ◌∙◌, arith}
+use Rattle.std.proofs.Common.{option_map, ◌≡◌, ◌≢◌, ◌⊎◌, inl, inr, Result, Err, IsErr, IfErr, is_some, ℕ, ◌+◌, ◌<◌, ◌≤◌, All, List, Option, Some, IfSome, Bool, true, false, cond, refl, sym, ap, subst, ◌∙◌, arith}
 use Rattle.std.specs.Prelude.{nat_lt, nat_eq}
 use Rattle.std.proofs.lemmas.Bool.{cond-false, lt-ltb, le-ltb}
 use Rattle.wb_model.specs.declared.heap.Answer.{Answer}
@@ -14,7 +14,7 @@ use Rattle.wb_model.specs.Debug.{Debug, Made, made_by, number_of_next, trace_lin
 use Rattle.wb_model.specs.Heap.{after_realloc, request_at, shortened}
 use Rattle.wb_model.specs.LimitedHeap.{LimitedHeap, IsSoundHeap, heap_grown, heap_shortened, heap_reallocated, committed_grown, grown_cell, grown_pointer, place_to_grow, space_in}
 use Rattle.wb_model.specs.Rises.{end_of_line, granted_end, rises_with}
-use Rattle.wb_model.specs.Row.{Cell, headers, end_of, cell_at, cell_length, pointer_to, without}
+use Rattle.wb_model.specs.Row.{Cell, headers, end_of, cell_at, cell_length, inserted, pointer_to, without}
 use Rattle.wb_model.specs.Rules.{Request, after_attempt}
 use Rattle.wb_model.specs.Rules as rules
 use Rattle.wb_model.specs.Space.{committed_by, bound_below, space_below}
@@ -32,6 +32,8 @@ use Rattle.wb_rheap.proofs.Growing.{Names, cell-of, whole-cell, own-pointer}
 use Rattle.wb_rheap.specs.declared.fault.HeapFault.{HeapFault}
 use Rattle.wb_rheap.specs.declared.fault.HeapFault.TheVariants as faults
 use Rattle.wb_debug.proofs.Rises.{granted-within, no_want, end-of-grant}
+use Rattle.wb_debug.specs.Tally.{Tally, IsOther, IsTally}
+use Rattle.wb_debug.proofs.Tallies.{inserted-more, tally-stays, without-less}
 use Rattle.wb_debug.proofs.Room.{HasRoom, held-stepped, inserted-has}
 
 -- the request for a longer cell
@@ -167,11 +169,25 @@ denied-gave inside p cell bytes len line is denied =
     by Simulated e = refl
     by Refused e = refl
 
+-- one cell is another now
+replaced-other : (heap : LimitedHeap) (p : Ptr) (c new : Cell (List ℕ)) → IsSoundHeap heap → cell_at p heap.row ≡ Some c →
+    IsOther (headers heap.row) (headers (inserted new (without (pointer_to c.head) heap.row))) c.head new.head
+replaced-other heap p c new sound found =
+    let own : pointer_to c.head ≡ p = own-pointer heap p c.head sound (ap (option_map (λ d. d.head)) found) in
+    record {
+      rest = headers (without (pointer_to c.head) heap.row);
+      less = without-less (pointer_to c.head) heap.row c sound.row.numbered (subst (λ q. cell_at q heap.row ≡ Some c) (sym own) found);
+      more = inserted-more new (without (pointer_to c.head) heap.row);
+    }
+
 -- what it keeps: the cell had an attempt's number, and keeps it or gets this one's
-pub grown-kept : (inside : Inside) (p : Ptr) (cell : Cell (List ℕ)) (bytes len : ℕ) (line : Attempt) (heap : LimitedHeap) (setting : Setting) (log : Log) →
-    IsAsked inside p cell bytes len line → line.answer ≡ Granted → heap ≡ heap_grown inside.heap cell len line.number →
-    IsSoundHeap heap → log ≡ logged inside.log line → IsKept inside → IsKept (record inside { heap = heap; setting = setting; attempts = line.number; log = log })
-grown-kept inside p cell bytes len line heap setting log is granted done sound more kept =
+pub grown-kept : (inside : Inside) (p : Ptr) (cell : Cell (List ℕ)) (bytes len : ℕ) (line : Attempt) (heap : LimitedHeap) (setting : Setting) (log : Log) (place : ℕ)
+    (tally : Tally) → IsAsked inside p cell bytes len line → line.answer ≡ Granted → heap ≡ heap_grown inside.heap cell len line.number → IsSoundHeap heap →
+    log ≡ logged inside.log line → place ≡ place_to_grow inside.heap cell.head len →
+    ((row new : List Header) (moved : Header) → IsOther row new cell.head moved → moved.kind ≡ cell.head.kind → moved.level ≡ cell.head.level → moved.place ≡ place →
+    IsTally inside.tally row → IsTally tally new) →
+    IsKept inside → IsKept (record inside { heap = heap; setting = setting; attempts = line.number; log = log; tally = tally })
+grown-kept inside p cell bytes len line heap setting log place tally is granted done sound more at moves kept =
     let c = cell in
     let old = inside.heap in
     let new : LimitedHeap = heap_grown old c len line.number in
@@ -191,9 +207,13 @@ grown-kept inside p cell bytes len line heap setting log is granted done sound m
     } in
     let own : c.head.number ≤ inside.attempts = found-all (λ h. h.number ≤ inside.attempts) p (headers old.row) c.head kept.numbered (found-head p old.row c is.found) in
     let numbered : (grown_pointer old c.head len line.number).number ≤ inside.attempts + 1 = by c own (nat_eq (place_to_grow old c.head len) c.head.place) in
-    counted-kept inside heap setting log line (subst (λ (h : LimitedHeap). HasRoom old h (end_of_line line)) (sym grown) room)
+    let other : IsOther (headers old.row) (headers heap.row) c.head (grown_cell old c len line.number).head =
+    subst (λ (h : LimitedHeap). IsOther (headers old.row) (headers h.row) c.head (grown_cell old c len line.number).head) (sym grown)
+    (replaced-other old p c (grown_cell old c len line.number) kept.sound is.found) in
+    counted-kept inside heap setting log tally line (subst (λ (h : LimitedHeap). HasRoom old h (end_of_line line)) (sym grown) room)
     (subst (λ (h : LimitedHeap). All (λ g. g.number ≤ inside.attempts + 1) (headers h.row)) (sym reallocated)
     (All-heap_reallocated (λ g. g.number ≤ inside.attempts + 1) old c len line.number numbered (omega (arith, own)) (λ k h lt. omega (arith, kept.numbered k h lt))))
+    (moves (headers old.row) (headers heap.row) (grown_cell old c len line.number).head other refl refl (sym at) kept.tallied)
     sound more (ap (λ (a : Attempt). a.number) is.added) kept
   where
     by : (c : Cell (List ℕ)) → c.head.number ≤ inside.attempts → (b : Bool) → cond b c.head.number line.number ≤ inside.attempts + 1
@@ -223,9 +243,12 @@ module _ (inside : Inside) (p : Ptr) (h : Header) (len : ℕ) (heap : LimitedHea
   shortened-kept sound =
       let c = asked-cell inside h in
       let own : h.number ≤ inside.attempts = found-all (λ g. g.number ≤ inside.attempts) p (headers inside.heap.row) h kept.numbered (found-head p inside.heap.row c (found-cell inside p h kept e)) in
-      row-kept inside heap _ inside.heap.committed short
+      let new : Cell (List ℕ) = record { head = record h { length = len }; content = resized_words len c.content } in
+      row-kept inside heap (inserted new (without (pointer_to h) inside.heap.row)) inside.heap.committed inside.tally short
       (All-inserted (λ x. x.number ≤ inside.attempts) (record { head = record h { length = len }; content = resized_words len c.content })
       (without (pointer_to h) inside.heap.row) own (All-heap_without (λ x. x.number ≤ inside.attempts) inside.heap (pointer_to h) kept.numbered))
+      (tally-stays inside.tally (headers inside.heap.row) (headers (inserted new (without (pointer_to h) inside.heap.row))) h new.head refl refl (λ has. omega arith)
+      (replaced-other inside.heap p c new kept.sound (found-cell inside p h kept e)) kept.tallied)
       sound kept
 
   -- what the definitions make of it

@@ -1,7 +1,7 @@
 -- The end of a mark: each cell of its level is put below it, from cell to cell.
 use Rattle.std.proofs.Common.{◌≡◌, ◌≢◌, ℕ, suc, ◌-◌, ◌≤◌, ◌<◌, ◌&&◌, Bool, true, false, List, [], ◌∷◌, length, Some, None, IsSome, refl, ap, ◌∙◌, sym, cond, subst, arith}
-use Rattle.std.specs.Prelude.{nat_eq, nat_le}
-use Rattle.std.proofs.lemmas.Bool.{eq-eqb, ne_eqb, leb-true, leb-false, le-leb, lt-leb}
+use Rattle.std.specs.Prelude.{nat_eq, nat_le, nat_lt}
+use Rattle.std.proofs.lemmas.Bool.{eq-eqb, ne_eqb, leb-true, leb-false, le-leb, lt-leb, lt-ltb}
 use Rattle.wb_model.specs.declared.heap.Header.{Header}
 use Rattle.wb_model.specs.declared.heap.Ptr.{Ptr}
 use Rattle.wb_model.specs.CellRow.{with_level}
@@ -11,6 +11,9 @@ use Rattle.wb_model.specs.Row.{Cell, headers, end_of, is_at, cell_at, pointer_to
 use Rattle.wb_model.proofs.Onward.{onward, onward_next, onward_fewer, IsNextCell}
 use Rattle.wb_debug.specs.Levels.{is_counted}
 use Rattle.wb_debug.specs.declared.marks.Levels.TheVariants.{One}
+use Rattle.wb_debug.specs.Tally.{is_below, number}
+use Rattle.wb_debug.proofs.Counting.{onward-number}
+use Rattle.wb_debug.proofs.Tallies.{number-cons, ones, same-level}
 
 -- a cell one level lower, where it is of the level
 abbrev put_below : ℕ → Cell (List ℕ) → Cell (List ℕ)
@@ -34,10 +37,6 @@ lowered_on-all : (from level at : ℕ) (row : List (Cell (List ℕ))) → IsSpac
 lowered_on-all from level at [] s le = refl
 lowered_on-all from level at (c ∷ cs) s le =
     at_or_above from level c cs (omega (arith, s.0)) ∙ ap (λ r. put_below level c ∷ r) (lowered_on-all from level (end_of c.head) cs s.5 (omega (arith, s.0)))
-
-pub lowered_on-zero : (level : ℕ) (row : List (Cell (List ℕ))) → lowered_on 0 level row ≡ lowered level row
-lowered_on-zero level [] = refl
-lowered_on-zero level (c ∷ cs) = at_or_above 0 level c cs (omega arith) ∙ ap (λ r. put_below level c ∷ r) (lowered_on-zero level cs)
 
 -- where no cell is left
 pub lowered_on-none : (from level : ℕ) (row : List (Cell (List ℕ))) → next_live_of from (headers row) ≡ None → lowered_on from level row ≡ row
@@ -162,9 +161,6 @@ pub record IsLowered (old : LimitedHeap) (level from : ℕ) (heap : LimitedHeap)
   pub others : heap ≡ record old { row = heap.row }
   pub row : lowered_on from level heap.row ≡ lowered level old.row
 
-pub lower-first : (old : LimitedHeap) (level : ℕ) → IsLowered old level 0 old
-lower-first old level = record { others = refl; row = lowered_on-zero level old.row }
-
 pub lower-next : (old : LimitedHeap) (level from : ℕ) (h : Header) (heap new : LimitedHeap) → new ≡ heap_leveled heap (pointer_to h) (level - 1) →
     IsSoundHeap heap → next_live_of from (headers heap.row) ≡ Some h → is_counted (One level) h ≡ true → IsLowered old level from heap →
     IsLowered old level (end_of h) new
@@ -195,3 +191,84 @@ lower-fewer from h heap new p to is next =
       onward-with_level (end_of h) p to heap.row,
       onward_fewer (headers heap.row) from h next,
     )
+
+-- where none of the level is below a place, the cells from there on are all that are put below it
+pub lowered_on-counted : (from level : ℕ) (row : List (Cell (List ℕ))) → number (is_below (is_counted (One level)) from) (headers row) ≡ 0 →
+    lowered_on from level row ≡ lowered level row
+lowered_on-counted from level [] none = refl
+lowered_on-counted from level (c ∷ cs) none =
+    by (nat_le from c.head.place) (is_counted (One level) c.head) refl refl
+    (lowered_on-counted from level cs (omega (arith, none, number-cons (is_below (is_counted (One level)) from) c.head (headers cs))))
+  where
+    here : ones (is_below (is_counted (One level)) from c.head) ≡ 0
+    here = omega (arith, none, number-cons (is_below (is_counted (One level)) from) c.head (headers cs))
+
+    by : (b t : Bool) → nat_le from c.head.place ≡ b → is_counted (One level) c.head ≡ t → lowered_on from level cs ≡ lowered level cs →
+        cond b (put_below level c) c ∷ lowered_on from level cs ≡ put_below level c ∷ lowered level cs
+    by true t e is rest = ap (λ r. put_below level c ∷ r) rest
+    by false false e is rest =
+        let stays : put_below level c ≡ c = ap (λ b. record c { head = cond b (record c.head { level = level - 1 }) c.head }) is in
+        ap (λ r. c ∷ r) rest ∙ ap (λ d. d ∷ lowered level cs) (sym stays)
+    by false true e is rest =
+        let low : nat_lt c.head.place from ≡ true = lt-ltb _ _ (leb-false _ _ e) in
+        let one : ones (is_below (is_counted (One level)) from c.head) ≡ 1 = ap (λ x. ones (x && nat_lt c.head.place from)) is ∙ ap ones low in
+        absurd (omega (arith, one, here))
+
+-- where none is left
+lowered_on-rest : (from level : ℕ) (row : List (Cell (List ℕ))) → number (is_counted (One level)) (onward from (headers row)) ≡ 0 → lowered_on from level row ≡ row
+lowered_on-rest from level [] none = refl
+lowered_on-rest from level (c ∷ cs) none = by (nat_le from c.head.place) (is_counted (One level) c.head) refl refl none (lowered_on-rest from level cs)
+  where
+    test : Header → Bool
+    test = is_counted (One level)
+
+    by : (b t : Bool) → nat_le from c.head.place ≡ b → is_counted (One level) c.head ≡ t →
+        number (is_counted (One level)) (cond b (c.head ∷ onward from (headers cs)) (onward from (headers cs))) ≡ 0 →
+        (number (is_counted (One level)) (onward from (headers cs)) ≡ 0 → lowered_on from level cs ≡ cs) → cond b (put_below level c) c ∷ lowered_on from level cs ≡ c ∷ cs
+    by false t e is left rest = ap (λ r. c ∷ r) (rest left)
+    by true true e is left rest =
+        absurd (omega (arith, left, number-cons (is_counted (One level)) c.head (onward from (headers cs)), ap ones is))
+    by true false e is left rest =
+        let stays : put_below level c ≡ c = ap (λ b. record c { head = cond b (record c.head { level = level - 1 }) c.head }) is in
+        ap (λ d. d ∷ lowered_on from level cs) stays
+        ∙ ap (λ r. c ∷ r) (rest (omega (arith, left, number-cons (is_counted (One level)) c.head (onward from (headers cs)))))
+
+-- the cells behind one that changes its level
+onward-put : (h : Header) (to : ℕ) (row : List (Cell (List ℕ))) → 1 ≤ h.length → onward (end_of h) (headers (with_level (pointer_to h) to row)) ≡ onward (end_of h) (headers row)
+onward-put h to [] some = refl
+onward-put h to (c ∷ cs) some = by (is_at (pointer_to h) c.head) refl (onward-put h to cs some)
+  where
+    by : (here : Bool) → is_at (pointer_to h) c.head ≡ here → onward (end_of h) (headers (with_level (pointer_to h) to cs)) ≡ onward (end_of h) (headers cs) →
+        onward (end_of h) (headers (cond here (record c { head = record c.head { level = to } } ∷ cs) (c ∷ with_level (pointer_to h) to cs))) ≡ onward (end_of h) (c.head ∷ headers cs)
+    by true e rest =
+        let at : h.place ≡ c.head.place = same-place (nat_eq h.place c.head.place) refl e in
+        let low : nat_le (end_of h) c.head.place ≡ false = lt-leb _ _ (omega (arith, at, some)) in
+        ap (λ b. cond b (record c.head { level = to } ∷ onward (end_of h) (headers cs)) (onward (end_of h) (headers cs))) low
+        ∙ sym (ap (λ b. cond b (c.head ∷ onward (end_of h) (headers cs)) (onward (end_of h) (headers cs))) low)
+      where
+        same-place : (b : Bool) → nat_eq h.place c.head.place ≡ b → is_at (pointer_to h) c.head ≡ true → h.place ≡ c.head.place
+        same-place true t e = same-level h.place c.head.place t
+        same-place false t e = let no = sym (ap (λ x. x && nat_eq h.number c.head.number) t) ∙ e in cc
+    by false e rest = ap (λ r. cond (nat_le (end_of h) c.head.place) (c.head ∷ r) r) rest
+
+-- one cell less is to be put below
+pub lower-counts : (level from n : ℕ) (h : Header) (heap new : LimitedHeap) → new ≡ heap_leveled heap (pointer_to h) (level - 1) → 1 ≤ h.length →
+    IsNextCell from h (headers heap.row) → is_counted (One level) h ≡ true → number (is_counted (One level)) (onward from (headers heap.row)) ≡ n →
+    number (is_counted (One level)) (onward (end_of h) (headers new.row)) ≡ n - 1
+lower-counts level from n h heap new is some next counts left =
+    let same = ap (λ (x : LimitedHeap). number (is_counted (One level)) (onward (end_of h) (headers x.row))) is
+    ∙ ap (number (is_counted (One level))) (onward-put h (level - 1) heap.row some) in
+    omega (arith, same, left, onward-number (is_counted (One level)) (headers heap.row) from h next, ap ones counts)
+
+pub past-counts : (level from n : ℕ) (h : Header) (row : List Header) → IsNextCell from h row → is_counted (One level) h ≡ false →
+    number (is_counted (One level)) (onward from row) ≡ n → number (is_counted (One level)) (onward (end_of h) row) ≡ n
+past-counts level from n h row next counts left = omega (arith, left, onward-number (is_counted (One level)) row from h next, ap ones counts)
+
+-- where it begins and ends
+pub lower-begin : (old : LimitedHeap) (level from : ℕ) → number (is_below (is_counted (One level)) from) (headers old.row) ≡ 0 → IsLowered old level from old
+lower-begin old level from none = record { others = refl; row = lowered_on-counted from level old.row none }
+
+pub lower-end : (old : LimitedHeap) (level from : ℕ) (heap : LimitedHeap) → number (is_counted (One level)) (onward from (headers heap.row)) ≡ 0 → IsLowered old level from heap →
+    heap ≡ record old { row = lowered level old.row }
+lower-end old level from heap none so_far =
+    so_far.others ∙ ap (λ r. record old { row = r }) (sym (lowered_on-rest from level heap.row none) ∙ so_far.row)

@@ -6,6 +6,7 @@ use Rattle.wb_model.specs.Row.{headers}
 use Rattle.wb_model.specs.Space.{Space, limit_under}
 use Rattle.wb_debug.specs.Log.{top_in}
 use Rattle.wb_debug.specs.Setting.{setting_of}
+use Rattle.wb_debug.specs.Tally.{IsTally}
 use Rattle.wb_debug.specs.declared.debug_heap.DebugHeap.TheInside.{Inside}
 
 abbrev pub debug_of : Inside → Debug
@@ -24,7 +25,7 @@ abbrev pub IsStepped : Space → ℕ → Type 0
 IsStepped space length = (length ≡ space.least) ⊎ ((steps : ℕ) × (length ≡ min (steps * space.step) space.bound))
 
 -- The heap's limit is the rule's, each live cell has the number of an attempt that was made, and each attempt has its line, unless
--- the rises are kept. The memory that is held reaches up to the last rise's end, so that no cell below it takes more.
+-- the rises are kept. The tally is that of the live cells. The memory that is held reaches up to the last rise's end, so that no cell below it takes more.
 pub record IsKept (inside : Inside) : Type 0 where
   pub sound : IsSoundHeap inside.heap
   pub limit : inside.heap.limit ≡ limit_under inside.rule
@@ -33,3 +34,4 @@ pub record IsKept (inside : Inside) : Type 0 where
   pub untraced : is_some inside.log.rises ≡ true → inside.log.trace ≡ []
   pub stepped : IsStepped (space_in inside.heap) inside.heap.held
   pub reached : top_in inside.log.rises ≤ inside.heap.held
+  pub tallied : IsTally inside.tally (headers inside.heap.row)

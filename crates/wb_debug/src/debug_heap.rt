@@ -1,10 +1,10 @@
-//! The debug heap: attempts, releases and marks. What is to fail stands in `failing`, notes in `notes`, headers and the
-//! words of payloads in `payloads`, and the cells in the crate below.
+//! The debug heap: attempts and releases. Marks stand in `checks`, what is to fail in `failing`, notes in `notes`, headers and
+//! the words of payloads in `payloads`, and the cells in the crate below.
 
 ghost use Rattle.std.specs.Prelude.{◌≡◌, ◌≢◌, ◌+◌, ◌^◌, ◌<◌, ◌≤◌, ◌↔◌, [], false, true, None, Some, is_some, length, option_map, IfOk, IfErr, IfSome, IsOk, IsErr, IsOkAnd, IsSome, OnOk, OnErr};
 ghost use Rattle.wb_debug.specs.Log.{IsTakenBack};
-ghost use Rattle.wb_model.specs.Debug.{IsSoundDebug, alloc_made, answer_in, check_all_refusal, check_refusal, debug_without, first_debug, first_debug_of, leaks_of_heap, keeps_rises, trace_line, number_of_next, realloc_made, release_refusal};
-ghost use Rattle.wb_model.specs.Heap.{after_mark, after_mark_end, alloc_request, mark_end_refusal, realloc_request, request_at};
+ghost use Rattle.wb_model.specs.Debug.{IsSoundDebug, alloc_made, answer_in, debug_without, first_debug, first_debug_of, leaks_of_heap, keeps_rises, trace_line, number_of_next, realloc_made, release_refusal};
+ghost use Rattle.wb_model.specs.Heap.{alloc_request, realloc_request, request_at};
 ghost use Rattle.wb_model.specs.Rises.{first_rises};
 ghost use Rattle.wb_model.specs.Row.{cell_at, cell_length};
 ghost use Rattle.wb_model.specs.Space.{is_shape};
@@ -14,9 +14,9 @@ ghost use Rattle.wb_model.specs.declared.heap.Rule.TheVariants.{Unlimited};
 use crate::fault::DebugFault;
 use crate::log::Log;
 use crate::marks;
-use crate::marks::Levels;
 use crate::rules::{answer, cell_length, limit_under};
 use crate::setting::Setting;
+use crate::tally::Tally;
 use std::alloc::Global;
 use std::marker::Model;
 use wb_model::heap::{Answer, Attempt, Gave, Header, Kind, Panic, Ptr, Rule, Shape};
@@ -44,6 +44,8 @@ pub struct DebugHeap {
     /// How many attempts were made.
     pub(crate) attempts: u32,
     pub(crate) log: Log,
+    /// What the live cells come to.
+    pub(crate) tally: Tally,
 }
 
 impl Model for DebugHeap {
@@ -98,6 +100,7 @@ impl DebugHeap {
             setting: self.setting,
             attempts: self.attempts,
             log: self.log.try_copy()?,
+            tally: self.tally.try_copy()?,
         })
     }
 
@@ -161,6 +164,7 @@ impl DebugHeap {
             setting: _,
             attempts: _,
             log,
+            tally: _,
         } = self;
         log
     }
@@ -188,6 +192,7 @@ fn with_log(alloc: Global, rule: Rule, shape: Shape, log: Log) -> Result<DebugHe
         setting: Setting::Never,
         attempts: 0,
         log,
+        tally: Tally::new(alloc),
     })
 }
 
@@ -220,7 +225,15 @@ impl DebugHeap {
             Answer::Granted => {
                 let heap = &mut self.heap;
                 let granted = heap.alloc_at(place, length, kind, line.number, self.level);
-                granted_or_undone(granted, &mut self.log, added)?
+                let gave = granted_or_undone(granted, &mut self.log, added)?;
+                self.tally.grant(Header {
+                    place,
+                    length,
+                    kind,
+                    level: self.level,
+                    number: line.number,
+                });
+                gave
             }
             Answer::Simulated | Answer::Refused => Gave::Denied,
         };
@@ -264,7 +277,9 @@ impl DebugHeap {
         let gave = match line.answer {
             Answer::Granted => {
                 let granted = self.heap.lengthen(cell, place, length, line.number);
-                granted_or_undone(granted, &mut self.log, added)?
+                let gave = granted_or_undone(granted, &mut self.log, added)?;
+                self.tally.put_at(cell, place);
+                gave
             }
             Answer::Simulated | Answer::Refused => Gave::Denied,
         };
@@ -306,10 +321,12 @@ impl DebugHeap {
         if ptr.number == 0 {
             return Ok(());
         }
-        match heap.free(ptr) {
-            Ok(()) => Ok(()),
-            Err(_) => Err(Panic::BAD_CELL),
-        }
+        let Some(cell) = heap.header(ptr) else {
+            return Err(Panic::BAD_CELL);
+        };
+        heap.free_cell(ptr, cell);
+        self.tally.release(cell);
+        Ok(())
     }
 }
 
@@ -331,59 +348,5 @@ fn granted_or_undone(
             log.take_back(added);
             Err(NoMemory)
         }
-    }
-}
-
-/// Nested marks, and the checks that the cells of a level are as many as expected.
-impl DebugHeap {
-    /// Opens a mark: new cells are of a level one deeper. Source: Symbian OS v9 SDK reference, `__UHEAP_MARK`.
-    pub fn mark(&mut self)
-        requires { self.old.heap.level + 1 < 2 ^ 32 }
-        ensures marked { self.new ≡ record self.old { heap = after_mark self.old.heap } }
-        ensures sound { IsSoundDebug self.new }
-    {
-        self.level += 1;
-    }
-
-    /// Closes the innermost mark, where `n` live cells are of its level: they take the level below.
-    ///
-    /// `Panic::NO_OPEN_MARK` where no mark is open, and else what `check` refuses; the heap is then as it was. Source:
-    /// Symbian OS v9 SDK reference, `__UHEAP_MARKEND` and `__UHEAP_MARKENDC`, and this project's profile for the
-    /// levels.
-    pub fn mark_end(&mut self, n: u32) -> Result<(), Panic>
-        ensures refused { IfErr result (λ panic. mark_end_refusal self.old.heap n ≡ Some panic) }
-        ensures fine { OnOk result (mark_end_refusal self.old.heap n ≡ None) }
-        ensures closed { OnOk result (self.new ≡ record self.old { heap = after_mark_end self.old.heap }) }
-        ensures err { OnErr result (self.new ≡ self.old) }
-        ensures sound { IsSoundDebug self.new }
-    {
-        let level = self.level;
-        if level == 0 {
-            return Err(Panic::NO_OPEN_MARK);
-        }
-        marks::expect(&self.heap, Levels::One(level), n)?;
-        marks::lower(&mut self.heap, level);
-        self.level = level - 1;
-        Ok(())
-    }
-
-    /// Expects `n` live cells of the current level.
-    ///
-    /// Where they are fewer or more, `Alloc` names the place of the lowest, or 0 where there is none. Source: Symbian OS
-    /// v9 SDK reference, `__UHEAP_CHECK`, and this project's profile for the cell that is named.
-    pub fn check(&self, n: u32) -> Result<(), Panic>
-        ensures refused { IfErr result (λ panic. check_refusal self.now n ≡ Some panic) }
-        ensures fine { OnOk result (check_refusal self.now n ≡ None) }
-    {
-        marks::expect(&self.heap, Levels::One(self.level), n)
-    }
-
-    /// Expects `n` live cells of all levels. It refuses as `check` does. Source: Symbian OS v9 SDK reference,
-    /// `__UHEAP_CHECKALL`, and this project's profile for the cell that is named.
-    pub fn check_all(&self, n: u32) -> Result<(), Panic>
-        ensures refused { IfErr result (λ panic. check_all_refusal self.now n ≡ Some panic) }
-        ensures fine { OnOk result (check_all_refusal self.now n ≡ None) }
-    {
-        marks::expect(&self.heap, Levels::All, n)
     }
 }

@@ -1,8 +1,8 @@
 //! The debug heap: a simulated heap that counts the attempts to get a cell, refuses those that are to fail, and checks
 //! nested marks.
 //!
-//! What an attempt asks stands in `setting` (the script's own) and `rules` (the run's), what is kept of it in `log`, and
-//! what a check counts in `marks`.
+//! What an attempt asks stands in `setting` (the script's own) and `rules` (the run's), what is kept of it in `log`, what the
+//! live cells come to in `tally`, and what a check counts in `marks`.
 #![tactic(auto)]
 
 pub use debug_heap::DebugHeap;
@@ -12,12 +12,15 @@ pub use wb_model::memory::NoMemory;
 pub use wb_model::run::{Leak, Leaks, Note, Trace};
 pub use wb_model::size::{Rise, Rises};
 
+mod checks;
 pub mod debug_heap;
 mod failing;
 pub mod fault;
+mod level_counts;
 mod log;
 mod marks;
 mod notes;
 mod payloads;
 mod rules;
 mod setting;
+mod tally;

@@ -1,12 +1,15 @@
-//! What checks and the end of a mark count, and the leaks of a run. Each goes over the live cells once, by place.
+//! What checks and the end of a mark count, and the leaks of a run. Counts are the tally's; the cells are gone over, by place,
+//! where one is to be named, where levels change, and for the leaks.
 
 ghost use Rattle.std.specs.Prelude.{◌≡◌, ◌≤◌, None, Some, filter, length, map, not, IfOk, IfErr, OnOk};
 ghost use Rattle.wb_debug.specs.Levels.{is_counted};
+ghost use Rattle.wb_debug.specs.Tally.{IsTally, is_below, number};
 ghost use Rattle.wb_model.specs.Heap.{cells_of_all_levels, checked, is_cleanup, lowered, lowest};
 ghost use Rattle.wb_model.specs.LimitedHeap.{IsSoundHeap};
 ghost use Rattle.wb_model.specs.Row.{headers};
 ghost use Rattle.wb_model.specs.Run.{leak_of};
 
+use crate::tally::Tally;
 use std::alloc::Global;
 use wb_model::heap::{Header, Kind, Panic};
 use wb_model::items::Items;
@@ -22,7 +25,7 @@ pub enum Levels {
 }
 
 /// Whether a cell is of a level at all: the cleanup stack's is of none.
-fn has_level(kind: Kind) -> bool
+pub fn has_level(kind: Kind) -> bool
     ensures { result ≡ not (is_cleanup kind) }
 {
     match kind {
@@ -41,50 +44,89 @@ fn is_counted(levels: Levels, cell: Header) -> bool
     }
 }
 
-/// How many cells are counted, and the place of the lowest of them, or 0 where there is none.
-fn count(heap: &Heap, levels: Levels) -> (u32, u32)
-    ensures number { result.0 ≡ length (filter (is_counted levels) (headers heap.now.row)) }
-    ensures place { result.1 ≡ lowest (filter (is_counted levels) (headers heap.now.row)) }
+/// How many cells are counted, and a place that none of them is below. It goes over the cells only where the tally doesn't know
+/// the level.
+fn known(heap: &Heap, tally: &Tally, levels: Levels) -> (u32, u32)
+    requires { IsTally tally.now (headers heap.now.row) }
+    ensures number { result.0 ≡ number (is_counted levels) (headers heap.now.row) }
+    ensures lowest { number (is_below (is_counted levels) result.1) (headers heap.now.row) ≡ 0 }
+{
+    match levels {
+        Levels::All => (tally.total(), 0),
+        Levels::One(level) => match tally.of_level(level) {
+            Some(cells) => (cells.count, cells.lowest),
+            None => (count(heap, levels), 0),
+        },
+    }
+}
+
+/// How many cells are counted, from the cells themselves.
+fn count(heap: &Heap, levels: Levels) -> u32
+    ensures { result ≡ number (is_counted levels) (headers heap.now.row) }
 {
     let mut found = 0;
-    let mut place = 0;
     let mut from = 0;
     while let Some(cell) = heap.next_live(from) {
         if is_counted(levels, cell) {
-            if found == 0 {
-                place = cell.place;
-            }
             found += 1;
         }
         from = cell.end();
     }
-    (found, place)
+    found
 }
 
-/// Expects `n` cells to be counted.
-pub fn expect(heap: &Heap, levels: Levels, n: u32) -> Result<(), Panic>
+/// The place of the lowest cell that is counted, or 0 where there is none; none of them is below `from`.
+fn lowest(heap: &Heap, levels: Levels, from: u32) -> u32
+    requires { number (is_below (is_counted levels) from) (headers heap.now.row) ≡ 0 }
+    ensures { result ≡ lowest (filter (is_counted levels) (headers heap.now.row)) }
+{
+    let mut at = from;
+    while let Some(cell) = heap.next_live(at) {
+        if is_counted(levels, cell) {
+            return cell.place;
+        }
+        at = cell.end();
+    }
+    0
+}
+
+/// Expects `n` cells to be counted, and returns a place that none of them is below. It goes over the cells only to name the
+/// lowest, where they are fewer or more.
+pub fn expect(heap: &Heap, tally: &Tally, levels: Levels, n: u32) -> Result<u32, Panic>
+    requires { IsTally tally.now (headers heap.now.row) }
     ensures refused { IfErr result (λ panic. checked (filter (is_counted levels) (headers heap.now.row)) n ≡ Some panic) }
     ensures fine { OnOk result (checked (filter (is_counted levels) (headers heap.now.row)) n ≡ None) }
+    ensures number { OnOk result (n ≡ number (is_counted levels) (headers heap.now.row)) }
+    ensures lowest { IfOk result (λ place. number (is_below (is_counted levels) place) (headers heap.now.row) ≡ 0) }
 {
-    let (found, place) = count(heap, levels);
+    let (found, from) = known(heap, tally, levels);
     if found == n {
-        return Ok(());
+        return Ok(from);
     }
-    Err(Panic::Alloc(place))
+    Err(Panic::Alloc(lowest(heap, levels, from)))
 }
 
-/// Puts each cell of a level one level lower.
-pub fn lower(heap: &mut Heap, level: u32)
-    requires { 1 ≤ level }
+/// Puts each cell of a level one level lower. They are `n`, and none of them is below `from`, so that no other cell is
+/// looked at but those between them.
+pub fn lower(heap: &mut Heap, level: u32, from: u32, n: u32)
+    requires sound { IsSoundHeap heap.old }
+    requires some { 1 ≤ level }
+    requires number { n ≡ number (is_counted (Levels.One level)) (headers heap.old.row) }
+    requires lowest { number (is_below (is_counted (Levels.One level)) from) (headers heap.old.row) ≡ 0 }
     ensures lowered { heap.new ≡ record heap.old { row = lowered level heap.old.row } }
     ensures sound { IsSoundHeap heap.new }
 {
-    let mut from = 0;
-    while let Some(cell) = heap.next_live(from) {
+    let mut at = from;
+    let mut left = n;
+    while left > 0 {
+        let Some(cell) = heap.next_live(at) else {
+            return;
+        };
         if is_counted(Levels::One(level), cell) {
             heap.set_level(cell.pointer(), level - 1);
+            left -= 1;
         }
-        from = cell.end();
+        at = cell.end();
     }
 }
 

@@ -280,7 +280,7 @@ static ATTEMPTS: [WorkedDebugHeap; 16] = [
 ];
 
 /// What checks count, and what the end of a mark leaves.
-static MARKS: [WorkedDebugHeap; 3] = [
+static MARKS: [WorkedDebugHeap; 4] = [
     WorkedDebugHeap {
         about: "a check counts the current level",
         rule: Rule::Unlimited,
@@ -329,6 +329,42 @@ static MARKS: [WorkedDebugHeap; 3] = [
             Call::MarkEnd(2, None),
             Call::Check(2, None),
             Call::Leaks(&[(2, 32, 144), (3, 32, 176)]),
+        ],
+    },
+    WorkedDebugHeap {
+        about: "counts of levels follow grants, releases and moved cells",
+        rule: Rule::Unlimited,
+        shape: SHAPE,
+        calls: &[
+            Call::Mark,
+            Call::Alloc(16, (144, 2)),
+            Call::Mark,
+            Call::Mark,
+            Call::Alloc(16, (176, 3)),
+            Call::Alloc(16, (208, 4)),
+            Call::Free((144, 2)),
+            Call::Check(2, None),
+            Call::Alloc(16, (144, 5)),
+            Call::Check(1, Some(Panic::Alloc(0x90))),
+            Call::MarkEnd(3, None),
+            Call::MarkEnd(2, Some(Panic::Alloc(0x90))),
+            Call::MarkEnd(3, None),
+            Call::Mark,
+            Call::Check(0, None),
+            Call::Realloc((144, 5), 48, (240, 6)),
+            Call::Alloc(16, (144, 7)),
+            Call::Check(1, None),
+            Call::Header((240, 6), 64, 1),
+            Call::Free((144, 7)),
+            Call::MarkEnd(0, None),
+            Call::Check(2, Some(Panic::Alloc(0xb0))),
+            Call::Free((176, 3)),
+            Call::Realloc((240, 6), 2048, (240, 6)),
+            Call::Check(2, None),
+            Call::Free((208, 4)),
+            Call::Check(0, Some(Panic::Alloc(0xf0))),
+            Call::MarkEnd(1, None),
+            Call::CheckAll(1, None),
         ],
     },
 ];

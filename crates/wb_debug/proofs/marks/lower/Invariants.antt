@@ -1,11 +1,19 @@
-use Rattle.std.proofs.Common.{length}
+use Rattle.std.proofs.Common.{◌≡◌, length}
+use Rattle.wb_model.specs.LimitedHeap.{IsSoundHeap}
 use Rattle.wb_model.specs.Row.{headers}
 use Rattle.wb_model.proofs.Onward.{onward}
+use Rattle.wb_debug.specs.declared.marks.Levels.TheVariants.{One}
+use Rattle.wb_debug.specs.Levels.{is_counted}
+use Rattle.wb_debug.specs.Tally.{number}
 use Rattle.wb_debug.proofs.Lowering.{IsLowered}
 use Rattle.wb_debug.proofs.marks.lower.Given as goal
 
-abbrev pub invariant-loop-cell : goal.invariant-loop-cell
-invariant-loop-cell l = IsLowered l.initial.heap l.level l.from l.heap
+abbrev pub invariant-loop-left : goal.invariant-loop-left
+invariant-loop-left l = record {
+  sound : IsSoundHeap l.heap;
+  lowered : IsLowered l.initial.heap l.level l.at l.heap;
+  counts : number (is_counted (One l.level)) (onward l.at (headers l.heap.row)) ≡ l.left;
+}
 
-abbrev pub decreases-loop-cell : goal.decreases-loop-cell
-decreases-loop-cell l = length (onward l.from (headers l.heap.row))
+abbrev pub decreases-loop-left : goal.decreases-loop-left
+decreases-loop-left l = length (onward l.at (headers l.heap.row))

@@ -57,9 +57,9 @@ invariant_of-self-2 c =
       | in-Granted+in_ok-gave-in-Granted w ↦
           subst (λ (x : Inside). IsKept (record x { setting = c.counted-self-inside.result; attempts = c.in-Some.line.number })) (sym w.self-inside-is)
           (grown-kept c.self.inside c.args.ptr (asked-cell c.self.inside c.unwrap-cell.result) c.args.bytes c.cell_length-length.result c.in-Some.line w.lengthen-granted.new.self
-          c.counted-self-inside.result w.granted_or_undone.new.log (asked-for c) w.in-Granted.is
+          c.counted-self-inside.result w.granted_or_undone.new.log c.place_to_grow-place.result w.put_at.new.self (asked-for c) w.in-Granted.is
           (on-ok w.lengthen-granted.result _ _ w.in_ok-gave-in-Granted.ensures.granted w.lengthen-granted.ensures.grown) w.lengthen-granted.ensures.sound
-          (w.in_ok-gave-in-Granted.ensures.kept ∙ c.in_ok-added.ensures.pushed) c.self.invariant)
+          (w.in_ok-gave-in-Granted.ensures.kept ∙ c.in_ok-added.ensures.pushed) c.place_to_grow-place.ensures.place w.put_at.ensures c.self.invariant)
       | in-Simulated w ↦
           subst (λ (x : Inside). IsKept (record x { setting = c.counted-self-inside.result; attempts = c.in-Some.line.number })) (sym w.self-inside-is)
           (refused-kept c.self.inside c.counted-self-inside.result c.push.new.self c.in-Some.line c.in_ok-added.ensures.pushed (ap (λ (a : Attempt). a.number) (asked-for c).added) w.in-Simulated.is c.self.invariant)

@@ -1,6 +1,9 @@
-use Rattle.std.proofs.Common.{◌≡◌, IfErr, Some, subst}
-use Rattle.wb_model.specs.Debug.{Debug, check_all_refusal}
+use Rattle.std.proofs.lemmas.Result.{err_from_is_err_and}
+use Rattle.wb_debug.specs.Debug.{debug_of}
+use Rattle.wb_debug.proofs.Closing.{check_all-refused}
 use Rattle.wb_debug.proofs.debug_heap.DebugHeap.check_all.Goals as goal
 
-pub returns-clause-refused : goal.returns-clause-refused
-returns-clause-refused c = subst (λ (d : Debug). IfErr c.expect.result (λ panic. check_all_refusal d c.args.n ≡ Some panic)) c.self.view_is c.expect.ensures.refused
+pub returns-in_err-expect-clause-refused : goal.returns-in_err-expect-clause-refused
+returns-in_err-expect-clause-refused c =
+    let p = err_from_is_err_and c.from_residual.result c.from_residual.ensures.1 in
+    rw (p.1, p.2) (check_all-refused (debug_of c.self.inside) c.args.self.now c.args.n _ c.self.view_is c.in_err-expect.ensures.refused)

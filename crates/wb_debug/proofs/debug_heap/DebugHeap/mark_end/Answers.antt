@@ -9,16 +9,16 @@ use Rattle.wb_debug.proofs.debug_heap.DebugHeap.mark_end.Goals as goal
 pub returns-then-level-eq0-clause-sound : goal.returns-then-level-eq0-clause-sound
 returns-then-level-eq0-clause-sound c = subst IsSoundDebug c.self.view_is (kept-sound c.self.inside c.self.invariant)
 
-pub returns-in_err-expect-clause-refused : goal.returns-in_err-expect-clause-refused
-returns-in_err-expect-clause-refused c =
+pub returns-in_err-from-clause-refused : goal.returns-in_err-from-clause-refused
+returns-in_err-from-clause-refused c =
     let p = err_from_is_err_and c.from_residual.result c.from_residual.ensures.1 in
-    rw (p.1, p.2) (mark_end-checks (debug_of c.self.inside) c.args.self.now c.args.n _ c.self.view_is c.if-level-eq0.false c.in_err-expect.ensures.refused)
+    rw (p.1, p.2) (mark_end-checks (debug_of c.self.inside) c.args.self.now c.args.n _ c.self.view_is c.if-level-eq0.false c.in_err-from.ensures.refused)
 
-pub returns-in_err-expect-clause-sound : goal.returns-in_err-expect-clause-sound
-returns-in_err-expect-clause-sound c = subst IsSoundDebug c.self.view_is (kept-sound c.self.inside c.self.invariant)
+pub returns-in_err-from-clause-sound : goal.returns-in_err-from-clause-sound
+returns-in_err-from-clause-sound c = subst IsSoundDebug c.self.view_is (kept-sound c.self.inside c.self.invariant)
 
 pub invariant_of-self : goal.invariant_of-self
-invariant_of-self c = lowered-kept c.self.inside c.lower.new.heap _ _ c.lower.ensures.lowered c.lower.ensures.sound c.self.invariant
+invariant_of-self c = lowered-kept c.self.inside c.lower.new.heap _ _ c.lower-2.new.self c.lower.ensures.lowered c.lower.ensures.sound c.lower-2.ensures c.self.invariant
 
 pub returns-clause-sound : goal.returns-clause-sound
 returns-clause-sound c = kept-sound _ (invariant_of-self c)

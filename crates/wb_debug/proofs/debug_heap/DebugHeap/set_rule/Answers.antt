@@ -17,4 +17,5 @@ returns-clause-sound c =
       untraced = kept.untraced;
       stepped = kept.stepped;
       reached = kept.reached;
+      tallied = kept.tallied;
     })

@@ -1,0 +1,135 @@
+-- What is counted of a level, found by its place among the levels, and what an edit there does.
+use Rattle.std.proofs.Common.{◌≡◌, ℕ, zero, suc, ◌+◌, ◌-◌, ◌<◌, ◌≤◌, ◌≢◌, List, [], ◌∷◌, length, get_or, set, Result, Ok, Err, IfOk, IfErr, refl, sym, ap, subst, arith}
+use Rattle.std.specs.List.{insert, remove}
+use Rattle.std.specs.List.Sorted.{IsSearchInRange, IsBinarySearchResult, IsNonDecreasingBy}
+use Rattle.std.specs.Ordering.{nat_cmp, ordering_index}
+use Rattle.std.proofs.lemmas.Cmp.{ranked}
+use Rattle.std.proofs.lemmas.List.Sorted.{IsNonDecreasingBy-from_default}
+use Rattle.std.proofs.lemmas.List.Edits.{length-insert, get_or-insert_below, get_or-insert_at, get_or-insert_above, length-remove, get_or-remove_below, get_or-remove_above}
+use Rattle.std.proofs.lemmas.Bool.Decides.{nat_tests}
+use Rattle.std.proofs.lemmas.Grind.{common_steps}
+use Rattle.wb_debug.specs.declared.level_counts.Counted.{Counted}
+use Rattle.wb_debug.specs.declared.level_counts.LevelCount.{LevelCount}
+use Rattle.wb_debug.specs.LevelCounts.{IsAt, IsGapFor, IsRising, SetsOnly, counted_at, level_at, no_cells}
+
+abbrev pub no_count : LevelCount
+no_count = record { level = 0; cells = no_cells }
+
+-- no count before the index is of the level
+abbrev pub NoneBefore : List LevelCount → ℕ → ℕ → Type 0
+NoneBefore cs k i = (j : ℕ) → j < i → level_at cs j ≢ k
+
+none_tail : (c : LevelCount) (cs : List LevelCount) (k i : ℕ) → NoneBefore (c ∷ cs) k (suc i) → NoneBefore cs k i
+none_tail c cs k i none j lt = none (suc j) (omega arith)
+
+-- a level that has no count
+pub counted-absent : (cs : List LevelCount) (k : ℕ) → NoneBefore cs k (length cs) → counted_at cs k ≡ no_cells
+counted-absent [] k none = refl
+counted-absent (c ∷ cs) k none = grind (arith, nat_tests, none 0 (omega arith), counted-absent cs k (none_tail c cs k _ none))
+
+-- the first count of the level is the one that is found
+pub counted-present : (cs : List LevelCount) (k i : ℕ) → i < length cs → level_at cs i ≡ k → NoneBefore cs k i → counted_at cs k ≡ (get_or cs i no_count).cells
+counted-present [] k i lt is none = absurd (omega (arith, lt))
+counted-present (c ∷ cs) k zero lt is none = grind (arith, nat_tests, is)
+counted-present (c ∷ cs) k (suc i) lt is none = grind (arith, nat_tests, none 0 (omega arith), counted-present cs k i (omega (arith, lt)) is (none_tail c cs k i none))
+
+-- another count in its place
+pub counted-set : (cs : List LevelCount) (k : ℕ) (v : Counted) (i : ℕ) → i < length cs → level_at cs i ≡ k → NoneBefore cs k i →
+    SetsOnly cs (set cs i (record { level = k; cells = v })) k v
+counted-set [] k v i lt is none q = absurd (omega (arith, lt))
+counted-set (c ∷ cs) k v zero lt is none q = grind (arith, nat_tests, is)
+counted-set (c ∷ cs) k v (suc i) lt is none q = grind (arith, nat_tests, none 0 (omega arith), counted-set cs k v i (omega (arith, lt)) is (none_tail c cs k i none) q)
+
+-- a new count
+pub counted-insert : (cs : List LevelCount) (k : ℕ) (v : Counted) (i : ℕ) → NoneBefore cs k i → SetsOnly cs (insert cs i (record { level = k; cells = v })) k v
+counted-insert cs k v zero none q = refl
+counted-insert [] k v (suc i) none q = refl
+counted-insert (c ∷ cs) k v (suc i) none q = grind (arith, nat_tests, none 0 (omega arith), counted-insert cs k v i (none_tail c cs k i none) q)
+
+-- no count from the index on is of the level
+abbrev pub NoneFrom : List LevelCount → ℕ → ℕ → Type 0
+NoneFrom cs k i = (j : ℕ) → i ≤ j → j < length cs → level_at cs j ≢ k
+
+-- a count less
+pub counted-remove : (cs : List LevelCount) (k i : ℕ) → i < length cs → level_at cs i ≡ k → NoneBefore cs k i → NoneFrom cs k (suc i) →
+    SetsOnly cs (remove cs i) k no_cells
+counted-remove [] k i lt is none later q = absurd (omega (arith, lt))
+counted-remove (c ∷ cs) k zero lt is none later q =
+    let gone = counted-absent cs k (λ j less. later (suc j) (omega arith) (omega (arith, less))) in
+    grind (arith, nat_tests, is, gone)
+counted-remove (c ∷ cs) k (suc i) lt is none later q =
+    grind (
+      arith,
+      nat_tests,
+      none 0 (omega arith),
+      counted-remove cs k i (omega (arith, lt)) is (none_tail c cs k i none)
+          (λ j le less. later (suc j) (omega (arith, le)) (omega (arith, less))) q,
+    )
+
+module _ (cs : List LevelCount) (rises : IsRising cs) (k : ℕ) where
+  -- the comparisons rise along the counts, as halving asks
+  comparisons_rise : IsNonDecreasingBy (λ (c : LevelCount). ordering_index (nat_cmp c.level k)) cs
+  comparisons_rise = IsNonDecreasingBy-from_default (λ (c : LevelCount). ordering_index (nat_cmp c.level k)) cs no_count (λ i j le in_range.
+      let up : level_at cs i ≤ level_at cs j = grind (arith, rises i j, λ (same : i ≡ j). ap (level_at cs) same) in
+      grind (arith, nat_tests))
+
+  -- halving ends at the level, or at the gap for it
+  pub searched : (r : Result ℕ ℕ) → IsSearchInRange r (length cs) → IsBinarySearchResult (λ (c : LevelCount). nat_cmp c.level k) cs r →
+      record { found : IfOk r (IsAt cs k); absent : IfErr r (IsGapFor cs k) }
+  searched (Ok at) in_range equal = record { found = record { in_range = in_range; has_level = ranked _ k _ (sym (equal no_count)) }; absent = tt }
+  searched (Err at) in_range parted = record {
+    found = tt;
+    absent = record {
+      in_range = in_range;
+      lower_before = λ j lt. ranked _ k _ (sym ((parted comparisons_rise).0 j no_count (omega arith) lt));
+      higher_after = λ j le lt. ranked _ k _ (sym ((parted comparisons_rise).1 j no_count le lt));
+    };
+  }
+
+module _ (cs : List LevelCount) (rises : IsRising cs) (k at : ℕ) (is : IsAt cs k at) where
+  none_before : NoneBefore cs k at
+  none_before j less same = omega (arith, rises j at less is.in_range, is.has_level)
+
+  pub counted-there : counted_at cs k ≡ (get_or cs at no_count).cells
+  counted-there = counted-present cs k at is.in_range is.has_level none_before
+
+  pub sets-there : (v : Counted) → SetsOnly cs (set cs at (record { level = k; cells = v })) k v
+  sets-there v = counted-set cs k v at is.in_range is.has_level none_before
+
+  pub rises-there : (v : Counted) → IsRising (set cs at (record { level = k; cells = v }))
+  rises-there v i j less within = grind (arith, common_steps, rises i j, rises i at, rises at j, is.in_range, is.has_level)
+
+  pub sets-removed : SetsOnly cs (remove cs at) k no_cells
+  sets-removed =
+      counted-remove cs k at is.in_range is.has_level none_before (λ j le less same. omega (arith, rises at j (omega (arith, le)) less, is.has_level))
+
+  pub rises-removed : IsRising (remove cs at)
+  rises-removed i j less within =
+      let shorter = length-remove cs at is.in_range in
+      let below : (m : ℕ) → m < at → level_at (remove cs at) m ≡ level_at cs m =
+      λ m before. ap (λ (c : LevelCount). c.level) (get_or-remove_below cs at no_count m before is.in_range) in
+      let above : (m : ℕ) → at ≤ m → level_at (remove cs at) m ≡ level_at cs (m + 1) =
+      λ m after. ap (λ (c : LevelCount). c.level) (get_or-remove_above cs at no_count m after is.in_range) in
+      grind (arith, below i, below j, above i, above j, rises i j, rises i (j + 1), rises (i + 1) (j + 1))
+
+module _ (cs : List LevelCount) (k at : ℕ) (gap : IsGapFor cs k at) where
+  pub counted-nowhere : counted_at cs k ≡ no_cells
+  counted-nowhere = counted-absent cs k (λ j lt same. grind (arith, gap.lower_before j, gap.higher_after j))
+
+  pub sets-nothing : SetsOnly cs cs k no_cells
+  sets-nothing q = grind (arith, nat_tests, counted-nowhere)
+
+  pub sets-inserted : (v : Counted) → SetsOnly cs (insert cs at (record { level = k; cells = v })) k v
+  sets-inserted v = counted-insert cs k v at (λ j lt same. omega (arith, gap.lower_before j lt))
+
+  pub rises-inserted : (v : Counted) → IsRising cs → IsRising (insert cs at (record { level = k; cells = v }))
+  rises-inserted v rises i j less within =
+      let e : LevelCount = record { level = k; cells = v } in
+      let new = insert cs at e in
+      let longer = length-insert cs at e gap.in_range in
+      let level = λ (c : LevelCount). c.level in
+      let below : (m : ℕ) → m < at → level_at new m ≡ level_at cs m = λ m before. ap level (get_or-insert_below cs at e no_count m before gap.in_range) in
+      let here : (m : ℕ) → m ≡ at → level_at new m ≡ k = λ m is. rw is (ap level (get_or-insert_at cs at e no_count gap.in_range)) in
+      let above : (m : ℕ) → at < m → level_at new m ≡ level_at cs (m - 1) =
+      λ m after. subst (λ q. level_at new q ≡ level_at cs (m - 1)) {x = m - 1 + 1} (omega arith) (ap level (get_or-insert_above cs at e no_count (m - 1) (omega arith) gap.in_range)) in
+      grind (arith, below i, here i, above i, below j, here j, above j, rises i j, rises i (j - 1), rises (i - 1) (j - 1), gap.lower_before i, gap.higher_after (j - 1))

@@ -1,0 +1,66 @@
+//! Nested marks, and the checks that the cells of a level are as many as expected.
+
+ghost use Rattle.std.specs.Prelude.{◌≡◌, ◌+◌, ◌<◌, ◌^◌, None, Some, IfErr, OnOk, OnErr};
+ghost use Rattle.wb_model.specs.Debug.{IsSoundDebug, check_all_refusal, check_refusal};
+ghost use Rattle.wb_model.specs.Heap.{after_mark, after_mark_end, mark_end_refusal};
+
+use crate::debug_heap::DebugHeap;
+use crate::marks;
+use crate::marks::Levels;
+use wb_model::heap::Panic;
+
+impl DebugHeap {
+    /// Opens a mark: new cells are of a level one deeper. Source: Symbian OS v9 SDK reference, `__UHEAP_MARK`.
+    pub fn mark(&mut self)
+        requires { self.old.heap.level + 1 < 2 ^ 32 }
+        ensures marked { self.new ≡ record self.old { heap = after_mark self.old.heap } }
+        ensures sound { IsSoundDebug self.new }
+    {
+        self.level += 1;
+    }
+
+    /// Closes the innermost mark, where `n` live cells are of its level: they take the level below.
+    ///
+    /// `Panic::NO_OPEN_MARK` where no mark is open, and else what `check` refuses; the heap is then as it was. Source:
+    /// Symbian OS v9 SDK reference, `__UHEAP_MARKEND` and `__UHEAP_MARKENDC`, and this project's profile for the
+    /// levels.
+    pub fn mark_end(&mut self, n: u32) -> Result<(), Panic>
+        ensures refused { IfErr result (λ panic. mark_end_refusal self.old.heap n ≡ Some panic) }
+        ensures fine { OnOk result (mark_end_refusal self.old.heap n ≡ None) }
+        ensures closed { OnOk result (self.new ≡ record self.old { heap = after_mark_end self.old.heap }) }
+        ensures err { OnErr result (self.new ≡ self.old) }
+        ensures sound { IsSoundDebug self.new }
+    {
+        let level = self.level;
+        if level == 0 {
+            return Err(Panic::NO_OPEN_MARK);
+        }
+        let from = marks::expect(&self.heap, &self.tally, Levels::One(level), n)?;
+        marks::lower(&mut self.heap, level, from, n);
+        self.tally.lower(level);
+        self.level = level - 1;
+        Ok(())
+    }
+
+    /// Expects `n` live cells of the current level.
+    ///
+    /// Where they are fewer or more, `Alloc` names the place of the lowest, or 0 where there is none. Source: Symbian OS
+    /// v9 SDK reference, `__UHEAP_CHECK`, and this project's profile for the cell that is named.
+    pub fn check(&self, n: u32) -> Result<(), Panic>
+        ensures refused { IfErr result (λ panic. check_refusal self.now n ≡ Some panic) }
+        ensures fine { OnOk result (check_refusal self.now n ≡ None) }
+    {
+        marks::expect(&self.heap, &self.tally, Levels::One(self.level), n)?;
+        Ok(())
+    }
+
+    /// Expects `n` live cells of all levels. It refuses as `check` does. Source: Symbian OS v9 SDK reference,
+    /// `__UHEAP_CHECKALL`, and this project's profile for the cell that is named.
+    pub fn check_all(&self, n: u32) -> Result<(), Panic>
+        ensures refused { IfErr result (λ panic. check_all_refusal self.now n ≡ Some panic) }
+        ensures fine { OnOk result (check_all_refusal self.now n ≡ None) }
+    {
+        marks::expect(&self.heap, &self.tally, Levels::All, n)?;
+        Ok(())
+    }
+}
