@@ -2,6 +2,7 @@
 
 ghost use Rattle.std.specs.Prelude.{◌≡◌, ◌+◌, ◌<◌, ◌≤◌, All};
 ghost use Rattle.wb_model.specs.Row.{headers};
+ghost use Rattle.wb_model.specs.LimitedHeap.{IsCellLength};
 
 use std::alloc::{AllocError, Global};
 use wb_model::heap::{Kind, Ptr, Shape};
@@ -10,6 +11,8 @@ use wb_rheap::Heap;
 
 /// The cell length, in bytes: a header and four words.
 const LENGTH: u32 = 32;
+/// That of a cell that fits into no hole.
+const LONG: u32 = 96;
 
 const SHAPE: Shape = Shape {
     min: 4096,
@@ -37,18 +40,20 @@ impl Filled {
         };
         let mut filled = Filled { heap, next: 1 };
         for _ in 0..count {
-            let cell = filled.grant()?;
+            let cell = filled.grant(LENGTH)?;
             cells.push(cell)?;
         }
         Ok(filled)
     }
 
-    fn grant(&mut self) -> Result<Ptr, AllocError> {
+    fn grant(&mut self, length: u32) -> Result<Ptr, AllocError>
+        requires { IsCellLength length }
+    {
         let number = self.next;
         let Some(next) = number.checked_add(1) else {
             return Err(AllocError);
         };
-        let granted = self.heap.alloc(LENGTH, Kind::Raw, number, 0);
+        let granted = self.heap.alloc(length, Kind::Raw, number, 0);
         self.next = next;
         granted.map_err(|_| AllocError)
     }
@@ -67,7 +72,16 @@ impl Filled {
     /// Fills the holes again.
     pub(crate) fn fill(&mut self, cells: &mut [Ptr]) -> Result<(), AllocError> {
         for pair in 0..cells.len() / 2 {
-            cells[2 * pair] = self.grant()?;
+            cells[2 * pair] = self.grant(LENGTH)?;
+        }
+        Ok(())
+    }
+
+    /// Grants a cell above all holes and frees it, so many times.
+    pub(crate) fn pass_over_holes(&mut self, times: u32) -> Result<(), AllocError> {
+        for _ in 0..times {
+            let cell = self.grant(LONG)?;
+            self.release(cell);
         }
         Ok(())
     }
@@ -93,6 +107,11 @@ impl Filled {
             .iter()
             .filter(|cell| self.heap.header(**cell).is_some())
             .count()
+    }
+
+    /// The free bytes and the longest run of them.
+    pub(crate) fn available(&self) -> (u32, u32) {
+        self.heap.available()
     }
 
     /// How many cells are live, and their bytes.

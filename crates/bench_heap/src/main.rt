@@ -16,6 +16,8 @@ use wb_model::heap::Ptr;
 const COUNTS: [u32; 3] = [100, 1_000, 10_000];
 /// How many calls of each kind a measurement makes.
 const CALLS: u32 = 1_000_000;
+/// How many cells are granted above the holes of a round.
+const PASSES: u32 = 10;
 
 fn main(rt: HostRuntime) -> io::Result<()> {
     let words: Vec<String> = env::args(&rt)?.collect(rt.alloc())?;
@@ -31,33 +33,76 @@ fn main(rt: HostRuntime) -> io::Result<()> {
 
 /// Prints what a call costs.
 fn time(rt: &HostRuntime, count: u32) -> io::Result<()> {
-    let rounds = CALLS / count.max(1);
     let mut cells = Vec::new(rt.alloc());
     let mut filled = Filled::new(rt.alloc(), count, &mut cells)?;
+    println!(rt; "{count} live cells:")?;
+    time_grants(rt, count, &mut filled, &mut cells)?;
+    time_looks(rt, count, &mut filled, &cells)
+}
+
+/// Prints what it costs to grant and release a cell.
+fn time_grants(
+    rt: &HostRuntime,
+    count: u32,
+    filled: &mut Filled,
+    cells: &mut Vec<Ptr>,
+) -> io::Result<()> {
+    let rounds = CALLS / count.max(1);
     let mut freed = 0;
+    let mut passed = 0;
+    let mut granted = 0;
     for _ in 0..rounds {
         let start = Instant::now(rt)?;
-        filled.free_every_second(&cells);
+        filled.free_every_second(cells);
         freed = start.elapsed(rt)?.as_nanos().saturating_add(freed);
-        filled.fill(&mut cells)?;
+        let start = Instant::now(rt)?;
+        filled.pass_over_holes(PASSES)?;
+        passed = start.elapsed(rt)?.as_nanos().saturating_add(passed);
+        let start = Instant::now(rt)?;
+        filled.fill(cells)?;
+        granted = start.elapsed(rt)?.as_nanos().saturating_add(granted);
     }
+    let calls = rounds.saturating_mul(count) / 2;
+    println!(rt;
+        "    alloc {} ns, free {} ns, both above {} holes {} ns",
+        a_call(granted, calls),
+        a_call(freed, calls),
+        count / 2,
+        a_call(passed, rounds.saturating_mul(PASSES))
+    )
+}
+
+/// Prints what calls cost that leave the cells as they are.
+fn time_looks(
+    rt: &HostRuntime,
+    count: u32,
+    filled: &mut Filled,
+    cells: &Vec<Ptr>,
+) -> io::Result<()> {
+    let rounds = CALLS / count.max(1);
     let start = Instant::now(rt)?;
     for round in 0..rounds {
-        filled.store(&cells, round);
+        filled.store(cells, round);
     }
     let stored = start.elapsed(rt)?.as_nanos();
     let start = Instant::now(rt)?;
     let mut found = 0;
     for _ in 0..rounds {
-        found = filled.look_up(&cells).saturating_add(found);
+        found = filled.look_up(cells).saturating_add(found);
     }
     let looked_up = start.elapsed(rt)?.as_nanos();
+    let start = Instant::now(rt)?;
+    let mut longest = 0;
+    for _ in 0..rounds {
+        longest = filled.available().1.max(longest);
+    }
+    let told = start.elapsed(rt)?.as_nanos();
     let calls = rounds.saturating_mul(count);
     println!(rt;
-        "{count} live cells: free {} ns, store {} ns, header {} ns ({found} found)",
-        a_call(freed, calls / 2),
+        "    store {} ns, header {} ns, available {} ns ({found} found, {longest} free)",
         a_call(stored, calls),
-        a_call(looked_up, calls)
+        a_call(looked_up, calls),
+        a_call(told, rounds)
     )
 }
 
