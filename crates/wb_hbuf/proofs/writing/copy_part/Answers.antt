@@ -1,5 +1,5 @@
-use Rattle.std.proofs.Common.{◌≡◌, ◌+◌, ◌-◌, ◌<◌, ◌≤◌, ℕ, List, ◌++◌, length, min, take, drop, slice_index, ap, subst, refl, sym, ◌∙◌, arith}
-use Rattle.std.proofs.lemmas.List.{length-append, length-drop, length-take-le, length-replicate}
+use Rattle.std.proofs.Common.{◌≡◌, ◌+◌, ◌-◌, ◌≤◌, ℕ, List, ◌++◌, length, min, take, drop, ap, subst, refl, sym, ◌∙◌, arith}
+use Rattle.std.proofs.lemmas.List.{length-drop, length-take-le, length-replicate}
 use Rattle.std.proofs.lemmas.List.Elements.{All-drop, All-take}
 use Rattle.wb_chunk.specs.Halves.{halves_from, with_halves}
 use Rattle.wb_model.specs.declared.heap.Ptr.{Ptr}

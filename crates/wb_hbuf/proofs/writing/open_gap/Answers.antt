@@ -1,5 +1,5 @@
-use Rattle.std.proofs.Common.{◌≡◌, ◌+◌, ◌-◌, ◌<◌, ◌≤◌, ℕ, List, length, take, drop, ap, subst, refl, sym, ◌∙◌, arith}
-use Rattle.std.proofs.lemmas.List.{drop-take, length-drop, length-take-le}
+use Rattle.std.proofs.Common.{◌≡◌, ◌+◌, ◌-◌, ℕ, List, length, take, drop, ap, refl, sym, ◌∙◌, arith}
+use Rattle.std.proofs.lemmas.List.{drop-take, length-drop}
 use Rattle.std.proofs.lemmas.List.Elements.{All-drop, All-take}
 use Rattle.wb_chunk.specs.Halves.{halves_from, with_halves}
 use Rattle.wb_model.specs.CellRow.{payload_of}

@@ -1,4 +1,4 @@
-use Rattle.std.proofs.Common.{◌≡◌, subst, sym}
+use Rattle.std.proofs.Common.{subst}
 use Rattle.wb_hbuf.specs.Sources.{IsReadable}
 use Rattle.wb_hbuf.proofs.Drafts.{text-has}
 use Rattle.wb_hbuf.proofs.writing.write_units.Goals as goal
