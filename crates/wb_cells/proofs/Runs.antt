@@ -1,6 +1,6 @@
 -- Runs of halves in a payload are runs of halves in the words.
-use Rattle.std.proofs.Common.{◌≡◌, ℕ, zero, suc, ◌+◌, ◌-◌, ◌*◌, ◌/◌, ◌<◌, ◌≤◌, List, [], ◌∷◌, ◌++◌, length, slice_set, get_or, refl, sym, ap, ◌∙◌, arith}
-use Rattle.std.proofs.lemmas.List.{get_or-append-add, set-append_right, get_or_append_left, set-append_left, length-set}
+use Rattle.std.proofs.Common.{◌≡◌, ℕ, zero, suc, ◌+◌, ◌-◌, ◌*◌, ◌/◌, ◌<◌, ◌≤◌, List, [], ◌∷◌, ◌++◌, length, slice_set, get_or, refl, ap, ◌∙◌, arith}
+use Rattle.std.proofs.lemmas.List.{get_or-append-add, set-append_right, get_or_append_left, set-append_left}
 use Rattle.wb_chunk.specs.Halves.{half_of, halves_from, with_half, with_halves}
 use Rattle.wb_chunk.proofs.WrittenHalves.{length-with_halves}
 use Rattle.wb_model.specs.declared.heap.Ptr.{Ptr}

@@ -1,7 +1,7 @@
 -- What reads of halves find once halves were written.
 use Rattle.std.proofs.Common.{◌≡◌, ◌≢◌, ℕ, zero, suc, ◌+◌, ◌-◌, ◌*◌, ◌/◌, ◌%◌, ◌^◌, ◌<◌, ◌≤◌, ◌⊎◌, inl, inr, List, [], ◌∷◌, ◌++◌, Bool, true, false, cond, length, take, drop, set, replicate, refl, sym, ap, subst, ◌∙◌, arith, get_or, All}
 use Rattle.std.specs.Prelude.{nat_eq}
-use Rattle.std.proofs.lemmas.Bool.{cases_lt, cases_eq, eq-eqb, ne_eqb}
+use Rattle.std.proofs.lemmas.Bool.{cases_lt, cases_eq}
 use Rattle.std.proofs.lemmas.List.{ext_get_or, get_or-set_same, get_or-set_other, get_or-append_right, get_or_append_left, get_or-replicate, get_or-take, get_or-drop, get_or_past, length-set, length-append, length-replicate, length-take-le, length-drop, length_push, get_or_push}
 use Rattle.wb_chunk.specs.Halves.{half_of, halves_from, high_and_low, with_half, with_halves, AreShifted}
 

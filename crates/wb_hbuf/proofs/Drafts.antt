@@ -1,23 +1,40 @@
 -- A cell in the midst of an edit: what its words are, and what each write makes of them.
-use Rattle.std.proofs.Common.{◌≡◌, ℕ, ◌+◌, ◌%◌, ◌^◌, ◌<◌, ◌≤◌, List, [], ◌∷◌, length, set, slice_index, slice_set, Option, Some, None, refl, sym, ap, subst, ◌∙◌, arith, get_or}
+use Rattle.std.proofs.Common.{◌≡◌, ℕ, suc, ◌+◌, ◌*◌, ◌%◌, ◌^◌, ◌<◌, ◌≤◌, All, Bool, true, false, cond, List, [], ◌∷◌, length, set, slice_index, slice_set, Option, Some, None, is_some, refl, sym, ap, subst, ◌∙◌, arith}
 use Rattle.std.proofs.lemmas.List.{length-set}
-use Rattle.std.proofs.lemmas.List.Elements.{All-set}
-use Rattle.wb_chunk.specs.Halves.{half_of, with_half}
+use Rattle.std.proofs.lemmas.List.Elements.{All-replicate, All-set}
+use Rattle.wb_chunk.specs.Halves.{with_half, with_halves}
 use Rattle.wb_model.specs.declared.heap.Ptr.{Ptr}
-use Rattle.wb_model.specs.Row.{Cell, cell_at}
+use Rattle.wb_model.specs.Row.{Cell, cell_at, end_of, headers, is_at, usable_of}
 use Rattle.wb_model.specs.CellRow.{content_or_nil, payload_of}
 use Rattle.wb_model.specs.Texts.{AreUnits, exactly}
-use Rattle.wb_model.specs.Debug.{Debug, debug_changed, with_row}
+use Rattle.wb_model.specs.Debug.{Debug, IsSoundDebug, debug_changed, with_row}
+use Rattle.wb_model.specs.Space.{limit_under}
+use Rattle.wb_model.proofs.LimitedHeaps.{limit_under-ceiling}
 use Rattle.wb_model.specs.TextCells.{joined, room_in, units_behind, text_in, text_at, IsTextAt}
-use Rattle.wb_model.proofs.TextCells.{IsUnit, joined-halves, halves-joined, length-halves, length-joined, room-even, text-read, IsUnit-exactly, IsUnit-shorter}
+use Rattle.wb_model.proofs.TextCells.{IsUnit, zeros, joined-halves, halves-joined, length-halves, length-joined, room-even, text-read, IsUnit-exactly, IsUnit-shorter}
 use Rattle.wb_model.proofs.TextCellsHeap.{IsTextNow, text-changed, found-changed, changed-twice, changed-same}
-use Rattle.wb_hbuf.specs.Drafts.{HasUnits, IsDraft}
-use Rattle.wb_hbuf.proofs.Units.{half-behind, set-behind}
+use Rattle.wb_hbuf.specs.Drafts.{HasUnits, IsDraft, put}
+use Rattle.wb_hbuf.proofs.Units.{set-behind, put-behind, length-put, units-put}
 
 -- a pointer with words names a cell
 pub record IsFound (p : Ptr) (row : List (Cell (List ℕ))) : Type 0 where
   pub cell : Cell (List ℕ)
   pub found : cell_at p row ≡ Some cell
+
+-- the words that a pointer names are few, where the heap is sound
+payload-below : (most : ℕ) (p : Ptr) (row : List (Cell (List ℕ))) → All (λ c. 4 * length c.content ≡ usable_of c.head) row → All (λ h. end_of h ≤ most) (headers row) →
+    4 * length (payload_of p row) ≤ most
+payload-below most p [] filled ends = omega arith
+payload-below most p (c ∷ cs) filled ends =
+    by (is_at p c.head) (payload-below most p cs (λ k d lt. filled (suc k) d (omega arith)) (λ k d lt. ends (suc k) d (omega arith)))
+  where
+    by : (b : Bool) → 4 * length (payload_of p cs) ≤ most → 4 * length (content_or_nil (cond b (Some c) (cell_at p cs))) ≤ most
+    by true rest = omega (arith, filled 0 c (omega arith), ends 0 c.head (omega arith))
+    by false rest = rest
+
+pub payload-small : (p : Ptr) (d : Debug) → IsSoundDebug d → 2 * length (payload_of p d.heap.row) < 2 ^ 32
+payload-small p d sound =
+    omega (arith, payload-below (limit_under d.rule) p d.heap.row sound.filled (λ k h lt. let live = sound.live k h lt in live.within), limit_under-ceiling d.rule)
 
 pub found-of : (p : Ptr) (row : List (Cell (List ℕ))) → 1 ≤ length (payload_of p row) → IsFound p row
 found-of p row some = by (cell_at p row) refl some
@@ -33,6 +50,12 @@ whole (w ∷ ws) some = ap (λ vs. w ∷ vs) (joined-halves ws)
 pub behind-room : (ws : List ℕ) → length (units_behind ws) ≡ room_in (length ws)
 behind-room [] = omega arith
 behind-room (w ∷ ws) = omega (arith, length-halves ws)
+
+pub units-zeros : (n : ℕ) → AreUnits (zeros n)
+units-zeros n = All-replicate IsUnit n 0 (omega arith)
+
+pub is_live : (p : Ptr) (row : List (Cell (List ℕ))) → 1 ≤ length (payload_of p row) → is_some (cell_at p row) ≡ true
+is_live p row some = let named = found-of p row some in ap (λ o. is_some o) named.found
 
 -- before the first write
 pub draft-none : (p : Ptr) (d : Debug) → HasUnits p d → IsDraft p d d (slice_index (payload_of p d.heap.row) 0) (units_behind (payload_of p d.heap.row))
@@ -93,6 +116,16 @@ module _ (p : Ptr) (d e : Debug) (len : ℕ) (us : List ℕ) (has : HasUnits p d
     units = All-set IsUnit us i v unit draft.units;
   }
 
+  -- a run of units is written
+  pub draft-put : (f : Debug) (at k : ℕ) (vs : List ℕ) → k ≡ at + 2 → at + length vs ≤ length us → AreUnits vs →
+      f ≡ debug_changed e p (with_halves (payload_of p e.heap.row) k vs) → IsDraft p d f len (put at vs us)
+  draft-put f at k vs here fits new made = record {
+    changed = rewritten f (with_halves (payload_of p e.heap.row) k vs) len (put at vs us) made
+        (ap (λ ws. with_halves ws k vs) draft-payload ∙ put-behind len us at k vs (omega (arith, here)) draft-even draft.units new fits);
+    room = length-put at vs us fits ∙ draft.room;
+    units = units-put at vs us new draft.units;
+  }
+
   -- the length is written
   pub draft-length-set : (f : Debug) (n : ℕ) → f ≡ debug_changed e p (slice_set (payload_of p e.heap.row) 0 n) → IsDraft p d f n us
   draft-length-set f n made = record {
@@ -100,11 +133,6 @@ module _ (p : Ptr) (d e : Debug) (len : ℕ) (us : List ℕ) (has : HasUnits p d
     room = draft.room;
     units = draft.units;
   }
-
-  -- a unit is read
-  pub draft-unit : (i k : ℕ) → k ≡ i + 2 → half_of (payload_of p e.heap.row) k ≡ get_or us i 0
-  draft-unit i k here =
-      ap (λ ws. half_of ws k) draft-payload ∙ half-behind len (joined us) i k (omega (arith, here)) ∙ ap (λ vs. get_or vs i 0) (halves-joined us draft-even draft.units)
 
 -- what is known of words that read as a text
 pub record IsTextWords (ws : List ℕ) : Type 0 where

@@ -14,7 +14,7 @@ use Rattle.wb_model.proofs.TextCellsHeap.{IsTextNow, found-other}
 use Rattle.wb_hbuf.specs.declared.sources.Source.{Source}
 use Rattle.wb_hbuf.specs.declared.sources.Source.TheVariants.{Literal, Buffer, Cell, Own}
 use Rattle.wb_hbuf.specs.Sources.{IsApart, IsForeign, source_units}
-use Rattle.wb_hbuf.specs.Drafts.{IsAhead, IsDraft, IsEdited, put}
+use Rattle.wb_hbuf.specs.Drafts.{IsDraft, IsEdited, put}
 use Rattle.wb_hbuf.proofs.Units.{settled, get_or-put_behind, get_or-exactly, get_or-filled}
 use Rattle.wb_hbuf.proofs.Drafts.{text-words, text-has, draft-none, draft-length, draft-behind, draft-then, draft-text}
 
@@ -50,19 +50,6 @@ source-same p words d e own own' (Cell q from count) made apart foreign =
     ap (λ (x : Debug). units_of_part (text_at q x) from count) made
     ∙ ap (λ o. units_of_part (text_in (content_or_nil o)) from count) (found-other p q words d.heap.row apart)
 source-same p words d e own own' (Own from count) made apart foreign = absurd foreign
-
--- what is read at the beginning wasn't written yet, and what is read behind the text isn't the text's
-pub ahead-first : (len : ℕ) (s : Source) → IsAhead 0 len s
-ahead-first len (Literal chars from count) = tt
-ahead-first len (Buffer buf from count) = tt
-ahead-first len (Cell q from count) = tt
-ahead-first len (Own from count) = inl (omega arith)
-
-pub ahead-last : (len : ℕ) (s : Source) → IsAhead len len s
-ahead-last len (Literal chars from count) = tt
-ahead-last len (Buffer buf from count) = tt
-ahead-last len (Cell q from count) = tt
-ahead-last len (Own from count) = inr (omega arith)
 
 module _ (p : Ptr) (d : Debug) (is : IsTextAt p d) where
   abbrev pub len : ℕ

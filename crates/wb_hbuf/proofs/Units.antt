@@ -1,9 +1,11 @@
 -- Halves of words are units, and units are put into a list one after another.
 use Rattle.std.proofs.Common.{◌≡◌, ℕ, zero, suc, ◌+◌, ◌-◌, ◌*◌, ◌/◌, ◌%◌, ◌^◌, ◌<◌, ◌≤◌, ◌⊎◌, inl, inr, min, List, [], ◌∷◌, ◌++◌, Bool, true, false, cond, length, take, drop, set, replicate, refl, sym, ap, ◌∙◌, arith, get_or, append_assoc}
 use Rattle.std.specs.Prelude.{nat_eq}
-use Rattle.std.proofs.lemmas.List.{length-take, length-take-le, length-drop, length-append, drop_more, take_more, set_at, get_or_append_left, get_or-append_right, get_or-take, get_or-drop, get_or_past, ext_get_or, append-nil, take-append-drop, get_or-replicate, length-replicate}
+use Rattle.std.proofs.lemmas.List.{length-take, length-take-le, length-drop, length-append, drop_more, drop-drop, drop_at, drop_min, drop-take, take_at, take_min, take-take, take_more, set_at, get_or_append_left, get_or-append_right, get_or-take, get_or-drop, get_or_past, ext_get_or, append-nil, take-append-drop, get_or-replicate, length-replicate}
+use Rattle.std.proofs.lemmas.List.Elements.{All-append, All-drop, All-take}
 use Rattle.std.proofs.lemmas.Bool.{cases_lt}
-use Rattle.wb_chunk.specs.Halves.{half_of, with_half}
+use Rattle.wb_chunk.specs.Halves.{half_of, halves_from, with_half, with_halves}
+use Rattle.wb_chunk.proofs.WrittenHalves.{length-halves_from, get_or-halves_from}
 use Rattle.wb_model.specs.Spelling.{halves}
 use Rattle.wb_model.specs.Texts.{AreUnits, exactly, units_of_part}
 use Rattle.wb_model.specs.TextCells.{joined}
@@ -63,6 +65,64 @@ pub length-put : (at : ℕ) (us all : List ℕ) → at + length us ≤ length al
 length-put at us all fits =
     omega (arith, length-append (take at all ++ us) (drop (at + length us) all), length-append (take at all) us, length-take-le at all (omega (arith, fits)), length-drop (at + length us) all)
 
+pub units-put : (at : ℕ) (us all : List ℕ) → AreUnits us → AreUnits all → AreUnits (put at us all)
+units-put at us all new old = All-append IsUnit (take at all ++ us) (drop (at + length us) all) (All-append IsUnit (take at all) us (All-take IsUnit at all old) new) (All-drop IsUnit (at + length us) all old)
+
+-- some behind others
+pub put-put : (at k : ℕ) (us vs all : List ℕ) → k ≡ at + length us → at + length us ≤ length all → put k vs (put at us all) ≡ put at (us ++ vs) all
+put-put at k us vs all here fits =
+    let front : length (take at all ++ us) ≡ k = omega (arith, length-append (take at all) us, length-take-le at all (omega (arith, fits)), here) in
+    let rest = drop (at + length us) all in
+    let ends : at + length us + length vs ≡ at + length (us ++ vs) = omega (arith, length-append us vs) in
+    let behind : drop (k + length vs) (put at us all) ≡ drop (at + length (us ++ vs)) all =
+    sym (drop-drop (length vs) k (put at us all)) ∙ ap (drop (length vs)) (drop_at (take at all ++ us) rest k front)
+    ∙ drop-drop (length vs) (at + length us) all ∙ ap (λ n. drop n all) ends in
+    ap (λ ts. ts ++ vs ++ drop (k + length vs) (put at us all)) (take_at (take at all ++ us) rest k front)
+    ∙ ap (λ ts. take at all ++ us ++ vs ++ ts) behind
+    ∙ ap (λ ts. ts ++ drop (at + length (us ++ vs)) all) (append_assoc (take at all) us vs)
+
+-- one before them
+put-before : (at v : ℕ) (vs us : List ℕ) → at + suc (length vs) ≤ length us → set (put (suc at) vs us) at v ≡ put at (v ∷ vs) us
+put-before at v vs us fits =
+    let one : suc at ≡ at + 1 = omega arith in
+    let x = get_or us at 0 in
+    let rest = drop (suc at + length vs) us in
+    let ends : suc at + length vs ≡ at + suc (length vs) = omega arith in
+    let front : take (suc at) us ≡ take at us ++ x ∷ [] = ap (λ n. take n us) one ∙ take_more us at 0 (omega (arith, fits)) in
+    ap (λ ts. set (ts ++ vs ++ rest) at v) front
+    ∙ ap (λ ts. set ts at v) (ap (λ ts. ts ++ rest) (append_assoc (take at us) (x ∷ []) vs) ∙ append_assoc (take at us) (x ∷ vs) rest)
+    ∙ set_at (take at us) x (vs ++ rest) v at (length-take-le at us (omega (arith, fits)))
+    ∙ sym (append_assoc (take at us) (v ∷ vs) rest)
+    ∙ ap (λ n. take at us ++ v ∷ vs ++ drop n us) ends
+
+-- a run of units is written behind the length word
+pub put-behind : (w : ℕ) (us : List ℕ) (at k : ℕ) (vs : List ℕ) → k ≡ suc (suc at) → length us % 2 ≡ 0 → AreUnits us → AreUnits vs → at + length vs ≤ length us →
+    with_halves (w ∷ joined us) k vs ≡ w ∷ joined (put at vs us)
+put-behind w us at k [] here even all new fits = ap (λ vs. w ∷ joined vs) (sym (put-none at us))
+put-behind w us at k (v ∷ vs) here even all new fits =
+    let rest : AreUnits vs = λ j d lt. new (suc j) d (omega (arith, lt)) in
+    let long : length (put (suc at) vs us) ≡ length us = length-put (suc at) vs us (omega (arith, fits)) in
+    ap (λ ws. with_half ws k v) (put-behind w us (suc at) (suc k) vs (omega (arith, here)) even all rest (omega (arith, fits)))
+    ∙ set-behind w (put (suc at) vs us) at k v here (ap (λ n. n % 2) long ∙ even) (units-put (suc at) vs us rest all) (omega (arith, long, fits))
+    ∙ ap (λ ts. w ∷ joined ts) (put-before at v vs us fits)
+
+-- and one that is read there
+half-there : (ws : List ℕ) (i k : ℕ) → k ≡ suc (suc i) → half_of ws k ≡ get_or (halves (drop 1 ws)) i 0
+half-there [] i k e = half-is [] k
+half-there (w ∷ ws) i k e = half-behind w ws i k e
+
+pub run-behind : (ws : List ℕ) (i k n : ℕ) → k ≡ suc (suc i) → i + n ≤ length (halves (drop 1 ws)) → halves_from ws k n ≡ take n (drop i (halves (drop 1 ws)))
+run-behind ws i k n here fits = ext_get_or 0 _ _ (length-halves_from ws k n ∙ sym short) each
+  where
+    short : length (take n (drop i (halves (drop 1 ws)))) ≡ n
+    short = length-take-le n (drop i (halves (drop 1 ws))) (omega (arith, length-drop i (halves (drop 1 ws)), fits))
+
+    each : (j : ℕ) → j < length (halves_from ws k n) → get_or (halves_from ws k n) j 0 ≡ get_or (take n (drop i (halves (drop 1 ws)))) j 0
+    each j less =
+        let lt : j < n = omega (arith, less, length-halves_from ws k n) in
+        get_or-halves_from ws k n j lt ∙ half-there ws (i + j) (k + j) (omega (arith, here))
+        ∙ sym (get_or-take n (drop i (halves (drop 1 ws))) j 0 lt ∙ get_or-drop i (halves (drop 1 ws)) j 0)
+
 -- one more of them
 pub put-more : (at : ℕ) (us all : List ℕ) (i k v : ℕ) → k ≡ at + i → i < length us → at + length us ≤ length all → v ≡ get_or us i 0 →
     set (put at (take i us) all) k v ≡ put at (take (i + 1) us) all
@@ -94,25 +154,6 @@ get_or-put_behind at us all k le ge =
     get_or-append_right (take at all ++ us) (drop (at + length us) all) (at + length us) k 0 front ge
     ∙ get_or-drop (at + length us) all (k - (at + length us)) 0 ∙ ap (λ n. get_or all n 0) same
 
--- a tail that moves up by some units, its last unit first
-pub put-tail : (t all : List ℕ) (j k c v : ℕ) → k ≡ j + c → j < length t → length t + c ≤ length all → v ≡ get_or t j 0 →
-    set (put (j + 1 + c) (drop (j + 1) t) all) k v ≡ put (j + c) (drop j t) all
-put-tail t all j k c v here lt fits is =
-    let past : j + 1 + c ≡ k + 1 = omega (arith, here) in
-    let front : length (take k all) ≡ k = length-take-le k all (omega (arith, here, fits, lt)) in
-    let before : take (k + 1) all ≡ take k all ++ get_or all k 0 ∷ [] = take_more all k 0 (omega (arith, here, fits, lt)) in
-    let tail : drop j t ≡ v ∷ drop (j + 1) t = drop_more t j 0 lt ∙ ap (λ x. x ∷ drop (j + 1) t) (sym is) in
-    let ends : k + 1 + length (drop (j + 1) t) ≡ k + length (drop j t) = omega (arith, length-drop (j + 1) t, length-drop j t, lt) in
-    let rest = drop (k + length (drop j t)) all in
-    ap (λ n. set (take n all ++ drop (j + 1) t ++ drop (n + length (drop (j + 1) t)) all) k v) past
-    ∙ ap (λ n. set (take (k + 1) all ++ drop (j + 1) t ++ drop n all) k v) ends
-    ∙ ap (λ ws. set (ws ++ drop (j + 1) t ++ rest) k v) before
-    ∙ ap (λ ws. set ws k v) (ap (λ ws. ws ++ rest) (append_assoc (take k all) (get_or all k 0 ∷ []) (drop (j + 1) t)) ∙ append_assoc (take k all) (get_or all k 0 ∷ drop (j + 1) t) rest)
-    ∙ set_at (take k all) (get_or all k 0) (drop (j + 1) t ++ rest) v k front
-    ∙ sym (append_assoc (take k all) (v ∷ drop (j + 1) t) rest)
-    ∙ ap (λ ws. take k all ++ ws ++ rest) (sym tail)
-    ∙ ap (λ n. take n all ++ drop j t ++ drop (n + length (drop j t)) all) here
-
 pub get_or-put_within : (at : ℕ) (us all : List ℕ) (k : ℕ) → at ≤ length all → at ≤ k → k < at + length us → get_or (put at us all) k 0 ≡ get_or us (k - at) 0
 get_or-put_within at us all k le ge lt =
     let front : length (take at all) ≡ at = length-take-le at all le in
@@ -143,6 +184,24 @@ get_or-filled n t k past = by (cases_lt k n)
 -- a unit of a part
 pub get_or-part : (base : List ℕ) (from count i : ℕ) → i < count → get_or (units_of_part base from count) i 0 ≡ get_or base (from + i) 0
 get_or-part base from count i lt = get_or-exactly count (drop from base) i lt ∙ get_or-drop from base i 0
+
+-- a part of a text: what is there of it, and zeros
+pub part-is : (base : List ℕ) (from count start there : ℕ) → start ≡ min from (length base) → there ≡ min count (length base - start) →
+    units_of_part base from count ≡ take there (drop start base) ++ replicate (count - there) 0
+part-is base from count start there begins long =
+    let same : drop start base ≡ drop from base = ap (λ n. drop n base) begins ∙ drop_min from base in
+    let left : length (drop start base) ≡ length base - start = length-drop start base in
+    let n : there ≡ min count (length (drop start base)) = long ∙ ap (min count) (sym left) in
+    let rest : count - length (drop start base) ≡ count - there = omega (arith, n) in
+    ap (exactly count) (sym same)
+    ∙ ap (λ us. us ++ replicate (count - length (drop start base)) 0) (sym (take_min count (drop start base)) ∙ ap (λ k. take k (drop start base)) (sym n))
+    ∙ ap (λ k. take there (drop start base) ++ replicate k 0) rest
+
+-- a part within the front of a list
+pub part-within : (all : List ℕ) (len start there : ℕ) → start + there ≤ len → take there (drop start (take len all)) ≡ take there (drop start all)
+part-within all len start there fits =
+    let e : start + (len - start) ≡ len = omega arith in
+    ap (λ n. take there (drop start (take n all))) (sym e) ∙ ap (take there) (drop-take start (len - start) all) ∙ take-take there (len - start) (drop start all) (omega (arith, fits))
 
 -- the units once a text was cut or grew to a number of them: what stands past it is zero
 pub settled : (n len : ℕ) (t all : List ℕ) → length t ≡ n → n ≤ length all → len ≤ length all → take n all ≡ t →

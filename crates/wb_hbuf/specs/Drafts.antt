@@ -1,12 +1,10 @@
 -- A text while an edit is at work on it: the length word still tells the text that was, and units are put one after another.
-use Rattle.std.specs.Prelude.{◌≡◌, ℕ, ◌+◌, ◌*◌, ◌^◌, ◌<◌, ◌≤◌, ◌⊎◌, List, ◌∷◌, ◌++◌, length, take, drop, slice_index, Result, Ok, OnOk}
+use Rattle.std.specs.Prelude.{◌≡◌, ℕ, ◌+◌, ◌*◌, ◌^◌, ◌<◌, ◌≤◌, List, ◌∷◌, ◌++◌, length, take, drop, slice_index, Result, Ok, OnOk}
 use Rattle.wb_model.specs.declared.heap.Ptr.{Ptr}
 use Rattle.wb_model.specs.CellRow.{payload_of}
 use Rattle.wb_model.specs.declared.heap.Panic.{Panic}
 use Rattle.wb_model.specs.Texts.{AreUnits, Edited, answer_of}
 use Rattle.wb_model.specs.Debug.{Debug, IsSoundDebug, debug_changed}
-use Rattle.wb_hbuf.specs.declared.sources.Source.{Source}
-use Rattle.wb_hbuf.specs.declared.sources.Source.TheVariants.{Own}
 use Rattle.wb_model.specs.TextCells.{joined, room_in, units_behind, text_at, max_at, IsTextAt, debug_edited}
 
 -- units in place of as many others, from a place on
@@ -34,10 +32,11 @@ pub record IsDraft (p : Ptr) (old new : Debug) (len : ℕ) (us : List ℕ) : Typ
   pub room : length us ≡ room_in (length (payload_of p old.heap.row))
   pub units : AreUnits us
 
--- a text that is read while it is written from a position on: what is read there was not written yet, or isn't the text's
-abbrev pub IsAhead : ℕ → ℕ → Source → Type 0
-IsAhead at len (Own from count) = (at ≤ from) ⊎ (len ≤ at)
-IsAhead at len _ = Unit {0}
+-- the heap once units were put into the text in a cell, whose length word stays
+abbrev pub IsPut : Ptr → Debug → Debug → ℕ → List ℕ → Type 0
+IsPut p old new at us =
+    let words = payload_of p old.heap.row in
+    IsDraft p old new (slice_index words 0) (put at us (units_behind words))
 
 -- what an edit leaves and answers
 pub record IsEdited (p : Ptr) (old new : Debug) (outcome : Result (Unit {0}) Panic) (e : Edited) : Type 0 where

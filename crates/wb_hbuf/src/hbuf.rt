@@ -1,7 +1,7 @@
 //! The calls on texts in cells, and the edit of a buffer that may read one.
 
 ghost use Rattle.std.specs.Prelude.{◌≡◌, ◌+◌, ◌*◌, ◌^◌, ◌<◌, ◌≤◌, ◌++◌, [], length, take, None, IfOk, IfSome, IsOk, OnErr, OnOk};
-ghost use Rattle.wb_hbuf.specs.Drafts.{IsAhead, IsEdited, IsMeasured};
+ghost use Rattle.wb_hbuf.specs.Drafts.{IsEdited, IsMeasured};
 ghost use Rattle.wb_hbuf.specs.Sources.{IsApart, IsForeign, IsReadableAlone, IsSource, SuitsEdit, cell_edited, edit_text, source_units};
 ghost use Rattle.wb_model.specs.Debug.{IsSoundDebug, alloc_made, answer_in, realloc_made};
 ghost use Rattle.wb_model.specs.Heap.{alloc_request, realloc_request};
@@ -126,7 +126,6 @@ fn overwrite(heap: &mut DebugHeap, ptr: Ptr, at: u32, source: Source) -> Result<
     requires source { IsSource heap.old source }
     requires apart { IsApart ptr source }
     requires within { at ≤ length (text_at ptr heap.old) }
-    requires ahead { IsAhead at (length (text_at ptr heap.old)) source }
     ensures { IsEdited ptr heap.old heap.new result (at_most (max_at ptr heap.old) (take at (text_at ptr heap.old) ++ source_units heap.old (text_at ptr heap.old) source.entry)) }
 {
     let text = measure(heap, ptr);

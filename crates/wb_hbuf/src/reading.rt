@@ -1,11 +1,13 @@
-//! Texts unit by unit.
+//! What texts and sources read as, unit by unit and in parts.
 
-ghost use Rattle.std.specs.Prelude.{◌≡◌, ◌<◌, [], slice_index};
+ghost use Rattle.std.specs.Prelude.{◌≡◌, ◌+◌, ◌<◌, ◌≤◌, ◌++◌, [], length, replicate, slice_index};
 ghost use Rattle.wb_hbuf.specs.Drafts.{HasUnits};
-ghost use Rattle.wb_hbuf.specs.Sources.{IsForeign, IsSource, count_of, source_units};
+ghost use Rattle.wb_hbuf.specs.Sources.{IsForeign, IsReadableAlone, IsSource, count_of, source_units};
 ghost use Rattle.wb_model.specs.TextCells.{text_at};
+ghost use Rattle.wb_model.specs.Texts.{AreUnits, units_of_part};
 
 use crate::sources::Source;
+use arrayvec::ArrayVec;
 use wb_debug::DebugHeap;
 use wb_model::heap::Ptr;
 use wb_text::Units;
@@ -62,19 +64,6 @@ pub fn foreign_unit(heap: &DebugHeap, source: Source, i: u32) -> u16
     }
 }
 
-/// A unit of a source of an edit of the text in a cell, where the length word still tells the text as it stood before.
-pub fn unit_for(heap: &DebugHeap, ptr: Ptr, source: Source, i: u32) -> u16
-    requires units { HasUnits ptr heap.now }
-    requires source { IsSource heap.now source }
-    requires within { i < count_of source }
-    ensures { result ≡ slice_index (source_units heap.now (text_at ptr heap.now) source.entry) i }
-{
-    match source {
-        Source::Own(from, _) => text_unit(heap, ptr, from + i),
-        _ => foreign_unit(heap, source, i),
-    }
-}
-
 /// A source other than the destination's own text, with the heap that its cell stands in.
 #[derive(Clone, Copy)]
 pub struct Part<'h, 's> {
@@ -95,5 +84,48 @@ impl Units for Part<'_, '_> {
 
     fn unit(&self, at: u32) -> u16 {
         foreign_unit(self.heap, self.source, at)
+    }
+
+    fn append_to(&self, to: &mut ArrayVec<u16, 256>) {
+        match self.source {
+            Source::Buffer(buf, from, count) => append_part(to, buf.units(), from, count),
+            _ => append_each(to, self.heap, self.source),
+        }
+    }
+}
+
+/// Appends the units of a source, one after another.
+fn append_each(to: &mut ArrayVec<u16, 256>, heap: &DebugHeap, source: Source)
+    requires source { IsReadableAlone heap.now source }
+    requires room { length to.old.items + count_of source ≤ 256 }
+    ensures items { to.new.items ≡ to.old.items ++ source_units heap.now [] source.entry }
+    ensures are_units { AreUnits to.old.items → AreUnits to.new.items }
+{
+    for i in 0..count(source) {
+        to.push(foreign_unit(heap, source, i));
+    }
+}
+
+/// Appends a part of these units, with zeros past their end.
+fn append_part(to: &mut ArrayVec<u16, 256>, units: &[u16], from: u32, count: u32)
+    requires { length to.old.items + count ≤ 256 }
+    ensures items { to.new.items ≡ to.old.items ++ units_of_part units.now from count }
+    ensures are_units { AreUnits to.old.items → AreUnits to.new.items }
+{
+    let start = (from as usize).min(units.len());
+    let there = (count as usize).min(units.len() - start);
+    match to.try_extend_from_slice(&units[start..start + there]) {
+        Ok(()) => push_zeros(to, count as usize - there),
+        Err(_) => unreachable!(),
+    }
+}
+
+/// Appends so many zeros.
+fn push_zeros(to: &mut ArrayVec<u16, 256>, n: usize)
+    requires { length to.old.items + n ≤ 256 }
+    ensures { to.new.items ≡ to.old.items ++ replicate n 0 }
+{
+    for _ in 0..n {
+        to.push(0);
     }
 }

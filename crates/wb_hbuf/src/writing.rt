@@ -1,48 +1,93 @@
 //! What edits write into a cell. The length word tells the text as it stood before until `settle`, the last step of each
-//! edit.
+//! edit. Units behind the length word are halves of the payload from the third on.
 
 ghost use Rattle.std.specs.Prelude.{◌≡◌, ◌+◌, ◌-◌, ◌*◌, ◌^◌, ◌<◌, ◌≤◌, drop, length, replicate, slice_index};
-ghost use Rattle.wb_hbuf.specs.Drafts.{HasUnits, IsAhead, IsDraft, put};
+ghost use Rattle.wb_hbuf.specs.Drafts.{HasUnits, IsDraft, IsPut, put};
 ghost use Rattle.wb_hbuf.specs.Sources.{IsApart, IsSource, count_of, source_units};
 ghost use Rattle.wb_model.specs.CellRow.{payload_of};
 ghost use Rattle.wb_model.specs.Debug.{IsSoundDebug};
 ghost use Rattle.wb_model.specs.TextCells.{room_in, text_at, units_behind};
+ghost use Rattle.wb_model.specs.Texts.{units_of_part};
 
-use crate::reading::{count, unit_for};
+use crate::reading::foreign_unit;
 use crate::sources::Source;
 use wb_debug::DebugHeap;
 use wb_model::heap::Ptr;
+use wb_model::script::Chars;
 
-/// Writes the units of a source from a position on, the first one first.
+/// Writes the units of a source from a position on. They count as they stood before, also where they are the text's own.
 pub fn write_units(heap: &mut DebugHeap, ptr: Ptr, at: u32, source: Source)
     requires units { HasUnits ptr heap.old }
     requires most { 2 * length (payload_of ptr heap.old.heap.row) < 2 ^ 32 }
+    requires sound { IsSoundDebug heap.old }
     requires source { IsSource heap.old source }
     requires apart { IsApart ptr source }
-    requires ahead { IsAhead at (slice_index (payload_of ptr heap.old.heap.row) 0) source }
     requires room { at + count_of source ≤ room_in (length (payload_of ptr heap.old.heap.row)) }
-    ensures { IsDraft ptr heap.old heap.new (slice_index (payload_of ptr heap.old.heap.row) 0) (put at (source_units heap.old (text_at ptr heap.old) source.entry) (units_behind (payload_of ptr heap.old.heap.row))) }
+    ensures { IsPut ptr heap.old heap.new at (source_units heap.old (text_at ptr heap.old) source.entry) }
 {
-    for i in 0..count(source) {
-        let unit = unit_for(heap, ptr, source, i);
+    match source {
+        Source::Literal(chars, from, count) => write_literal(heap, ptr, at, chars, from, count),
+        Source::Buffer(buf, from, count) => write_part(heap, ptr, at, buf.units(), from, count),
+        Source::Cell(cell, from, count) => copy_part(heap, ptr, at, cell, from, count),
+        Source::Own(from, count) => copy_part(heap, ptr, at, ptr, from, count),
+    }
+}
+
+/// Writes a part of a literal.
+fn write_literal(heap: &mut DebugHeap, ptr: Ptr, at: u32, chars: &Chars, from: u32, count: u32)
+    requires units { HasUnits ptr heap.old }
+    requires most { 2 * length (payload_of ptr heap.old.heap.row) < 2 ^ 32 }
+    requires ends { from + count < 2 ^ 32 }
+    requires room { at + count ≤ room_in (length (payload_of ptr heap.old.heap.row)) }
+    ensures { IsPut ptr heap.old heap.new at (units_of_part chars.now from count) }
+{
+    for i in 0..count {
+        let unit = foreign_unit(heap, Source::Literal(chars, from, count), i);
         heap.set_payload_half(ptr, at + i + 2, unit);
     }
 }
 
-/// Moves the units of the text from a position on up by `gap` places, the last one first.
+/// Writes a part of these units, with zeros past their end.
+fn write_part(heap: &mut DebugHeap, ptr: Ptr, at: u32, units: &[u16], from: u32, count: u32)
+    requires units { HasUnits ptr heap.old }
+    requires most { 2 * length (payload_of ptr heap.old.heap.row) < 2 ^ 32 }
+    requires room { at + count ≤ room_in (length (payload_of ptr heap.old.heap.row)) }
+    ensures { IsPut ptr heap.old heap.new at (units_of_part units.now from count) }
+{
+    let start = (from as usize).min(units.len());
+    let there = (count as usize).min(units.len() - start);
+    let end = at + there as u32;
+    heap.write_halves(ptr, at + 2, &units[start..start + there]);
+    heap.zero_halves(ptr, end + 2, at + count - end);
+}
+
+/// Copies a part of the text in a cell, with zeros past its end. Both cells may be the same.
+fn copy_part(heap: &mut DebugHeap, ptr: Ptr, at: u32, cell: Ptr, from: u32, count: u32)
+    requires units { HasUnits ptr heap.old }
+    requires source { HasUnits cell heap.old }
+    requires sound { IsSoundDebug heap.old }
+    requires most { 2 * length (payload_of ptr heap.old.heap.row) < 2 ^ 32 }
+    requires room { at + count ≤ room_in (length (payload_of ptr heap.old.heap.row)) }
+    ensures { IsPut ptr heap.old heap.new at (units_of_part (text_at cell heap.old) from count) }
+{
+    let len = heap.payload(cell, 0);
+    let start = from.min(len);
+    let there = count.min(len - start);
+    heap.copy_halves(cell, start + 2, ptr, at + 2, there);
+    heap.zero_halves(ptr, at + there + 2, count - there);
+}
+
+/// Moves the units of the text from a position on up by `gap` places.
 pub fn open_gap(heap: &mut DebugHeap, ptr: Ptr, at: u32, gap: u32)
     requires units { HasUnits ptr heap.old }
     requires most { 2 * length (payload_of ptr heap.old.heap.row) < 2 ^ 32 }
     requires within { at ≤ length (text_at ptr heap.old) }
     requires room { length (text_at ptr heap.old) + gap ≤ room_in (length (payload_of ptr heap.old.heap.row)) }
-    ensures { IsDraft ptr heap.old heap.new (slice_index (payload_of ptr heap.old.heap.row) 0) (put (at + gap) (drop at (text_at ptr heap.old)) (units_behind (payload_of ptr heap.old.heap.row))) }
+    ensures draft { IsPut ptr heap.old heap.new (at + gap) (drop at (text_at ptr heap.old)) }
+    ensures sound { IsSoundDebug heap.new }
 {
     let len = heap.payload(ptr, 0);
-    for k in 0..len - at {
-        let i = len - 1 - k;
-        let unit = heap.payload_half(ptr, i + 2);
-        heap.set_payload_half(ptr, i + gap + 2, unit);
-    }
+    heap.copy_halves(ptr, at + 2, ptr, at + gap + 2, len - at);
 }
 
 /// Writes the length, after zeros for the units of the text that stand past it.
@@ -50,11 +95,11 @@ pub fn settle(heap: &mut DebugHeap, ptr: Ptr, n: u32)
     requires units { HasUnits ptr heap.old }
     requires most { 2 * length (payload_of ptr heap.old.heap.row) < 2 ^ 32 }
     requires room { n ≤ room_in (length (payload_of ptr heap.old.heap.row)) }
-    ensures draft { IsDraft ptr heap.old heap.new n (put n (replicate (slice_index (payload_of ptr heap.old.heap.row) 0 - n) 0) (units_behind (payload_of ptr heap.old.heap.row))) }
+    ensures draft { let words = payload_of ptr heap.old.heap.row in
+        IsDraft ptr heap.old heap.new n (put n (replicate (slice_index words 0 - n) 0) (units_behind words)) }
     ensures sound { IsSoundDebug heap.new }
 {
-    for i in n..heap.payload(ptr, 0) {
-        heap.set_payload_half(ptr, i + 2, 0);
-    }
+    let len = heap.payload(ptr, 0);
+    heap.zero_halves(ptr, n + 2, len.saturating_sub(n));
     heap.set_payload(ptr, 0, n);
 }

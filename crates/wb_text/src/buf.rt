@@ -55,6 +55,14 @@ impl Buf {
         self.max
     }
 
+    /// The units, in order.
+    pub fn units(&self) -> &[u16]
+        ensures units { result.now ≡ self.now.units }
+        ensures holds { IsBuffer self.now }
+    {
+        self.units.as_slice()
+    }
+
     /// The unit at a place.
     pub fn unit(&self, at: u32) -> u16
         requires { at < length self.now.units }
@@ -75,7 +83,7 @@ impl Buf {
             return Err(Panic::TOO_LONG);
         }
         self.units.clear();
-        extend(&mut self.units, source);
+        source.append_to(&mut self.units);
         Ok(())
     }
 
@@ -90,7 +98,7 @@ impl Buf {
         if self.max - self.length() < source.length() {
             return Err(Panic::TOO_LONG);
         }
-        extend(&mut self.units, source);
+        source.append_to(&mut self.units);
         Ok(())
     }
 
@@ -157,17 +165,12 @@ impl Units for Buf {
     fn unit(&self, at: u32) -> u16 {
         self.unit(at)
     }
-}
 
-/// Appends the units of a text.
-fn extend<U: Units>(units: &mut ArrayVec<u16, 256>, source: &U)
-    requires can { U.can_read source.now }
-    requires room { length units.old.items + length (U.units source.now) ≤ 256 }
-    ensures items { units.new.items ≡ units.old.items ++ U.units source.now }
-    ensures are_units { AreUnits units.old.items → AreUnits units.new.items }
-{
-    for at in 0..source.length() {
-        units.push(source.unit(at));
+    fn append_to(&self, to: &mut ArrayVec<u16, 256>) {
+        match to.try_extend_from_slice(self.units()) {
+            Ok(()) => (),
+            Err(_) => unreachable!(),
+        }
     }
 }
 
@@ -180,7 +183,7 @@ fn put_in<U: Units>(units: &mut ArrayVec<u16, 256>, at: usize, source: &U)
     ensures are_units { AreUnits units.old.items → AreUnits units.new.items }
 {
     let len = units.len();
-    extend(units, source);
+    source.append_to(units);
     move_back(units.as_mut_slice(), at, len);
 }
 

@@ -1,7 +1,9 @@
-//! Texts that can be read unit by unit.
+//! Texts that can be read, unit by unit or as a whole.
 
-ghost use Rattle.std.specs.Prelude.{ℕ, ◌≡◌, ◌<◌, ◌^◌, List, length, slice_index};
+ghost use Rattle.std.specs.Prelude.{ℕ, ◌≡◌, ◌+◌, ◌<◌, ◌≤◌, ◌^◌, ◌++◌, List, length, slice_index};
+ghost use Rattle.wb_model.specs.Texts.{AreUnits};
 
+use arrayvec::ArrayVec;
 use wb_model::script::Chars;
 
 /// A text that can be read: a length, and the unit at each place below it.
@@ -24,6 +26,13 @@ pub trait Units {
         requires can { can_read self.now }
         requires within { at < length (units self.now) }
         ensures { result ≡ slice_index (units self.now) at };
+
+    /// Appends the units to others.
+    fn append_to(&self, to: &mut ArrayVec<u16, 256>)
+        requires can { can_read self.now }
+        requires room { length to.old.items + length (units self.now) ≤ 256 }
+        ensures items { to.new.items ≡ to.old.items ++ units self.now }
+        ensures are_units { AreUnits to.old.items → AreUnits to.new.items };
 }
 
 /// The bytes of a literal, each of them a unit.
@@ -38,5 +47,20 @@ impl Units for Chars {
 
     fn unit(&self, at: u32) -> u16 {
         u16::from(self.as_slice()[at as usize])
+    }
+
+    fn append_to(&self, to: &mut ArrayVec<u16, 256>) {
+        push_bytes(to, self.as_slice());
+    }
+}
+
+/// Appends bytes, each of them as a unit.
+fn push_bytes(to: &mut ArrayVec<u16, 256>, bytes: &[u8])
+    requires { length to.old.items + length bytes.now ≤ 256 }
+    ensures items { to.new.items ≡ to.old.items ++ bytes.now }
+    ensures are_units { AreUnits to.old.items → AreUnits to.new.items }
+{
+    for byte in bytes {
+        to.push(u16::from(*byte));
     }
 }

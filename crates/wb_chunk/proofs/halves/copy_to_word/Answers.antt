@@ -1,4 +1,4 @@
-use Rattle.std.proofs.Common.{◌≡◌, ℕ, ◌+◌, ◌-◌, ◌*◌, ◌/◌, ◌%◌, ◌^◌, ◌++◌, ◌≤◌, ◌<◌, ◌≢◌, suc, [], ◌∷◌, List, length, All, sym, ap, subst, ◌∙◌, arith}
+use Rattle.std.proofs.Common.{◌≡◌, ℕ, ◌+◌, ◌-◌, ◌*◌, ◌/◌, ◌%◌, ◌^◌, ◌≤◌, ◌<◌, ◌≢◌, suc, List, length, All, sym, ap, subst, ◌∙◌, arith}
 use Rattle.wb_chunk.specs.Halves.{half_of, halves_from, with_half, with_halves}
 use Rattle.wb_chunk.proofs.WrittenHalves.{AreHalves, length-halves_from, halves-fit, halves_from-more, with_halves-more}
 use Rattle.wb_chunk.proofs.halves.copy_to_word.Goals as goal

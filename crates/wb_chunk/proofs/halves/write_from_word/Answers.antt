@@ -1,4 +1,4 @@
-use Rattle.std.proofs.Common.{◌≡◌, ℕ, ◌+◌, ◌-◌, ◌*◌, ◌/◌, ◌%◌, ◌^◌, ◌++◌, ◌≤◌, ◌<◌, ◌≢◌, ◌⊎◌, suc, [], ◌∷◌, List, length, take, get_or, sym, ap, subst, ◌∙◌, arith}
+use Rattle.std.proofs.Common.{◌≡◌, ℕ, ◌+◌, ◌-◌, ◌*◌, ◌/◌, ◌%◌, ◌^◌, ◌++◌, ◌≤◌, ◌<◌, ◌⊎◌, suc, [], ◌∷◌, List, length, take, get_or, sym, ap, subst, ◌∙◌, arith}
 use Rattle.std.proofs.lemmas.List.{length-take-le, take_all, take_more, get_or-take, get_or_default}
 use Rattle.wb_chunk.specs.Halves.{with_half, with_halves}
 use Rattle.wb_chunk.proofs.WrittenHalves.{AreHalves, set-pairs, with_halves-more}

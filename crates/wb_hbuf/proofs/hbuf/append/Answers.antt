@@ -1,16 +1,10 @@
-use Rattle.std.proofs.Common.{◌≡◌, ◌++◌, length, take, sym, subst, arith}
+use Rattle.std.proofs.Common.{◌≡◌, ◌++◌, take, subst, arith}
 use Rattle.std.proofs.lemmas.List.{take_all}
 use Rattle.wb_model.specs.TextCells.{text_at, max_at}
 use Rattle.wb_model.specs.Texts.{at_most}
-use Rattle.wb_hbuf.specs.Drafts.{IsAhead, IsEdited}
+use Rattle.wb_hbuf.specs.Drafts.{IsEdited}
 use Rattle.wb_hbuf.specs.Sources.{source_units}
-use Rattle.wb_hbuf.proofs.Edits.{ahead-last}
 use Rattle.wb_hbuf.proofs.hbuf.append.Goals as goal
-
-pub overwrite-requires-clause-ahead : goal.overwrite-requires-clause-ahead
-overwrite-requires-clause-ahead c =
-    let t = text_at c.args.ptr c.args.heap.now in
-    subst (λ k. IsAhead k (length t) c.args.source) (sym c.length-end.ensures) (ahead-last (length t) c.args.source)
 
 pub returns : goal.returns
 returns c =

@@ -11,21 +11,21 @@ use Rattle.wb_hbuf.proofs.hbuf.insert.Goals as goal
 
 pub write_units-requires-clause-units : goal.write_units-requires-clause-units
 write_units-requires-clause-units c =
-    draft-has c.args.ptr c.args.heap.now c.open_gap.new.heap _ _ c.measure-text.ensures.units c.open_gap.ensures c.measure-text.ensures.units.within
+    draft-has c.args.ptr c.args.heap.now c.open_gap.new.heap _ _ c.measure-text.ensures.units c.open_gap.ensures.draft c.measure-text.ensures.units.within
 
 pub write_units-requires-clause-most : goal.write_units-requires-clause-most
 write_units-requires-clause-most c =
-    omega (arith, draft-words c.args.ptr c.args.heap.now c.open_gap.new.heap _ _ c.measure-text.ensures.units c.open_gap.ensures, c.measure-text.ensures.small)
+    omega (arith, draft-words c.args.ptr c.args.heap.now c.open_gap.new.heap _ _ c.measure-text.ensures.units c.open_gap.ensures.draft, c.measure-text.ensures.small)
 
 pub write_units-requires-clause-source : goal.write_units-requires-clause-source
 write_units-requires-clause-source c =
-    source-stays c.args.ptr _ c.args.heap.now c.open_gap.new.heap c.args.source c.open_gap.ensures.changed c.requires.apart c.requires.source
+    source-stays c.args.ptr _ c.args.heap.now c.open_gap.new.heap c.args.source c.open_gap.ensures.draft.changed c.requires.apart c.requires.source
 
 pub write_units-requires-clause-room : goal.write_units-requires-clause-room
 write_units-requires-clause-room c =
     omega (
       arith,
-      draft-words c.args.ptr c.args.heap.now c.open_gap.new.heap _ _ c.measure-text.ensures.units c.open_gap.ensures,
+      draft-words c.args.ptr c.args.heap.now c.open_gap.new.heap _ _ c.measure-text.ensures.units c.open_gap.ensures.draft,
       c.measure-text.ensures.room,
       c.if-text-n.false,
       c.if-text-at.false,
@@ -39,7 +39,7 @@ pub settle-requires-clause-units : goal.settle-requires-clause-units
 settle-requires-clause-units c =
     let d = c.args.heap.now in
     draft-has c.args.ptr d c.write_units.new.heap _ _ c.measure-text.ensures.units
-    (gap-filled c.args.ptr d c.requires.text c.open_gap.new.heap c.write_units.new.heap c.args.at _ c.args.source c.open_gap.ensures c.write_units.ensures c.requires.apart c.requires.foreign)
+    (gap-filled c.args.ptr d c.requires.text c.open_gap.new.heap c.write_units.new.heap c.args.at _ c.args.source c.open_gap.ensures.draft c.write_units.ensures c.requires.apart c.requires.foreign)
     c.measure-text.ensures.units.within
 
 pub settle-requires-clause-most : goal.settle-requires-clause-most
@@ -48,7 +48,7 @@ settle-requires-clause-most c =
     omega (
       arith,
       draft-words c.args.ptr d c.write_units.new.heap _ _ c.measure-text.ensures.units
-          (gap-filled c.args.ptr d c.requires.text c.open_gap.new.heap c.write_units.new.heap c.args.at _ c.args.source c.open_gap.ensures c.write_units.ensures c.requires.apart c.requires.foreign),
+          (gap-filled c.args.ptr d c.requires.text c.open_gap.new.heap c.write_units.new.heap c.args.at _ c.args.source c.open_gap.ensures.draft c.write_units.ensures c.requires.apart c.requires.foreign),
       c.measure-text.ensures.small,
     )
 
@@ -58,7 +58,7 @@ settle-requires-clause-room c =
     omega (
       arith,
       draft-words c.args.ptr d c.write_units.new.heap _ _ c.measure-text.ensures.units
-          (gap-filled c.args.ptr d c.requires.text c.open_gap.new.heap c.write_units.new.heap c.args.at _ c.args.source c.open_gap.ensures c.write_units.ensures c.requires.apart c.requires.foreign),
+          (gap-filled c.args.ptr d c.requires.text c.open_gap.new.heap c.write_units.new.heap c.args.at _ c.args.source c.open_gap.ensures.draft c.write_units.ensures c.requires.apart c.requires.foreign),
       c.measure-text.ensures.room,
       c.if-text-n.false,
       c.measure-text.ensures.length-is,
@@ -79,7 +79,7 @@ returns c =
     let fits : len p d is + c.count-n.result ≤ c.measure-text.result.max =
     omega (arith, long, c.if-text-n.false, c.measure-text.ensures.room, c.measure-text.ensures.units.within) in
     let within : at ≤ length t = omega (arith, c.if-text-at.false, c.measure-text.ensures.length-is) in
-    let draft = gap-filled p d is c.open_gap.new.heap c.write_units.new.heap at _ c.args.source c.open_gap.ensures c.write_units.ensures c.requires.apart c.requires.foreign in
+    let draft = gap-filled p d is c.open_gap.new.heap c.write_units.new.heap at _ c.args.source c.open_gap.ensures.draft c.write_units.ensures c.requires.apart c.requires.foreign in
     edit-done p d c.settle.new.heap (take at t ++ us ++ drop at t) (insert_text (max_at p d) t at us)
     (insert-within (max_at p d) t at us within
     ∙ at_most-fits (max_at p d) (take at t ++ us ++ drop at t) (omega (arith, length-inserted t at us within, counted, fits, text-len p d is, c.measure-text.ensures.max-is)))

@@ -1,8 +1,7 @@
-use Rattle.std.proofs.Common.{◌≡◌, ◌+◌, ◌++◌, length, take, sym, subst, ◌∙◌, arith, length-append}
+use Rattle.std.proofs.Common.{◌≡◌, ◌+◌, ◌++◌, length, take, sym, ◌∙◌, arith, length-append}
 use Rattle.std.proofs.lemmas.List.{length-take-le}
 use Rattle.wb_model.specs.TextCells.{text_at, max_at}
 use Rattle.wb_model.specs.Texts.{at_most}
-use Rattle.wb_hbuf.specs.Drafts.{IsAhead}
 use Rattle.wb_hbuf.specs.Sources.{source_units}
 use Rattle.wb_hbuf.proofs.Drafts.{draft-has, draft-words}
 use Rattle.wb_hbuf.proofs.WrittenUnits.{units-counted}
@@ -12,10 +11,6 @@ use Rattle.wb_hbuf.proofs.hbuf.overwrite.Goals as goal
 pub overflow_sub-text : goal.overflow_sub-text
 overflow_sub-text c =
     omega (arith, c.requires.within, c.measure-text.ensures.room, c.measure-text.ensures.units.within, text-len c.args.ptr c.args.heap.now c.requires.text)
-
-pub write_units-requires-clause-ahead : goal.write_units-requires-clause-ahead
-write_units-requires-clause-ahead c =
-    subst (λ k. IsAhead c.args.at k c.args.source) (sym (text-len c.args.ptr c.args.heap.now c.requires.text)) c.requires.ahead
 
 pub write_units-requires-clause-room : goal.write_units-requires-clause-room
 write_units-requires-clause-room c =

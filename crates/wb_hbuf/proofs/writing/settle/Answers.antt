@@ -1,49 +1,42 @@
-use Rattle.std.proofs.Common.{◌≡◌, ◌+◌, ◌-◌, ◌<◌, ◌≤◌, ℕ, List, [], length, replicate, subst, refl, sym, ◌∙◌, arith}
-use Rattle.wb_hbuf.specs.Drafts.{IsDraft, put}
-use Rattle.wb_hbuf.proofs.Drafts.{draft-words, draft-set, draft-length-set}
-use Rattle.wb_hbuf.proofs.WrittenUnits.{len, all, all-room, put-first, put-zero}
+use Rattle.std.proofs.Common.{◌≡◌, ◌+◌, ◌-◌, ◌≤◌, ℕ, length, ap, ◌∙◌, arith}
+use Rattle.std.proofs.lemmas.List.{length-replicate}
+use Rattle.wb_chunk.specs.Halves.{with_halves}
+use Rattle.wb_model.specs.CellRow.{payload_of}
+use Rattle.wb_model.specs.Debug.{Debug, debug_changed}
+use Rattle.wb_model.proofs.TextCells.{zeros}
+use Rattle.wb_hbuf.specs.Drafts.{HasUnits, IsDraft, put}
+use Rattle.wb_model.specs.declared.heap.Ptr.{Ptr}
+use Rattle.wb_hbuf.proofs.Drafts.{draft-none, draft-put, draft-words, draft-length-set, is_live, units-zeros}
+use Rattle.wb_hbuf.proofs.WrittenUnits.{len, all, all-room}
 use Rattle.wb_hbuf.proofs.writing.settle.Goals as goal
 
-pub loop-i-init : goal.loop-i-init
-loop-i-init c =
-    let none : c.args.n - c.args.n ≡ 0 = omega arith in
-    record {
-      bounded = omega arith;
-      draft = subst (λ k. IsDraft c.args.ptr c.args.heap.now c.args.heap.now (len c.args.ptr c.args.heap.now c.requires.units) (put c.args.n (replicate k 0) (all c.args.ptr c.args.heap.now c.requires.units)))
-          (sym none) (put-first c.args.ptr c.args.heap.now c.requires.units c.args.n []);
-    }
+-- zeros for what stands past the new end
+cleared : (p : Ptr) (d e : Debug) (has : HasUnits p d) (n k m : ℕ) → k ≡ n + 2 → m ≡ len p d has - n → n ≤ length (all p d has) →
+    e ≡ debug_changed d p (with_halves (payload_of p d.heap.row) k (zeros m)) → IsDraft p d e (len p d has) (put n (zeros (len p d has - n)) (all p d has))
+cleared p d e has n k m here count fits made =
+    draft-put p d d (len p d has) (all p d has) has (draft-none p d has) e n k (zeros (len p d has - n)) here
+    (omega (arith, all-room p d has, has.within, fits, length-replicate {A = ℕ} (len p d has - n) 0)) (units-zeros (len p d has - n))
+    (made ∙ ap (λ i. debug_changed d p (with_halves (payload_of p d.heap.row) k (zeros i))) count)
 
-pub set_payload_half-requires : goal.set_payload_half-requires
-set_payload_half-requires c =
-    omega (arith, draft-words c.args.ptr c.args.heap.now c.loop-i.heap _ _ c.requires.units c.loop-i.invariant.draft, c.requires.units.some, c.requires.units.within)
+pub zero_halves-requires-clause-live : goal.zero_halves-requires-clause-live
+zero_halves-requires-clause-live c = is_live c.args.ptr c.args.heap.now.heap.row c.requires.units.some
 
-pub loop-i-preserved : goal.loop-i-preserved
-loop-i-preserved c =
-    let d = c.args.heap.now in
-    let p = c.args.ptr in
-    let has = c.requires.units in
-    let i = c.loop-i.i in
-    let n = c.args.n in
-    let lt : i < len p d has = omega (arith, c.loop-i-test.true, c.payload-i-end.ensures) in
-    let fits : len p d has ≤ length (all p d has) = omega (arith, all-room p d has, has.within) in
-    let written : List ℕ = put n (replicate (i - n) 0) (all p d has) in
-    let room : length written ≡ length (all p d has) = c.loop-i.invariant.draft.room ∙ sym (all-room p d has) in
-    let set = draft-set p d c.loop-i.heap (len p d has) written has c.loop-i.invariant.draft c.set_payload_half.new.self i (i + 2) 0
-    refl (omega (arith, room, fits, lt)) (omega arith) c.set_payload_half.ensures.changed in
-    record {
-      bounded = omega (arith, c.loop-i-test.true);
-      draft = subst (λ vs. IsDraft p d c.set_payload_half.new.self (len p d has) vs) (put-zero n (len p d has) i (all p d has) (omega arith) lt fits) set;
-    }
+pub zero_halves-requires-clause-within : goal.zero_halves-requires-clause-within
+zero_halves-requires-clause-within c =
+    omega (arith, c.payload-len.ensures, c.saturating_sub.ensures, c.requires.units.within, c.requires.units.some, c.requires.room)
 
 pub set_payload-requires : goal.set_payload-requires
 set_payload-requires c =
-    omega (arith, draft-words c.args.ptr c.args.heap.now c.loop-i.heap _ _ c.requires.units c.loop-i.invariant.draft, c.requires.units.some)
+    let has = c.requires.units in
+    let d = c.args.heap.now in
+    let draft = cleared c.args.ptr d c.zero_halves.new.self has c.args.n (c.args.n + 2) c.saturating_sub.result (omega arith) (omega (arith, c.saturating_sub.ensures, c.payload-len.ensures))
+    (omega (arith, all-room c.args.ptr d has, c.requires.room)) c.zero_halves.ensures.changed in
+    omega (arith, draft-words c.args.ptr d c.zero_halves.new.self _ _ has draft, has.some)
 
 pub returns-clause-draft : goal.returns-clause-draft
 returns-clause-draft c =
-    let d = c.args.heap.now in
-    let p = c.args.ptr in
     let has = c.requires.units in
-    let zeros : c.loop-i.i - c.args.n ≡ len p d has - c.args.n = omega (arith, c.loop-i-test.false, c.payload-i-end.ensures, c.loop-i.invariant.bounded) in
-    let done = draft-length-set p d c.loop-i.heap (len p d has) _ has c.loop-i.invariant.draft c.set_payload.new.self c.args.n c.set_payload.ensures.changed in
-    subst (λ k. IsDraft p d c.set_payload.new.self c.args.n (put c.args.n (replicate k 0) (all p d has))) zeros done
+    let d = c.args.heap.now in
+    let draft = cleared c.args.ptr d c.zero_halves.new.self has c.args.n (c.args.n + 2) c.saturating_sub.result (omega arith) (omega (arith, c.saturating_sub.ensures, c.payload-len.ensures))
+    (omega (arith, all-room c.args.ptr d has, c.requires.room)) c.zero_halves.ensures.changed in
+    draft-length-set c.args.ptr d c.zero_halves.new.self (len c.args.ptr d has) _ has draft c.set_payload.new.self c.args.n c.set_payload.ensures.changed

@@ -1,4 +1,4 @@
-use Rattle.std.proofs.Common.{◌≡◌, ◌+◌, ◌*◌, ◌/◌, ◌≤◌, length, subst, ap, sym, ◌∙◌, arith}
+use Rattle.std.proofs.Common.{◌≡◌, ◌+◌, ◌*◌, ◌≤◌, length, subst, ap, sym, ◌∙◌, arith}
 use Rattle.wb_chunk.specs.Halves.{halves_from, with_halves}
 use Rattle.wb_chunk.proofs.WrittenHalves.{length-halves_from, length-with_halves}
 use Rattle.wb_model.specs.CellRow.{payload_of, with_payload}
