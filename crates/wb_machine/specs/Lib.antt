@@ -17,5 +17,6 @@ pub mod Owed
 pub mod PointerOperands
 pub mod TextOperands
 pub mod TextInvariant
+pub mod TextStatements
 pub mod Told
 pub mod Whole

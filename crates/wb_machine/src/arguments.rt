@@ -20,6 +20,7 @@ pub enum Handed<'b> {
 }
 
 /// The number of an operand, over the locals of a frame.
+#[inline(always)]
 pub fn number_over(frame: &[Stored], operand: Number) -> i32
     ensures { (buffers : List Buffer) → result ≡ number_over (values_stored buffers frame.now) operand }
 {

@@ -67,12 +67,13 @@ impl State {
     }
 
     /// A target gets null for a refused attempt, or it is a leave with `KErrNoMemory` and the target stays.
-    fn refuse(&mut self, target: Pointer, refusal: Refusal) -> Ending
-        ensures { CarriesOut self.old (refused_carried self.old target refusal) result self.new }
+    #[inline(always)]
+    fn refuse(&mut self, target: &Pointer, refusal: Refusal) -> Ending
+        ensures { CarriesOut self.old (refused_carried self.old target.now refusal) result self.new }
     {
         match refusal {
             Refusal::GivesNull => {
-                self.set_pointer(target, NULL);
+                self.set_pointer(*target, NULL);
                 Ending::GoesOn
             }
             Refusal::Leaves => Ending::Leaves(KERR_NO_MEMORY),
@@ -80,12 +81,13 @@ impl State {
     }
 
     /// A target gets what an attempt gave.
-    pub fn give(&mut self, target: Pointer, refusal: Refusal, gave: Gave) -> Ending
-        ensures { CarriesOut self.old (given_carried self.old target refusal gave) result self.new }
+    #[inline(always)]
+    pub fn give(&mut self, target: &Pointer, refusal: Refusal, gave: Gave) -> Ending
+        ensures { CarriesOut self.old (given_carried self.old target.now refusal gave) result self.new }
     {
         match gave {
             Gave::Granted(ptr) => {
-                self.set_pointer(target, ptr);
+                self.set_pointer(*target, ptr);
                 Ending::GoesOn
             }
             Gave::Denied => self.refuse(target, refusal),
@@ -94,18 +96,19 @@ impl State {
     }
 
     /// A target gets a cell for `bytes` bytes.
+    #[inline(never)]
     pub fn alloc(
         &mut self,
-        target: Pointer,
-        bytes: Number,
+        target: &Pointer,
+        bytes: &Number,
         refusal: Refusal,
     ) -> Result<Ending, NoMemory>
         requires number { MayAttempt self.old }
-        ensures carried { IfOk result (λ ending. CarriesOut self.old (alloc_carried self.old target refusal (number_read self.old bytes)) ending self.new) }
+        ensures carried { IfOk result (λ ending. CarriesOut self.old (alloc_carried self.old target.now refusal (number_read self.old bytes.now)) ending self.new) }
         ensures err { OnErr result (self.new ≡ self.old) }
         ensures keeps { KeepsCount self.old self.new }
     {
-        let Some(bytes) = number_within(LARGEST_REQUEST, self.number(bytes)) else {
+        let Some(bytes) = number_within(LARGEST_REQUEST, self.number(*bytes)) else {
             return Ok(Ending::Panics(Panic::NUMBER_OUT_OF_RANGE));
         };
         let gave = self.attempt(bytes, Kind::Raw)?;
@@ -115,19 +118,19 @@ impl State {
     /// A target gets a cell, reallocated to `bytes` bytes.
     fn resize(
         &mut self,
-        target: Pointer,
+        target: &Pointer,
         ptr: Ptr,
-        bytes: Number,
+        bytes: &Number,
         refusal: Refusal,
     ) -> Result<Ending, NoMemory>
         requires live { IsSome (cell_at ptr self.old.debug.heap.row) }
         requires raw { IfSome (cell_at ptr self.old.debug.heap.row) (λ c. c.head.kind ≡ Raw) }
         requires number { MayAttempt self.old }
-        ensures carried { IfOk result (λ ending. IfSome (cell_at ptr self.old.debug.heap.row) (λ c. CarriesOut self.old (realloc_within self.old target refusal c (within LARGEST_REQUEST (number_read self.old bytes))) ending self.new)) }
+        ensures carried { IfOk result (λ ending. IfSome (cell_at ptr self.old.debug.heap.row) (λ c. CarriesOut self.old (realloc_within self.old target.now refusal c (within LARGEST_REQUEST (number_read self.old bytes.now))) ending self.new)) }
         ensures err { OnErr result (self.new ≡ self.old) }
         ensures keeps { KeepsCount self.old self.new }
     {
-        let Some(bytes) = number_within(LARGEST_REQUEST, self.number(bytes)) else {
+        let Some(bytes) = number_within(LARGEST_REQUEST, self.number(*bytes)) else {
             return Ok(Ending::Panics(Panic::NUMBER_OUT_OF_RANGE));
         };
         let gave = self.attempt_again(ptr, bytes)?;
@@ -135,20 +138,21 @@ impl State {
     }
 
     /// A target gets the cell of a source, reallocated to `bytes` bytes; of null it is an allocation.
+    #[inline(never)]
     pub fn realloc(
         &mut self,
         script: &Script,
-        target: Pointer,
-        source: Pointer,
-        bytes: Number,
+        target: &Pointer,
+        source: &Pointer,
+        bytes: &Number,
         refusal: Refusal,
     ) -> Result<Ending, NoMemory>
         requires number { MayAttempt self.old }
-        ensures carried { IfOk result (λ ending. CarriesOut self.old (realloc_carried self.old target refusal (pointer_read script.now self.old source) (number_read self.old bytes)) ending self.new) }
+        ensures carried { IfOk result (λ ending. CarriesOut self.old (realloc_carried self.old target.now refusal (pointer_read script.now self.old source.now) (number_read self.old bytes.now)) ending self.new) }
         ensures err { OnErr result (self.new ≡ self.old) }
         ensures keeps { KeepsCount self.old self.new }
     {
-        let ptr = self.pointer(script, source);
+        let ptr = self.pointer(script, *source);
         if ptr.number == 0 {
             return self.alloc(target, bytes, refusal);
         }
@@ -162,10 +166,10 @@ impl State {
     }
 
     /// A number local gets how many bytes of a cell are usable.
-    pub fn alloc_len(&mut self, script: &Script, local: u8, pointer: Pointer) -> Ending
-        ensures { CarriesOut self.old (usable_carried self.old local (pointer_read script.now self.old pointer)) result self.new }
+    pub fn alloc_len(&mut self, script: &Script, local: u8, pointer: &Pointer) -> Ending
+        ensures { CarriesOut self.old (usable_carried self.old local (pointer_read script.now self.old pointer.now)) result self.new }
     {
-        let Some(header) = self.heap.header(self.pointer(script, pointer)) else {
+        let Some(header) = self.heap.header(self.pointer(script, *pointer)) else {
             return Ending::Panics(Panic::BAD_CELL);
         };
         let usable = header.length - 16;
@@ -204,9 +208,10 @@ impl State {
     }
 
     /// Releases the pointer of an operand.
-    pub fn free(&mut self, script: &Script, pointer: Pointer) -> Ending
-        ensures { CarriesOut self.old (free_carried self.old (pointer_read script.now self.old pointer)) result self.new }
+    #[inline(never)]
+    pub fn free(&mut self, script: &Script, pointer: &Pointer) -> Ending
+        ensures { CarriesOut self.old (free_carried self.old (pointer_read script.now self.old pointer.now)) result self.new }
     {
-        self.release(self.pointer(script, pointer))
+        self.release(self.pointer(script, *pointer))
     }
 }

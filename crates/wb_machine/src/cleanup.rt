@@ -98,50 +98,53 @@ impl State {
     }
 
     /// Pushes a pointer that is to be freed.
-    pub fn push(&mut self, script: &Script, pointer: Pointer) -> Result<Ending, NoMemory>
+    #[inline(never)]
+    pub fn push(&mut self, script: &Script, pointer: &Pointer) -> Result<Ending, NoMemory>
         requires stack { HasStack self.old }
         requires room { length self.old.items < self.old.slots }
         requires number { MayAttempt self.old }
-        ensures carried { IfOk result (λ ending. CarriesOut self.old (push_carried self.old (I.Free (pointer_read script.now self.old pointer)) (payload_of self.new.cleanup self.new.debug.heap.row)) ending self.new) }
+        ensures carried { IfOk result (λ ending. CarriesOut self.old (push_carried self.old (I.Free (pointer_read script.now self.old pointer.now)) (payload_of self.new.cleanup self.new.debug.heap.row)) ending self.new) }
         ensures err { OnErr result (self.new ≡ self.old) }
         ensures there { IsStackThere self.old }
         ensures stands { IsStackThere self.new }
         ensures keeps { KeepsCount self.old self.new }
     {
-        self.push_item(Item::Free(self.pointer(script, pointer)))
+        self.push_item(Item::Free(self.pointer(script, *pointer)))
     }
 
     /// Pushes an object that is to be destroyed by its class.
-    pub fn push_object(&mut self, script: &Script, pointer: Pointer) -> Result<Ending, NoMemory>
+    #[inline(never)]
+    pub fn push_object(&mut self, script: &Script, pointer: &Pointer) -> Result<Ending, NoMemory>
         requires stack { HasStack self.old }
         requires room { length self.old.items < self.old.slots }
         requires number { MayAttempt self.old }
-        ensures carried { IfOk result (λ ending. CarriesOut self.old (push_carried self.old (I.Delete (pointer_read script.now self.old pointer)) (payload_of self.new.cleanup self.new.debug.heap.row)) ending self.new) }
+        ensures carried { IfOk result (λ ending. CarriesOut self.old (push_carried self.old (I.Delete (pointer_read script.now self.old pointer.now)) (payload_of self.new.cleanup self.new.debug.heap.row)) ending self.new) }
         ensures err { OnErr result (self.new ≡ self.old) }
         ensures there { IsStackThere self.old }
         ensures stands { IsStackThere self.new }
         ensures keeps { KeepsCount self.old self.new }
     {
-        self.push_item(Item::Delete(self.pointer(script, pointer)))
+        self.push_item(Item::Delete(self.pointer(script, *pointer)))
     }
 
     /// Pushes a pointer that an operation is to destroy.
+    #[inline(never)]
     pub fn push_operation(
         &mut self,
         script: &Script,
-        pointer: Pointer,
+        pointer: &Pointer,
         operation: u16,
     ) -> Result<Ending, NoMemory>
         requires stack { HasStack self.old }
         requires room { length self.old.items < self.old.slots }
         requires number { MayAttempt self.old }
-        ensures carried { IfOk result (λ ending. CarriesOut self.old (push_carried self.old (I.Call (pointer_read script.now self.old pointer) operation) (payload_of self.new.cleanup self.new.debug.heap.row)) ending self.new) }
+        ensures carried { IfOk result (λ ending. CarriesOut self.old (push_carried self.old (I.Call (pointer_read script.now self.old pointer.now) operation) (payload_of self.new.cleanup self.new.debug.heap.row)) ending self.new) }
         ensures err { OnErr result (self.new ≡ self.old) }
         ensures there { IsStackThere self.old }
         ensures stands { IsStackThere self.new }
         ensures keeps { KeepsCount self.old self.new }
     {
-        self.push_item(Item::Call(self.pointer(script, pointer), operation))
+        self.push_item(Item::Call(self.pointer(script, *pointer), operation))
     }
 
     /// Takes the `count` newest items off, where so many stand above the `floor` first ones.
@@ -173,11 +176,11 @@ impl State {
     }
 
     /// Pops a number of items. What is done with them is the script's.
-    pub fn pop(&mut self, floor: u32, count: Number) -> Ending
+    pub fn pop(&mut self, floor: u32, count: &Number) -> Ending
         requires { HasStack self.old }
-        ensures { CarriesOut self.old (pop_within self.old floor (not_negative (number_read self.old count))) result self.new }
+        ensures { CarriesOut self.old (pop_within self.old floor (not_negative (number_read self.old count.now))) result self.new }
     {
-        let Some(count) = not_negative(self.number(count)) else {
+        let Some(count) = not_negative(self.number(*count)) else {
             return Ending::Panics(Panic::NUMBER_OUT_OF_RANGE);
         };
         match self.take_off(floor, count) {
@@ -187,11 +190,11 @@ impl State {
     }
 
     /// Pops the newest item, which must be of a pointer.
-    pub fn pop_check(&mut self, script: &Script, floor: u32, pointer: Pointer) -> Ending
+    pub fn pop_check(&mut self, script: &Script, floor: u32, pointer: &Pointer) -> Ending
         requires { HasStack self.old }
-        ensures { CarriesOut self.old (pop_check_carried self.old floor (pointer_read script.now self.old pointer)) result self.new }
+        ensures { CarriesOut self.old (pop_check_carried self.old floor (pointer_read script.now self.old pointer.now)) result self.new }
     {
-        match self.take_expected(floor, self.pointer(script, pointer)) {
+        match self.take_expected(floor, self.pointer(script, *pointer)) {
             Ok(()) => Ending::GoesOn,
             Err(panic) => Ending::Panics(panic),
         }

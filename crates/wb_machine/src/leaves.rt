@@ -15,29 +15,30 @@ use wb_model::script::{Condition, Number, Pointer, Script};
 
 impl State {
     /// Whether a condition holds.
-    pub fn holds(&self, script: &Script, condition: Condition) -> bool
-        ensures { result ≡ condition_read script.now self.now condition }
+    #[inline(always)]
+    pub fn holds(&self, script: &Script, condition: &Condition) -> bool
+        ensures { result ≡ condition_read script.now self.now condition.now }
     {
         match condition {
-            Condition::IsNull(pointer) => self.pointer(script, pointer).number == 0,
-            Condition::NotNull(pointer) => self.pointer(script, pointer).number != 0,
-            Condition::Equal(one, other) => self.number(one) == self.number(other),
-            Condition::Less(one, other) => self.number(one) < self.number(other),
+            Condition::IsNull(pointer) => self.pointer(script, *pointer).number == 0,
+            Condition::NotNull(pointer) => self.pointer(script, *pointer).number != 0,
+            Condition::Equal(one, other) => self.number(*one) == self.number(*other),
+            Condition::Less(one, other) => self.number(*one) < self.number(*other),
         }
     }
 
     /// A leave with a code.
-    pub fn leave(&mut self, code: Number) -> Ending
-        ensures { CarriesOut self.old (left_with self.old (number_read self.old code)) result self.new }
+    pub fn leave(&mut self, code: &Number) -> Ending
+        ensures { CarriesOut self.old (left_with self.old (number_read self.old code.now)) result self.new }
     {
-        Ending::Leaves(self.number(code))
+        Ending::Leaves(self.number(*code))
     }
 
     /// A leave with a code that is negative.
-    pub fn leave_if_error(&mut self, code: Number) -> Ending
-        ensures { CarriesOut self.old (left_where self.old (int_lt (number_read self.old code) (pos 0)) (number_read self.old code)) result self.new }
+    pub fn leave_if_error(&mut self, code: &Number) -> Ending
+        ensures { CarriesOut self.old (left_where self.old (int_lt (number_read self.old code.now) (pos 0)) (number_read self.old code.now)) result self.new }
     {
-        let code = self.number(code);
+        let code = self.number(*code);
         if code < 0 {
             Ending::Leaves(code)
         } else {
@@ -46,10 +47,10 @@ impl State {
     }
 
     /// A leave with `KErrNoMemory` where a pointer is null.
-    pub fn leave_if_null(&mut self, script: &Script, pointer: Pointer) -> Ending
-        ensures { CarriesOut self.old (left_where self.old (is_null (pointer_read script.now self.old pointer)) KERR_NO_MEMORY) result self.new }
+    pub fn leave_if_null(&mut self, script: &Script, pointer: &Pointer) -> Ending
+        ensures { CarriesOut self.old (left_where self.old (is_null (pointer_read script.now self.old pointer.now)) KERR_NO_MEMORY) result self.new }
     {
-        if self.pointer(script, pointer).number == 0 {
+        if self.pointer(script, *pointer).number == 0 {
             Ending::Leaves(KERR_NO_MEMORY)
         } else {
             Ending::GoesOn
@@ -64,9 +65,9 @@ impl State {
     }
 
     /// The end of a body, with a pointer.
-    pub fn end_body_with(&mut self, script: &Script, pointer: Pointer) -> Ending
-        ensures { CarriesOut self.old (returned self.old (pointer_read script.now self.old pointer)) result self.new }
+    pub fn end_body_with(&mut self, script: &Script, pointer: &Pointer) -> Ending
+        ensures { CarriesOut self.old (returned self.old (pointer_read script.now self.old pointer.now)) result self.new }
     {
-        Ending::Returns(self.pointer(script, pointer))
+        Ending::Returns(self.pointer(script, *pointer))
     }
 }

@@ -5,6 +5,7 @@ mod arguments;
 mod asks;
 mod bodies;
 mod carry;
+mod carry_text;
 mod cells;
 mod cleanup;
 mod control;

@@ -227,6 +227,7 @@ impl Locals {
     }
 
     /// What a holder holds, in a body of this object; null where it holds no pointer.
+    #[inline(always)]
     pub fn held(&self, this: Ptr, holder: Holder) -> Ptr
         ensures { result ≡ held_over this self.now.locals holder }
     {
@@ -234,6 +235,7 @@ impl Locals {
     }
 
     /// The pointer of an operand; null where it names no pointer.
+    #[inline(always)]
     pub fn pointer(&self, sight: Sight, operand: Pointer) -> Ptr
         ensures { result ≡ pointer_over sight.entry.script.now sight.entry.heap.now sight.entry.this self.now.locals operand }
     {
@@ -241,6 +243,7 @@ impl Locals {
     }
 
     /// The number of an operand; 0 where it names none.
+    #[inline(always)]
     pub fn number(&self, operand: Number) -> i32
         ensures { result ≡ number_over self.now.locals operand }
     {
@@ -275,6 +278,7 @@ impl Locals {
     }
 
     /// A local gets a value; one that isn't there stays so.
+    #[inline(always)]
     pub fn set(&mut self, index: u8, slot: Slot)
         ensures { self.new ≡ record self.old { locals = slice_set self.old.locals index (value_of slot) } }
     {

@@ -38,10 +38,10 @@ impl State {
     }
 
     /// Ends the last mark, where `count` cells of its level are live.
-    pub fn mark_end(&mut self, count: Number) -> Ending
-        ensures { CarriesOut self.old (mark_end_within self.old (not_negative (number_read self.old count))) result self.new }
+    pub fn mark_end(&mut self, count: &Number) -> Ending
+        ensures { CarriesOut self.old (mark_end_within self.old (not_negative (number_read self.old count.now))) result self.new }
     {
-        let Some(count) = not_negative(self.number(count)) else {
+        let Some(count) = not_negative(self.number(*count)) else {
             return Ending::Panics(Panic::NUMBER_OUT_OF_RANGE);
         };
         match self.end_mark(count) {
@@ -51,10 +51,10 @@ impl State {
     }
 
     /// Stops the run unless `count` cells of the current level are live.
-    pub fn check(&mut self, count: Number) -> Ending
-        ensures { CarriesOut self.old (check_within self.old (check_refusal self.old.debug) (not_negative (number_read self.old count))) result self.new }
+    pub fn check(&mut self, count: &Number) -> Ending
+        ensures { CarriesOut self.old (check_within self.old (check_refusal self.old.debug) (not_negative (number_read self.old count.now))) result self.new }
     {
-        let Some(count) = not_negative(self.number(count)) else {
+        let Some(count) = not_negative(self.number(*count)) else {
             return Ending::Panics(Panic::NUMBER_OUT_OF_RANGE);
         };
         match self.heap.check(count) {
@@ -64,10 +64,10 @@ impl State {
     }
 
     /// Stops the run unless `count` cells of all levels are live.
-    pub fn check_all(&mut self, count: Number) -> Ending
-        ensures { CarriesOut self.old (check_within self.old (check_all_refusal self.old.debug) (not_negative (number_read self.old count))) result self.new }
+    pub fn check_all(&mut self, count: &Number) -> Ending
+        ensures { CarriesOut self.old (check_within self.old (check_all_refusal self.old.debug) (not_negative (number_read self.old count.now))) result self.new }
     {
-        let Some(count) = not_negative(self.number(count)) else {
+        let Some(count) = not_negative(self.number(*count)) else {
             return Ending::Panics(Panic::NUMBER_OUT_OF_RANGE);
         };
         match self.heap.check_all(count) {
@@ -77,10 +77,10 @@ impl State {
     }
 
     /// The `rate`-th attempt from here on is to fail, and no later one.
-    pub fn fail_next(&mut self, rate: Number) -> Ending
-        ensures { CarriesOut self.old (set_within self.old (λ n. next n) (at_least_one (number_read self.old rate))) result self.new }
+    pub fn fail_next(&mut self, rate: &Number) -> Ending
+        ensures { CarriesOut self.old (set_within self.old (λ n. next n) (at_least_one (number_read self.old rate.now))) result self.new }
     {
-        let Some(rate) = at_least_one(self.number(rate)) else {
+        let Some(rate) = at_least_one(self.number(*rate)) else {
             return Ending::Panics(Panic::NUMBER_OUT_OF_RANGE);
         };
         self.heap.fail_next(rate);
@@ -88,10 +88,10 @@ impl State {
     }
 
     /// Every `rate`-th attempt from here on is to fail.
-    pub fn fail_every(&mut self, rate: Number) -> Ending
-        ensures { CarriesOut self.old (set_within self.old (λ n. each n n) (at_least_one (number_read self.old rate))) result self.new }
+    pub fn fail_every(&mut self, rate: &Number) -> Ending
+        ensures { CarriesOut self.old (set_within self.old (λ n. each n n) (at_least_one (number_read self.old rate.now))) result self.new }
     {
-        let Some(rate) = at_least_one(self.number(rate)) else {
+        let Some(rate) = at_least_one(self.number(*rate)) else {
             return Ending::Panics(Panic::NUMBER_OUT_OF_RANGE);
         };
         self.heap.fail_every(rate);

@@ -14,36 +14,39 @@ use wb_model::script::{Number, Pointer, Script};
 
 impl State {
     /// A target gets the pointer of a source.
-    pub fn copy_pointer(&mut self, script: &Script, target: Pointer, source: Pointer) -> Ending
-        ensures { CarriesOut self.old (gone_on (pointer_stored self.old target (pointer_read script.now self.old source))) result self.new }
+    #[inline(never)]
+    pub fn copy_pointer(&mut self, script: &Script, target: &Pointer, source: &Pointer) -> Ending
+        ensures { CarriesOut self.old (gone_on (pointer_stored self.old target.now (pointer_read script.now self.old source.now))) result self.new }
     {
-        let ptr = self.pointer(script, source);
-        self.set_pointer(target, ptr);
+        let ptr = self.pointer(script, *source);
+        self.set_pointer(*target, ptr);
         Ending::GoesOn
     }
 
     /// A target gets null.
-    pub fn set_null(&mut self, target: Pointer) -> Ending
-        ensures { CarriesOut self.old (gone_on (pointer_stored self.old target null)) result self.new }
+    pub fn set_null(&mut self, target: &Pointer) -> Ending
+        ensures { CarriesOut self.old (gone_on (pointer_stored self.old target.now null)) result self.new }
     {
-        self.set_pointer(target, NULL);
+        self.set_pointer(*target, NULL);
         Ending::GoesOn
     }
 
     /// A number local gets a number.
-    pub fn set_number(&mut self, local: u8, value: Number) -> Ending
-        ensures { CarriesOut self.old (gone_on (stored self.old local (number (number_read self.old value)))) result self.new }
+    #[inline(always)]
+    pub fn set_number(&mut self, local: u8, value: &Number) -> Ending
+        ensures { CarriesOut self.old (gone_on (stored self.old local (number (number_read self.old value.now)))) result self.new }
     {
-        let value = self.number(value);
+        let value = self.number(*value);
         self.set(local, Slot::Number(value));
         Ending::GoesOn
     }
 
     /// A number is added to a number local. A sum that no int holds stops the run.
-    pub fn add(&mut self, local: u8, value: Number) -> Ending
-        ensures { CarriesOut self.old (add_carried self.old local (number_read self.old value)) result self.new }
+    #[inline(always)]
+    pub fn add(&mut self, local: u8, value: &Number) -> Ending
+        ensures { CarriesOut self.old (add_carried self.old local (number_read self.old value.now)) result self.new }
     {
-        let value = self.number(value);
+        let value = self.number(*value);
         let Some(sum) = self.number(Number::Variable(local)).checked_add(value) else {
             return Ending::Panics(Panic::NUMBER_OUT_OF_RANGE);
         };

@@ -70,17 +70,18 @@ impl State {
     }
 
     /// A target gets a new object of a class.
+    #[inline(never)]
     pub fn new_object(
         &mut self,
         script: &Script,
-        target: Pointer,
+        target: &Pointer,
         class: u16,
         refusal: Refusal,
     ) -> Result<Ending, NoMemory>
         requires script { IsTrue (is_script script.now) }
         requires class { class < length script.now.classes }
         requires number { MayAttempt self.old }
-        ensures carried { IfOk result (λ ending. CarriesOut self.old (new_carried script.now self.old target class refusal) ending self.new) }
+        ensures carried { IfOk result (λ ending. CarriesOut self.old (new_carried script.now self.old target.now class refusal) ending self.new) }
         ensures err { OnErr result (self.new ≡ self.old) }
         ensures keeps { KeepsCount self.old self.new }
     {

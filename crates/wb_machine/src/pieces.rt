@@ -25,6 +25,7 @@ pub enum Ending {
 
 impl Ending {
     /// Whether the run is stopped.
+    #[inline(always)]
     pub fn is_stop(self) -> bool
         ensures { result ≡ is_stop self }
     {
@@ -82,6 +83,7 @@ pub enum Piece<'a> {
 }
 
 /// Whether a piece begins with a step.
+#[inline(always)]
 pub fn needs_step(piece: &Piece) -> bool
     ensures { result ≡ needs_step piece.now }
 {

@@ -23,6 +23,7 @@ pub struct Sight<'b> {
 }
 
 /// What a holder holds.
+#[inline(always)]
 pub fn held_over(this: Ptr, frame: &[Stored], holder: Holder) -> Ptr
     ensures { (buffers : List Buffer) → result ≡ held_over this (values_stored buffers frame.now) holder }
 {
@@ -58,29 +59,32 @@ pub fn has_words(heap: &DebugHeap, ptr: Ptr, index: u8) -> bool
 /// A field of an object; null where the pointer names no object of the class.
 ///
 /// An object is made with room for all fields of its class, and a script names no other. So it always is there.
-fn field_over(sight: Sight, object: Ptr, class: u16, index: u8) -> Ptr
-    ensures { result ≡ field_among (field_count sight.entry.script.now class) index (words_found sight.entry.heap.now object class) }
+#[inline(never)]
+fn field_over(script: &Script, heap: &DebugHeap, object: Ptr, class: u16, index: u8) -> Ptr
+    ensures { result ≡ field_among (field_count script.now class) index (words_found heap.now object class) }
 {
-    if field_count(sight.script, class) <= usize::from(index) {
+    if field_count(script, class) <= usize::from(index) {
         return NULL;
     }
-    if !has_words(sight.heap, object, index) {
+    if !has_words(heap, object, index) {
         return NULL;
     }
-    match field(sight.heap, object, class, index) {
+    match field(heap, object, class, index) {
         Ok(ptr) => ptr,
         Err(_) => NULL,
     }
 }
 
 /// The pointer of an operand; null where it names none.
+#[inline(always)]
 pub fn pointer_over(sight: Sight, frame: &[Stored], operand: Pointer) -> Ptr
     ensures { (buffers : List Buffer) → result ≡ pointer_over sight.entry.script.now sight.entry.heap.now sight.entry.this (values_stored buffers frame.now) operand }
 {
     match operand {
         Pointer::Held(holder) => held_over(sight.this, frame, holder),
         Pointer::Field(holder, class, index) => {
-            field_over(sight, held_over(sight.this, frame, holder), class, index)
+            let object = held_over(sight.this, frame, holder);
+            field_over(sight.script, sight.heap, object, class, index)
         }
     }
 }

@@ -115,6 +115,7 @@ impl State {
     }
 
     /// Counts a step.
+    #[inline(always)]
     pub fn tick(&mut self)
         requires { self.old.steps + 1 < 2 ^ 32 }
         ensures { self.new ≡ stepped self.old }
@@ -180,6 +181,7 @@ impl State {
     }
 
     /// The pointer of an operand.
+    #[inline(always)]
     pub fn pointer(&self, script: &Script, operand: Pointer) -> Ptr
         ensures { result ≡ pointer_read script.now self.now operand }
     {
@@ -192,6 +194,7 @@ impl State {
     }
 
     /// What a holder holds.
+    #[inline(always)]
     pub fn held(&self, holder: Holder) -> Ptr
         ensures { result ≡ held_in self.now holder }
     {
@@ -199,6 +202,7 @@ impl State {
     }
 
     /// The number of an operand.
+    #[inline(always)]
     pub fn number(&self, operand: Number) -> i32
         ensures { result ≡ number_read self.now operand }
     {
@@ -206,6 +210,7 @@ impl State {
     }
 
     /// A local gets a value.
+    #[inline(always)]
     pub fn set(&mut self, index: u8, slot: Slot)
         ensures { self.new ≡ stored self.old index (value_of slot) }
     {
@@ -213,6 +218,7 @@ impl State {
     }
 
     /// A pointer operand gets a pointer.
+    #[inline(always)]
     pub fn set_pointer(&mut self, target: Pointer, ptr: Ptr)
         ensures stored { self.new ≡ pointer_stored self.old target ptr }
         ensures keeps { KeepsCount self.old self.new }

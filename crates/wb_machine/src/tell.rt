@@ -16,6 +16,7 @@ use wb_model::script::Number;
 
 impl State {
     /// Prints a line.
+    #[inline(never)]
     pub fn print(&mut self, line: Line) -> Result<Ending, NoMemory>
         ensures carried { IfOk result (λ ending. CarriesOut self.old (gone_on (line_printed self.old line)) ending self.new) }
         ensures keeps { KeepsCount self.old self.new }
@@ -25,11 +26,11 @@ impl State {
     }
 
     /// Prints a number.
-    pub fn print_number(&mut self, value: Number) -> Result<Ending, NoMemory>
-        ensures carried { IfOk result (λ ending. CarriesOut self.old (gone_on (line_printed self.old (signed_decimal (number_read self.old value)))) ending self.new) }
+    pub fn print_number(&mut self, value: &Number) -> Result<Ending, NoMemory>
+        ensures carried { IfOk result (λ ending. CarriesOut self.old (gone_on (line_printed self.old (signed_decimal (number_read self.old value.now)))) ending self.new) }
         ensures keeps { KeepsCount self.old self.new }
     {
-        let line = number_line(self.number(value));
+        let line = number_line(self.number(*value));
         self.print(line)
     }
 

@@ -54,7 +54,7 @@ impl State {
             return Ok(Ending::Panics(Panic::NUMBER_OUT_OF_RANGE));
         };
         let gave = self.attempt(4 + 2 * units, Kind::Text)?;
-        Ok(self.give(target, refusal, gave))
+        Ok(self.give(&target, refusal, gave))
     }
 
     /// A target gets the text of a source, reallocated for `units` units, or null where that is refused.
@@ -82,7 +82,7 @@ impl State {
             return Ok(Ending::Panics(Panic::SHORTER_THAN_TEXT));
         }
         let gave = self.remake(ptr, units)?;
-        Ok(self.give(target, Refusal::GivesNull, gave))
+        Ok(self.give(&target, Refusal::GivesNull, gave))
     }
 }
 

@@ -40,17 +40,24 @@ impl State {
     }
 
     /// Stores a number in a word of a Raw cell.
-    pub fn store(&mut self, script: &Script, pointer: Pointer, index: Number, value: i32) -> Ending
-        ensures { CarriesOut self.old (store_carried self.old (pointer_read script.now self.old pointer) (number_read self.old index) value) result self.new }
+    #[inline(never)]
+    pub fn store(
+        &mut self,
+        script: &Script,
+        pointer: &Pointer,
+        index: &Number,
+        value: i32,
+    ) -> Ending
+        ensures { CarriesOut self.old (store_carried self.old (pointer_read script.now self.old pointer.now) (number_read self.old index.now) value) result self.new }
     {
-        let ptr = self.pointer(script, pointer);
+        let ptr = self.pointer(script, *pointer);
         let Some(header) = self.heap.header(ptr) else {
             return Ending::Panics(Panic::NULL_OR_STALE);
         };
         if !is_raw(header.kind) {
             return Ending::Panics(Panic::WRONG_KIND);
         }
-        let Some(word) = word_within(header.length - 16, self.number(index)) else {
+        let Some(word) = word_within(header.length - 16, self.number(*index)) else {
             return Ending::Panics(Panic::NUMBER_OUT_OF_RANGE);
         };
         self.set_word(ptr, word, value.cast_unsigned());
@@ -66,17 +73,18 @@ impl State {
     }
 
     /// A number local gets a word of a Raw cell, as a signed number.
-    pub fn load(&mut self, script: &Script, local: u8, pointer: Pointer, index: Number) -> Ending
-        ensures { CarriesOut self.old (load_carried self.old local (pointer_read script.now self.old pointer) (number_read self.old index)) result self.new }
+    #[inline(never)]
+    pub fn load(&mut self, script: &Script, local: u8, pointer: &Pointer, index: &Number) -> Ending
+        ensures { CarriesOut self.old (load_carried self.old local (pointer_read script.now self.old pointer.now) (number_read self.old index.now)) result self.new }
     {
-        let ptr = self.pointer(script, pointer);
+        let ptr = self.pointer(script, *pointer);
         let Some(header) = self.heap.header(ptr) else {
             return Ending::Panics(Panic::NULL_OR_STALE);
         };
         if !is_raw(header.kind) {
             return Ending::Panics(Panic::WRONG_KIND);
         }
-        let Some(at) = word_within(header.length - 16, self.number(index)) else {
+        let Some(at) = word_within(header.length - 16, self.number(*index)) else {
             return Ending::Panics(Panic::NUMBER_OUT_OF_RANGE);
         };
         let value = self.heap.payload(ptr, at);

@@ -87,6 +87,7 @@ impl<'a> Control<'a> {
     }
 
     /// A step of the destruction of items: the newest is taken off and destroyed.
+    #[inline(never)]
     pub fn step_items(
         &mut self,
         script: &'a Script,
@@ -122,6 +123,7 @@ impl<'a> Control<'a> {
 
     /// The body that a class destroys an object by begins, and then the object is released. WORKBENCH 1 or 2 where the
     /// pointer names none.
+    #[inline(never)]
     pub fn step_object(
         &mut self,
         script: &'a Script,

@@ -31,19 +31,20 @@ use wb_model::script::{Condition, Number, Numbered, Pointer, Script, Statement};
 
 impl<'a> Control<'a> {
     /// The part of an `if` that its condition chooses.
+    #[inline(always)]
     fn begin_if(
         &mut self,
         at: Standing,
-        condition: Condition,
+        condition: &Condition,
         first: &'a [Numbered],
         other: &'a [Numbered],
         script: &Script,
         state: &State,
     ) -> Result<(), NoMemory>
         requires { self.old.ending ≡ GoesOn }
-        ensures kept { OnOk result ((r : Rule) (budget : ℕ) → first_refusal state.now (of_condition condition) ≡ None →
+        ensures kept { OnOk result ((r : Rule) (budget : ℕ) → first_refusal state.now (of_condition condition.now) ≡ None →
             rest_from script.now budget r self.new.ending self.new.pieces.items state.now
-            ≡ rest_of_statement script.now budget r (where_of at) (Statement-F.IfElse condition first.now other.now) self.old.pieces.items state.now) }
+            ≡ rest_of_statement script.now budget r (where_of at) (Statement-F.IfElse condition.now first.now other.now) self.old.pieces.items state.now) }
         ensures sound { OnOk result ((script : Script) → AreOwn script first.now → AreOwn script other.now → AreSound script self.old.pieces.items → AreSound script self.new.pieces.items) }
         ensures ending { OnOk result (self.new.ending ≡ GoesOn) }
         ensures slots { OnOk result (slots_for_all self.new.pieces.items
@@ -60,23 +61,24 @@ impl<'a> Control<'a> {
     }
 
     /// The turns of a `repeat`, whose number is read once.
+    #[inline(never)]
     fn begin_repeat(
         &mut self,
         at: Standing,
-        count: Number,
+        count: &Number,
         body: &'a [Numbered],
         state: &State,
     ) -> Result<(), NoMemory>
         requires { self.old.ending ≡ GoesOn }
         ensures kept { OnOk result ((script : Script) (r : Rule) (budget : ℕ) →
             rest_from script budget r self.new.ending self.new.pieces.items state.now
-            ≡ rest_of_statement script budget r (where_of at) (Statement-F.Repeat count body.now) self.old.pieces.items state.now) }
+            ≡ rest_of_statement script budget r (where_of at) (Statement-F.Repeat count.now body.now) self.old.pieces.items state.now) }
         ensures sound { OnOk result ((script : Script) → AreOwn script body.now → AreSound script self.old.pieces.items → AreSound script self.new.pieces.items) }
         ensures slots { OnOk result (slots_for_all self.new.pieces.items
             ≤ slots_for_all self.old.pieces.items) }
         ensures line { self.new.line ≡ self.old.line }
     {
-        match number_within(MOST_TURNS, state.number(count)) {
+        match number_within(MOST_TURNS, state.number(*count)) {
             Some(turns) => self.push(Piece::Turns(at, turns, body))?,
             None => self.ending = Ending::Panics(Panic::NUMBER_OUT_OF_RANGE),
         }
@@ -84,6 +86,7 @@ impl<'a> Control<'a> {
     }
 
     /// The body of a TRAP, over the items that stand at its entry.
+    #[inline(never)]
     fn begin_trap(
         &mut self,
         at: Standing,
@@ -110,17 +113,18 @@ impl<'a> Control<'a> {
 
     /// The destruction of the newest items. As many must stand above the entry of the innermost TRAP, which is asked before the
     /// first is destroyed.
-    fn begin_pop(&mut self, at: Standing, count: Number, state: &State) -> Result<(), NoMemory>
+    #[inline(never)]
+    fn begin_pop(&mut self, at: Standing, count: &Number, state: &State) -> Result<(), NoMemory>
         requires { self.old.ending ≡ GoesOn }
         ensures kept { OnOk result ((script : Script) (r : Rule) (budget : ℕ) →
             rest_from script budget r self.new.ending self.new.pieces.items state.now
-            ≡ rest_of_statement script budget r (where_of at) (Statement-F.PopDestroy count) self.old.pieces.items state.now) }
+            ≡ rest_of_statement script budget r (where_of at) (Statement-F.PopDestroy count.now) self.old.pieces.items state.now) }
         ensures sound { OnOk result ((script : Script) → AreSound script self.old.pieces.items → AreSound script self.new.pieces.items) }
         ensures slots { OnOk result (slots_for_all self.new.pieces.items
             ≤ slots_for_all self.old.pieces.items) }
         ensures line { self.new.line ≡ self.old.line }
     {
-        let Some(count) = not_negative(state.number(count)) else {
+        let Some(count) = not_negative(state.number(*count)) else {
             self.ending = Ending::Panics(Panic::NUMBER_OUT_OF_RANGE);
             return Ok(());
         };
@@ -133,18 +137,19 @@ impl<'a> Control<'a> {
     }
 
     /// The body that makes an object. WORKBENCH 1 or 2 where the pointer names none.
+    #[inline(never)]
     fn begin_construct(
         &mut self,
         script: &'a Script,
         at: Standing,
-        object: Pointer,
+        object: &Pointer,
         state: &mut State,
     ) -> Result<(), NoMemory>
         requires script { IsTrue (is_script script.now) }
         requires going { self.old.ending ≡ GoesOn }
-        ensures kept { OnOk result ((r : Rule) (budget : ℕ) → first_refusal state.old (object ∷ []) ≡ None →
+        ensures kept { OnOk result ((r : Rule) (budget : ℕ) → first_refusal state.old (object.now ∷ []) ≡ None →
             rest_from script.now budget r self.new.ending self.new.pieces.items state.new
-            ≡ rest_of_statement script.now budget r (where_of at) (Statement-F.Construct object) self.old.pieces.items state.old) }
+            ≡ rest_of_statement script.now budget r (where_of at) (Statement-F.Construct object.now) self.old.pieces.items state.old) }
         ensures sound { OnOk result (AreSound script.now self.old.pieces.items →
             AreSound script.now self.new.pieces.items) }
         ensures quiet { IsQuiet state.old state.new }
@@ -152,7 +157,7 @@ impl<'a> Control<'a> {
             ≤ slots_for_all self.old.pieces.items) }
         ensures line { self.new.line ≡ self.old.line }
     {
-        let this = state.pointer(script, object);
+        let this = state.pointer(script, *object);
         match state.class(this) {
             Ok(class) => {
                 let body = construct_at(script, class);
@@ -174,29 +179,31 @@ impl<'a> Control<'a> {
     }
 
     /// The destruction of the object that an operand names. The operand keeps its pointer.
+    #[inline(never)]
     fn begin_delete_of(
         &mut self,
         script: &Script,
         at: Standing,
-        object: Pointer,
+        object: &Pointer,
         state: &State,
     ) -> Result<(), NoMemory>
         requires { self.old.ending ≡ GoesOn }
         ensures kept { OnOk result ((r : Rule) (budget : ℕ) →
-            first_refusal state.now (object ∷ []) ≡ None →
+            first_refusal state.now (object.now ∷ []) ≡ None →
             rest_from script.now budget r self.new.ending self.new.pieces.items state.now
-            ≡ rest_of_statement script.now budget r (where_of at) (Statement-F.Delete object) self.old.pieces.items state.now) }
+            ≡ rest_of_statement script.now budget r (where_of at) (Statement-F.Delete object.now) self.old.pieces.items state.now) }
         ensures sound { OnOk result (AreSound script.now self.old.pieces.items →
             AreSound script.now self.new.pieces.items) }
         ensures room { OnOk result (IsFree self.old.pieces.items state.now →
             HasRoom self.new.ending self.new.pieces.items state.now) }
         ensures line { self.new.line ≡ self.old.line }
     {
-        self.begin_delete(at, state.pointer(script, object))
+        self.begin_delete(at, state.pointer(script, *object))
     }
 
     /// A body begins in a frame of its own, of an object or of none, and then its caller's frame stands again. One frame too
     /// many is refused.
+    #[inline(never)]
     pub fn begin_body(
         &mut self,
         script: &Script,
@@ -235,6 +242,7 @@ impl<'a> Control<'a> {
 
     /// A statement begins whose operands aren't refused: one that no other stands inside is carried out, and of any other its
     /// pieces are left.
+    #[inline(always)]
     pub fn begin_statement(
         &mut self,
         script: &'a Script,
@@ -262,12 +270,12 @@ impl<'a> Control<'a> {
     {
         match statement {
             Statement::If(condition, first) => {
-                self.begin_if(at, *condition, first.as_slice(), &[], script, state)
+                self.begin_if(at, condition, first.as_slice(), &[], script, state)
             }
             Statement::IfElse(condition, first, other) => {
                 self.begin_if(
                     at,
-                    *condition,
+                    condition,
                     first.as_slice(),
                     other.as_slice(),
                     script,
@@ -275,12 +283,12 @@ impl<'a> Control<'a> {
                 )
             }
             Statement::Repeat(count, body) => {
-                self.begin_repeat(at, *count, body.as_slice(), state)
+                self.begin_repeat(at, count, body.as_slice(), state)
             }
             Statement::Trap(local, body) => self.begin_trap(at, *local, body.as_slice(), state),
-            Statement::PopDestroy(count) => self.begin_pop(at, *count, state),
-            Statement::Construct(object) => self.begin_construct(script, at, *object, state),
-            Statement::Delete(object) => self.begin_delete_of(script, at, *object, state),
+            Statement::PopDestroy(count) => self.begin_pop(at, count, state),
+            Statement::Construct(object) => self.begin_construct(script, at, object, state),
+            Statement::Delete(object) => self.begin_delete_of(script, at, object, state),
             Statement::Call(index, arguments) => {
                 let body = lines_of(procedure_at(script, *index));
                 let handed = Handed::Arguments(arguments.as_slice());
@@ -298,6 +306,7 @@ impl<'a> Control<'a> {
         }
     }
     /// A statement begins, unless it is refused for an operand, which is asked before any cell and any range.
+    #[inline(always)]
     pub fn begin_unless_refused(
         &mut self,
         script: &'a Script,

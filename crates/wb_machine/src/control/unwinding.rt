@@ -23,6 +23,7 @@ use wb_model::memory::NoMemory;
 
 impl<'a> Control<'a> {
     /// Whether the piece on top takes how the one above it ended: the run isn't stopped, and no step is to come.
+    #[inline(always)]
     fn is_done(&self) -> bool
         ensures yes { IsTrue result → (is_stop self.now.ending ≡ false) × (0 < vec_len self.now.pieces) × ((below : List Piece) (p : Piece) → self.now.pieces.items ≡ below ++ p ∷ [] → self.now.ending ≡ GoesOn → needs_step p ≡ false) }
         ensures no { result ≡ false → (is_over self.now.ending self.now.pieces.items ≡ true) ⊎ IsReady self.now.ending self.now.pieces.items }
@@ -63,6 +64,7 @@ impl<'a> Control<'a> {
     /// A TRAP's local gets 0 where its body ended plainly; the items of its entry must be those that stand now. Where it was
     /// left, the items above those of its entry are to be destroyed, and then the local gets the code. No body returns out
     /// of one.
+    #[inline(never)]
     fn fall_trap(
         &mut self,
         at: Standing,
@@ -114,6 +116,7 @@ impl<'a> Control<'a> {
 
     /// `main` ends plainly where its body returned; no item may stand then. Where it was left, all items are to be destroyed,
     /// and then the leave goes on.
+    #[inline(never)]
     fn fall_main(&mut self, state: &State) -> Result<(), AllocError>
         requires { is_stop self.old.ending ≡ false }
         ensures kept { OnOk result ((script : Script) (r : Rule) (budget : ℕ) → state.now.steps ≤ budget →
@@ -176,6 +179,7 @@ impl<'a> Control<'a> {
     }
 
     /// A piece without a step takes how the one above it ended.
+    #[inline(always)]
     fn fall(&mut self, piece: Piece<'a>, state: &mut State) -> Result<(), AllocError>
         requires stop { is_stop self.old.ending ≡ false }
         requires done { self.old.ending ≡ GoesOn → needs_step piece ≡ false }
@@ -205,6 +209,7 @@ impl<'a> Control<'a> {
     }
 
     /// Lets each piece without a step take how the one above it ended, until a step is to come or the run is over.
+    #[inline(always)]
     pub fn settle(&mut self, state: &mut State) -> Result<(), NoMemory>
         ensures kept { OnOk result ((script : Script) (r : Rule) (budget : ℕ) → state.old.steps ≤ budget →
             rest_from script budget r self.new.ending self.new.pieces.items state.new ≡ rest_from script budget r self.old.ending self.old.pieces.items state.old) }

@@ -12,4 +12,4 @@ pub returns-in-Field : goal.returns-in-Field
 returns-in-Field c buffers =
     let d = c.args.sight.heap.now in
     rw c.in-Field.is (c.field_over.ensures
-    ∙ ap (λ (p : Ptr). field_among (field_count c.args.sight.script.now c.in-Field.class) c.in-Field.index (words_found d p c.in-Field.class)) (c.held_over-in-Field.ensures buffers))
+    ∙ ap (λ (p : Ptr). field_among (field_count c.args.sight.script.now c.in-Field.class) c.in-Field.index (words_found d p c.in-Field.class)) (c.held_over-object.ensures buffers))

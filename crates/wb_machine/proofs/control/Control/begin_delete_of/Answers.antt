@@ -18,7 +18,7 @@ returns-clause-kept c =
     let at = where_of c.args.at in
     kept script r budget h
     ∙ ap (λ (q : Ptr). rest_after script budget r (destroyed_object (is_null q) (meaning_of script budget) at q (state_of script h)) old h) c.pointer.ensures
-    ∙ delete_asked script budget r at c.args.object old h ok)
+    ∙ delete_asked script budget r at c.args.object.now old h ok)
 
 pub returns-clause-sound : goal.returns-clause-sound
 returns-clause-sound c = on_ok_then c.begin_delete.result c.begin_delete.ensures.sound (λ sound. sound c.args.script.now)

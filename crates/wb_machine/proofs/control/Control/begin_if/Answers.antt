@@ -16,12 +16,12 @@ returns-clause-kept c r budget ok =
     let new = c.push.new.self.pieces.items in
     let first = c.args.first.now in
     let other = c.args.other.now in
-    let chosen : c.if-holds.part.now ≡ choice (condition_read script h c.args.condition) first other = elim c.if-holds.branch [
+    let chosen : c.if-holds.part.now ≡ choice (condition_read script h c.args.condition.now) first other = elim c.if-holds.branch [
       | then-holds w ↦ ap (λ x. x.now) w.part-is ∙ sym (ap (λ b. choice b first other) (sym c.holds.ensures ∙ w.if-holds.true))
       | else-holds w ↦ ap (λ x. x.now) w.part-is ∙ sym (ap (λ b. choice b first other) (sym c.holds.ensures ∙ w.if-holds.false))
     ] in
     ap (λ e. rest_from script budget r e new h) (c.in_ok-push.ensures.ending ∙ c.requires)
-    ∙ chosen_rest script budget r (where_of c.args.at) c.args.condition first other c.if-holds.part.now c.args.self.now.pieces.items new h
+    ∙ chosen_rest script budget r (where_of c.args.at) c.args.condition.now first other c.if-holds.part.now c.args.self.now.pieces.items new h
     (pending_pushed h.callers c.args.self.now.pieces.items new (Code c.args.at c.if-holds.part) c.in_ok-push.ensures.pieces) chosen ok
 
 pub returns-clause-sound : goal.returns-clause-sound
