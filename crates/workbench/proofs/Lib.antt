@@ -3,6 +3,7 @@ pub mod AsciiLemmas
 pub mod Hexadecimal
 pub mod JsonLemmas
 pub mod KnownBytesLemmas
+pub mod LineLemmas
 pub mod OneReport
 pub mod ProgramLemmas
 pub mod RiseLemmas

@@ -9,6 +9,7 @@ mod figures;
 pub mod host;
 mod json_report;
 pub mod laws;
+mod line;
 mod numbers_text;
 pub mod program;
 mod report;

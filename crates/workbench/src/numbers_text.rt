@@ -5,6 +5,7 @@ ghost use Rattle.std.specs.Prelude.{◌≡◌, ◌++◌, OnOk};
 ghost use Rattle.workbench.specs.TwoNumbers.{cut_at_line, failing_line, none_line, refuses_line, size_text, sweep_text, table_text};
 
 use crate::appended::appended;
+use crate::line::Line;
 use crate::run_text::put_run;
 use std::io::Write;
 use wb_model::failures::{Failing, Failures};
@@ -39,7 +40,12 @@ fn put_table(text: &mut Vec<u8>, rises: &[Rise]) -> Result<(), NoMemory>
 fn put_refuses(text: &mut Vec<u8>, from: u32, number: u32) -> Result<(), NoMemory>
     ensures { OnOk result (text.new.items ≡ text.old.items ++ refuses_line from number) }
 {
-    appended(writeln!(text, "from {from} refuses {number}"))
+    let mut line = Line::new();
+    line.put_number(number);
+    line.put_word(b" refuses ");
+    line.put_number(from);
+    line.put_word(b"from ");
+    line.append_to(text)
 }
 
 /// Appends how many attempts the run without failure makes, and the failure that was found, with the run under it, or that

@@ -6,6 +6,7 @@ ghost use Rattle.std.specs.List.{flat_map};
 ghost use Rattle.workbench.specs.RunText.{answer_word, print_line, note_line, attempt_line, leak_line, leaks_text, end_line, panic_line, cut_line, outcome_text, run_text};
 
 use crate::appended::appended;
+use crate::line::Line;
 use std::io::Write;
 use wb_model::heap::{Answer, Attempt, Panic};
 use wb_model::memory::NoMemory;
@@ -54,14 +55,28 @@ fn put_notes(text: &mut Vec<u8>, notes: &Notes) -> Result<(), NoMemory>
 fn put_note(text: &mut Vec<u8>, note: Note) -> Result<(), NoMemory>
     ensures { OnOk result (text.new.items ≡ text.old.items ++ note_line note) }
 {
-    let put = match note {
+    let mut line = Line::new();
+    match note {
         Note::Heap(count, total, committed) => {
-            writeln!(text, "note heap {count} {total} {committed}")
+            line.put_number(committed);
+            line.put_word(b" ");
+            line.put_number(total);
+            line.put_word(b" ");
+            line.put_number(count);
+            line.put_word(b"note heap ");
         }
-        Note::Available(total, longest) => writeln!(text, "note available {total} {longest}"),
-        Note::Compress(reclaimed) => writeln!(text, "note compress {reclaimed}"),
-    };
-    appended(put)
+        Note::Available(total, longest) => {
+            line.put_number(longest);
+            line.put_word(b" ");
+            line.put_number(total);
+            line.put_word(b"note available ");
+        }
+        Note::Compress(reclaimed) => {
+            line.put_number(reclaimed);
+            line.put_word(b"note compress ");
+        }
+    }
+    line.append_to(text)
 }
 
 fn put_trace(text: &mut Vec<u8>, trace: &Trace) -> Result<(), NoMemory>
@@ -77,17 +92,16 @@ fn put_trace(text: &mut Vec<u8>, trace: &Trace) -> Result<(), NoMemory>
 fn put_attempt(text: &mut Vec<u8>, attempt: Attempt) -> Result<(), NoMemory>
     ensures { OnOk result (text.new.items ≡ text.old.items ++ attempt_line attempt) }
 {
-    let Attempt {
-        number,
-        length,
-        place,
-        answer,
-    } = attempt;
-    let word = answer_word(answer);
-    appended(writeln!(
-        text,
-        "attempt {number} length {length} place {place} {word}"
-    ))
+    let mut line = Line::new();
+    line.put_word(answer_word(attempt.answer).as_bytes());
+    line.put_word(b" ");
+    line.put_number(attempt.place);
+    line.put_word(b" place ");
+    line.put_number(attempt.length);
+    line.put_word(b" length ");
+    line.put_number(attempt.number);
+    line.put_word(b"attempt ");
+    line.append_to(text)
 }
 
 fn answer_word(answer: Answer) -> &'static str
@@ -139,12 +153,14 @@ fn put_leaks(text: &mut Vec<u8>, leaks: &Leaks) -> Result<(), NoMemory>
 fn put_leak(text: &mut Vec<u8>, leak: Leak) -> Result<(), NoMemory>
     ensures { OnOk result (text.new.items ≡ text.old.items ++ leak_line leak) }
 {
-    let Leak {
-        number,
-        length,
-        place,
-    } = leak;
-    appended(writeln!(text, "leak {number} length {length} place {place}"))
+    let mut line = Line::new();
+    line.put_number(leak.place);
+    line.put_word(b" place ");
+    line.put_number(leak.length);
+    line.put_word(b" length ");
+    line.put_number(leak.number);
+    line.put_word(b"leak ");
+    line.append_to(text)
 }
 
 fn put_panic(text: &mut Vec<u8>, panic: Panic) -> Result<(), NoMemory>
