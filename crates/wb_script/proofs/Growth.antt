@@ -1,5 +1,6 @@
 -- One more line of the tree, inside a body and behind one.
-use Rattle.std.proofs.Common.{◌≡◌, refl, sym, ap, subst, ◌∙◌, ℕ, ◌+◌, ◌<◌, ◌≤◌, List, [], ◌∷◌, ◌++◌, length, Option, Some, None, true, ◌&&◌, nat_lt, IsTrue, append_assoc, append-nil, zero-add, length-append, arith}
+use Rattle.std.proofs.Common.{◌≡◌, refl, sym, ap, subst, ◌∙◌, ℕ, ◌+◌, ◌<◌, ◌≤◌, List, [], ◌∷◌, ◌++◌, length, Option, Some, None, Bool, true, false, ◌&&◌, nat_lt, IsTrue, append_assoc, append-nil, zero-add, length-append, arith}
+use Rattle.std.specs.Prelude.{IfOk, Result, Ok, Err}
 use Rattle.std.proofs.lemmas.List.{map-append}
 use Rattle.std.proofs.lemmas.List.Folds.{list_all-append}
 use Rattle.wb_model.specs.declared.script.Body.{Body}
@@ -24,11 +25,11 @@ use Rattle.wb_script.specs.declared.tree.whole.Stage.TheVariants.{Outside, InCla
 use Rattle.wb_script.specs.declared.tree.whole.Building.{Building}
 use Rattle.wb_script.specs.declared.tree.bodies.OpenBody.{OpenBody}
 use Rattle.wb_script.specs.declared.tree.bodies.Left.TheVariants.{Inside, Done}
-use Rattle.wb_script.specs.Building.{Counts, counts_after, nest_places}
-use Rattle.wb_script.specs.Growing.{Adds, AreBelow, AreCounts, AreSound, Grows, IsBelow, IsBelowWhere, IsOwned, IsSound, IsSoundClass, IsSoundWhere, building_lines, building_places, class_place, counts_in, counts_owned, counts_whole, finished, has_room, in_body, in_class, inside_lines, items_in_order, left_counts, line_of_owner, outside, owner_lines, owner_places, with_operation, with_procedure}
+use Rattle.wb_script.specs.Building.{Counts, counts_after, fits, nest_places}
+use Rattle.wb_script.specs.Growing.{Adds, AddsWhereFit, AreBelow, AreCounts, AreSound, Grows, GrowsWhereFit, IsBelow, IsBelowWhere, IsOwned, IsSound, IsSoundClass, IsSoundWhere, building_lines, building_places, class_place, counts_in, counts_owned, counts_whole, finished, has_room, if_added, in_body, in_class, inside_lines, items_in_order, left_counts, line_of_owner, outside, owner_lines, owner_places, with_operation, with_procedure}
 use Rattle.wb_nesting.specs.Machine.{step, after_line}
 use Rattle.wb_script.proofs.Nests.{flat_map-last}
-use Rattle.wb_script.proofs.OpenPlaces.{inner_step}
+use Rattle.wb_script.proofs.OpenPlaces.{inner_step, inner_stuck}
 use Rattle.wb_script.proofs.Orders.{are_before, first_last, second_last, in_order_below, each_from-last, each_below, all_below}
 use Rattle.wb_script.proofs.Tests.{parts, together, below_of, below_test}
 
@@ -75,6 +76,18 @@ module _ (declared : Declared) (number : ℕ) (k : Key) (operands : List (Operan
         ∙ same_owned b owner next.parameters counts after next;
     places = same_step k (nest_places p.nest ++ owner_places owner) ∙ inner_step p.nest (owner_places owner) (role_of k) (nest_places next.nest) adds.places;
   }
+
+  -- the same, where a line that fits has no place
+  pub added_grows : (added : Bool) (next : OpenBody) → AddsWhereFit declared number (Line k operands) p (if_added added (Inside next)) → GrowsWhereFit declared number (Line k operands) (in_body b owner p) (if_added added (in_body b owner next))
+  added_grows true next adds = inside_grows next adds
+  added_grows false next none = λ counts are fit.
+      same_step k (nest_places p.nest ++ owner_places owner)
+      ∙ inner_stuck p.nest (owner_places owner) (role_of k) (none (counts_owned b owner p.parameters counts) (subst (λ n. IsTrue (fits declared n (Line k operands))) are fit))
+
+  pub result_grows : {E : Type 0} (result : Result Bool E) (next : OpenBody) → IfOk result (λ added. AddsWhereFit declared number (Line k operands) p (if_added added (Inside next))) →
+      IfOk result (λ added. GrowsWhereFit declared number (Line k operands) (in_body b owner p) (if_added added (in_body b owner next)))
+  result_grows (Ok added) next adds = added_grows added next adds
+  result_grows (Err error) next adds = tt
 
 -- the lines of a whole body behind those of what it is of
 abbrev closed_lines : List Parameter → Body → List Marked

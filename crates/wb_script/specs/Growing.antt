@@ -15,6 +15,7 @@ use Rattle.wb_model.specs.declared.script.Body.{Body}
 use Rattle.wb_model.specs.declared.script.Class.{Class}
 use Rattle.wb_model.specs.declared.script.Parameter as kinds
 use Rattle.wb_model.specs.declared.script.Local.{Local}
+use Rattle.wb_model.specs.declared.script.Numbered.{Numbered}
 use Rattle.wb_model.specs.Forms.{role_of_form}
 use Rattle.wb_model.specs.Names.{taken_by}
 use Rattle.wb_model.specs.Sound.{Declared, Scope, is_local, is_parameter, is_body, is_class_of, are_classes, is_procedure, is_operation, its_parameters, local_of_parameter, locals_of, scope_of, fields_declared, signatures_of}
@@ -49,6 +50,10 @@ scope_in_body declared p = record { locals = p.scope; this = p.this; fields = de
 -- the lines of an open body behind its first
 abbrev pub inside_lines : OpenBody → List Marked
 inside_lines p = local_lines (length p.parameters) p.locals ++ nest_lines p.nest
+
+-- with one more statement in the innermost block, or in the body where no block is open
+abbrev pub with_statement : OpenBody → Numbered → OpenBody
+with_statement p s = record p { nest = record p.nest { statements = p.nest.statements ++ s ∷ [] } }
 
 -- the counts in an open body, by those of what is whole and around it
 abbrev pub counts_in : Counts → OpenBody → Counts
@@ -113,6 +118,11 @@ AddsWhereFit declared number line p next =
     MatchOption next
     ((before : Counts) → IsTrue (fits declared (counts_in before p) line) → step (nest_places p.nest) (role_of_form line) ≡ None)
     (Adds declared number line p)
+
+-- what is left where something was added, or nothing
+abbrev pub if_added : {X : Type 0} → Bool → X → Option X
+if_added true x = Some x
+if_added false x = None
 
 -- the body behind its first line
 abbrev pub new_body : Option ℕ → List kinds.Parameter → OpenBody

@@ -22,19 +22,20 @@ ghost use Rattle.wb_model.specs.Grammar.{IsGrammatical};
 ghost use Rattle.wb_model.specs.Sound.{fields_declared, signatures_of};
 ghost use Rattle.wb_model.specs.Trees.{counted_from, all_lines};
 ghost use Rattle.wb_script.specs.Building.{AllFit, counts_of};
-ghost use Rattle.wb_script.specs.Growing.{AreSound, GrowsWhereFit, IsBelow, IsSound, OpensWhereFit, declared_in_space, in_body, items_in_order, outside};
+ghost use Rattle.wb_script.specs.Growing.{AreSound, GrowsWhereFit, IsBelow, IsSound, OpensWhereFit, declared_in_space, if_added, in_body, items_in_order, outside};
 ghost use Rattle.wb_script.specs.Lent.{declared_by};
 
 use crate::checks::items::Item;
-use crate::tree::bodies::{Left, OpenBody, inside};
+use crate::lines::keys::role_of;
+use crate::tree::bodies::{Left, OpenBody, add_stated, inside};
 use crate::tree::classes::{begun_class, in_class};
 use crate::tree::openings::{begun_operation, begun_procedure};
 use crate::tree::space::{Space, field_counts};
 use crate::tree::whole::{Building, Owner, Stage, WholeItems, finished};
 use std::alloc::{AllocError, Global};
-use wb_model::items::Items;
+use std::mem::replace;
 use wb_model::limits::LONGEST_SCRIPT;
-use wb_model::script_lines::{Form, Key, Meant, Operand};
+use wb_model::script_lines::{Form, Key, Meant, Operand, Role};
 
 /// What a line opens where nothing is open, with its number; none where it has no place there.
 fn begun(
@@ -148,6 +149,38 @@ fn add_form(
     }
 }
 
+/// Adds a line that can be read to the tree in place, with its number; false where it has no place. A statement of the open
+/// body goes to its end, and all else stays where it is; any other line makes the tree anew.
+fn add_next(
+    alloc: Global,
+    space: Space,
+    building: &mut Building,
+    number: u32,
+    line: &Form<Meant>,
+) -> Result<bool, AllocError>
+    requires sound { IsSound (declared_in_space space) building.old }
+    requires below { IsBelow number building.old }
+    requires known { line.now ≢ Unknown }
+    ensures { IfOk result (λ added. GrowsWhereFit (declared_in_space space.entry) number line.now
+        building.old (if_added added building.new)) }
+{
+    if let Form::Line(key, operands) = line {
+        if let Role::Plain = role_of(*key) {
+            if let Stage::InBody(_, body) = &mut building.stage {
+                return add_stated(alloc, space, body, number, *key, operands.as_slice());
+            }
+        }
+    }
+    let before = replace(building, Building::nothing(alloc));
+    match add_form(alloc, space, before, number, line)? {
+        Some(next) => {
+            *building = next;
+            Ok(true)
+        }
+        None => Ok(false),
+    }
+}
+
 /// What is whole of a script behind all its lines.
 fn items_from(alloc: Global, space: Space, lines: &[Form<Meant>]) -> Result<WholeItems, AllocError>
     requires grammar { IsGrammatical (map role_of_form lines.now) }
@@ -159,21 +192,13 @@ fn items_from(alloc: Global, space: Space, lines: &[Form<Meant>]) -> Result<Whol
     ensures signatures { IfOk result (λ b. signatures_of b.procedures ≡ (counts_of lines.now).procedures) }
     ensures operations { IfOk result (λ b. length b.operations ≡ (counts_of lines.now).operations) }
 {
-    let mut building = Building {
-        whole: WholeItems {
-            classes: Items::new(alloc),
-            procedures: Items::new(alloc),
-            operations: Items::new(alloc),
-        },
-        stage: Stage::Outside,
-    };
+    let mut building = Building::nothing(alloc);
     let mut number = 0;
     for line in lines {
         number += 1;
-        building = match add_form(alloc, space, building, number, line)? {
-            Some(next) => next,
-            None => unreachable!(),
-        };
+        if !add_next(alloc, space, &mut building, number, line)? {
+            unreachable!();
+        }
     }
     match building.stage {
         Stage::Outside => Ok(building.whole),

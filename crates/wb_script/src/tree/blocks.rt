@@ -69,22 +69,6 @@ fn whole(head: Head, statements: Items<Numbered>) -> Statement
     }
 }
 
-/// The statements so far, with one more.
-pub(crate) fn with_statement(
-    nest: Nest,
-    line: u32,
-    statement: Statement,
-) -> Result<Nest, AllocError>
-    ensures { IfOk result (λ n. n ≡ record nest { statements = nest.statements ++ (record { line = line; statement = statement }) ∷ [] }) }
-{
-    let mut statements = nest.statements;
-    statements.push(Numbered { line, statement })?;
-    Ok(Nest {
-        blocks: nest.blocks,
-        statements,
-    })
-}
-
 /// A block begins.
 pub(crate) fn entered(alloc: Global, nest: Nest, line: u32, head: Head) -> Result<Nest, AllocError>
     ensures { IfOk result (λ n. n ≡ record { blocks = nest.blocks ++ (record { before = nest.statements; line = line; head = head }) ∷ []; statements = [] }) }

@@ -1,15 +1,16 @@
 //! A body that is open, line by line up to its end.
 
-ghost use Rattle.std.specs.Prelude.{◌≡◌, ◌≤◌, ◌++◌, ◌∷◌, [], length, IfOk, IsTrue};
+ghost use Rattle.std.specs.Prelude.{◌≡◌, ◌≤◌, ◌++◌, ◌∷◌, [], length, IfOk, IsTrue, OnOk};
 ghost use Rattle.wb_model.specs.declared.script_lines.Role.TheVariants as role;
 ghost use Rattle.wb_model.specs.declared.script_lines.Form.TheVariants.{Line};
 ghost use Rattle.wb_model.specs.declared.script_lines.Key.TheVariants as key;
 ghost use Rattle.wb_model.specs.Keys.{role_of};
-ghost use Rattle.wb_script.specs.Building.{begins_block};
-ghost use Rattle.wb_script.specs.Growing.{AddsWhereFit, IsSoundOpen, TakesWhereFit, declared_in_space, scope_in_body};
-ghost use Rattle.wb_script.specs.Stated.{scope_in};
+ghost use Rattle.wb_script.specs.Building.{begins_block, keys_of_blocks};
+ghost use Rattle.wb_script.specs.declared.tree.bodies.Left.TheVariants.{Inside};
+ghost use Rattle.wb_script.specs.Growing.{AddsWhereFit, IsSoundOpen, TakesWhereFit, declared_in_space, if_added, scope_in_body, with_statement};
+ghost use Rattle.wb_script.specs.Stated.{IsStatedWhereFit, scope_in};
 
-use crate::tree::blocks::{Around, Nest, ended, entered, turned, with_statement};
+use crate::tree::blocks::{Around, Nest, ended, entered, turned};
 use crate::tree::heads::head_of;
 use crate::tree::locals::declared_local;
 use crate::tree::plain::plain_statement;
@@ -18,7 +19,7 @@ use crate::tree::space::Space;
 use std::alloc::{AllocError, Global};
 use wb_model::items::Items;
 use wb_model::limits::{DEEPEST_BLOCK, MOST_LOCALS};
-use wb_model::script::{Body, Local, Parameter};
+use wb_model::script::{Body, Local, Numbered, Parameter, Statement};
 use wb_model::script_lines::{Key, Meant, Operand};
 
 /// A body whose end hasn't come: its parameters, the class of `self` in the body of a class, the locals that it declares, all
@@ -103,6 +104,57 @@ fn declared(
     }
 }
 
+/// The statement of a line of an open body that begins no block; none where its operands don't fit.
+fn statement_in(
+    alloc: Global,
+    space: Space,
+    body: &OpenBody,
+    key: Key,
+    operands: &[Operand<Meant>],
+) -> Result<Option<Statement>, AllocError>
+    requires sound { IsSoundOpen (declared_in_space space) body.now }
+    requires plain { role_of key ≡ role.Plain }
+    ensures { let declared = declared_in_space space.entry in
+        IfOk result (IsStatedWhereFit declared (scope_in_body declared body.now)
+        (keys_of_blocks body.now.nest.blocks) key operands.now) }
+{
+    let here = scope_of(space, body);
+    let blocks = body.nest.blocks.as_slice();
+    plain_statement(alloc, space.items, here, blocks, key, operands)
+}
+
+/// Appends a statement to the innermost block of an open body, or to the body.
+fn push_statement(body: &mut OpenBody, line: u32, statement: Statement) -> Result<(), AllocError>
+    ensures { OnOk result (body.new ≡
+        with_statement body.old (record { line = line; statement = statement })) }
+{
+    body.nest.statements.push(Numbered { line, statement })?;
+    Ok(())
+}
+
+/// Adds a statement that is no block in place, with the number of its line; false where its operands don't fit.
+pub(crate) fn add_stated(
+    alloc: Global,
+    space: Space,
+    body: &mut OpenBody,
+    number: u32,
+    key: Key,
+    operands: &[Operand<Meant>],
+) -> Result<bool, AllocError>
+    requires sound { IsSoundOpen (declared_in_space space) body.old }
+    requires plain { role_of key ≡ role.Plain }
+    ensures { IfOk result (λ added. AddsWhereFit (declared_in_space space.entry) number
+        (Line key operands.now) body.old (if_added added (Inside body.new))) }
+{
+    match statement_in(alloc, space, body, key, operands)? {
+        Some(statement) => {
+            push_statement(body, number, statement)?;
+            Ok(true)
+        }
+        None => Ok(false),
+    }
+}
+
 /// Adds a statement that is no block, with the number of its line; none where its operands don't fit.
 fn stated(
     alloc: Global,
@@ -116,14 +168,11 @@ fn stated(
     requires plain { role_of key ≡ role.Plain }
     ensures { IfOk result (AddsWhereFit (declared_in_space space.entry) number (Line key operands.now) body) }
 {
-    let here = scope_of(space, &body);
-    let blocks = body.nest.blocks.as_slice();
-    match plain_statement(alloc, space.items, here, blocks, key, operands)? {
-        Some(statement) => {
-            let nest = with_statement(body.nest, number, statement)?;
-            Ok(Some(Left::Inside(OpenBody { nest, ..body })))
-        }
-        None => Ok(None),
+    let mut body = body;
+    if add_stated(alloc, space, &mut body, number, key, operands)? {
+        Ok(Some(Left::Inside(body)))
+    } else {
+        Ok(None)
     }
 }
 

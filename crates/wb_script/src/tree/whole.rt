@@ -1,10 +1,10 @@
 //! What is whole of a script's tree, and what is open.
 
-ghost use Rattle.std.specs.Prelude.{◌≡◌, IfOk};
-ghost use Rattle.wb_script.specs.Growing.{finished, with_class, with_procedure, with_operation};
+ghost use Rattle.std.specs.Prelude.{◌≡◌, [], IfOk};
+ghost use Rattle.wb_script.specs.Growing.{finished, outside, with_class, with_procedure, with_operation};
 
 use crate::tree::bodies::OpenBody;
-use std::alloc::AllocError;
+use std::alloc::{AllocError, Global};
 use wb_model::items::Items;
 use wb_model::script::{Body, Class, Operation, Parameter, Procedure};
 
@@ -39,6 +39,22 @@ pub(crate) enum Stage {
 pub(crate) struct Building {
     pub whole: WholeItems,
     pub stage: Stage,
+}
+
+impl Building {
+    /// The tree of no lines, which takes no memory.
+    pub(crate) fn nothing(alloc: Global) -> Building
+        ensures { result ≡ outside (record { classes = []; procedures = []; operations = [] }) }
+    {
+        Building {
+            whole: WholeItems {
+                classes: Items::new(alloc),
+                procedures: Items::new(alloc),
+                operations: Items::new(alloc),
+            },
+            stage: Stage::Outside,
+        }
+    }
 }
 
 /// A class is whole.

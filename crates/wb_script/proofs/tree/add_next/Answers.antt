@@ -1,0 +1,28 @@
+use Rattle.std.proofs.Common.{◌≡◌, sym, subst}
+use Rattle.std.specs.Prelude.{IfOk}
+use Rattle.wb_model.specs.declared.script_lines.Form.TheVariants.{Line}
+use Rattle.wb_model.specs.Trees.{Indexed}
+use Rattle.wb_script.specs.declared.tree.whole.Stage.{Stage}
+use Rattle.wb_script.specs.declared.tree.whole.Stage.TheVariants.{InBody}
+use Rattle.wb_script.specs.Growing.{GrowsWhereFit, IsBelowWhere, IsSoundWhere, declared_in_space, if_added, in_body}
+use Rattle.wb_script.proofs.Growth.{result_grows}
+use Rattle.wb_script.proofs.tree.add_next.Goals as goal
+
+pub returns-in-InBody : goal.returns-in-InBody
+returns-in-InBody c =
+    let declared = declared_in_space c.args.space in
+    let number = c.args.number in
+    let whole = c.args.building.now.whole in
+    let owner = c.in-InBody.field-0 in
+    let p = c.in-InBody.body in
+    let key = c.in-Line.key in
+    let operands = c.as_slice.result.now in
+    let next = c.add_stated.new.body in
+    let result = c.add_stated.result in
+    let stage_is : c.args.building.now.stage ≡ InBody owner p = cc in
+    let line_is : c.args.line.now ≡ Line key operands = cc in
+    let sound = subst (IsSoundWhere declared whole) stage_is c.requires.sound.stands in
+    let below = subst (IsBelowWhere number whole) stage_is c.requires.below.stands in
+    let grows = result_grows declared number key operands whole owner p sound below result next c.add_stated.ensures in
+    subst (λ (l : Indexed). IfOk result (λ added. GrowsWhereFit declared number l c.args.building.now (if_added added (in_body whole owner next)))) (sym line_is)
+    (subst (λ (s : Stage). IfOk result (λ added. GrowsWhereFit declared number (Line key operands) (record { whole = whole; stage = s }) (if_added added (in_body whole owner next)))) (sym stage_is) grows)
