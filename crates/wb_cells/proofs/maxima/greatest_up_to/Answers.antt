@@ -1,4 +1,4 @@
-use Rattle.std.proofs.Common.{◌+◌, ◌≤◌, ◌<◌, ◌⊎◌, inl, inr, length, max, min, slice_index, sym, ◌∙◌, ap, subst, arith}
+use Rattle.std.proofs.Common.{◌+◌, ◌≤◌, ◌<◌, ◌⊎◌, inl, inr, max, slice_index, sym, ◌∙◌, ap, subst, arith}
 use Rattle.std.proofs.lemmas.Bool.{cases_lt}
 use Rattle.wb_cells.specs.Maxima.{IsGreatest}
 use Rattle.wb_cells.proofs.Spans.{greatest_more, greatest_to, greatest_empty, greatest_none, greatest_enough}
