@@ -247,11 +247,3 @@ greatest_none f from at end greatest lt le is = record {
   most = λ k low high. absurd (omega (arith, low, high, lt));
   some = λ any. let t = is.some any in absurd (omega (arith, t.above, t.below, le));
 }
-
--- none is greater than one that was found
-pub greatest_enough : (f : ℕ → ℕ) (from at end greatest most : ℕ) → at ≤ end → most ≤ greatest → ((k : ℕ) → from ≤ k → k < end → f k ≤ most) → IsGreatest f from at greatest →
-    IsGreatest f from end greatest
-greatest_enough f from at end greatest most le enough bound is = record {
-  most = λ k low high. omega (arith, bound k low high, enough);
-  some = λ any. let t = is.some any in record { at = t.at; above = t.above; below = omega (arith, t.below, le); is = t.is };
-}

@@ -171,6 +171,6 @@ impl GapIndex {
     pub fn longest(&self) -> u32
         ensures { IsGreatest (slice_index self.now) 0 (length self.now) result }
     {
-        maxima::greatest_up_to(&self.regions, 0, self.regions.words(), u32::MAX)
+        maxima::greatest_among(&self.regions, 0, self.regions.words())
     }
 }

@@ -38,19 +38,14 @@ pub fn last_among(numbers: &Chunk, from: u32, end: u32) -> Option<u32>
     None
 }
 
-/// The greatest number from one index on, below another, or 0 where there is none; no number there may be greater than
-/// `most`, and it looks no further than one that is as great.
-pub fn greatest_up_to(numbers: &Chunk, from: u32, end: u32, most: u32) -> u32
-    ensures { ((k : ℕ) → from ≤ k → k < end → slice_index numbers.now k ≤ most)
-        → IsGreatest (slice_index numbers.now) from end result }
+/// The greatest number from one index on, below another, or 0 where there is none.
+pub fn greatest_among(numbers: &Chunk, from: u32, end: u32) -> u32
+    ensures { IsGreatest (slice_index numbers.now) from end result }
 {
     let stop = end.min(numbers.words());
     let mut greatest = 0;
     let mut at = from;
     while at < stop {
-        if most <= greatest {
-            return greatest;
-        }
         greatest = numbers.word(at).max(greatest);
         at += 1;
     }
@@ -86,8 +81,7 @@ pub fn renew(numbers: &Chunk, spans: &mut Chunk, at: u32, old: u32)
     if greatest <= now {
         spans.set_word(span, now);
     } else if old == greatest {
-        let first = span * SPAN;
-        let renewed = greatest_up_to(numbers, first, first + SPAN, greatest);
+        let renewed = greatest_among(numbers, span * SPAN, span * SPAN + SPAN);
         spans.set_word(span, renewed);
     }
 }

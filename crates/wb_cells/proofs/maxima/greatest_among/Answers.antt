@@ -1,8 +1,8 @@
-use Rattle.std.proofs.Common.{◌+◌, ◌≤◌, ◌<◌, ◌⊎◌, inl, inr, length, max, min, slice_index, sym, ◌∙◌, ap, subst, arith}
+use Rattle.std.proofs.Common.{◌+◌, ◌≤◌, ◌<◌, ◌⊎◌, inl, inr, max, slice_index, sym, ◌∙◌, ap, subst, arith}
 use Rattle.std.proofs.lemmas.Bool.{cases_lt}
 use Rattle.wb_cells.specs.Maxima.{IsGreatest}
-use Rattle.wb_cells.proofs.Spans.{greatest_more, greatest_to, greatest_empty, greatest_none, greatest_enough}
-use Rattle.wb_cells.proofs.maxima.greatest_up_to.Goals as goal
+use Rattle.wb_cells.proofs.Spans.{greatest_more, greatest_to, greatest_empty, greatest_none}
+use Rattle.wb_cells.proofs.maxima.greatest_among.Goals as goal
 
 pub loop-at-init : goal.loop-at-init
 loop-at-init c = (omega arith, omega arith, greatest_empty (slice_index c.args.numbers.now) c.args.from)
@@ -16,18 +16,11 @@ loop-at-preserved c =
           (sym (c.max-greatest.ensures ∙ ap (λ w. max w c.loop-at.greatest) c.word.ensures)) more,
     )
 
-pub returns-then-most-greatest : goal.returns-then-most-greatest
-returns-then-most-greatest c = λ bound.
-    greatest_enough (slice_index c.args.numbers.now) c.args.from c.loop-at.at c.args.end c.loop-at.greatest c.args.most
-    (omega (arith, c.loop-at-test.true, c.min-stop.ensures)) c.if-most-greatest.true bound c.loop-at.invariant.2
-
 pub returns : goal.returns
-returns c = λ bound. go (cases_lt c.args.end c.args.from)
+returns c = go (cases_lt c.args.end c.args.from)
   where
     go : (c.args.end < c.args.from) ⊎ (c.args.from ≤ c.args.end) → IsGreatest (slice_index c.args.numbers.now) c.args.from c.args.end c.loop-at.greatest
-    go (inl none) =
-        greatest_none (slice_index c.args.numbers.now) c.args.from c.loop-at.at c.args.end c.loop-at.greatest none
+    go (inl none) = greatest_none (slice_index c.args.numbers.now) c.args.from c.loop-at.at c.args.end c.loop-at.greatest none
         (omega (arith, none, c.loop-at.invariant.1, c.min-stop.ensures)) c.loop-at.invariant.2
-    go (inr some) =
-        greatest_to c.args.numbers.now c.args.from c.loop-at.at c.args.end c.loop-at.greatest
+    go (inr some) = greatest_to c.args.numbers.now c.args.from c.loop-at.at c.args.end c.loop-at.greatest
         (omega (arith, c.loop-at.invariant.1, c.min-stop.ensures, some)) (omega (arith, c.loop-at-test.false, c.min-stop.ensures, c.words.ensures.count)) c.loop-at.invariant.2

@@ -1,6 +1,6 @@
 use Rattle.std.proofs.Common.{◌-◌, ◌≤◌, max, slice_index}
 use Rattle.wb_cells.specs.Maxima.{IsGreatest}
-use Rattle.wb_cells.proofs.maxima.greatest_up_to.Given as goal
+use Rattle.wb_cells.proofs.maxima.greatest_among.Given as goal
 
 abbrev pub invariant-loop-at : goal.invariant-loop-at
 invariant-loop-at l = (l.from ≤ l.at) × (l.at ≤ max l.from l.stop) × IsGreatest (slice_index l.numbers) l.from l.at l.greatest
