@@ -45,6 +45,10 @@ fn a_cell_is_taken_written_and_given(rt: HostRuntime) -> Result<(), Fail> {
     assert_eq!(rt; cells.payload_half(cell, 3), 5);
     cells.set_payload_half(cell, 2, 7);
     assert_eq!(rt; cells.payload(cell, 1), 0x0005_0007);
+    cells.write_halves(cell, 4, &[8, 9]);
+    cells.copy_halves(cell, 4, cell, 5, 2);
+    cells.zero_halves(cell, 4, 1);
+    assert_eq!(rt; cells.payload(cell, 2), 0x0008_0000);
     cells.give(cell);
     assert!(rt; has_none(&cells, cell));
     Ok(())

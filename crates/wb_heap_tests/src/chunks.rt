@@ -26,7 +26,7 @@ fn grow_by(chunk: &mut Chunk, n: u32) -> Result<(), AllocError>
     chunk.grow(n)
 }
 
-fn holds(chunk: &Chunk, words: &[u32]) -> bool {
+pub(crate) fn holds(chunk: &Chunk, words: &[u32]) -> bool {
     let mut same = chunk.words() as usize == words.len();
     for i in 0..chunk.words() {
         same = same && words.get(i as usize).copied() == Some(chunk.word(i));

@@ -39,6 +39,12 @@ pub(crate) enum Call {
     StoreHalf(Cell, u32, u16),
     /// From the one to the other, so many words.
     Copy(Cell, Cell, u32),
+    /// So many halves from one on become 0.
+    ZeroHalves(Cell, u32, u32),
+    /// Halves from one on.
+    WriteHalves(Cell, u32, &'static [u16]),
+    /// From a half of the one to a half of the other, so many.
+    CopyHalves(Cell, u32, Cell, u32, u32),
     /// A word of the payload.
     Word(Cell, u32, u32),
     /// The payload has no such word.
@@ -161,9 +167,21 @@ impl Numbered {
             Call::NoFree(cell) => self.release(pointer(cell)) == Err(HeapFault::BadCell),
             Call::SetLevel(cell, level) => self.put_under(pointer(cell), level),
             Call::Store(cell, i, v) => self.store(pointer(cell), i, v),
-            Call::StoreHalf(cell, i, v) => self.store_half(pointer(cell), i, v),
             Call::Copy(from, other, n) => self.copy(pointer(from), pointer(other), n),
             Call::Compress(length) => self.heap.compress() == length,
+            _ => self.writes_halves(call),
+        }
+    }
+
+    /// The same of a call that writes halves of a payload.
+    fn writes_halves(&mut self, call: Call) -> bool {
+        match call {
+            Call::StoreHalf(cell, i, v) => self.store_half(pointer(cell), i, v),
+            Call::ZeroHalves(cell, i, n) => self.zero_halves(pointer(cell), i, n),
+            Call::WriteHalves(cell, i, halves) => self.write_halves(pointer(cell), i, halves),
+            Call::CopyHalves(from, fi, other, ti, n) => {
+                self.copy_halves(pointer(from), fi, pointer(other), ti, n)
+            }
             _ => self.tells(call),
         }
     }
@@ -286,6 +304,44 @@ impl Numbered {
             }
             _ => false,
         }
+    }
+
+    /// Makes halves 0, where there are so many.
+    fn zero_halves(&mut self, ptr: Ptr, i: u32, n: u32) -> bool {
+        match self.heap.header(ptr) {
+            Some(header) if i <= 2 * header.words() && n <= 2 * header.words() - i => {
+                self.heap.zero_halves(ptr, i, n);
+                true
+            }
+            _ => false,
+        }
+    }
+
+    /// Writes halves, where there are so many.
+    fn write_halves(&mut self, ptr: Ptr, i: u32, halves: &[u16]) -> bool {
+        match self.heap.header(ptr) {
+            Some(header) if i <= 2 * header.words() => {
+                if halves.len() > (2 * header.words() - i) as usize {
+                    return false;
+                }
+                self.heap.write_halves(ptr, i, halves);
+                true
+            }
+            _ => false,
+        }
+    }
+
+    /// Copies `n` halves, where both payloads have them.
+    fn copy_halves(&mut self, from: Ptr, fi: u32, to: Ptr, ti: u32, n: u32) -> bool {
+        let (Some(source), Some(target)) = (self.heap.header(from), self.heap.header(to)) else {
+            return false;
+        };
+        let (most, room) = (2 * source.words(), 2 * target.words());
+        if fi > most || ti > room || n > most - fi || n > room - ti {
+            return false;
+        }
+        self.heap.copy_halves(from, fi, to, ti, n);
+        true
     }
 
     /// A word of a payload, where there is one.

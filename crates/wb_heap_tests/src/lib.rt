@@ -5,6 +5,8 @@
 #[cfg(test)]
 mod buffers;
 #[cfg(test)]
+mod cell_moves;
+#[cfg(test)]
 mod cell_texts;
 #[cfg(test)]
 mod cells;
@@ -16,6 +18,8 @@ mod copies;
 mod debug_calls;
 #[cfg(test)]
 mod debug_heaps;
+#[cfg(test)]
+mod halves;
 #[cfg(test)]
 mod heap_calls;
 #[cfg(test)]

@@ -1,0 +1,6 @@
+use Rattle.wb_rheap.proofs.Numbers.{below_changed}
+use Rattle.wb_heap_tests.proofs.heap_calls.Numbered.write_halves.Goals as goal
+
+pub invariant_of-self-clause-below : goal.invariant_of-self-clause-below
+invariant_of-self-clause-below c =
+    below_changed c.args.self.now.heap c.write_halves.new.self c.args.ptr _ c.args.self.now.next c.write_halves.ensures.changed c.args.self.now.below
