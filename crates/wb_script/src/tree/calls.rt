@@ -98,6 +98,7 @@ fn call_in(
     }
 }
 
+#[inline(never)]
 pub(crate) fn call(
     alloc: Global,
     items: &[Item],
@@ -113,6 +114,7 @@ pub(crate) fn call(
     }
 }
 
+#[inline(never)]
 pub(crate) fn call_to(
     alloc: Global,
     items: &[Item],

@@ -1,4 +1,4 @@
-//! What the first line of a block begins, from its operands.
+//! What the first line of a block begins, from its operands. As with statements, what builds it is never inlined.
 
 ghost use Rattle.wb_model.specs.declared.script_lines.Key.TheVariants as key;
 ghost use Rattle.std.specs.Prelude.{IsTrue};
@@ -11,6 +11,7 @@ use crate::tree::scope::Scope;
 use wb_model::script::{Condition, Number};
 use wb_model::script_lines::{Key, Meant, Operand};
 
+#[inline(never)]
 fn if_null(here: Scope, operands: &[Operand<Meant>]) -> Option<Head>
     ensures { IsHeadOf here.entry key.IfNull operands.now result }
 {
@@ -20,6 +21,7 @@ fn if_null(here: Scope, operands: &[Operand<Meant>]) -> Option<Head>
     }
 }
 
+#[inline(never)]
 fn if_some(here: Scope, operands: &[Operand<Meant>]) -> Option<Head>
     ensures { IsHeadOf here.entry key.IfSome operands.now result }
 {
@@ -39,6 +41,7 @@ fn compared(here: Scope, operands: &[Operand<Meant>]) -> Option<(Number, Number)
     }
 }
 
+#[inline(never)]
 fn if_equal(here: Scope, operands: &[Operand<Meant>]) -> Option<Head>
     ensures { IsHeadOf here.entry key.IfEqual operands.now result }
 {
@@ -48,6 +51,7 @@ fn if_equal(here: Scope, operands: &[Operand<Meant>]) -> Option<Head>
     }
 }
 
+#[inline(never)]
 fn if_less(here: Scope, operands: &[Operand<Meant>]) -> Option<Head>
     ensures { IsHeadOf here.entry key.IfLess operands.now result }
 {
@@ -57,6 +61,7 @@ fn if_less(here: Scope, operands: &[Operand<Meant>]) -> Option<Head>
     }
 }
 
+#[inline(never)]
 fn repeat(here: Scope, operands: &[Operand<Meant>]) -> Option<Head>
     ensures { IsHeadOf here.entry key.Repeat operands.now result }
 {
@@ -66,6 +71,7 @@ fn repeat(here: Scope, operands: &[Operand<Meant>]) -> Option<Head>
     }
 }
 
+#[inline(never)]
 fn trap(here: Scope, operands: &[Operand<Meant>]) -> Option<Head>
     ensures { IsHeadOf here.entry key.Trap operands.now result }
 {

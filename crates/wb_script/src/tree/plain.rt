@@ -37,6 +37,7 @@ fn operation(items: &[Item], operand: &Operand<Meant>) -> Option<u16>
 }
 
 /// A `pushop` of a pointer, with an operation by its name; none where the operands don't fit.
+#[inline(never)]
 fn push_operation(items: &[Item], here: Scope, operands: &[Operand<Meant>]) -> Option<Statement>
     requires { length items.now ≤ LONGEST_SCRIPT }
     ensures { IsNestedOf (declared_by here.entry.literals items.now) (scope_in here.entry) key.PushOp operands.now result }
@@ -52,6 +53,7 @@ fn push_operation(items: &[Item], here: Scope, operands: &[Operand<Meant>]) -> O
 }
 
 /// A `construct` of the object of a pointer.
+#[inline(never)]
 fn construct(here: Scope, operands: &[Operand<Meant>]) -> Option<Statement>
     ensures { (declared : Declared) → declared.literals ≡ here.entry.literals → IsNestedOf declared (scope_in here.entry) key.Construct operands.now result }
 {
@@ -59,6 +61,7 @@ fn construct(here: Scope, operands: &[Operand<Meant>]) -> Option<Statement>
 }
 
 /// A `delete` of the object of a pointer.
+#[inline(never)]
 fn delete(here: Scope, operands: &[Operand<Meant>]) -> Option<Statement>
     ensures { (declared : Declared) → declared.literals ≡ here.entry.literals → IsNestedOf declared (scope_in here.entry) key.Delete operands.now result }
 {

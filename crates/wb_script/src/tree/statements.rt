@@ -1,4 +1,6 @@
 //! The statements of lines, each from its operands.
+//!
+//! A function that builds one is never inlined: `statement_of` would else clear the room of all of them for each line.
 
 ghost use Rattle.std.specs.Prelude.{◌≡◌, [], ◌∷◌, false, IsTrue, MatchOption};
 ghost use Rattle.wb_model.specs.declared.script_lines.Key.TheVariants as key;
@@ -18,6 +20,7 @@ use wb_model::script::{Holder, Number, Pointer, Refusal, Statement};
 use wb_model::script_lines::{Key, Meant, Operand};
 
 /// The statement of a line that takes no operand.
+#[inline(never)]
 fn alone(here: Scope, statement: Statement, operands: &[Operand<Meant>]) -> Option<Statement>
     ensures { MatchOption result
         (letters_fit here.entry.literals (scope_in here.entry) [] operands.now ≡ false)
@@ -62,6 +65,7 @@ fn set_local(here: Scope, target: &Operand<Meant>, source: &Operand<Meant>) -> O
 }
 
 /// A `set` of a local that holds a pointer or a number, by what its target is.
+#[inline(never)]
 fn set(here: Scope, operands: &[Operand<Meant>]) -> Option<Statement>
     ensures { IsStatementOf here.entry key.Set operands.now result }
 {
@@ -72,6 +76,7 @@ fn set(here: Scope, operands: &[Operand<Meant>]) -> Option<Statement>
 }
 
 /// A `set` of a field.
+#[inline(never)]
 fn set_field(here: Scope, operands: &[Operand<Meant>]) -> Option<Statement>
     ensures { IsStatementOf here.entry key.SetField operands.now result }
 {
@@ -82,6 +87,7 @@ fn set_field(here: Scope, operands: &[Operand<Meant>]) -> Option<Statement>
     }
 }
 
+#[inline(never)]
 fn set_null(here: Scope, operands: &[Operand<Meant>]) -> Option<Statement>
     ensures { IsStatementOf here.entry key.Null operands.now result }
 {
@@ -90,6 +96,7 @@ fn set_null(here: Scope, operands: &[Operand<Meant>]) -> Option<Statement>
 }
 
 /// A new object of a class.
+#[inline(never)]
 fn new_object(here: Scope, operands: &[Operand<Meant>], refusal: Refusal) -> Option<Statement>
     ensures { IsStatementOf here.entry (new_key refusal) operands.now result }
 {
@@ -129,6 +136,7 @@ fn pointers_and_number(
     }
 }
 
+#[inline(never)]
 fn alloc(here: Scope, operands: &[Operand<Meant>], refusal: Refusal) -> Option<Statement>
     ensures { IsStatementOf here.entry (alloc_key refusal) operands.now result }
 {
@@ -136,6 +144,7 @@ fn alloc(here: Scope, operands: &[Operand<Meant>], refusal: Refusal) -> Option<S
     Some(Statement::Alloc(pointer, size, refusal))
 }
 
+#[inline(never)]
 fn realloc(here: Scope, operands: &[Operand<Meant>], refusal: Refusal) -> Option<Statement>
     ensures { IsStatementOf here.entry (realloc_key refusal) operands.now result }
 {
@@ -143,6 +152,7 @@ fn realloc(here: Scope, operands: &[Operand<Meant>], refusal: Refusal) -> Option
     Some(Statement::Realloc(target, source, size, refusal))
 }
 
+#[inline(never)]
 fn new_text(here: Scope, operands: &[Operand<Meant>], refusal: Refusal) -> Option<Statement>
     ensures { IsStatementOf here.entry (new_text_key refusal) operands.now result }
 {
@@ -150,6 +160,7 @@ fn new_text(here: Scope, operands: &[Operand<Meant>], refusal: Refusal) -> Optio
     Some(Statement::NewText(pointer, maximum, refusal))
 }
 
+#[inline(never)]
 fn realloc_text(here: Scope, operands: &[Operand<Meant>]) -> Option<Statement>
     ensures { IsStatementOf here.entry key.HRealloc operands.now result }
 {
@@ -157,6 +168,7 @@ fn realloc_text(here: Scope, operands: &[Operand<Meant>]) -> Option<Statement>
     Some(Statement::ReallocText(target, source, maximum))
 }
 
+#[inline(never)]
 fn alloc_len(here: Scope, operands: &[Operand<Meant>]) -> Option<Statement>
     ensures { IsStatementOf here.entry key.AllocLen operands.now result }
 {
@@ -167,6 +179,7 @@ fn alloc_len(here: Scope, operands: &[Operand<Meant>]) -> Option<Statement>
     }
 }
 
+#[inline(never)]
 fn store(here: Scope, operands: &[Operand<Meant>]) -> Option<Statement>
     ensures { IsStatementOf here.entry key.Store operands.now result }
 {
@@ -181,6 +194,7 @@ fn store(here: Scope, operands: &[Operand<Meant>]) -> Option<Statement>
     }
 }
 
+#[inline(never)]
 fn load(here: Scope, operands: &[Operand<Meant>]) -> Option<Statement>
     ensures { IsStatementOf here.entry key.Load operands.now result }
 {
@@ -197,6 +211,7 @@ fn load(here: Scope, operands: &[Operand<Meant>]) -> Option<Statement>
     }
 }
 
+#[inline(never)]
 fn add(here: Scope, operands: &[Operand<Meant>]) -> Option<Statement>
     ensures { IsStatementOf here.entry key.Add operands.now result }
 {
@@ -208,6 +223,7 @@ fn add(here: Scope, operands: &[Operand<Meant>]) -> Option<Statement>
 }
 
 /// The statement of a line that takes one pointer.
+#[inline(never)]
 fn of_pointer(here: Scope, key: Key, operands: &[Operand<Meant>]) -> Option<Statement>
     requires { IsTrue (takes_pointer key) }
     ensures { IsStatementOf here.entry key operands.now result }
@@ -224,6 +240,7 @@ fn of_pointer(here: Scope, key: Key, operands: &[Operand<Meant>]) -> Option<Stat
 }
 
 /// The statement of a line that takes one number.
+#[inline(never)]
 fn of_number(here: Scope, key: Key, operands: &[Operand<Meant>]) -> Option<Statement>
     requires { IsTrue (takes_number key) }
     ensures { IsStatementOf here.entry key operands.now result }
@@ -244,6 +261,7 @@ fn of_number(here: Scope, key: Key, operands: &[Operand<Meant>]) -> Option<State
 }
 
 /// The statement of a line; none where its operands don't fit.
+#[inline(never)]
 pub(crate) fn statement_of(here: Scope, key: Key, operands: &[Operand<Meant>]) -> Option<Statement>
     requires { IsTrue (is_lasting key) }
     ensures { IsStatementOf here.entry key operands.now result }
@@ -295,6 +313,7 @@ pub(crate) fn statement_of(here: Scope, key: Key, operands: &[Operand<Meant>]) -
 }
 
 /// A `return` without a value; none inside a TRAP.
+#[inline(never)]
 pub(crate) fn return_nothing(
     here: Scope,
     blocks: &[OpenBlock],
@@ -309,6 +328,7 @@ pub(crate) fn return_nothing(
 }
 
 /// A `return` of a pointer; none inside a TRAP.
+#[inline(never)]
 pub(crate) fn return_pointer(
     here: Scope,
     blocks: &[OpenBlock],

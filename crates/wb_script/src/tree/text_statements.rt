@@ -9,6 +9,7 @@ use crate::tree::scope::counted::{four, one, three, two};
 use wb_model::script::Statement;
 use wb_model::script_lines::{Meant, Operand};
 
+#[inline(never)]
 pub(crate) fn copy(here: Scope, operands: &[Operand<Meant>]) -> Option<Statement>
     ensures { IsStatementOf here.entry key.Copy operands.now result }
 {
@@ -19,6 +20,7 @@ pub(crate) fn copy(here: Scope, operands: &[Operand<Meant>]) -> Option<Statement
     }
 }
 
+#[inline(never)]
 pub(crate) fn append(here: Scope, operands: &[Operand<Meant>]) -> Option<Statement>
     ensures { IsStatementOf here.entry key.Append operands.now result }
 {
@@ -29,6 +31,7 @@ pub(crate) fn append(here: Scope, operands: &[Operand<Meant>]) -> Option<Stateme
     }
 }
 
+#[inline(never)]
 pub(crate) fn insert(here: Scope, operands: &[Operand<Meant>]) -> Option<Statement>
     ensures { IsStatementOf here.entry key.Insert operands.now result }
 {
@@ -45,6 +48,7 @@ pub(crate) fn insert(here: Scope, operands: &[Operand<Meant>]) -> Option<Stateme
     }
 }
 
+#[inline(never)]
 pub(crate) fn delete_text(here: Scope, operands: &[Operand<Meant>]) -> Option<Statement>
     ensures { IsStatementOf here.entry key.DelText operands.now result }
 {
@@ -61,6 +65,7 @@ pub(crate) fn delete_text(here: Scope, operands: &[Operand<Meant>]) -> Option<St
     }
 }
 
+#[inline(never)]
 pub(crate) fn set_length(here: Scope, operands: &[Operand<Meant>]) -> Option<Statement>
     ensures { IsStatementOf here.entry key.SetLength operands.now result }
 {
@@ -71,6 +76,7 @@ pub(crate) fn set_length(here: Scope, operands: &[Operand<Meant>]) -> Option<Sta
     }
 }
 
+#[inline(never)]
 pub(crate) fn left(here: Scope, operands: &[Operand<Meant>]) -> Option<Statement>
     ensures { IsStatementOf here.entry key.Left operands.now result }
 {
@@ -81,6 +87,7 @@ pub(crate) fn left(here: Scope, operands: &[Operand<Meant>]) -> Option<Statement
     }
 }
 
+#[inline(never)]
 pub(crate) fn right(here: Scope, operands: &[Operand<Meant>]) -> Option<Statement>
     ensures { IsStatementOf here.entry key.Right operands.now result }
 {
@@ -91,6 +98,7 @@ pub(crate) fn right(here: Scope, operands: &[Operand<Meant>]) -> Option<Statemen
     }
 }
 
+#[inline(never)]
 pub(crate) fn mid(here: Scope, operands: &[Operand<Meant>]) -> Option<Statement>
     ensures { IsStatementOf here.entry key.Mid operands.now result }
 {
@@ -108,6 +116,7 @@ pub(crate) fn mid(here: Scope, operands: &[Operand<Meant>]) -> Option<Statement>
     }
 }
 
+#[inline(never)]
 pub(crate) fn get_length(here: Scope, operands: &[Operand<Meant>]) -> Option<Statement>
     ensures { IsStatementOf here.entry key.GetLen operands.now result }
 {
@@ -118,6 +127,7 @@ pub(crate) fn get_length(here: Scope, operands: &[Operand<Meant>]) -> Option<Sta
     }
 }
 
+#[inline(never)]
 pub(crate) fn get_maximum(here: Scope, operands: &[Operand<Meant>]) -> Option<Statement>
     ensures { IsStatementOf here.entry key.GetMax operands.now result }
 {
@@ -141,6 +151,7 @@ fn printed(here: Scope, operand: &Operand<Meant>) -> Option<Statement>
 }
 
 /// A `print` of a number or of a text.
+#[inline(never)]
 pub(crate) fn print(here: Scope, operands: &[Operand<Meant>]) -> Option<Statement>
     ensures { IsStatementOf here.entry key.Print operands.now result }
 {
