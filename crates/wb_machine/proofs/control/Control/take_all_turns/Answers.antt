@@ -1,4 +1,4 @@
-use Rattle.std.proofs.Common.{◌≡◌, ℕ, ◌+◌, ◌-◌, ◌<◌, ◌≤◌, Bool, true, false, cond, refl, ap, ◌∙◌, sym, subst, arith}
+use Rattle.std.proofs.Common.{◌≡◌, ℕ, ◌+◌, ◌-◌, ◌<◌, ◌≤◌, Bool, true, false, cond, refl, ◌∙◌, sym, subst, arith}
 use Rattle.wb_model.specs.Rest.{Fits}
 use Rattle.wb_machine.specs.Flow.{is_over}
 use Rattle.wb_machine.proofs.Fitting.{fits-before}
