@@ -42,4 +42,5 @@ pub mod StackPushes
 pub mod Stayed
 pub mod Steps
 pub mod TextInvariant
+pub mod Tops
 pub mod WholeCells

@@ -17,7 +17,6 @@ use Rattle.wb_model.specs.Heap.{alloc_request, after_alloc, realloc_request, aft
 use Rattle.wb_model.specs.LimitedHeap.{zero_words}
 use Rattle.wb_model.specs.Texts.{Edited, answer_of, units_of_part}
 use Rattle.wb_model.specs.Statements.{is_null, is_raw}
-use Rattle.wb_model.specs.declared.limits.TheConstants.{CEILING}
 use Rattle.wb_model.specs.Space.{limit_under}
 use Rattle.wb_model.specs.Reading.{max_units, is_same_base, is_same_pointer}
 use Rattle.wb_model.specs.Debug.{Debug, number_of_next, made_by, answer_in, alloc_made, longer_made, shorter_made, realloc_made, debug_without, with_row}

@@ -1,20 +1,23 @@
-//! What is still to do, as explicit pieces, and the turns of a run. What the pieces act on stands in `state`, what the head of a
-//! statement leaves in `heads`, the steps that destroy in `destroying`, and what becomes of pieces that are done in `unwinding`.
+//! What is still to do, as explicit pieces, and its steps. What the pieces act on stands in `state`, what the head of a
+//! statement leaves in `heads`, the steps that destroy in `destroying`, what becomes of pieces that are done in `unwinding`, and turns in
+//! `running`.
 
-ghost use Rattle.std.specs.Prelude.{IfOk, ◌≡◌, ◌+◌, ◌^◌, ◌<◌, ◌≤◌, ◌⊎◌, ◌++◌, ◌∷◌, ◌&&◌, [], ℕ, true, false, if◌then◌else◌, nat_lt, length, unwrap_or, max, min, IsTrue, OnOk};
+ghost use Rattle.std.specs.Prelude.{IfOk, List, take, vec_len, ◌-◌, ◌≡◌, ◌+◌, ◌^◌, ◌<◌, ◌≤◌, ◌⊎◌, ◌++◌, ◌∷◌, [], ℕ, true, false, if◌then◌else◌, length, unwrap_or, max, IsTrue, OnOk};
 ghost use Rattle.wb_model.specs.Sound.{is_script};
-ghost use Rattle.wb_model.specs.Statements.{all, turns};
+ghost use Rattle.wb_model.specs.Statements.{turns};
 ghost use Rattle.wb_model.specs.Bodies.{procedure_at};
 ghost use Rattle.wb_model.specs.Rest.{doing, first_line, Fits};
 ghost use Rattle.wb_model.specs.Debug.{keeps_rises};
 ghost use Rattle.wb_model.specs.Run.{whole_run};
 ghost use Rattle.wb_model.specs.declared.heap.Rule.{Rule};
-ghost use Rattle.wb_model.specs.declared.run.Why.TheVariants.{Budget};
 ghost use Rattle.wb_model.specs.declared.script.Script.{Script};
-ghost use Rattle.wb_machine.specs.declared.pieces.Ending.TheVariants.{GoesOn, Cut};
-ghost use Rattle.wb_machine.specs.RunState.{RunState, first_state, state_of};
-ghost use Rattle.wb_machine.specs.Flow.{where_of, pending_in, is_stop, is_over, has_met_ceiling, progress_by, progress_of, AreOwn, AreSound, IsReady, IsFirst, rest_from, rest_of_piece, rest_at};
-ghost use Rattle.wb_machine.specs.Asks.{asks_next, MakesAsked};
+ghost use Rattle.wb_model.specs.declared.script.Statement.TheViews.{out-Statement};
+ghost use Rattle.wb_machine.specs.declared.pieces.Ending.TheVariants.{GoesOn};
+ghost use Rattle.wb_machine.specs.declared.pieces.Piece.{Piece};
+ghost use Rattle.wb_machine.specs.declared.pieces.Piece.TheVariants.{Turns};
+ghost use Rattle.wb_machine.specs.RunState.{first_state, state_of};
+ghost use Rattle.wb_machine.specs.Flow.{where_of, pending_in, is_stop, is_over, progress_by, needs_step, AreOwn, IsOwn, AreSound, IsReady, rest_from, rest_of_piece, rest_of_statement};
+ghost use Rattle.wb_machine.specs.Asks.{asks_next};
 ghost use Rattle.wb_machine.specs.Carried.{stepped};
 ghost use Rattle.wb_machine.specs.ObjectInvariant.{AreWhole, StaysWhole};
 ghost use Rattle.wb_machine.specs.Owed.{HasStack, MayAttempt, Stays};
@@ -22,14 +25,13 @@ ghost use Rattle.wb_machine.specs.SlotInvariant.{slots_for, slots_for_all, to_de
 
 mod destroying;
 mod heads;
+mod running;
 mod unwinding;
 
 use crate::pieces::{Ending, IN_MAIN, Piece, Standing, first_statement};
 use crate::state::State;
 use std::alloc::{AllocError, Global};
-use wb_model::limits::LARGEST_BUDGET;
 use wb_model::memory::NoMemory;
-use wb_model::run::Why;
 use wb_model::script::{Body, Numbered, Script};
 
 /// The pending pieces, the last of them on top, how the piece above them ended, and the line of the statement begun last.
@@ -95,6 +97,7 @@ impl<'a> Control<'a> {
     }
 
     /// Whether nothing more is to do.
+    #[inline(always)]
     pub fn is_over(&self) -> bool
         ensures { result ≡ is_over self.now.ending self.now.pieces.items }
     {
@@ -102,6 +105,7 @@ impl<'a> Control<'a> {
     }
 
     /// One more piece on top.
+    #[inline(always)]
     fn push(&mut self, piece: Piece<'a>) -> Result<(), AllocError>
         ensures pieces { OnOk result (self.new.pieces.items ≡ self.old.pieces.items ++ piece.entry ∷ []) }
         ensures ending { OnOk result (self.new.ending ≡ self.old.ending) }
@@ -115,7 +119,45 @@ impl<'a> Control<'a> {
         Ok(())
     }
 
+    /// The piece on top, where a step is to come.
+    #[inline(always)]
+    fn top(&self) -> Piece<'a>
+        requires { IsReady self.now.ending self.now.pieces.items }
+        ensures top { self.now.pieces.items
+            ≡ take (vec_len self.now.pieces - 1) self.now.pieces.items ++ result ∷ [] }
+        ensures needs_step { needs_step result ≡ true }
+        ensures some { 0 < vec_len self.now.pieces }
+    {
+        self.pieces[self.pieces.len() - 1]
+    }
+
+    /// Takes the piece on top off.
+    #[inline(always)]
+    fn drop_top(&mut self)
+        requires { 0 < vec_len self.old.pieces }
+        ensures pieces { self.new.pieces.items
+            ≡ take (vec_len self.old.pieces - 1) self.old.pieces.items }
+        ensures ending { self.new.ending ≡ self.old.ending }
+        ensures line { self.new.line ≡ self.old.line }
+    {
+        self.pieces.truncate(self.pieces.len() - 1);
+    }
+
+    /// Another piece in the place of the one on top.
+    #[inline(always)]
+    fn replace_top(&mut self, piece: Piece<'a>)
+        requires { 0 < vec_len self.old.pieces }
+        ensures pieces { (below : List Piece) (p : Piece) → self.old.pieces.items ≡ below ++ p ∷ [] →
+            self.new.pieces.items ≡ below ++ piece.entry ∷ [] }
+        ensures ending { self.new.ending ≡ self.old.ending }
+        ensures line { self.new.line ≡ self.old.line }
+    {
+        let top = self.pieces.len() - 1;
+        self.pieces[top] = piece;
+    }
+
     /// The first turn: attempt 1, and `main` begins under its TRAP where it is granted.
+    #[inline(never)]
     pub fn begin(&mut self, script: &'a Script, state: &mut State) -> Result<(), NoMemory>
         requires script { IsTrue (is_script script.now) }
         requires pieces { self.old.pieces.items ≡ [] }
@@ -146,27 +188,27 @@ impl<'a> Control<'a> {
         Ok(())
     }
 
-    /// The next statement of a block.
+    /// A statement begins, whose block is on top with what comes after it.
+    #[inline(always)]
     fn step_code(
         &mut self,
         script: &'a Script,
         at: Standing,
         first: &'a Numbered,
-        rest: &'a [Numbered],
         state: &mut State,
     ) -> Result<(), NoMemory>
         requires script { IsTrue (is_script script.now) }
         requires going { self.old.ending ≡ GoesOn }
-        requires own { AreOwn script.now (first.now ∷ rest.now) }
+        requires own { IsOwn script.now (out-Statement first.now.statement) }
         requires sound { AreSound script.now self.old.pieces.items }
         requires number { MayAttempt state.old }
         requires level { state.old.debug.heap.level + 1 < 2 ^ 32 }
         requires free { IsFree self.old.pieces.items state.old }
         requires stack { HasStack state.old }
         requires steps { state.old.steps + 1 < 2 ^ 32 }
-        ensures kept { OnOk result ((r : Rule) (budget : ℕ) → state.old.steps < budget → Fits r state.old.debug.rule (is_stop self.new.ending) state.new.debug.attempts →
+        ensures kept { OnOk result ((r : Rule) (budget : ℕ) → Fits r state.old.debug.rule (is_stop self.new.ending) state.new.debug.attempts →
             rest_from script.now budget r self.new.ending self.new.pieces.items state.new
-            ≡ rest_of_piece script.now budget r (doing (where_of at) (all (first.now ∷ rest.now))) self.old.pieces.items state.old) }
+            ≡ rest_of_statement script.now budget r (where_of at) (out-Statement first.now.statement) self.old.pieces.items (stepped state.old)) }
         ensures sound { OnOk result (AreSound script.now self.new.pieces.items) }
         ensures stays { Stays state.old state.new }
         ensures steps { OnOk result (state.new.steps ≡ state.old.steps + 1) }
@@ -176,11 +218,11 @@ impl<'a> Control<'a> {
     {
         state.tick();
         self.line = first.line;
-        self.push(Piece::Code(at, rest))?;
         self.begin_unless_refused(script, at, &first.statement, state)
     }
 
-    /// A turn of a `repeat`.
+    /// A turn of a `repeat`, of whose turns on top one less is left.
+    #[inline(always)]
     fn step_turns(
         &mut self,
         at: Standing,
@@ -190,19 +232,20 @@ impl<'a> Control<'a> {
     ) -> Result<(), NoMemory>
         requires going { self.old.ending ≡ GoesOn }
         requires left { 0 < left }
+        requires some { 0 < vec_len self.old.pieces }
         requires steps { state.old.steps + 1 < 2 ^ 32 }
-        ensures kept { OnOk result ((script : Script) (r : Rule) (budget : ℕ) → state.old.steps < budget →
+        ensures kept { OnOk result ((script : Script) (r : Rule) (budget : ℕ) (below : List Piece) → self.old.pieces.items ≡ below ++ Turns at left body.entry ∷ [] → state.old.steps < budget →
             rest_from script budget r self.new.ending self.new.pieces.items state.new
-            ≡ rest_of_piece script budget r (doing (where_of at) (turns left body.now)) self.old.pieces.items state.old) }
-        ensures sound { OnOk result ((script : Script) → AreOwn script body.now → AreSound script self.old.pieces.items → AreSound script self.new.pieces.items) }
-        ensures slots { OnOk result (slots_for_all self.new.pieces.items
-            ≤ slots_for_all self.old.pieces.items) }
+            ≡ rest_of_piece script budget r (doing (where_of at) (turns left body.now)) below state.old) }
+        ensures sound { OnOk result ((script : Script) (below : List Piece) → self.old.pieces.items ≡ below ++ Turns at left body.entry ∷ [] → AreOwn script body.now → AreSound script below → AreSound script self.new.pieces.items) }
+        ensures slots { OnOk result ((below : List Piece) → self.old.pieces.items ≡ below ++ Turns at left body.entry ∷ [] →
+            slots_for_all self.new.pieces.items ≤ slots_for_all below) }
         ensures ending { OnOk result (self.new.ending ≡ GoesOn) }
         ensures state { state.new ≡ stepped state.old }
         ensures line { self.new.line ≡ self.old.line }
     {
         state.tick();
-        self.push(Piece::Turns(at, left - 1, body))?;
+        self.replace_top(Piece::Turns(at, left - 1, body));
         self.push(Piece::Code(at, body))?;
         Ok(())
     }
@@ -210,6 +253,7 @@ impl<'a> Control<'a> {
 
 impl<'a> Control<'a> {
     /// A step, of the piece on top.
+    #[inline(always)]
     pub fn step(&mut self, script: &'a Script, state: &mut State) -> Result<(), NoMemory>
         requires script { IsTrue (is_script script.now) }
         requires ready { IsReady self.old.ending self.old.pieces.items }
@@ -229,13 +273,20 @@ impl<'a> Control<'a> {
         ensures whole { OnOk result (StaysWhole script.now state.old state.new) }
         ensures line { OnOk result (self.new.line ≡ unwrap_or (first_line (pending_in state.old.callers self.old.pieces.items)) self.old.line) }
     {
-        match self.pieces.pop() {
-            Some(Piece::Code(at, [first, rest @ ..])) => {
-                self.step_code(script, at, first, rest, state)
+        match self.top() {
+            Piece::Code(at, [first, rest @ ..]) => {
+                self.replace_top(Piece::Code(at, rest));
+                self.step_code(script, at, first, state)
             }
-            Some(Piece::Turns(at, left, body)) => self.step_turns(at, left, body, state),
-            Some(Piece::Items(at, left)) => self.step_items(script, at, left, state),
-            Some(Piece::Object(at, ptr)) => self.step_object(script, at, ptr, state),
+            Piece::Turns(at, left, body) => self.step_turns(at, left, body, state),
+            Piece::Items(at, left) => {
+                self.drop_top();
+                self.step_items(script, at, left, state)
+            }
+            Piece::Object(at, ptr) => {
+                self.drop_top();
+                self.step_object(script, at, ptr, state)
+            }
             _ => unreachable!(),
         }
     }
@@ -256,70 +307,5 @@ impl<'a> Control<'a> {
             Some(first) => state.asks(script, &first.statement),
             None => false,
         }
-    }
-
-    /// The run is cut at the budget.
-    pub fn cut(&mut self)
-        requires { IsReady self.old.ending self.old.pieces.items }
-        ensures kept { (script : Script) (r : Rule) (budget : ℕ) (h : RunState) → h.steps ≡ budget →
-            rest_from script budget r self.new.ending self.new.pieces.items h ≡ rest_from script budget r self.old.ending self.old.pieces.items h }
-        ensures pieces { self.new.pieces.items ≡ self.old.pieces.items }
-        ensures ending { self.new.ending ≡ Cut Budget }
-        ensures line { self.new.line ≡ self.old.line }
-    {
-        self.ending = Ending::Cut(Why::Budget);
-    }
-
-    /// A turn. The first begins the run, and any other takes a step, or cuts the run where the budget is used
-    /// up. Pieces that are done after it are taken off at once. It makes an attempt exactly where one is asked for,
-    /// unless the ceiling cuts the run.
-    pub fn turn(
-        &mut self,
-        script: &'a Script,
-        budget: u32,
-        begun: bool,
-        state: &mut State,
-    ) -> Result<(), NoMemory>
-        requires script { IsTrue (is_script script.now) }
-        requires first { begun ≡ false → IsFirst self.old.ending self.old.pieces.items state.old }
-        requires later { begun ≡ true → IsReady self.old.ending self.old.pieces.items }
-        requires stack { begun ≡ true → HasStack state.old }
-        requires room { begun ≡ true → HasRoom self.old.ending self.old.pieces.items state.old }
-        requires sound { AreSound script.now self.old.pieces.items }
-        requires small { budget ≤ LARGEST_BUDGET }
-        requires within { state.old.steps ≤ budget }
-        requires counted { state.old.debug.attempts ≤ state.old.steps + 1 }
-        requires level { state.old.debug.heap.level ≤ state.old.steps }
-        requires whole { AreWhole script.now state.old.debug.heap.row }
-        ensures kept { OnOk result ((r : Rule) → Fits r state.old.debug.rule (is_over self.new.ending self.new.pieces.items) state.new.debug.attempts →
-            rest_from script.now budget r self.new.ending self.new.pieces.items state.new
-            ≡ rest_at script.now budget r begun self.old.ending self.old.pieces.items state.old) }
-        ensures settled { OnOk result ((is_over self.new.ending self.new.pieces.items ≡ true) ⊎ IsReady self.new.ending self.new.pieces.items) }
-        ensures room { OnOk result (HasRoom self.new.ending self.new.pieces.items state.new) }
-        ensures stack { OnOk result (is_stop self.new.ending ≡ false → HasStack state.new) }
-        ensures sound { OnOk result (AreSound script.now self.new.pieces.items) }
-        ensures stays { Stays state.old state.new }
-        ensures within { OnOk result (state.new.steps ≤ budget) }
-        ensures counted { OnOk result (state.new.debug.attempts ≤ state.new.steps + 1) }
-        ensures level { OnOk result (state.new.debug.heap.level ≤ state.new.steps) }
-        ensures whole { OnOk result (AreWhole script.now state.new.debug.heap.row) }
-        ensures first { OnOk result (begun ≡ false → state.new.steps ≡ 0) }
-        ensures one { OnOk result (begun ≡ false → state.new.debug.attempts ≡ 1) }
-        ensures asked { OnOk result (MakesAsked
-            (asks_next script.now budget (progress_of begun self.old.ending (pending_in state.old.callers self.old.pieces.items) (state_of script.now state.old)))
-            (has_met_ceiling self.new.ending) state.old.debug.attempts state.new.debug.attempts) }
-        ensures later { OnOk result (begun ≡ true → state.new.steps ≡ min (state.old.steps + 1) budget) }
-        ensures steps { OnOk result (begun ≡ true → is_over self.new.ending self.new.pieces.items ≡ false → state.new.steps ≡ state.old.steps + 1) }
-        ensures line { OnOk result (self.new.line ≡ (if begun && nat_lt state.old.steps budget then unwrap_or (first_line (pending_in state.old.callers self.old.pieces.items)) self.old.line else self.old.line)) }
-    {
-        if !begun {
-            self.begin(script, state)?;
-        } else if state.steps() < budget {
-            self.step(script, state)?;
-        } else {
-            self.cut();
-        }
-        self.settle(state)?;
-        Ok(())
     }
 }

@@ -218,6 +218,28 @@ impl<'a> Machine<'a> {
         self.control.line()
     }
 
+    /// Takes all turns that are left of a run that was begun and goes on: as `step` does each, but what watches a run sees none
+    /// of them. After `NoMemory` the machine answers `NoMemory` for good.
+    fn take_other_turns(&mut self) -> Result<(), NoMemory>
+        requires begun { self.old.begun ≡ true }
+        requires going { self.old.over ≡ false }
+        requires well { self.old.failed ≡ false }
+        ensures script { self.new.script ≡ self.old.script }
+        ensures rule { self.new.rule ≡ self.old.rule }
+        ensures budget { self.new.budget ≡ self.old.budget }
+        ensures shape { self.new.shape ≡ self.old.shape }
+        ensures kept { self.new.keeps_rises ≡ self.old.keeps_rises }
+        ensures over { OnOk result (self.new.over ≡ true) }
+        ensures well { OnOk result (self.new.failed ≡ false) }
+    {
+        self.failed = true;
+        self.control
+            .take_all_turns(self.script, self.budget, &mut self.state)?;
+        list_leaks(&mut self.leaks, self.control.ending(), &self.state)?;
+        self.failed = false;
+        Ok(())
+    }
+
     /// Takes all turns that are left, unless memory has run out.
     fn take_all_turns(&mut self) -> Result<(), NoMemory>
         ensures script { self.new.script ≡ self.old.script }
@@ -228,11 +250,10 @@ impl<'a> Machine<'a> {
         ensures over { OnOk result (self.new.over ≡ true) }
         ensures well { OnOk result (self.new.failed ≡ false) }
     {
-        if self.failed {
-            return Err(NoMemory);
+        match self.step()? {
+            Turn::GoesOn => self.take_other_turns(),
+            Turn::Ended => Ok(()),
         }
-        while let Turn::GoesOn = self.step()? {}
-        Ok(())
     }
 
     /// Takes all turns that are left. An Ok is what the run comes to under the machine's rule: exactly what the definitions

@@ -1,144 +1,170 @@
-use Rattle.std.proofs.Common.{◌≡◌, ◌∷◌, ◌++◌, [], List, refl, ap, ◌∙◌, sym, subst, arith}
-use Rattle.std.specs.Prelude.{option_to_list}
+use Rattle.std.proofs.Common.{◌≡◌, ◌∷◌, ◌++◌, [], List, ◌-◌, take, drop, length, vec_len, refl, ap, ◌∙◌, sym, subst, arith}
 use Rattle.wb_model.specs.declared.script.Numbered.{Numbered}
 use Rattle.wb_model.specs.Statements.{all, turns, destroy_items, destroy_object}
 use Rattle.wb_model.specs.Rest.{doing}
+use Rattle.wb_machine.specs.declared.pieces.Piece.{Piece}
 use Rattle.wb_machine.specs.declared.pieces.Piece.TheVariants.{Code, Turns, Items, Object}
 use Rattle.wb_machine.specs.Flow.{where_of, AreOwn, rest_from, rest_of_piece}
 use Rattle.wb_machine.proofs.Outcomes.{on_ok_then, on_ok_anyhow, split_first}
 use Rattle.wb_machine.proofs.WholeCells.{stepped_whole}
-use Rattle.wb_machine.proofs.Steps.{pending_pushed, rest_on_top}
-use Rattle.wb_machine.proofs.Scripts.{sound_below, sound_top}
-use Rattle.wb_machine.proofs.SlotsKept.{room_free, room_items, stepped_free, still_room}
+use Rattle.wb_machine.proofs.Steps.{pending_pushed, rest_on_top, rest_stepped}
+use Rattle.wb_machine.proofs.Scripts.{own_first, own_rest, sound_below, sound_pushed, sound_top}
+use Rattle.wb_machine.proofs.SlotsKept.{room_free, room_items, slots_pushed, stepped_free, still_room}
 use Rattle.wb_machine.proofs.control.Control.step.Goals as goal
 
 pub step_code-requires-clause-own : goal.step_code-requires-clause-own
 step_code-requires-clause-own c =
     let script = c.args.script.now in
-    let arm = c.in-Some-Code-default-len1-up in
-    let below = c.pop.new.self.items in
+    let arm = c.in-Code-default-len1-up in
     let old = c.args.self.now.pieces.items in
-    let top : old ≡ below ++ Code arm.at arm.field-0-1 ∷ [] = c.pop.ensures.items ∙ ap (λ o. below ++ option_to_list o) arm.is ∙ ap (λ p. below ++ p ∷ []) arm.field-0-is in
-    subst (AreOwn script) (split_first arm.field-0-1.now c.first-item.result c.first-item.is arm.len_at_least) (sound_top script below old (Code arm.at arm.field-0-1) top c.requires.sound)
+    let below = take (vec_len c.args.self.now.pieces - 1) old in
+    let top : old ≡ below ++ Code arm.at arm.field-1 ∷ [] = c.top.ensures.top ∙ ap (λ (p : Piece). below ++ p ∷ []) arm.is in
+    let ss = arm.field-1.now in
+    let rest = take (length ss - 1) (drop 1 ss) in
+    let split : ss ≡ c.first-item.result ∷ rest = split_first ss c.first-item.result c.first-item.is arm.len_at_least in
+    own_first script c.first-item.result rest (subst (AreOwn script) split (sound_top script below old (Code arm.at arm.field-1) top c.requires.sound))
 
 pub step_code-requires-clause-sound : goal.step_code-requires-clause-sound
 step_code-requires-clause-sound c =
-    let arm = c.in-Some-Code-default-len1-up in
-    let below = c.pop.new.self.items in
-    let old = c.args.self.now.pieces.items in
-    let top : old ≡ below ++ Code arm.at arm.field-0-1 ∷ [] = c.pop.ensures.items ∙ ap (λ o. below ++ option_to_list o) arm.is ∙ ap (λ p. below ++ p ∷ []) arm.field-0-is in
-    sound_below c.args.script.now below old (Code arm.at arm.field-0-1) top c.requires.sound
-
-pub returns-in-Some-Code-default-len1-up-clause-kept : goal.returns-in-Some-Code-default-len1-up-clause-kept
-returns-in-Some-Code-default-len1-up-clause-kept c =
-    on_ok_then c.step_code.result c.step_code.ensures.kept (λ kept r budget within f.
     let script = c.args.script.now in
-    let arm = c.in-Some-Code-default-len1-up in
-    let below = c.pop.new.self.items in
+    let arm = c.in-Code-default-len1-up in
     let old = c.args.self.now.pieces.items in
-    let h = c.args.state.now in
-    let top : old ≡ below ++ Code arm.at arm.field-0-1 ∷ [] = c.pop.ensures.items ∙ ap (λ o. below ++ option_to_list o) arm.is ∙ ap (λ p. below ++ p ∷ []) arm.field-0-is in
-    kept r budget within f
-    ∙ ap (λ (ss : List Numbered). rest_of_piece script budget r (doing (where_of arm.at) (all ss)) below h) (sym (split_first arm.field-0-1.now c.first-item.result c.first-item.is arm.len_at_least))
-    ∙ sym (ap (λ e. rest_from script budget r e old h) c.requires.ready.0 ∙ rest_on_top script budget r old below (doing (where_of arm.at) (all arm.field-0-1.now)) h (pending_pushed h.callers below old (Code arm.at arm.field-0-1) top)))
-
-pub returns-in-Some-Turns-clause-kept : goal.returns-in-Some-Turns-clause-kept
-returns-in-Some-Turns-clause-kept c =
-    on_ok_then c.step_turns.result c.step_turns.ensures.kept (λ kept r budget within f.
-    let script = c.args.script.now in
-    let arm = c.in-Some-Turns in
-    let below = c.pop.new.self.items in
-    let old = c.args.self.now.pieces.items in
-    let h = c.args.state.now in
-    let top : old ≡ below ++ Turns arm.at arm.left arm.body ∷ [] = c.pop.ensures.items ∙ ap (λ o. below ++ option_to_list o) arm.is ∙ ap (λ p. below ++ p ∷ []) arm.field-0-is in
-    kept script r budget within
-    ∙ sym (ap (λ e. rest_from script budget r e old h) c.requires.ready.0 ∙ rest_on_top script budget r old below (doing (where_of arm.at) (turns arm.left arm.body.now)) h (pending_pushed h.callers below old (Turns arm.at arm.left arm.body) top)))
-
-pub returns-in-Some-Turns-clause-sound : goal.returns-in-Some-Turns-clause-sound
-returns-in-Some-Turns-clause-sound c =
-    let script = c.args.script.now in
-    let arm = c.in-Some-Turns in
-    let below = c.pop.new.self.items in
-    let old = c.args.self.now.pieces.items in
-    let top : old ≡ below ++ Turns arm.at arm.left arm.body ∷ [] = c.pop.ensures.items ∙ ap (λ o. below ++ option_to_list o) arm.is ∙ ap (λ p. below ++ p ∷ []) arm.field-0-is in
-    on_ok_then c.step_turns.result c.step_turns.ensures.sound (λ sound.
-    sound script (sound_top script below old (Turns arm.at arm.left arm.body) top c.requires.sound) (sound_below script below old (Turns arm.at arm.left arm.body) top c.requires.sound))
-
-pub returns-in-Some-Items-clause-kept : goal.returns-in-Some-Items-clause-kept
-returns-in-Some-Items-clause-kept c =
-    on_ok_then c.step_items.result c.step_items.ensures.kept (λ kept r budget within f.
-    let script = c.args.script.now in
-    let arm = c.in-Some-Items in
-    let below = c.pop.new.self.items in
-    let old = c.args.self.now.pieces.items in
-    let h = c.args.state.now in
-    let top : old ≡ below ++ Items arm.at arm.left ∷ [] = c.pop.ensures.items ∙ ap (λ o. below ++ option_to_list o) arm.is ∙ ap (λ p. below ++ p ∷ []) arm.field-0-is in
-    kept r budget within
-    ∙ sym (ap (λ e. rest_from script budget r e old h) c.requires.ready.0 ∙ rest_on_top script budget r old below (doing (where_of arm.at) (destroy_items arm.left)) h (pending_pushed h.callers below old (Items arm.at arm.left) top)))
-
-pub returns-in-Some-Items-clause-sound : goal.returns-in-Some-Items-clause-sound
-returns-in-Some-Items-clause-sound c =
-    let arm = c.in-Some-Items in
-    let below = c.pop.new.self.items in
-    let old = c.args.self.now.pieces.items in
-    let top : old ≡ below ++ Items arm.at arm.left ∷ [] = c.pop.ensures.items ∙ ap (λ o. below ++ option_to_list o) arm.is ∙ ap (λ p. below ++ p ∷ []) arm.field-0-is in
-    on_ok_then c.step_items.result c.step_items.ensures.sound (λ sound. sound (sound_below c.args.script.now below old (Items arm.at arm.left) top c.requires.sound))
-
-pub returns-in-Some-Object-clause-kept : goal.returns-in-Some-Object-clause-kept
-returns-in-Some-Object-clause-kept c =
-    on_ok_then c.step_object.result c.step_object.ensures.kept (λ kept r budget within f.
-    let script = c.args.script.now in
-    let arm = c.in-Some-Object in
-    let below = c.pop.new.self.items in
-    let old = c.args.self.now.pieces.items in
-    let h = c.args.state.now in
-    let top : old ≡ below ++ Object arm.at arm.ptr ∷ [] = c.pop.ensures.items ∙ ap (λ o. below ++ option_to_list o) arm.is ∙ ap (λ p. below ++ p ∷ []) arm.field-0-is in
-    kept r budget within
-    ∙ sym (ap (λ e. rest_from script budget r e old h) c.requires.ready.0 ∙ rest_on_top script budget r old below (doing (where_of arm.at) (destroy_object arm.ptr)) h (pending_pushed h.callers below old (Object arm.at arm.ptr) top)))
-
-pub returns-in-Some-Object-clause-sound : goal.returns-in-Some-Object-clause-sound
-returns-in-Some-Object-clause-sound c =
-    let arm = c.in-Some-Object in
-    let below = c.pop.new.self.items in
-    let old = c.args.self.now.pieces.items in
-    let top : old ≡ below ++ Object arm.at arm.ptr ∷ [] = c.pop.ensures.items ∙ ap (λ o. below ++ option_to_list o) arm.is ∙ ap (λ p. below ++ p ∷ []) arm.field-0-is in
-    on_ok_then c.step_object.result c.step_object.ensures.sound (λ sound. sound (sound_below c.args.script.now below old (Object arm.at arm.ptr) top c.requires.sound))
-
-pub returns-in-Some-Turns-clause-whole : goal.returns-in-Some-Turns-clause-whole
-returns-in-Some-Turns-clause-whole c = on_ok_anyhow c.step_turns.result (stepped_whole c.args.script.now c.args.state.now c.step_turns.new.state c.step_turns.ensures.state)
+    let below = take (vec_len c.args.self.now.pieces - 1) old in
+    let top : old ≡ below ++ Code arm.at arm.field-1 ∷ [] = c.top.ensures.top ∙ ap (λ (p : Piece). below ++ p ∷ []) arm.is in
+    let ss = arm.field-1.now in
+    let rest = take (length ss - 1) (drop 1 ss) in
+    let split : ss ≡ c.first-item.result ∷ rest = split_first ss c.first-item.result c.first-item.is arm.len_at_least in
+    let mid = c.replace_top.new.self.pieces.items in
+    sound_pushed script below mid _ (c.replace_top.ensures.pieces below (Code arm.at arm.field-1) top) (sound_below script below old (Code arm.at arm.field-1) top c.requires.sound)
+    (own_rest script c.first-item.result rest (subst (AreOwn script) split (sound_top script below old (Code arm.at arm.field-1) top c.requires.sound)))
 
 pub step_code-requires-clause-free : goal.step_code-requires-clause-free
 step_code-requires-clause-free c =
-    let arm = c.in-Some-Code-default-len1-up in
-    let below = c.pop.new.self.items in
+    let arm = c.in-Code-default-len1-up in
     let old = c.args.self.now.pieces.items in
-    let top : old ≡ below ++ Code arm.at arm.field-0-1 ∷ [] = c.pop.ensures.items ∙ ap (λ o. below ++ option_to_list o) arm.is ∙ ap (λ p. below ++ p ∷ []) arm.field-0-is in
-    room_free c.args.self.now.ending below old (Code arm.at arm.field-0-1) c.args.state.now c.requires.ready.0 top refl c.requires.room
+    let below = take (vec_len c.args.self.now.pieces - 1) old in
+    let top : old ≡ below ++ Code arm.at arm.field-1 ∷ [] = c.top.ensures.top ∙ ap (λ (p : Piece). below ++ p ∷ []) arm.is in
+    let mid = c.replace_top.new.self.pieces.items in
+    let free = room_free c.args.self.now.ending below old (Code arm.at arm.field-1) c.args.state.now c.requires.ready.0 top refl c.requires.room in
+    record {
+      entered = omega (arith, free.entered, slots_pushed below mid _ (c.replace_top.ensures.pieces below (Code arm.at arm.field-1) top));
+      free = free.free;
+    }
 
-pub step_items-requires-clause-free : goal.step_items-requires-clause-free
-step_items-requires-clause-free c =
-    let arm = c.in-Some-Items in
-    let below = c.pop.new.self.items in
+pub returns-in-Code-default-len1-up-clause-kept : goal.returns-in-Code-default-len1-up-clause-kept
+returns-in-Code-default-len1-up-clause-kept c =
+    on_ok_then c.step_code.result c.step_code.ensures.kept (λ kept r budget within f.
+    let script = c.args.script.now in
+    let arm = c.in-Code-default-len1-up in
     let old = c.args.self.now.pieces.items in
-    let top : old ≡ below ++ Items arm.at arm.left ∷ [] = c.pop.ensures.items ∙ ap (λ o. below ++ option_to_list o) arm.is ∙ ap (λ p. below ++ p ∷ []) arm.field-0-is in
-    room_items c.args.self.now.ending below old (Items arm.at arm.left) c.args.state.now c.requires.ready.0 top c.requires.room
+    let below = take (vec_len c.args.self.now.pieces - 1) old in
+    let top : old ≡ below ++ Code arm.at arm.field-1 ∷ [] = c.top.ensures.top ∙ ap (λ (p : Piece). below ++ p ∷ []) arm.is in
+    let ss = arm.field-1.now in
+    let rest = take (length ss - 1) (drop 1 ss) in
+    let split : ss ≡ c.first-item.result ∷ rest = split_first ss c.first-item.result c.first-item.is arm.len_at_least in
+    let mid = c.replace_top.new.self.pieces.items in
+    let h = c.args.state.now in
+    let at = where_of arm.at in
+    rest_stepped script budget r at c.first-item.result rest below mid c.step_code.new.self.pieces.items c.step_code.new.self.ending h c.step_code.new.state
+    (pending_pushed h.callers below mid _ (c.replace_top.ensures.pieces below (Code arm.at arm.field-1) top)) within (kept r budget f)
+    ∙ ap (λ (ss : List Numbered). rest_of_piece script budget r (doing at (all ss)) below h) (sym split)
+    ∙ sym (ap (λ e. rest_from script budget r e old h) c.requires.ready.0 ∙ rest_on_top script budget r old below (doing at (all ss)) h (pending_pushed h.callers below old (Code arm.at arm.field-1) top)))
 
-pub step_object-requires-clause-free : goal.step_object-requires-clause-free
-step_object-requires-clause-free c =
-    let arm = c.in-Some-Object in
-    let below = c.pop.new.self.items in
+pub returns-in-Turns-clause-kept : goal.returns-in-Turns-clause-kept
+returns-in-Turns-clause-kept c =
+    on_ok_then c.step_turns.result c.step_turns.ensures.kept (λ kept r budget within f.
+    let script = c.args.script.now in
+    let arm = c.in-Turns in
     let old = c.args.self.now.pieces.items in
-    let top : old ≡ below ++ Object arm.at arm.ptr ∷ [] = c.pop.ensures.items ∙ ap (λ o. below ++ option_to_list o) arm.is ∙ ap (λ p. below ++ p ∷ []) arm.field-0-is in
-    room_free c.args.self.now.ending below old (Object arm.at arm.ptr) c.args.state.now c.requires.ready.0 top refl c.requires.room
+    let below = take (vec_len c.args.self.now.pieces - 1) old in
+    let top : old ≡ below ++ Turns arm.at arm.left arm.body ∷ [] = c.top.ensures.top ∙ ap (λ (p : Piece). below ++ p ∷ []) arm.is in
+    let h = c.args.state.now in
+    kept script r budget below top within
+    ∙ sym (ap (λ e. rest_from script budget r e old h) c.requires.ready.0 ∙ rest_on_top script budget r old below (doing (where_of arm.at) (turns arm.left arm.body.now)) h (pending_pushed h.callers below old (Turns arm.at arm.left arm.body) top)))
 
-pub returns-in-Some-Turns-clause-room : goal.returns-in-Some-Turns-clause-room
-returns-in-Some-Turns-clause-room c =
-    let arm = c.in-Some-Turns in
-    let below = c.pop.new.self.items in
+pub returns-in-Turns-clause-sound : goal.returns-in-Turns-clause-sound
+returns-in-Turns-clause-sound c =
+    let script = c.args.script.now in
+    let arm = c.in-Turns in
     let old = c.args.self.now.pieces.items in
-    let top : old ≡ below ++ Turns arm.at arm.left arm.body ∷ [] = c.pop.ensures.items ∙ ap (λ o. below ++ option_to_list o) arm.is ∙ ap (λ p. below ++ p ∷ []) arm.field-0-is in
+    let below = take (vec_len c.args.self.now.pieces - 1) old in
+    let top : old ≡ below ++ Turns arm.at arm.left arm.body ∷ [] = c.top.ensures.top ∙ ap (λ (p : Piece). below ++ p ∷ []) arm.is in
+    on_ok_then c.step_turns.result c.step_turns.ensures.sound (λ sound.
+    sound script below top (sound_top script below old (Turns arm.at arm.left arm.body) top c.requires.sound) (sound_below script below old (Turns arm.at arm.left arm.body) top c.requires.sound))
+
+pub returns-in-Turns-clause-whole : goal.returns-in-Turns-clause-whole
+returns-in-Turns-clause-whole c = on_ok_anyhow c.step_turns.result (stepped_whole c.args.script.now c.args.state.now c.step_turns.new.state c.step_turns.ensures.state)
+
+pub returns-in-Turns-clause-room : goal.returns-in-Turns-clause-room
+returns-in-Turns-clause-room c =
+    let arm = c.in-Turns in
+    let old = c.args.self.now.pieces.items in
+    let below = take (vec_len c.args.self.now.pieces - 1) old in
+    let top : old ≡ below ++ Turns arm.at arm.left arm.body ∷ [] = c.top.ensures.top ∙ ap (λ (p : Piece). below ++ p ∷ []) arm.is in
     let h = c.args.state.now in
     let g = c.step_turns.new.state in
     on_ok_then c.step_turns.result c.step_turns.ensures.slots (λ slots.
     still_room c.step_turns.new.self.ending below c.step_turns.new.self.pieces.items g
-    (stepped_free below below h g c.step_turns.ensures.state (omega arith) (room_free c.args.self.now.ending below old (Turns arm.at arm.left arm.body) h c.requires.ready.0 top refl c.requires.room)) slots)
+    (stepped_free below below h g c.step_turns.ensures.state (omega arith) (room_free c.args.self.now.ending below old (Turns arm.at arm.left arm.body) h c.requires.ready.0 top refl c.requires.room)) (slots below top))
+
+pub step_items-requires-clause-free : goal.step_items-requires-clause-free
+step_items-requires-clause-free c =
+    let arm = c.in-Items in
+    let old = c.args.self.now.pieces.items in
+    let below = c.drop_top.new.self.pieces.items in
+    let top : old ≡ below ++ Items arm.at arm.left ∷ [] =
+    c.top.ensures.top ∙ ap (λ (ps : List Piece). ps ++ c.top.result ∷ []) (sym c.drop_top.ensures.pieces) ∙ ap (λ (p : Piece). below ++ p ∷ []) arm.is in
+    room_items c.args.self.now.ending below old (Items arm.at arm.left) c.args.state.now c.requires.ready.0 top c.requires.room
+
+pub returns-in-Items-clause-kept : goal.returns-in-Items-clause-kept
+returns-in-Items-clause-kept c =
+    on_ok_then c.step_items.result c.step_items.ensures.kept (λ kept r budget within f.
+    let script = c.args.script.now in
+    let arm = c.in-Items in
+    let old = c.args.self.now.pieces.items in
+    let below = c.drop_top.new.self.pieces.items in
+    let top : old ≡ below ++ Items arm.at arm.left ∷ [] =
+    c.top.ensures.top ∙ ap (λ (ps : List Piece). ps ++ c.top.result ∷ []) (sym c.drop_top.ensures.pieces) ∙ ap (λ (p : Piece). below ++ p ∷ []) arm.is in
+    let h = c.args.state.now in
+    kept r budget within
+    ∙ sym (ap (λ e. rest_from script budget r e old h) c.requires.ready.0 ∙ rest_on_top script budget r old below (doing (where_of arm.at) (destroy_items arm.left)) h (pending_pushed h.callers below old (Items arm.at arm.left) top)))
+
+pub returns-in-Items-clause-sound : goal.returns-in-Items-clause-sound
+returns-in-Items-clause-sound c =
+    let arm = c.in-Items in
+    let old = c.args.self.now.pieces.items in
+    let below = c.drop_top.new.self.pieces.items in
+    let top : old ≡ below ++ Items arm.at arm.left ∷ [] =
+    c.top.ensures.top ∙ ap (λ (ps : List Piece). ps ++ c.top.result ∷ []) (sym c.drop_top.ensures.pieces) ∙ ap (λ (p : Piece). below ++ p ∷ []) arm.is in
+    on_ok_then c.step_items.result c.step_items.ensures.sound (λ sound. sound (sound_below c.args.script.now below old (Items arm.at arm.left) top c.requires.sound))
+
+pub step_object-requires-clause-free : goal.step_object-requires-clause-free
+step_object-requires-clause-free c =
+    let arm = c.in-Object in
+    let old = c.args.self.now.pieces.items in
+    let below = c.drop_top-in-Object.new.self.pieces.items in
+    let top : old ≡ below ++ Object arm.at arm.ptr ∷ [] =
+    c.top.ensures.top ∙ ap (λ (ps : List Piece). ps ++ c.top.result ∷ []) (sym c.drop_top-in-Object.ensures.pieces) ∙ ap (λ (p : Piece). below ++ p ∷ []) arm.is in
+    room_free c.args.self.now.ending below old (Object arm.at arm.ptr) c.args.state.now c.requires.ready.0 top refl c.requires.room
+
+pub returns-in-Object-clause-kept : goal.returns-in-Object-clause-kept
+returns-in-Object-clause-kept c =
+    on_ok_then c.step_object.result c.step_object.ensures.kept (λ kept r budget within f.
+    let script = c.args.script.now in
+    let arm = c.in-Object in
+    let old = c.args.self.now.pieces.items in
+    let below = c.drop_top-in-Object.new.self.pieces.items in
+    let top : old ≡ below ++ Object arm.at arm.ptr ∷ [] =
+    c.top.ensures.top ∙ ap (λ (ps : List Piece). ps ++ c.top.result ∷ []) (sym c.drop_top-in-Object.ensures.pieces) ∙ ap (λ (p : Piece). below ++ p ∷ []) arm.is in
+    let h = c.args.state.now in
+    kept r budget within
+    ∙ sym (ap (λ e. rest_from script budget r e old h) c.requires.ready.0 ∙ rest_on_top script budget r old below (doing (where_of arm.at) (destroy_object arm.ptr)) h (pending_pushed h.callers below old (Object arm.at arm.ptr) top)))
+
+pub returns-in-Object-clause-sound : goal.returns-in-Object-clause-sound
+returns-in-Object-clause-sound c =
+    let arm = c.in-Object in
+    let old = c.args.self.now.pieces.items in
+    let below = c.drop_top-in-Object.new.self.pieces.items in
+    let top : old ≡ below ++ Object arm.at arm.ptr ∷ [] =
+    c.top.ensures.top ∙ ap (λ (ps : List Piece). ps ++ c.top.result ∷ []) (sym c.drop_top-in-Object.ensures.pieces) ∙ ap (λ (p : Piece). below ++ p ∷ []) arm.is in
+    on_ok_then c.step_object.result c.step_object.ensures.sound (λ sound. sound (sound_below c.args.script.now below old (Object arm.at arm.ptr) top c.requires.sound))

@@ -1,4 +1,4 @@
-use Rattle.std.proofs.Common.{◌≡◌, ◌≤◌, ap, ◌∙◌, subst, arith}
+use Rattle.std.proofs.Common.{ap, ◌∙◌, subst, arith}
 use Rattle.wb_model.specs.declared.heap.Kind.TheVariants.{Cleanup}
 use Rattle.wb_model.specs.Debug.{alloc_made}
 use Rattle.wb_machine.specs.Owed.{Stays}

@@ -1,0 +1,131 @@
+//! The turns of a run: one, and all that are left.
+
+ghost use Rattle.std.specs.Prelude.{◌≡◌, ◌+◌, ◌<◌, ◌≤◌, ◌⊎◌, ◌&&◌, ℕ, true, false, if◌then◌else◌, nat_lt, unwrap_or, min, IsTrue, OnOk};
+ghost use Rattle.wb_model.specs.Sound.{is_script};
+ghost use Rattle.wb_model.specs.Rest.{first_line, Fits};
+ghost use Rattle.wb_model.specs.Debug.{keeps_rises};
+ghost use Rattle.wb_model.specs.declared.heap.Rule.{Rule};
+ghost use Rattle.wb_model.specs.declared.run.Why.TheVariants.{Budget};
+ghost use Rattle.wb_model.specs.declared.script.Script.{Script};
+ghost use Rattle.wb_machine.specs.declared.pieces.Ending.TheVariants.{Cut};
+ghost use Rattle.wb_machine.specs.RunState.{RunState, state_of};
+ghost use Rattle.wb_machine.specs.Flow.{pending_in, is_stop, is_over, has_met_ceiling, progress_of, AreSound, IsReady, IsFirst, rest_from, rest_at};
+ghost use Rattle.wb_machine.specs.Asks.{asks_next, MakesAsked};
+ghost use Rattle.wb_machine.specs.ObjectInvariant.{AreWhole};
+ghost use Rattle.wb_machine.specs.Owed.{HasStack, Stays};
+ghost use Rattle.wb_machine.specs.SlotInvariant.{HasRoom};
+
+use crate::control::Control;
+use crate::pieces::Ending;
+use crate::state::State;
+use wb_model::limits::LARGEST_BUDGET;
+use wb_model::memory::NoMemory;
+use wb_model::run::Why;
+use wb_model::script::Script;
+
+impl<'a> Control<'a> {
+    /// The run is cut at the budget.
+    pub fn cut(&mut self)
+        requires { IsReady self.old.ending self.old.pieces.items }
+        ensures kept { (script : Script) (r : Rule) (budget : ℕ) (h : RunState) → h.steps ≡ budget →
+            rest_from script budget r self.new.ending self.new.pieces.items h ≡ rest_from script budget r self.old.ending self.old.pieces.items h }
+        ensures pieces { self.new.pieces.items ≡ self.old.pieces.items }
+        ensures ending { self.new.ending ≡ Cut Budget }
+        ensures line { self.new.line ≡ self.old.line }
+    {
+        self.ending = Ending::Cut(Why::Budget);
+    }
+
+    /// A turn. The first begins the run, and any other takes a step, or cuts the run where the budget is used
+    /// up. Pieces that are done after it are taken off at once. It makes an attempt exactly where one is asked for,
+    /// unless the ceiling cuts the run.
+    #[inline(always)]
+    pub fn turn(
+        &mut self,
+        script: &'a Script,
+        budget: u32,
+        begun: bool,
+        state: &mut State,
+    ) -> Result<(), NoMemory>
+        requires script { IsTrue (is_script script.now) }
+        requires first { begun ≡ false → IsFirst self.old.ending self.old.pieces.items state.old }
+        requires later { begun ≡ true → IsReady self.old.ending self.old.pieces.items }
+        requires stack { begun ≡ true → HasStack state.old }
+        requires room { begun ≡ true → HasRoom self.old.ending self.old.pieces.items state.old }
+        requires sound { AreSound script.now self.old.pieces.items }
+        requires small { budget ≤ LARGEST_BUDGET }
+        requires within { state.old.steps ≤ budget }
+        requires counted { state.old.debug.attempts ≤ state.old.steps + 1 }
+        requires level { state.old.debug.heap.level ≤ state.old.steps }
+        requires whole { AreWhole script.now state.old.debug.heap.row }
+        ensures kept { OnOk result ((r : Rule) → Fits r state.old.debug.rule (is_over self.new.ending self.new.pieces.items) state.new.debug.attempts →
+            rest_from script.now budget r self.new.ending self.new.pieces.items state.new
+            ≡ rest_at script.now budget r begun self.old.ending self.old.pieces.items state.old) }
+        ensures settled { OnOk result ((is_over self.new.ending self.new.pieces.items ≡ true) ⊎ IsReady self.new.ending self.new.pieces.items) }
+        ensures room { OnOk result (HasRoom self.new.ending self.new.pieces.items state.new) }
+        ensures stack { OnOk result (is_stop self.new.ending ≡ false → HasStack state.new) }
+        ensures sound { OnOk result (AreSound script.now self.new.pieces.items) }
+        ensures stays { Stays state.old state.new }
+        ensures within { OnOk result (state.new.steps ≤ budget) }
+        ensures counted { OnOk result (state.new.debug.attempts ≤ state.new.steps + 1) }
+        ensures level { OnOk result (state.new.debug.heap.level ≤ state.new.steps) }
+        ensures whole { OnOk result (AreWhole script.now state.new.debug.heap.row) }
+        ensures first { OnOk result (begun ≡ false → state.new.steps ≡ 0) }
+        ensures one { OnOk result (begun ≡ false → state.new.debug.attempts ≡ 1) }
+        ensures asked { OnOk result (MakesAsked
+            (asks_next script.now budget (progress_of begun self.old.ending (pending_in state.old.callers self.old.pieces.items) (state_of script.now state.old)))
+            (has_met_ceiling self.new.ending) state.old.debug.attempts state.new.debug.attempts) }
+        ensures later { OnOk result (begun ≡ true → state.new.steps ≡ min (state.old.steps + 1) budget) }
+        ensures steps { OnOk result (begun ≡ true → is_over self.new.ending self.new.pieces.items ≡ false → state.new.steps ≡ state.old.steps + 1) }
+        ensures line { OnOk result (self.new.line ≡ (if begun && nat_lt state.old.steps budget then unwrap_or (first_line (pending_in state.old.callers self.old.pieces.items)) self.old.line else self.old.line)) }
+    {
+        if !begun {
+            self.begin(script, state)?;
+        } else if state.steps() < budget {
+            self.step(script, state)?;
+        } else {
+            self.cut();
+        }
+        self.settle(state)?;
+        Ok(())
+    }
+
+    /// Takes turns until the run is over, as `turn` does each.
+    pub fn take_all_turns(
+        &mut self,
+        script: &'a Script,
+        budget: u32,
+        state: &mut State,
+    ) -> Result<(), NoMemory>
+        requires script { IsTrue (is_script script.now) }
+        requires settled { (is_over self.old.ending self.old.pieces.items ≡ true) ⊎ IsReady self.old.ending self.old.pieces.items }
+        requires stack { is_stop self.old.ending ≡ false → HasStack state.old }
+        requires room { HasRoom self.old.ending self.old.pieces.items state.old }
+        requires sound { AreSound script.now self.old.pieces.items }
+        requires small { budget ≤ LARGEST_BUDGET }
+        requires within { state.old.steps ≤ budget }
+        requires counted { state.old.debug.attempts ≤ state.old.steps + 1 }
+        requires level { state.old.debug.heap.level ≤ state.old.steps }
+        requires whole { AreWhole script.now state.old.debug.heap.row }
+        ensures kept { OnOk result ((r : Rule) → Fits r state.old.debug.rule true state.new.debug.attempts →
+            rest_from script.now budget r self.new.ending self.new.pieces.items state.new
+            ≡ rest_from script.now budget r self.old.ending self.old.pieces.items state.old) }
+        ensures over { OnOk result (is_over self.new.ending self.new.pieces.items ≡ true) }
+        ensures room { OnOk result (HasRoom self.new.ending self.new.pieces.items state.new) }
+        ensures stack { OnOk result (is_stop self.new.ending ≡ false → HasStack state.new) }
+        ensures sound { OnOk result (AreSound script.now self.new.pieces.items) }
+        ensures rule { state.new.debug.rule ≡ state.old.debug.rule }
+        ensures shape { state.new.debug.shape ≡ state.old.debug.shape }
+        ensures keeps_rises { keeps_rises state.new.debug ≡ keeps_rises state.old.debug }
+        ensures fewer { state.old.debug.attempts ≤ state.new.debug.attempts }
+        ensures within { OnOk result (state.new.steps ≤ budget) }
+        ensures counted { OnOk result (state.new.debug.attempts ≤ state.new.steps + 1) }
+        ensures level { OnOk result (state.new.debug.heap.level ≤ state.new.steps) }
+        ensures whole { OnOk result (AreWhole script.now state.new.debug.heap.row) }
+    {
+        while !self.is_over() {
+            self.turn(script, budget, true, state)?;
+        }
+        Ok(())
+    }
+}
