@@ -194,19 +194,23 @@ static TOLD: [Told; 10] = [
     },
 ];
 
-/// Whether this is told, and the sweep is over before anything is written.
-fn is_told(alloc: Global, words: Vec<&'static str>, wanted: &Told) -> bool {
-    let is_under_way = Cell::new(false);
-    let mut listener = Listener {
+/// Whether this is told, and the sweep is over before anything is written; `is_under_way` is false.
+fn is_told<'a>(
+    alloc: Global,
+    words: Vec<&'static str>,
+    wanted: &Told,
+    is_under_way: &'a Cell<bool>,
+) -> bool {
+    let mut listener: Listener<'a> = Listener {
         to_come: wanted.failures,
         is_as_wanted: true,
         begun: 0,
         last: None,
         ended: 0,
-        is_under_way: &is_under_way,
+        is_under_way,
     };
-    let mut taker = Taker {
-        is_under_way: &is_under_way,
+    let mut taker: Taker<'a> = Taker {
+        is_under_way,
         is_early: false,
         taken: 0,
     };
@@ -236,7 +240,11 @@ fn tells_of_each_failure_before_the_report(rt: HostRuntime) -> Result<(), Fail> 
     for (index, wanted) in TOLD.iter().enumerate() {
         let mut words = Vec::new(rt.alloc());
         words.extend_from_slice(wanted.words)?;
-        assert!(rt; is_told(rt.alloc(), words, wanted), "row {index}");
+        let is_under_way = Cell::new(false);
+        assert!(rt;
+            is_told(rt.alloc(), words, wanted, &is_under_way),
+            "row {index}"
+        );
     }
     Ok(())
 }
