@@ -1,12 +1,14 @@
 //! The program: hands the process's own words, files and streams to the workbench, and says on standard error what there is
-//! to say of the answer.
+//! to say of the answer, and how far a sweep is that takes long.
 #![tactic(auto)]
 
 mod explanation;
+mod progress_line;
 mod recorded;
 mod told;
 
 use crate::explanation::explain_answer;
+use crate::progress_line::ProgressLine;
 use crate::recorded::{Record, Recorded, RecordedHost};
 use std::cell::RefCell;
 use std::io::Write;
@@ -28,6 +30,7 @@ fn main(rt: HostRuntime) -> ExitCode {
             record: &record,
         },
         &mut rt.stderr(),
+        &mut ProgressLine::new(&rt),
     );
     explain(&rt, &record, status);
     ExitCode::from(status)

@@ -9,7 +9,7 @@ use std::io::{ErrorKind, Read, Write};
 use std::test::Fail;
 use wb_model::heap::{Rule, Shape};
 use workbench::answer::{READ_OR_WRITE_FAULT, answer};
-use workbench::{Command, Task};
+use workbench::{Command, Silent, Task};
 
 /// Gives its bytes, `at_once` at a time and with each read `grows` more, and then fails or is at its end.
 #[derive(Drop)]
@@ -210,7 +210,7 @@ const FAILURES: [Option<ErrorKind>; 3] = [
 /// Whether the answer to what a reader gives is this line alone, that reading failed.
 fn is_read_fault(alloc: Global, reader: &mut impl Read) -> bool {
     let mut writer = Vec::new(alloc);
-    let status = answer(alloc, &run_command(), reader, &mut writer);
+    let status = answer(alloc, &run_command(), reader, &mut writer, &mut Silent);
     writer.as_slice() == READ_FAULT && status == READ_OR_WRITE_FAULT
 }
 
@@ -238,7 +238,13 @@ fn reads_no_more_where_a_read_failed(rt: HostRuntime) {
 fn reads_no_more_where_the_end_is_met(rt: HostRuntime) {
     let mut reader = giving(LEAKING, None);
     let mut writer = taking(rt.alloc(), 1000, None);
-    let status = answer(rt.alloc(), &run_command(), &mut reader, &mut writer);
+    let status = answer(
+        rt.alloc(),
+        &run_command(),
+        &mut reader,
+        &mut writer,
+        &mut Silent,
+    );
     assert_eq!(rt; status, 1);
     assert!(rt; writer.taken.as_slice() == LEAKING_REPORT);
     assert_eq!(rt; reader.reads, 6);
@@ -247,7 +253,7 @@ fn reads_no_more_where_the_end_is_met(rt: HostRuntime) {
 /// Whether the script that a reader gives has its report.
 fn has_its_report(alloc: Global, reader: &mut impl Read) -> bool {
     let mut writer = Vec::new(alloc);
-    let status = answer(alloc, &run_command(), reader, &mut writer);
+    let status = answer(alloc, &run_command(), reader, &mut writer, &mut Silent);
     writer.as_slice() == LEAKING_REPORT && status == 1
 }
 
@@ -279,7 +285,13 @@ fn reads_no_further_than_a_script_may_be_long(rt: HostRuntime) {
     for (at_once, reads) in [(1, 65_537), (1000, 66), (100_000, 1)] {
         let mut reader = Endless { at_once, reads: 0 };
         let mut writer = Vec::new(rt.alloc());
-        let status = answer(rt.alloc(), &run_command(), &mut reader, &mut writer);
+        let status = answer(
+            rt.alloc(),
+            &run_command(),
+            &mut reader,
+            &mut writer,
+            &mut Silent,
+        );
         assert_eq!(rt; status, 2);
         assert!(rt; writer.as_slice() == b"refused 1\n".as_slice());
         assert_eq!(rt; reader.reads, reads);
@@ -288,7 +300,7 @@ fn reads_no_further_than_a_script_may_be_long(rt: HostRuntime) {
 
 /// Whether writing fails, with this beginning of the text taken before.
 fn stops(alloc: Global, reader: &mut Giver<'_>, writer: &mut impl Write) -> bool {
-    answer(alloc, &run_command(), reader, writer) == READ_OR_WRITE_FAULT
+    answer(alloc, &run_command(), reader, writer, &mut Silent) == READ_OR_WRITE_FAULT
 }
 
 /// Whether the report, which is this text, goes out up to its `at`-th write, of five bytes each, where that fails.
@@ -305,6 +317,7 @@ fn ends_at_write(
         &run_command_in(json),
         &mut giving(LEAKING, None),
         &mut writer,
+        &mut Silent,
     );
     let begun = text.get(..at.wrapping_mul(5));
     status == READ_OR_WRITE_FAULT
@@ -322,6 +335,7 @@ fn writes_no_more_where_a_write_failed(rt: HostRuntime) {
             &run_command_in(json),
             &mut giving(LEAKING, None),
             &mut whole,
+            &mut Silent,
         );
         assert_eq!(rt; status, 1);
         let text = whole.taken.as_slice();
@@ -364,7 +378,13 @@ fn reads_and_writes_no_oftener_than_there_are_bytes(rt: HostRuntime) -> Result<(
     reader.at_once = 1;
     let mut writer = taking(rt.alloc(), 100, None);
     writer.at_once = 1;
-    let status = answer(rt.alloc(), &run_command(), &mut reader, &mut writer);
+    let status = answer(
+        rt.alloc(),
+        &run_command(),
+        &mut reader,
+        &mut writer,
+        &mut Silent,
+    );
     assert_eq!(rt; reader.reads, 65_537);
     assert!(rt; writer.taken.as_slice() == b"refused 1\n".as_slice());
     assert_eq!(rt; writer.writes, 10);

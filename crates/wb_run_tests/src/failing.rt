@@ -12,7 +12,7 @@ use wb_script::read;
 use wb_sweep::fault::SweepFault;
 use wb_sweep::sweeping::sweep;
 use workbench::answer::answer;
-use workbench::{Command, Task};
+use workbench::{Command, Silent, Task};
 
 const SHAPE: Shape = Shape {
     min: 4096,
@@ -59,7 +59,8 @@ pub(crate) fn found_in(
     failures: Failures,
 ) -> Result<Result<Option<Failing>, SweepFault>, Fail> {
     let script = read(alloc, script)?;
-    Ok(match sweep(alloc, &script, failures, 99, SHAPE) {
+    let swept = sweep(alloc, &script, failures, 99, SHAPE, &mut Silent);
+    Ok(match swept {
         Ok(swept) => Ok(swept.found.as_ref().map(|found| found.at)),
         Err(fault) => Err(fault),
     })
@@ -96,6 +97,12 @@ fn command_of(wanted: &Wanted) -> Command
 pub(crate) fn is_answered(alloc: Global, wanted: &Wanted) -> bool {
     let mut script = FALLBACK;
     let mut report = Vec::new(alloc);
-    let status = answer(alloc, &command_of(wanted), &mut script, &mut report);
+    let status = answer(
+        alloc,
+        &command_of(wanted),
+        &mut script,
+        &mut report,
+        &mut Silent,
+    );
     report.as_slice() == wanted.report.as_bytes() && status == wanted.status
 }

@@ -1,6 +1,7 @@
 //! Nothing but tests: of turns of a machine, shapes that no heap has, lengths that a table tells, attempts that fail at a rate or two
-//! at once, and of the program over words, hosts and streams in memory, by the public calls of the crates that have these. They stand here so that those
-//! crates are proved once, and not again with their tests. What a worked case can show stands in none of them.
+//! at once, and of the program over words, hosts and streams in memory, with what it tells of a sweep, by the public calls of the
+//! crates that have these. They stand here so that those crates are proved once, and not again with their tests. What a worked case
+//! can show stands in none of them.
 #![tactic(auto)]
 
 #[cfg(test)]
@@ -17,6 +18,8 @@ mod notes;
 mod pairs;
 #[cfg(test)]
 mod programs;
+#[cfg(test)]
+mod progress;
 #[cfg(test)]
 mod rates;
 #[cfg(test)]

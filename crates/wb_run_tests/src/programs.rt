@@ -6,6 +6,7 @@ use std::alloc::Global;
 use std::io;
 use std::io::ErrorKind;
 use std::test::Fail;
+use workbench::Silent;
 use workbench::host::Host;
 use workbench::program::program;
 
@@ -156,7 +157,14 @@ fn comes_to(alloc: Global, words: io::Result<Vec<&'static str>>, wanted: &Wanted
     let mut desk = full_desk();
     let mut output = Vec::new(alloc);
     let mut messages = Vec::new(alloc);
-    let status = program(alloc, words, &mut desk, &mut output, &mut messages);
+    let status = program(
+        alloc,
+        words,
+        &mut desk,
+        &mut output,
+        &mut messages,
+        &mut Silent,
+    );
     output.as_slice() == wanted.output.as_bytes()
         && messages.as_slice() == wanted.messages.as_bytes()
         && status == wanted.status
@@ -202,7 +210,14 @@ fn is_left_alone(alloc: Global, words: Vec<&'static str>) -> bool {
     let mut desk = full_desk();
     let mut output = Vec::new(alloc);
     let mut messages = Vec::new(alloc);
-    let status = program(alloc, Ok(words), &mut desk, &mut output, &mut messages);
+    let status = program(
+        alloc,
+        Ok(words),
+        &mut desk,
+        &mut output,
+        &mut messages,
+        &mut Silent,
+    );
     output.is_empty() && status == 6 && desk.opened == 0 && desk.lent == 0
 }
 

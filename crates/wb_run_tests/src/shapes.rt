@@ -8,6 +8,7 @@ use wb_script::read;
 use wb_size::fault::SizeFault;
 use wb_size::measure::size;
 use wb_sweep::fault::SweepFault;
+use wb_sweep::progress::Silent;
 use wb_sweep::sweeping::sweep;
 
 const ODD: Shape = Shape { min: 8, step: 4096 };
@@ -35,7 +36,7 @@ fn no_size_has_it(rt: HostRuntime) -> Result<(), Fail> {
 fn no_sweep_has_it(rt: HostRuntime) -> Result<(), Fail> {
     let script = read(rt.alloc(), EMPTY)?;
     for failures in [Failures::Single, Failures::Every, Failures::Pairs] {
-        let told = sweep(rt.alloc(), &script, failures, 3, ODD);
+        let told = sweep(rt.alloc(), &script, failures, 3, ODD, &mut Silent);
         assert_eq!(rt; told.err(), Some(SweepFault::BadShape));
     }
     Ok(())

@@ -14,6 +14,7 @@ use crate::family::Family;
 use crate::fault::SweepFault;
 use crate::fork::result_under;
 use crate::found::Found;
+use crate::progress::Progress;
 use crate::walk::{attempts_in, find_among};
 use std::alloc::Global;
 use wb_machine::Machine;
@@ -24,7 +25,11 @@ use wb_model::script::Script;
 
 /// The least pair whose run is bad, of those of which the attempt that the lead makes next, of this number, is the first;
 /// `None` if the run of each is fine, and if the next turn makes no attempt.
-fn find_with_next(lead: &Machine, number: u32) -> Result<Option<Found>, SweepFault>
+fn find_with_next<P: Progress>(
+    lead: &Machine,
+    number: u32,
+    progress: &mut P,
+) -> Result<Option<Found>, SweepFault>
     requires number { number ≡ lead.now.attempts + 1 }
     requires rule { lead.now.rule ≡ rules.Number 0 }
     requires lines { lead.now.keeps_rises ≡ false }
@@ -47,12 +52,16 @@ fn find_with_next(lead: &Machine, number: u32) -> Result<Option<Found>, SweepFau
     let mut fork = lead.try_copy()?;
     fork.set_rule(rule);
     fork.step()?;
-    find_among(&mut fork, Family::With(number), last)
+    find_among(&mut fork, Family::With(number), last, progress)
 }
 
 /// The least pair whose run is bad; `None` if the run of each pair is fine. No single failure shows anything, and the run
 /// without failure, which begins here, makes `last` attempts.
-fn find_beside(lead: &mut Machine, last: u32) -> Result<Option<Found>, SweepFault>
+fn find_beside<P: Progress>(
+    lead: &mut Machine,
+    last: u32,
+    progress: &mut P,
+) -> Result<Option<Found>, SweepFault>
     requires rule { lead.old.rule ≡ rules.Number 0 }
     requires first { (lead.old.begun ≡ false) × (lead.old.attempts ≡ 0) × (lead.old.steps ≡ 0) }
     requires well { lead.old.failed ≡ false }
@@ -69,7 +78,7 @@ fn find_beside(lead: &mut Machine, last: u32) -> Result<Option<Found>, SweepFaul
     ensures shape { result ≢ Err SweepFault.BadShape }
 {
     while lead.attempts() < last {
-        let found = find_with_next(lead, lead.attempts() + 1)?;
+        let found = find_with_next(lead, lead.attempts() + 1, progress)?;
         if found.is_some() {
             return Ok(found);
         }
@@ -80,12 +89,13 @@ fn find_beside(lead: &mut Machine, last: u32) -> Result<Option<Found>, SweepFaul
 
 /// The least pair whose run is bad; `None` if the run of each pair is fine. No single failure shows anything, and the run
 /// without failure makes `last` attempts.
-pub(crate) fn find_pair(
+pub(crate) fn find_pair<P: Progress>(
     alloc: Global,
     script: &Script,
     budget: u32,
     shape: Shape,
     last: u32,
+    progress: &mut P,
 ) -> Result<Option<Found>, SweepFault>
     requires script { IsTrue (is_script script.now) }
     requires least { 1 ≤ budget }
@@ -101,5 +111,5 @@ pub(crate) fn find_pair(
     ensures shape { result ≡ Err SweepFault.BadShape → is_shape shape ≡ false }
 {
     let mut lead = Machine::new(alloc, script, Rule::Number(0), budget, shape)?;
-    find_beside(&mut lead, last)
+    find_beside(&mut lead, last, progress)
 }

@@ -12,6 +12,7 @@ use crate::family::Family;
 use crate::fault::SweepFault;
 use crate::found::{Found, Sweep};
 use crate::pairs::find_pair;
+use crate::progress::Progress;
 use crate::walk::{attempts_in, find_among, found_at};
 use std::alloc::Global;
 use wb_machine::{Machine, run};
@@ -22,13 +23,14 @@ use wb_model::script::Script;
 
 /// The least of the failures that are tried as 0, 1, 2 and so on whose run is bad, of pairs the least single failure; `None` if
 /// they are all fine. The run without failure is, and makes `last` attempts.
-fn find_in_order(
+fn find_in_order<P: Progress>(
     alloc: Global,
     script: &Script,
     failures: Failures,
     budget: u32,
     shape: Shape,
     last: u32,
+    progress: &mut P,
 ) -> Result<Option<Found>, SweepFault>
     requires script { IsTrue (is_script script.now) }
     requires least { 1 ≤ budget }
@@ -44,18 +46,19 @@ fn find_in_order(
     ensures shape { result ≡ Err SweepFault.BadShape → is_shape shape ≡ false }
 {
     let mut lead = Machine::new(alloc, script, failures.at(0).rule(), budget, shape)?;
-    find_among(&mut lead, Family::Of(failures), last)
+    find_among(&mut lead, Family::Of(failures), last, progress)
 }
 
 /// The least failure that makes a run bad; `None` if no failure does. The run without failure is fine, and makes `last`
 /// attempts.
-fn find_later(
+fn find_later<P: Progress>(
     alloc: Global,
     script: &Script,
     failures: Failures,
     budget: u32,
     shape: Shape,
     last: u32,
+    progress: &mut P,
 ) -> Result<Option<Found>, SweepFault>
     requires script { IsTrue (is_script script.now) }
     requires least { 1 ≤ budget }
@@ -70,31 +73,24 @@ fn find_later(
         IsCutShort failures script.now budget shape at why }
     ensures shape { result ≡ Err SweepFault.BadShape → is_shape shape ≡ false }
 {
-    if let Some(found) = find_in_order(alloc, script, failures, budget, shape, last)? {
+    if let Some(found) = find_in_order(alloc, script, failures, budget, shape, last, progress)? {
         return Ok(Some(found));
     }
     match failures {
         Failures::Single => Ok(None),
         Failures::Every => Ok(None),
-        Failures::Pairs => find_pair(alloc, script, budget, shape, last),
+        Failures::Pairs => find_pair(alloc, script, budget, shape, last, progress),
     }
 }
 
-/// The least failure that makes the run bad: the number of the attempt that fails, the rate at which attempts fail, or the pair
-/// of attempts that fail. Number 0 and rate 0 are the run without failure.
-///
-/// Runs the script without failure, and then, up to the first that is bad or cut, under the failures from 1 to the last
-/// attempt of that run; what it finds is of every failure. Each of these goes on from where that run makes the attempt that is
-/// the first to fail. Pairs are tried once no single number's run is bad or cut: in the order of their first attempts, and those
-/// with the same one in the order of their second, which is any that the run with the first failure makes after it. `Cut` names
-/// the least failure whose run is cut, where no lesser failure's run is bad. `BadShape` comes exactly where the shape is none
-/// that a heap may have. At most three runs are under way at once.
-pub fn sweep(
+/// The sweep itself, of whose beginning and end `sweep` tells.
+fn find_least<P: Progress>(
     alloc: Global,
     script: &Script,
     failures: Failures,
     budget: u32,
     shape: Shape,
+    progress: &mut P,
 ) -> Result<Sweep, SweepFault>
     requires script { IsTrue (is_script script.now) }
     requires least { 1 ≤ budget }
@@ -113,8 +109,42 @@ pub fn sweep(
             found: Some(found),
         });
     }
-    match find_later(alloc, script, failures, budget, shape, attempts) {
+    progress.begin_failures(attempts);
+    match find_later(alloc, script, failures, budget, shape, attempts, progress) {
         Ok(found) => Ok(Sweep { attempts, found }),
         Err(fault) => Err(fault),
     }
+}
+
+/// The least failure that makes the run bad: the number of the attempt that fails, the rate at which attempts fail, or the pair
+/// of attempts that fail. Number 0 and rate 0 are the run without failure.
+///
+/// Runs the script without failure, and then, up to the first that is bad or cut, under the failures from 1 to the last
+/// attempt of that run; what it finds is of every failure. Each of these goes on from where that run makes the attempt that is
+/// the first to fail. Pairs are tried once no single number's run is bad or cut: in the order of their first attempts, and those
+/// with the same one in the order of their second, which is any that the run with the first failure makes after it. `Cut` names
+/// the least failure whose run is cut, where no lesser failure's run is bad. `BadShape` comes exactly where the shape is none
+/// that a heap may have. At most three runs are under way at once.
+///
+/// `progress` is told that the sweep begins, of each failure before its run, and that the sweep is over.
+pub fn sweep<P: Progress>(
+    alloc: Global,
+    script: &Script,
+    failures: Failures,
+    budget: u32,
+    shape: Shape,
+    progress: &mut P,
+) -> Result<Sweep, SweepFault>
+    requires script { IsTrue (is_script script.now) }
+    requires least { 1 ≤ budget }
+    requires greatest { budget ≤ LARGEST_BUDGET }
+    ensures swept { IfOk result (IsSweep failures script.now budget shape) }
+    ensures cut { (at : Failing) (why : Why) → result ≡ Err (SweepFault.Cut at why) →
+        IsCutShort failures script.now budget shape at why }
+    ensures shape { (result ≡ Err SweepFault.BadShape) ↔ (is_shape shape ≡ false) }
+{
+    progress.begin();
+    let swept = find_least(alloc, script, failures, budget, shape, progress);
+    progress.end();
+    swept
 }

@@ -11,6 +11,7 @@ use crate::family::Family;
 use crate::fault::SweepFault;
 use crate::fork::result_under;
 use crate::found::Found;
+use crate::progress::Progress;
 use wb_machine::Machine;
 use wb_model::failures::Failing;
 use wb_model::heap::Attempt;
@@ -46,7 +47,12 @@ pub(crate) fn attempts_in(trace: &[Attempt]) -> u32
 
 /// The run in which the attempt that the lead makes next, of this number, is the first to fail: found where it is bad; `None` if
 /// it is fine, and if the next turn makes no attempt.
-fn try_next(lead: &Machine, family: Family, number: u32) -> Result<Option<Found>, SweepFault>
+fn try_next<P: Progress>(
+    lead: &Machine,
+    family: Family,
+    number: u32,
+    progress: &mut P,
+) -> Result<Option<Found>, SweepFault>
     requires number { number ≡ lead.now.attempts + 1 }
     requires rule { lead.now.rule ≡ rule_in family 0 }
     requires lines { lead.now.keeps_rises ≡ false }
@@ -62,16 +68,18 @@ fn try_next(lead: &Machine, family: Family, number: u32) -> Result<Option<Found>
         return Ok(None);
     }
     let failing = family.at(number);
+    progress.begin_failure(failing);
     let told = result_under(lead, failing.rule())?;
     found_at(failing, told)
 }
 
 /// The least failure of a family whose run is bad, among those up to the last attempt of the lead's own run, which is under
 /// the family's failure 0; `None` if they are all fine. Those up to the attempts that the lead has made are.
-pub(crate) fn find_among(
+pub(crate) fn find_among<P: Progress>(
     lead: &mut Machine,
     family: Family,
     last: u32,
+    progress: &mut P,
 ) -> Result<Option<Found>, SweepFault>
     requires rule { lead.old.rule ≡ rule_in family 0 }
     requires first { lead.old.begun ≡ false → lead.old.steps ≡ 0 }
@@ -89,7 +97,7 @@ pub(crate) fn find_among(
     ensures shape { result ≢ Err SweepFault.BadShape }
 {
     while lead.attempts() < last {
-        let found = try_next(lead, family, lead.attempts() + 1)?;
+        let found = try_next(lead, family, lead.attempts() + 1, progress)?;
         if found.is_some() {
             return Ok(found);
         }

@@ -19,6 +19,7 @@ use std::alloc::{AllocError, Global};
 use wb_command_line::command::Command;
 use wb_model::memory::NoMemory;
 use wb_streams::streams::{Sink, Source, StreamFault, read_some, write_some};
+use wb_sweep::Progress;
 
 /// The most that is read of a script, in bytes: one more than a script may have, so that a longer one shows.
 pub const MOST_READ: usize = 65_537;
@@ -73,11 +74,14 @@ impl From<NoMemory> for ReportFault {
 /// What failed is what the reads and writes that were made answered, so that `READ_OR_WRITE_FAULT` comes
 /// exactly where one of them failed. After one that failed no other is made of that kind, and no read after one
 /// that brought no byte.
-pub fn answer<R: Source, W: Sink>(
+///
+/// `progress` is told of a sweep, all of it before anything is written. What it does makes no difference to anything.
+pub fn answer<R: Source, W: Sink, P: Progress>(
     alloc: Global,
     command: &Command,
     reader: &mut R,
     writer: &mut W,
+    progress: &mut P,
 ) -> u8
     requires { IsTrue (is_answerable command.now) }
     ensures answer { IsAnswer R.remaining R.reads W.contents W.writes
@@ -92,15 +96,16 @@ pub fn answer<R: Source, W: Sink>(
     ensures taken { TakesAtMost (LONGEST_SCRIPT + 1)
         (R.remaining reader.old) (R.remaining reader.new) }
 {
-    read_and_say(alloc, command, reader, writer)
+    read_and_say(alloc, command, reader, writer, progress)
 }
 
 /// The answer, by what the reads and the writes came to.
-fn read_and_say<R: Source, W: Sink>(
+fn read_and_say<R: Source, W: Sink, P: Progress>(
     alloc: Global,
     command: &Command,
     reader: &mut R,
     writer: &mut W,
+    progress: &mut P,
 ) -> u8
     requires { IsTrue (is_answerable command.now) }
     ensures answer { IsAnswer R.remaining R.reads W.contents W.writes
@@ -108,7 +113,7 @@ fn read_and_say<R: Source, W: Sink>(
     ensures taken { TakesAtMost (LONGEST_SCRIPT + 1)
         (R.remaining reader.old) (R.remaining reader.new) }
 {
-    match reported(alloc, command, reader) {
+    match reported(alloc, command, reader, progress) {
         Ok(message) => say(writer, message.text.as_slice(), message.status),
         Err(ReportFault::NoMemory) => say(writer, b"no memory\n", WANT_OF_MEMORY),
         Err(ReportFault::Read) => say_read_fault(writer),
@@ -141,10 +146,11 @@ struct Message {
 
 /// The report of the command on the first bytes that the reader gives, as the command wants it.
 #[tactic(auto, using(crate::proofs::AsciiLemmas::report_lines))]
-fn reported<R: Source>(
+fn reported<R: Source, P: Progress>(
     alloc: Global,
     command: &Command,
     reader: &mut R,
+    progress: &mut P,
 ) -> Result<Message, ReportFault>
     requires { IsTrue (is_answerable command.now) }
     ensures report { IfOk result (λ r.
@@ -154,7 +160,7 @@ fn reported<R: Source>(
     ensures read { Reads R.reads reader.old (is_read_fault result) reader.new }
 {
     let bytes = first_bytes(alloc, reader, MOST_READ)?;
-    let report = report_on(alloc, command, bytes.as_slice())?;
+    let report = report_on(alloc, command, bytes.as_slice(), progress)?;
     Ok(laid_out(alloc, command, report)?)
 }
 

@@ -24,3 +24,4 @@ pub use wb_model::heap::{Rule, Shape};
 pub use wb_model::memory::NoMemory;
 pub use wb_model::run::RunResult;
 pub use wb_streams::{Sink, Source, StreamFault};
+pub use wb_sweep::{Progress, Silent};

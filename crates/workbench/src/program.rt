@@ -16,6 +16,7 @@ use std::io;
 use wb_command_line::command::{Command, CommandFault};
 use wb_command_line::command_line::command;
 use wb_streams::streams::Sink;
+use wb_sweep::Progress;
 
 /// The exit status of a fault in the command line.
 pub const COMMAND_LINE_FAULT: u8 = 6;
@@ -28,12 +29,16 @@ pub const COMMAND_LINE_FAULT: u8 = 6;
 /// touched. The script is what the named file holds, which is opened once, or standard input where none is named,
 /// and `output` is given the answer. Where the file can't be opened that is the line `read fault`, with
 /// `READ_OR_WRITE_FAULT`.
-pub fn program<S: AsStr + Drop, H: Host, W: Sink, M: Messages>(
+///
+/// `progress` is told of a sweep, all of it before anything is written. It is handed over beside `messages`, and what it does
+/// makes no difference to anything.
+pub fn program<S: AsStr + Drop, H: Host, W: Sink, M: Messages, P: Progress>(
     alloc: Global,
     words: io::Result<Vec<S>>,
     host: &mut H,
     output: &mut W,
     messages: &mut M,
+    progress: &mut P,
 ) -> u8
     ensures done { MatchResult words
         (λ had. IsDone
@@ -48,7 +53,7 @@ pub fn program<S: AsStr + Drop, H: Host, W: Sink, M: Messages>(
     ensures status { result ≤ 6 }
 {
     match commanded(alloc, words) {
-        Ok(command) => carry_out(alloc, &command, host, output),
+        Ok(command) => carry_out(alloc, &command, host, output, progress),
         Err(fault) => {
             messages.tell(&fault);
             status_of(&fault)
@@ -71,7 +76,13 @@ fn commanded<S: AsStr + Drop>(
 
 /// Answers the command over its file, or over standard input where it names none. The file is opened before any
 /// of it is read.
-fn carry_out<H: Host, W: Sink>(alloc: Global, command: &Command, host: &mut H, output: &mut W) -> u8
+fn carry_out<H: Host, W: Sink, P: Progress>(
+    alloc: Global,
+    command: &Command,
+    host: &mut H,
+    output: &mut W,
+    progress: &mut P,
+) -> u8
     requires { IsTrue (is_answerable command.now) }
     ensures done { IsCarriedOut H.lends H.opens
         (IsAnswer H.Input.remaining H.Input.reads W.contents W.writes)
@@ -82,10 +93,10 @@ fn carry_out<H: Host, W: Sink>(alloc: Global, command: &Command, host: &mut H, o
 {
     let Some(name) = &command.file else {
         let mut input = host.standard_input();
-        return answer(alloc, command, &mut input, output);
+        return answer(alloc, command, &mut input, output, progress);
     };
     match host.open(name.as_str()) {
-        Some(mut file) => answer(alloc, command, &mut file, output),
+        Some(mut file) => answer(alloc, command, &mut file, output, progress),
         None => say_read_fault(output),
     }
 }

@@ -14,6 +14,7 @@ use std::io::Write;
 use wb_command_line::command::Command;
 use wb_model::fault::ScriptFault;
 use wb_model::memory::NoMemory;
+use wb_sweep::Progress;
 
 /// A report as lines, its figures, and the exit status that goes with it.
 #[derive(Debug, Drop)]
@@ -24,13 +25,18 @@ pub struct Report {
 }
 
 /// The report of a command for the bytes of a script: what its task comes to, or the one line that says why the
-/// bytes are no script. The only error is that memory ran out.
-pub fn report_on(alloc: Global, command: &Command, bytes: &[u8]) -> Result<Report, NoMemory>
+/// bytes are no script. The only error is that memory ran out. `progress` is told of a sweep.
+pub fn report_on<P: Progress>(
+    alloc: Global,
+    command: &Command,
+    bytes: &[u8],
+    progress: &mut P,
+) -> Result<Report, NoMemory>
     requires { IsTrue (is_answerable command.now) }
     ensures { IfOk result (λ r. IsReport command.now bytes.now r.text.items r.figures r.status) }
 {
     match wb_script::read(alloc, bytes) {
-        Ok(script) => carry_out(alloc, command, &script),
+        Ok(script) => carry_out(alloc, command, &script, progress),
         Err(ScriptFault::NoMemory) => Err(NoMemory),
         Err(fault) => refusal(alloc, fault),
     }

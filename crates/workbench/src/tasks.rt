@@ -24,7 +24,7 @@ use wb_model::memory::NoMemory;
 use wb_model::run::Outcome;
 use wb_model::script::Script;
 use wb_size::{SizeFault, size};
-use wb_sweep::{SweepFault, sweep};
+use wb_sweep::{Progress, SweepFault, sweep};
 
 /// The exit status where nothing was found.
 const NOTHING_FOUND: u8 = 0;
@@ -35,8 +35,13 @@ const FOUND: u8 = 1;
 /// The exit status where a run was cut.
 const CUT: u8 = 3;
 
-/// What the command's task comes to on a script. The only error is that memory ran out.
-pub fn carry_out(alloc: Global, command: &Command, script: &Script) -> Result<Report, NoMemory>
+/// What the command's task comes to on a script. The only error is that memory ran out. `progress` is told of a sweep.
+pub fn carry_out<P: Progress>(
+    alloc: Global,
+    command: &Command,
+    script: &Script,
+    progress: &mut P,
+) -> Result<Report, NoMemory>
     requires ranges { IsTrue (is_answerable command.now) }
     requires sound { IsTrue (is_script script.now) }
     ensures { IfOk result (λ r. IsTaskReport command.now.task script.now
@@ -46,8 +51,8 @@ pub fn carry_out(alloc: Global, command: &Command, script: &Script) -> Result<Re
     match command.task {
         Task::Run(rule) => run_report(alloc, script, rule, budget, shape),
         Task::Size => size_report(alloc, script, budget, shape),
-        Task::Sweep(failures) => sweep_report(alloc, script, failures, budget, shape),
-        Task::Check(failures) => check_report(alloc, script, failures, budget, shape),
+        Task::Sweep(failures) => sweep_report(alloc, script, failures, budget, shape, progress),
+        Task::Check(failures) => check_report(alloc, script, failures, budget, shape, progress),
     }
 }
 
@@ -129,12 +134,13 @@ fn size_report(
 }
 
 /// Which of these failures leaks or panics, or the line of a run that was cut.
-fn sweep_report(
+fn sweep_report<P: Progress>(
     alloc: Global,
     script: &Script,
     failures: Failures,
     budget: u32,
     shape: Shape,
+    progress: &mut P,
 ) -> Result<Report, NoMemory>
     requires script { IsTrue (is_script script.now) }
     requires least { 1 ≤ budget }
@@ -144,7 +150,7 @@ fn sweep_report(
         r.text.items r.figures r.status) }
 {
     let mut text = Vec::new(alloc);
-    match sweep(alloc, script, failures, budget, shape) {
+    match sweep(alloc, script, failures, budget, shape, progress) {
         Ok(sweep) => {
             put_sweep(&mut text, failures, &sweep)?;
             let (number, status) = match &sweep.found {
@@ -181,12 +187,13 @@ fn cut_report(text: Vec<u8>) -> Report
 }
 
 /// Both, the size first; where the script wasn't sized, the line of the cut alone.
-fn check_report(
+fn check_report<P: Progress>(
     alloc: Global,
     script: &Script,
     failures: Failures,
     budget: u32,
     shape: Shape,
+    progress: &mut P,
 ) -> Result<Report, NoMemory>
     requires script { IsTrue (is_script script.now) }
     requires least { 1 ≤ budget }
@@ -199,7 +206,7 @@ fn check_report(
     if report.status == CUT {
         return Ok(report);
     }
-    let sweep = sweep_report(alloc, script, failures, budget, shape)?;
+    let sweep = sweep_report(alloc, script, failures, budget, shape, progress)?;
     report.text.extend_from_slice(sweep.text.as_slice())?;
     report.figures = Figures::of_both(report.figures, sweep.figures);
     report.status = sweep.status;

@@ -13,7 +13,7 @@ use Rattle.wb_sweep.proofs.PairsFurther.{pairs-further}
 use Rattle.wb_sweep.proofs.pairs.find_beside.Goals as goal
 
 pub returns-in_err-found-clause-cut : goal.returns-in_err-found-clause-cut
-returns-in_err-found-clause-cut c at why e =
+returns-in_err-found-clause-cut g c at why e =
     let old = c.args.lead.now in
     let lead = c.loop-lead.lead in
     let before = c.loop-lead.invariant in
@@ -25,7 +25,7 @@ returns-in_err-found-clause-cut c at why e =
     pair-cut old.script old.budget old.shape first (omega arith) c.requires.alone (λ a one less. before.fine a one (omega (arith, less, made))) at why cut
 
 pub returns-then-is_some-clause-found : goal.returns-then-is_some-clause-found
-returns-then-is_some-clause-found c =
+returns-then-is_some-clause-found g c =
     let old = c.args.lead.now in
     let lead = c.loop-lead.lead in
     let before = c.loop-lead.invariant in
@@ -38,7 +38,7 @@ returns-then-is_some-clause-found c =
     pair-found old.script old.budget old.shape first (omega arith) c.requires.alone (λ a one less. before.fine a one (omega (arith, less, made))) bad.at bad.result is) found
 
 pub loop-lead-preserved : goal.loop-lead-preserved
-loop-lead-preserved c =
+loop-lead-preserved g c =
     let old = c.args.lead.now in
     let lead = c.loop-lead.lead in
     let before = c.loop-lead.invariant in
@@ -62,7 +62,7 @@ loop-lead-preserved c =
     }
 
 pub returns-clause-none : goal.returns-clause-none
-returns-clause-none c e =
+returns-clause-none g c e =
     let old = c.args.lead.now in
     let fine = c.loop-lead.invariant.fine in
     all-pairs-fine old.script old.budget old.shape (c.requires.alone 0) (λ i first le.

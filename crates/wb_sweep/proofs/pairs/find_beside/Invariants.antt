@@ -6,7 +6,7 @@ use Rattle.wb_sweep.proofs.pairs.find_beside.Given as goal
 
 -- the run is the same, without failure, and the pairs whose first attempt was made so far are fine
 abbrev pub invariant-loop-lead : goal.invariant-loop-lead
-invariant-loop-lead l =
+invariant-loop-lead g l =
     record {
       script : l.lead.script ≡ l.fn.lead.script;
       rule : l.lead.rule ≡ rules.Number 0;
@@ -21,4 +21,4 @@ invariant-loop-lead l =
 
 -- the steps that are left, the first turn, and the end
 abbrev pub decreases-loop-lead : goal.decreases-loop-lead
-decreases-loop-lead l = cond l.lead.over 0 1 + (cond l.lead.begun 0 1 + (l.fn.lead.budget - l.lead.steps))
+decreases-loop-lead g l = cond l.lead.over 0 1 + (cond l.lead.begun 0 1 + (l.fn.lead.budget - l.lead.steps))

@@ -15,14 +15,14 @@ use Rattle.wb_sweep.proofs.Further.{IsOfSameRun, of-same, same-runs}
 use Rattle.wb_sweep.proofs.pairs.find_with_next.Goals as goal
 
 pub attempts_in-last-requires : goal.attempts_in-last-requires
-attempts_in-last-requires c =
+attempts_in-last-requires g c =
     let lead = c.args.lead.now in
     let traced = c.as_slice.ensures ∙ ap (λ (r : RunResult). r.trace) c.in_ok-alone.ensures in
     subst IsNumbered (sym traced) (run-numbered lead.script lead.budget lead.shape (Number c.args.number))
 
 -- the copy is of the lead's own run
 pub find_among-requires-clause-last : goal.find_among-requires-clause-last
-find_among-requires-clause-last c =
+find_among-requires-clause-last g c =
     let lead = c.args.lead.now in
     let fork = c.step.new.self in
     let same : IsOfSameRun lead fork = record { script = search rules; budget = search rules; shape = search rules } in
@@ -31,7 +31,7 @@ find_among-requires-clause-last c =
     c.attempts_in-last.ensures ∙ ap length traced ∙ ap (λ (r : RunResult). length r.trace) (sym ran)
 
 pub find_among-requires-clause-fine : goal.find_among-requires-clause-fine
-find_among-requires-clause-fine c n lt =
+find_among-requires-clause-fine g c n lt =
     let lead = c.args.lead.now in
     let fork = c.step.new.self in
     let same : IsOfSameRun lead fork = record { script = search rules; budget = search rules; shape = search rules } in
@@ -40,7 +40,7 @@ find_among-requires-clause-fine c n lt =
     ∙ c.requires.alone c.args.number
 
 pub returns-clause-fine : goal.returns-clause-fine
-returns-clause-fine c =
+returns-clause-fine g c =
     let lead = c.args.lead.now in
     let fork = c.step.new.self in
     let last = c.attempts_in-last.result in
@@ -53,7 +53,7 @@ returns-clause-fine c =
     pairs-fine lead.script lead.budget lead.shape c.args.number (λ n lt. fine none n (omega (arith, lt, all)))) below
 
 pub returns-clause-found : goal.returns-clause-found
-returns-clause-found c =
+returns-clause-found g c =
     let lead = c.args.lead.now in
     let fork = c.step.new.self in
     let same : IsOfSameRun lead fork = record { script = search rules; budget = search rules; shape = search rules } in
@@ -61,7 +61,7 @@ returns-clause-found c =
     IfOk c.find_among.result (λ found. IfSome found (λ bad. IsFoundAmong (failing_with c.args.number) s b h bad.at bad.result))) c.find_among.ensures.found
 
 pub returns-clause-cut : goal.returns-clause-cut
-returns-clause-cut c at why e =
+returns-clause-cut g c at why e =
     let lead = c.args.lead.now in
     let fork = c.step.new.self in
     let same : IsOfSameRun lead fork = record { script = search rules; budget = search rules; shape = search rules } in

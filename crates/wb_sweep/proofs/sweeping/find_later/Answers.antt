@@ -7,24 +7,24 @@ use Rattle.wb_sweep.proofs.AnswerLemmas.{map_ok}
 use Rattle.wb_sweep.proofs.sweeping.find_later.Goals as goal
 
 pub find_pair-requires-clause-alone : goal.find_pair-requires-clause-alone
-find_pair-requires-clause-alone c =
+find_pair-requires-clause-alone g c =
     let none : c.in_ok-found.field-0 ≡ None = search rules in
     subst (λ (f : Failures). AreAllFine (runs_of f c.args.script.now c.args.budget c.args.shape)) c.in-Pairs.is (c.in_ok-found.ensures.fine none)
 
 pub returns-in-Single-clause-none : goal.returns-in-Single-clause-none
-returns-in-Single-clause-none c e =
+returns-in-Single-clause-none g c e =
     let none : c.in_ok-found.field-0 ≡ None = search rules in
     subst (λ (f : Failures). IsNoneFound f c.args.script.now c.args.budget c.args.shape) (sym c.in-Single.is)
     (subst (λ (f : Failures). AreAllFine (runs_of f c.args.script.now c.args.budget c.args.shape)) c.in-Single.is (c.in_ok-found.ensures.fine none))
 
 pub returns-in-Every-clause-none : goal.returns-in-Every-clause-none
-returns-in-Every-clause-none c e =
+returns-in-Every-clause-none g c e =
     let none : c.in_ok-found.field-0 ≡ None = search rules in
     subst (λ (f : Failures). IsNoneFound f c.args.script.now c.args.budget c.args.shape) (sym c.in-Every.is)
     (subst (λ (f : Failures). AreAllFine (runs_of f c.args.script.now c.args.budget c.args.shape)) c.in-Every.is (c.in_ok-found.ensures.fine none))
 
 pub returns-in-Pairs-clause-none : goal.returns-in-Pairs-clause-none
-returns-in-Pairs-clause-none c =
+returns-in-Pairs-clause-none g c =
     let none : c.in_ok-found.field-0 ≡ None = search rules in
     let alone = subst (λ (f : Failures). AreAllFine (runs_of f c.args.script.now c.args.budget c.args.shape)) c.in-Pairs.is (c.in_ok-found.ensures.fine none) in
     map_ok c.find_pair.result (λ found pairs nothing.

@@ -4,7 +4,7 @@ use Rattle.wb_sweep.proofs.Further.{IsOfSameRun, fine-further}
 use Rattle.wb_sweep.proofs.walk.find_among.Goals as goal
 
 pub loop-family-preserved : goal.loop-family-preserved
-loop-family-preserved c =
+loop-family-preserved g c =
     let before = c.loop-family.invariant in
     let after = c.in_ok-step.ensures in
     let same : IsOfSameRun c.args.lead.now c.loop-family.lead = record { script = before.script; budget = before.budget; shape = before.shape } in

@@ -5,7 +5,7 @@ use Rattle.wb_sweep.proofs.walk.find_among.Given as goal
 
 -- the run is the same, under the family's failure 0, and the failures up to the number of attempts made so far are fine
 abbrev pub invariant-loop-family : goal.invariant-loop-family
-invariant-loop-family l =
+invariant-loop-family g l =
     record {
       script : l.lead.script ≡ l.fn.lead.script;
       rule : l.lead.rule ≡ rule_in l.fn.family 0;
@@ -20,4 +20,4 @@ invariant-loop-family l =
 
 -- the steps that are left, the first turn, and the end
 abbrev pub decreases-loop-family : goal.decreases-loop-family
-decreases-loop-family l = cond l.lead.over 0 1 + (cond l.lead.begun 0 1 + (l.fn.lead.budget - l.lead.steps))
+decreases-loop-family g l = cond l.lead.over 0 1 + (cond l.lead.begun 0 1 + (l.fn.lead.budget - l.lead.steps))

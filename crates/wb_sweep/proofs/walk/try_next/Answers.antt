@@ -7,7 +7,7 @@ use Rattle.wb_sweep.proofs.FamilyLemmas.{family-fits}
 use Rattle.wb_sweep.proofs.walk.try_next.Goals as goal
 
 pub result_under-requires-clause-same : goal.result_under-requires-clause-same
-result_under-requires-clause-same c =
+result_under-requires-clause-same g c =
     let family = c.args.family in
     let attempts = c.args.lead.now.attempts in
     let e = c.rule.ensures ∙ ap rule_for (c.at-failing.ensures ∙ ap (failing_in family) c.requires.number) in

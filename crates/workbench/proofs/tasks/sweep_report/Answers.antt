@@ -4,7 +4,7 @@ use Rattle.workbench.specs.TwoNumbers.{cut_at_line, IsUnswept}
 use Rattle.workbench.proofs.tasks.sweep_report.Goals as goal
 
 pub returns-in_ok-put_cut_at-in-Err-Cut : goal.returns-in_ok-put_cut_at-in-Err-Cut
-returns-in_ok-put_cut_at-in-Err-Cut c =
+returns-in_ok-put_cut_at-in-Err-Cut g c =
     let cut = c.in-Err-Cut in
     let report = c.cut_report.result in
     let text : report.text.items ≡ cut_at_line cut.at cut.why = search rules in

@@ -1,20 +1,25 @@
-use Rattle.std.proofs.Common.{rules, ◌≡◌, Err, arith, length, subst, sym, ap, ◌∙◌}
+use Rattle.std.proofs.Common.{rules, ◌≡◌, Option, Result, Err, IfErr, arith, length, subst, sym, ap, ◌∙◌}
 use Rattle.wb_model.specs.declared.heap.Rule.{Rule}
+use Rattle.wb_model.specs.declared.run.Outcome.TheVariants as outcomes
+use Rattle.wb_model.specs.declared.run.RunResult.{RunResult}
+use Rattle.wb_model.specs.declared.run.Why.{Why}
 use Rattle.wb_model.specs.Run.{run, is_bad}
 use Rattle.wb_model.specs.Sweeps.{rule_for, rule_of, runs_of, IsLeastBad}
 use Rattle.wb_model.proofs.TraceLemmas.{run-numbered}
+use Rattle.wb_sweep.specs.declared.fault.SweepFault.{SweepFault}
 use Rattle.wb_sweep.specs.declared.fault.SweepFault.TheVariants.{Cut}
+use Rattle.wb_sweep.specs.declared.found.Found.{Found}
 use Rattle.wb_sweep.specs.Sweeping.{IsBadAt, IsNumbered}
-use Rattle.wb_sweep.proofs.AnswerLemmas.{found-first}
-use Rattle.wb_sweep.proofs.sweeping.sweep.Goals as goal
+use Rattle.wb_sweep.proofs.AnswerLemmas.{cut-first, found-first}
+use Rattle.wb_sweep.proofs.sweeping.find_least.Goals as goal
 
 pub attempts_in-attempts-requires : goal.attempts_in-attempts-requires
-attempts_in-attempts-requires c =
+attempts_in-attempts-requires g c =
     let e = c.as_slice.ensures ∙ ap (λ r. r.trace) c.in_ok-first.ensures.ran in
     subst IsNumbered (sym e) (run-numbered c.args.script.now c.args.budget c.args.shape c.rule.result)
 
 pub returns-in-Some-clause-swept : goal.returns-in-Some-clause-swept
-returns-in-Some-clause-swept c =
+returns-in-Some-clause-swept g c =
     let script = c.args.script.now in
     let failures = c.args.failures in
     let found = c.in-Some.found in
@@ -30,7 +35,7 @@ returns-in-Some-clause-swept c =
     }
 
 pub returns-in-Ok-clause-swept : goal.returns-in-Ok-clause-swept
-returns-in-Ok-clause-swept c =
+returns-in-Ok-clause-swept g c =
     let script = c.args.script.now in
     let failures = c.args.failures in
     let rule : c.rule.result ≡ rule_of failures 0 = c.rule.ensures ∙ ap rule_for c.at-none.ensures in
@@ -40,6 +45,24 @@ returns-in-Ok-clause-swept c =
     record { attempts = attempts; found = c.in-Ok.ensures.found; none = c.in-Ok.ensures.none }
 
 pub returns-in-Err-clause-cut : goal.returns-in-Err-clause-cut
-returns-in-Err-clause-cut c at why e =
+returns-in-Err-clause-cut g c at why e =
     let cut : c.in-Err.fault ≡ Cut at why = cc in
     c.find_later.ensures.cut at why (c.in-Err.is ∙ ap Err cut)
+
+-- what is cut is the run without failure, and no failure is less
+pub returns-in_err-found-clause-cut : goal.returns-in_err-found-clause-cut
+returns-in_err-found-clause-cut g c at why e =
+    let script = c.args.script.now in
+    let failures = c.args.failures in
+    let first = c.in_ok-first.first in
+    let is : c.found_at.result ≡ Err (Cut at why) = search rules in
+    let told : (met : Why) × (Cut at why ≡ Cut c.at-none.result met) × (first.outcome ≡ outcomes.Cut met) =
+    subst (λ (r : Result (Option Found) SweepFault). IfErr r (λ fault. (met : Why) × (fault ≡ Cut c.at-none.result met) × (first.outcome ≡ outcomes.Cut met))) is c.found_at.ensures.cut in
+    let fault = told.1 in
+    let failing : at ≡ c.at-none.result = cc in
+    let same : why ≡ told.0 = cc in
+    let rule : c.rule.result ≡ rule_of failures 0 = c.rule.ensures ∙ ap rule_for c.at-none.ensures in
+    let ran : first ≡ runs_of failures script c.args.budget c.args.shape 0 =
+    c.in_ok-first.ensures.ran ∙ ap (λ (r : Rule). run script r c.args.budget c.args.shape) rule in
+    cut-first script c.args.budget c.args.shape failures at why
+    (0, failing ∙ c.at-none.ensures, record { cut = ap (λ (r : RunResult). r.outcome) (sym ran) ∙ told.2 ∙ ap outcomes.Cut (sym same); least = λ n lt. absurd (omega (arith, lt)) })

@@ -1,0 +1,109 @@
+//! The line on a terminal that says which failure a sweep tries. Where standard error is no terminal, nothing is said.
+
+use arrayvec::ArrayString;
+use std::fmt::Write as _;
+use std::io::{IsTerminal, Write};
+use std::time::{Duration, Instant};
+use wb_model::failures::Failing;
+use workbench::Progress;
+
+/// How many milliseconds a sweep goes on before anything is said of it.
+const QUIET: u64 = 2_000;
+
+/// How many milliseconds a line is left as it is.
+const PAUSE: u64 = 100;
+
+/// The most bytes that are written at once: a line's words, with three numbers, and what leads to its beginning.
+const WIDEST: usize = 80;
+
+/// A line on standard error that is rewritten in place while a sweep goes on, and wiped at its end. Whether it could be written,
+/// and what time it is, makes no difference to anything.
+#[derive(Drop)]
+pub struct ProgressLine<'a> {
+    rt: &'a HostRuntime,
+    /// From when on the line is to be rewritten; `None` where it never is.
+    due: Option<Instant>,
+    /// The greatest number that is tried.
+    last: u32,
+    /// How many columns the line takes that is shown; 0 where none is.
+    width: usize,
+}
+
+impl<'a> ProgressLine<'a> {
+    pub fn new(rt: &'a HostRuntime) -> ProgressLine<'a> {
+        ProgressLine {
+            rt,
+            due: None,
+            last: 0,
+            width: 0,
+        }
+    }
+
+    /// Whether the line is to be rewritten now.
+    fn is_due(&self) -> bool {
+        match self.due {
+            Some(due) => Instant::now(self.rt).is_ok_and(|now| now >= due),
+            None => false,
+        }
+    }
+
+    /// The time after so many milliseconds; `None` if the clock fails.
+    fn after(&self, pause: u64) -> Option<Instant> {
+        let now = Instant::now(self.rt).ok()?;
+        now.checked_add(Duration::from_millis(pause))
+    }
+
+    /// Writes a text in the place of the line that is shown.
+    fn rewrite(&mut self, text: &str) {
+        let mut line = ArrayString::<WIDEST>::new();
+        if write!(line, "\r{:<1$}", text, self.width).is_ok() {
+            let _ = self.rt.stderr().write_all(line.as_str().as_bytes());
+            self.width = text.len();
+        }
+    }
+}
+
+impl<'a> Progress for ProgressLine<'a> {
+    fn begin(&mut self) {
+        if self.rt.stderr().is_terminal() {
+            self.due = self.after(QUIET);
+        }
+    }
+
+    fn begin_failures(&mut self, last: u32) {
+        self.last = last;
+    }
+
+    fn begin_failure(&mut self, at: Failing) {
+        if self.is_due() {
+            if let Some(text) = line_of(at, self.last) {
+                self.rewrite(text.as_str());
+            }
+            self.due = self.after(PAUSE);
+        }
+    }
+
+    fn end(&mut self) {
+        if self.width > 0 {
+            self.rewrite("");
+            let _ = self.rt.stderr().write_all(b"\r");
+        }
+        self.due = None;
+    }
+}
+
+/// The line of a failure that is tried, of so many; `None` if it is too long.
+fn line_of(at: Failing, last: u32) -> Option<ArrayString<WIDEST>> {
+    let mut line = ArrayString::new();
+    let put = match at {
+        Failing::Number(number) => write!(line, "trying attempt {number} of {last}"),
+        Failing::Every(rate) => write!(line, "trying rate {rate} of {last}"),
+        Failing::Pair(first, other) => {
+            write!(
+                line,
+                "trying attempt {first} of {last} with attempt {other}"
+            )
+        }
+    };
+    put.ok().map(|()| line)
+}

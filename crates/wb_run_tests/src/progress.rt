@@ -1,0 +1,250 @@
+//! What is told of a sweep while it goes on, and that all of it is told before anything is written.
+
+ghost use Rattle.std.specs.Prelude.{⊤};
+
+use crate::failing::FALLBACK;
+use std::alloc::Global;
+use std::cell::Cell;
+use std::io;
+use std::io::Write;
+use std::test::Fail;
+use wb_model::failures::Failing;
+use workbench::Progress;
+use workbench::host::Host;
+use workbench::program::program;
+
+/// Holds what it is told against what it is to be told.
+#[derive(Drop)]
+struct Listener<'a> {
+    /// The failures that are still to be told.
+    to_come: &'static [Failing],
+    is_as_wanted: bool,
+    begun: u32,
+    last: Option<u32>,
+    ended: u32,
+    is_under_way: &'a Cell<bool>,
+}
+
+impl Progress for Listener<'_> {
+    fn begin(&mut self) {
+        self.begun = self.begun.wrapping_add(1);
+        self.is_under_way.set(true);
+    }
+
+    fn begin_failures(&mut self, last: u32) {
+        self.is_as_wanted &= self.last.is_none();
+        self.last = Some(last);
+    }
+
+    fn begin_failure(&mut self, at: Failing) {
+        match self.to_come.split_first() {
+            Some((next, rest)) => {
+                self.is_as_wanted &= *next == at;
+                self.to_come = rest;
+            }
+            None => self.is_as_wanted = false,
+        }
+    }
+
+    fn end(&mut self) {
+        self.ended = self.ended.wrapping_add(1);
+        self.is_under_way.set(false);
+    }
+}
+
+/// Takes all bytes, and notes whether some came while a sweep was under way.
+#[derive(Drop)]
+struct Taker<'a> {
+    is_under_way: &'a Cell<bool>,
+    is_early: bool,
+    taken: usize,
+}
+
+impl Write for Taker<'_> {
+    fn write(&mut self, bytes: &[u8]) -> io::Result<usize> {
+        self.is_early |= self.is_under_way.get();
+        self.taken = self.taken.wrapping_add(bytes.len());
+        Ok(bytes.len())
+    }
+
+    fn flush(&mut self) -> io::Result<()> {
+        Ok(())
+    }
+}
+
+/// A standard input, and no file.
+#[derive(Drop)]
+struct Desk {
+    input: &'static [u8],
+}
+
+impl Host for Desk {
+    type File = &'static [u8];
+
+    type Input = &'static [u8];
+
+    ghost opens = { λ _ _ _ _. ⊤ };
+
+    ghost lends = { λ _ _ _. ⊤ };
+
+    fn open(&mut self, _name: &str) -> Option<&'static [u8]> {
+        None
+    }
+
+    fn standard_input(&mut self) -> &'static [u8] {
+        self.input
+    }
+}
+
+/// What is to be told where the program has these words.
+struct Told {
+    words: &'static [&'static str],
+    script: &'static [u8],
+    /// How often a sweep begins and ends.
+    sweeps: u32,
+    /// How many attempts the run without failure makes, where nothing is found in it.
+    last: Option<u32>,
+    failures: &'static [Failing],
+}
+
+/// A cell that nobody frees.
+const LEAKING: &[u8] = b"proc main\nptr a\nalloc a 16\nend\n";
+
+static TOLD: [Told; 10] = [
+    Told {
+        words: &["workbench", "sweep"],
+        script: FALLBACK,
+        sweeps: 1,
+        last: Some(3),
+        failures: &[Failing::Number(1), Failing::Number(2), Failing::Number(3)],
+    },
+    Told {
+        words: &["workbench", "check", "--json"],
+        script: FALLBACK,
+        sweeps: 1,
+        last: Some(3),
+        failures: &[Failing::Number(1), Failing::Number(2), Failing::Number(3)],
+    },
+    // Rate 2 shows a leak.
+    Told {
+        words: &["workbench", "check", "--every"],
+        script: FALLBACK,
+        sweeps: 1,
+        last: Some(3),
+        failures: &[Failing::Every(1), Failing::Every(2)],
+    },
+    // The run in which attempt 1 fails makes no other, and that in which attempt 2 fails makes a fourth.
+    Told {
+        words: &["workbench", "sweep", "--pairs"],
+        script: FALLBACK,
+        sweeps: 1,
+        last: Some(3),
+        failures: &[
+            Failing::Number(1),
+            Failing::Number(2),
+            Failing::Number(3),
+            Failing::Pair(2, 3),
+            Failing::Pair(2, 4),
+        ],
+    },
+    // The run without failure leaks.
+    Told {
+        words: &["workbench", "sweep"],
+        script: LEAKING,
+        sweeps: 1,
+        last: None,
+        failures: &[],
+    },
+    // It is cut.
+    Told {
+        words: &["workbench", "sweep", "--budget", "2"],
+        script: FALLBACK,
+        sweeps: 1,
+        last: None,
+        failures: &[],
+    },
+    // There is nothing to sweep.
+    Told {
+        words: &["workbench", "sweep"],
+        script: b"",
+        sweeps: 0,
+        last: None,
+        failures: &[],
+    },
+    Told {
+        words: &["workbench", "sweep", "a.oom"],
+        script: FALLBACK,
+        sweeps: 0,
+        last: None,
+        failures: &[],
+    },
+    Told {
+        words: &["workbench", "run", "--fail", "2"],
+        script: FALLBACK,
+        sweeps: 0,
+        last: None,
+        failures: &[],
+    },
+    Told {
+        words: &["workbench", "size"],
+        script: FALLBACK,
+        sweeps: 0,
+        last: None,
+        failures: &[],
+    },
+];
+
+/// Whether this is told, and the sweep is over before anything is written; `is_under_way` is false.
+fn is_told<'a>(
+    alloc: Global,
+    words: Vec<&'static str>,
+    wanted: &Told,
+    is_under_way: &'a Cell<bool>,
+) -> bool {
+    let mut listener: Listener<'a> = Listener {
+        to_come: wanted.failures,
+        is_as_wanted: true,
+        begun: 0,
+        last: None,
+        ended: 0,
+        is_under_way,
+    };
+    let mut taker: Taker<'a> = Taker {
+        is_under_way,
+        is_early: false,
+        taken: 0,
+    };
+    let mut desk = Desk {
+        input: wanted.script,
+    };
+    let mut messages = Vec::new(alloc);
+    program(
+        alloc,
+        Ok(words),
+        &mut desk,
+        &mut taker,
+        &mut messages,
+        &mut listener,
+    );
+    listener.is_as_wanted
+        && listener.to_come.is_empty()
+        && listener.begun == wanted.sweeps
+        && listener.last == wanted.last
+        && listener.ended == wanted.sweeps
+        && taker.taken > 0
+        && !taker.is_early
+}
+
+#[test]
+fn tells_of_each_failure_before_the_report(rt: HostRuntime) -> Result<(), Fail> {
+    for (index, wanted) in TOLD.iter().enumerate() {
+        let mut words = Vec::new(rt.alloc());
+        words.extend_from_slice(wanted.words)?;
+        let is_under_way = Cell::new(false);
+        assert!(rt;
+            is_told(rt.alloc(), words, wanted, &is_under_way),
+            "row {index}"
+        );
+    }
+    Ok(())
+}

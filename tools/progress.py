@@ -1,0 +1,229 @@
+#!/usr/bin/env python3
+"""Runs long sweeps of the built program, and looks at what they say of their progress on standard error.
+
+    tools/progress.py PROGRAM
+
+On a terminal one line says which failure is being tried. It appears once a sweep has taken two seconds, is rewritten in place,
+and is wiped before the report. Elsewhere nothing is said, nor of a sweep that is shorter. The scripts are made longer and longer
+until their sweeps take long enough on this machine. The last line is `N passed, M failed`.
+"""
+
+import os
+import pty
+import re
+import select
+import subprocess
+import sys
+import time
+from collections.abc import Callable
+from concurrent.futures import ThreadPoolExecutor
+from pathlib import Path
+from typing import NamedTuple
+
+# how long a sweep goes on before anything is said of it, the shortest time between two lines, and for how much longer a sweep
+# that is looked at goes on, in seconds
+QUIET, PAUSE, LONGER = 2.0, 0.1, 0.4
+# how long a run may take
+LIMIT = 60
+
+LINE = re.compile(r"trying (attempt|rate) (\d+) of (\d+)(?: with attempt (\d+))?")
+
+
+class Kind(NamedTuple):
+    """A kind of sweep."""
+
+    words: list[str]
+    # the script, of which so many attempts fail one by one
+    script: Callable[[int], str]
+    # how many attempts are begun with, and by which power of them the time grows
+    attempts: int
+    power: int
+    # what a line calls the failure, and whether the last of them fail in pairs
+    calls: str
+    in_pairs: bool
+
+
+class Ran(NamedTuple):
+    """What a run wrote and how it ended."""
+
+    output: bytes
+    errors: bytes
+    status: int
+    seconds: float
+
+
+class Shown(NamedTuple):
+    """What a run wrote to a terminal, each piece with the second that it came in, and how it ended."""
+
+    pieces: list[tuple[float, bytes]]
+    status: int
+    seconds: float
+
+    def bytes(self) -> bytes:
+        """All of it."""
+        return b"".join(piece for _, piece in self.pieces)
+
+
+def fine(attempts: int) -> str:
+    """A script in which no failure shows anything."""
+    return f"proc main\nptr a\nrepeat {attempts}\nalloc a 16\nfree a\nend\nend\n"
+
+
+def leaking(attempts: int) -> str:
+    """A script that leaks where its last attempt fails: a cell grows, and its only pointer is overwritten."""
+    return f"proc main\nptr a\nptr b\nrepeat {attempts}\nalloc a 16\nfree a\nend\nalloc b 16\nalloc a 16\nif some a\nfree b\nend\nfree a\nend\n"
+
+
+KINDS = [
+    Kind(["sweep"], leaking, 100, 2, "attempt", False),
+    Kind(["check", "--every"], fine, 100, 2, "rate", False),
+    Kind(["sweep", "--pairs", "--json"], fine, 20, 3, "attempt", True),
+]
+
+
+class Checks:
+    """How much passed and failed."""
+
+    def __init__(self) -> None:
+        self.passed = self.failed = 0
+
+    def check(self, what: str, holds: bool, shown: object = "") -> None:
+        """Counts whether it holds, and says so where it doesn't."""
+        self.passed += holds
+        self.failed += not holds
+        if not holds:
+            print(f"{what}: not so: {shown!r}")
+
+
+def words_of(program: Path, kind: Kind) -> list[str | Path]:
+    """The words of a sweep, with a budget that is enough."""
+    return [program, *kind.words, "--budget", "1000000"]
+
+
+def run(program: Path, kind: Kind, script: bytes, **streams: int) -> Ran:
+    """A run with standard error no terminal."""
+    begun = time.monotonic()
+    streams = {"stderr": subprocess.PIPE} | streams
+    ran = subprocess.run(words_of(program, kind), input=script, stdout=subprocess.PIPE, timeout=LIMIT, **streams)
+    return Ran(ran.stdout, ran.stderr or b"", ran.returncode, time.monotonic() - begun)
+
+
+def long_sweep(program: Path, kind: Kind, attempts: int) -> tuple[int, Ran]:
+    """How many attempts, at least these, a sweep has that takes long enough, and what came of it."""
+    wanted = QUIET + LONGER
+    while True:
+        ran = run(program, kind, kind.script(attempts).encode())
+        if ran.seconds >= wanted:
+            return attempts, ran
+        # somewhat more than it should take, but not by what a run too short to be timed would say
+        attempts = int(attempts * min(8.0, max(1.1, (1.15 * wanted / ran.seconds) ** (1 / kind.power))))
+
+
+def show(program: Path, kind: Kind, script: bytes) -> Shown:
+    """A run with standard output and standard error on one terminal."""
+    master, slave = pty.openpty()
+    begun, pieces = time.monotonic(), []
+    running = subprocess.Popen(words_of(program, kind), stdin=subprocess.PIPE, stdout=slave, stderr=slave)
+    os.close(slave)
+    with running.stdin as given:
+        given.write(script)
+    while select.select([master], [], [], LIMIT)[0]:
+        try:
+            piece = os.read(master, 65_536)
+        except OSError:
+            # the program has closed its end
+            break
+        pieces.append((time.monotonic() - begun, piece))
+    else:
+        running.kill()
+    os.close(master)
+    return Shown(pieces, running.wait(LIMIT), time.monotonic() - begun)
+
+
+def losing_terminal(program: Path, kind: Kind, script: bytes) -> Ran:
+    """A run whose standard error is a terminal that goes away."""
+    master, slave = pty.openpty()
+    with ThreadPoolExecutor() as beside:
+        gone = beside.submit(lambda: (time.sleep(QUIET / 2), os.close(master)))
+        ran = run(program, kind, script, stderr=slave)
+        gone.result()
+    os.close(slave)
+    return ran
+
+
+def screen(written: bytes) -> list[str]:
+    """The lines of a terminal that was wide enough, once this was written to it."""
+    lines: list[list[str]] = [[]]
+    column = 0
+    for character in written.decode("ascii"):
+        if character == "\r":
+            column = 0
+        elif character == "\n":
+            lines.append([])
+        else:
+            lines[-1][column : column + 1] = character
+            column += 1
+    return ["".join(it).rstrip(" ") for it in lines]
+
+
+def tried(line: re.Match[str]) -> tuple[int, int, int]:
+    """The place of a failure among all: pairs come after the others."""
+    _, first, _, second = line.groups()
+    return (1, int(first), int(second)) if second else (0, int(first), 0)
+
+
+def look_at_lines(checks: Checks, kind: Kind, name: str, attempts: int, shown: Shown) -> None:
+    """What is said while a sweep goes on."""
+    written = shown.bytes().decode("ascii")
+    lines = list(LINE.finditer(written))
+    checks.check(f"{name}: a line", len(lines) > 0, written[:200])
+    checks.check(f"{name}: none before two seconds", all(at >= QUIET - PAUSE for at, piece in shown.pieces if b"trying" in piece))
+    checks.check(f"{name}: no more than ten a second", len(lines) <= 1 + (shown.seconds - QUIET + PAUSE) / PAUSE, len(lines))
+    checks.check(f"{name}: of how many", all(int(it[3]) == attempts >= int(it[2]) >= 1 for it in lines), [it[0] for it in lines])
+    checks.check(f"{name}: one after another", all(tried(one) < tried(two) for one, two in zip(lines, lines[1:])), [it[0] for it in lines])
+    checks.check(f"{name}: its kind", all(it[1] == kind.calls for it in lines) and kind.in_pairs == any(it[4] for it in lines))
+
+
+def look_at(program: Path, kind: Kind) -> Checks:
+    """A kind of sweep: long ones and a short one, on a terminal and elsewhere."""
+    checks, name = Checks(), " ".join(kind.words)
+    attempts = kind.attempts
+    while True:
+        attempts, ran = long_sweep(program, kind, attempts)
+        script = kind.script(attempts).encode()
+        with ThreadPoolExecutor() as beside:
+            lost = beside.submit(losing_terminal, program, kind, script)
+            shown = show(program, kind, script)
+            gone = lost.result()
+        if shown.seconds >= QUIET + LONGER / 2:
+            break
+        # the machine has become quicker meanwhile
+        attempts += attempts // 4
+    checks.check(f"{name}: nothing is said without a terminal", b"trying" not in ran.errors and b"\r" not in ran.errors, ran.errors)
+    told = re.search(rb'attempts"?[ :](\d+)', ran.output)
+    checks.check(f"{name}: the report where the terminal goes away", gone[0] == ran.output and gone.status == ran.status, gone)
+    look_at_lines(checks, kind, name, int(told[1]) if told else 0, shown)
+    checks.check(f"{name}: the status", shown.status == ran.status, shown.status)
+    whole = (ran.output + ran.errors).decode("ascii").split("\n")
+    checks.check(f"{name}: the line is wiped, and the report whole", screen(shown.bytes()) == whole)
+    short = kind.script(3).encode()
+    ran, shown = run(program, kind, short), show(program, kind, short)
+    wanted = (ran.output + ran.errors).replace(b"\n", b"\r\n")
+    checks.check(f"{name}: a short one", shown.bytes() == wanted and shown.status == ran.status, shown)
+    return checks
+
+
+def main() -> int:
+    """Looks at all kinds side by side, and prints the totals."""
+    if len(sys.argv) != 2:
+        sys.exit(__doc__)
+    program = Path(sys.argv[1]).resolve()
+    with ThreadPoolExecutor() as beside:
+        looked = list(beside.map(lambda kind: look_at(program, kind), KINDS))
+    passed, failed = sum(it.passed for it in looked), sum(it.failed for it in looked)
+    print(f"{passed} passed, {failed} failed")
+    return 1 if failed else 0
+
+
+if __name__ == "__main__":
+    sys.exit(main())

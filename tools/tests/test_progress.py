@@ -1,0 +1,74 @@
+#!/usr/bin/env python3
+"""What `progress.py` refuses, by what a terminal might have shown."""
+
+import contextlib
+import io
+import sys
+import unittest
+from pathlib import Path
+
+# what starts this leaves the tools' folder out of Python's path
+sys.path.insert(0, str(Path(__file__).resolve().parent.parent))
+from progress import KINDS, Checks, Shown, look_at_lines, screen  # noqa: E402
+
+SINGLE, RATES, PAIRS = KINDS
+
+
+def shown(*pieces: tuple[float, str], seconds: float = 3.0) -> Shown:
+    """What came to a terminal at which second."""
+    return Shown([(at, text.encode()) for at, text in pieces], 0, seconds)
+
+
+class Lines(unittest.TestCase):
+    """Which lines are those of a sweep of 40 attempts."""
+
+    def failed(self, kind, *pieces: tuple[float, str], seconds: float = 3.0) -> int:
+        checks = Checks()
+        with contextlib.redirect_stdout(io.StringIO()):
+            look_at_lines(checks, kind, "a sweep", 40, shown(*pieces, seconds=seconds))
+        return checks.failed
+
+    def test_lines_that_are_right(self) -> None:
+        self.assertEqual(self.failed(SINGLE, (2.0, "\rtrying attempt 9 of 40"), (2.1, "\rtrying attempt 12 of 40")), 0)
+        self.assertEqual(self.failed(RATES, (2.5, "\rtrying rate 40 of 40")), 0)
+        lines = (2.0, "\rtrying attempt 40 of 40"), (2.1, "\rtrying attempt 2 of 40 with attempt 3"), (2.2, "\rtrying attempt 2 of 40 with attempt 41")
+        self.assertEqual(self.failed(PAIRS, *lines), 0)
+
+    def test_no_line(self) -> None:
+        self.assertGreater(self.failed(SINGLE, (2.5, "attempts 40\r\n")), 0)
+
+    def test_a_line_too_early(self) -> None:
+        self.assertGreater(self.failed(SINGLE, (1.0, "\rtrying attempt 9 of 40")), 0)
+
+    def test_too_many_lines(self) -> None:
+        lines = [(2.1, f"\rtrying attempt {number} of 40") for number in range(1, 30)]
+        self.assertGreater(self.failed(SINGLE, *lines), 0)
+
+    def test_other_numbers(self) -> None:
+        for line in ("\rtrying attempt 9 of 41", "\rtrying attempt 41 of 40", "\rtrying attempt 0 of 40"):
+            self.assertGreater(self.failed(SINGLE, (2.5, line)), 0)
+
+    def test_lines_out_of_order(self) -> None:
+        self.assertGreater(self.failed(SINGLE, (2.1, "\rtrying attempt 9 of 40"), (2.3, "\rtrying attempt 8 of 40")), 0)
+        self.assertGreater(self.failed(SINGLE, (2.1, "\rtrying attempt 9 of 40"), (2.3, "\rtrying attempt 9 of 40")), 0)
+        lines = (2.1, "\rtrying attempt 2 of 40 with attempt 3"), (2.3, "\rtrying attempt 9 of 40")
+        self.assertGreater(self.failed(PAIRS, *lines), 0)
+
+    def test_another_kind(self) -> None:
+        self.assertGreater(self.failed(SINGLE, (2.5, "\rtrying rate 9 of 40")), 0)
+        self.assertGreater(self.failed(SINGLE, (2.5, "\rtrying attempt 9 of 40 with attempt 10")), 0)
+        self.assertGreater(self.failed(PAIRS, (2.5, "\rtrying attempt 9 of 40")), 0)
+
+
+class Screens(unittest.TestCase):
+    """What is left on a terminal."""
+
+    def test_a_line_that_is_wiped(self) -> None:
+        self.assertEqual(screen(b"\rtrying 10 of 40\rtrying 9 of 40 \r              \rleaks 0\r\n"), ["leaks 0", ""])
+
+    def test_a_line_that_is_left(self) -> None:
+        self.assertEqual(screen(b"\rtrying 10 of 40\rleaks 0\r\n"), ["leaks 010 of 40", ""])
+
+
+if __name__ == "__main__":
+    unittest.main()
