@@ -344,7 +344,7 @@ WORKLOADS = [
     Workload("sweep of 20 loops", "sweep", SWEPT_LOOPS, "attempt", attempts_swept),
     Workload("sweep by pairs of 200 attempts", "sweep --pairs", SWEPT_BY_PAIRS, "pair", pairs_swept),
     Workload("5,000 holes", "run", among_holes(5_000, 300_000, "alloc cell 1000\nfree cell"), "step", steps, by_time=True),
-    Workload("10,001 live cells under marks", "run", among_cells(5_000, 10_000, MARKS), "step", steps, by_time=True),
+    Workload("10,001 live cells under marks", "run", among_cells(5_000, 30_000, MARKS), "step", steps, by_time=True),
     Workload("cells of 1 MB", "run", LARGE_CELLS, "step", steps, by_time=True),
     Workload("texts of 9,000 units", "run", LONG_TEXTS, "step", steps, by_time=True),
     Workload("sweep over 4 MiB of live cells", "sweep", SWEPT_OVER_LIVE_CELLS, "attempt", attempts_swept, by_time=True),

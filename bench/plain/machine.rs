@@ -111,6 +111,13 @@ pub struct Item {
     pub undo: Undo,
 }
 
+/// What a script writes into the report: the lines that it prints come before its notes.
+#[derive(Default)]
+pub struct Shown {
+    pub lines: Vec<u8>,
+    pub notes: Vec<u8>,
+}
+
 /// What a run is under.
 #[derive(Clone, Copy)]
 pub struct Setup {
@@ -140,8 +147,8 @@ pub struct Machine<'s> {
     pub slots: u32,
     steps_left: u32,
     budget: u32,
-    /// Lines that the script printed, and its notes; `None` if nobody asks for them.
-    pub printed: Option<Vec<u8>>,
+    /// `None` if nobody asks for it.
+    pub shown: Option<Shown>,
 }
 
 impl<'s> Machine<'s> {
@@ -168,7 +175,7 @@ impl<'s> Machine<'s> {
             slots: SLOTS,
             steps_left: setup.budget,
             budget: setup.budget,
-            printed: is_shown.then(Vec::new),
+            shown: is_shown.then(Shown::default),
         };
         machine.make_room(&script.main, 0);
         machine

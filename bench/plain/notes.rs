@@ -1,7 +1,7 @@
 //! Lines that ask of the heap as a whole, make requests fail, or write into the report.
 
 use crate::attempts::Setting;
-use crate::machine::{Machine, Panic, workbench};
+use crate::machine::{Machine, Panic, Shown, workbench};
 use crate::report::push_number;
 use crate::script::{Number, OfHeap};
 
@@ -55,7 +55,7 @@ impl Machine<'_> {
     }
 
     fn note(&mut self, words: &[u8], numbers: &[u32]) {
-        let Some(report) = &mut self.printed else { return };
+        let Some(Shown { notes: report, .. }) = &mut self.shown else { return };
         report.extend_from_slice(words);
         for &number in numbers {
             push_number(report, b" ", number);
@@ -64,7 +64,7 @@ impl Machine<'_> {
     }
 
     pub fn print_number(&mut self, number: i32) {
-        let Some(report) = &mut self.printed else { return };
+        let Some(Shown { lines: report, .. }) = &mut self.shown else { return };
         let word: &[u8] = if number < 0 { b"print -" } else { b"print " };
         push_number(report, word, number.unsigned_abs());
         report.push(b'\n');
@@ -72,7 +72,7 @@ impl Machine<'_> {
 
     /// Prints the first units of a text, of which so many are there.
     pub fn print_text(&mut self, at: usize, units: u32, there: u32) {
-        let Some(report) = &mut self.printed else { return };
+        let Some(Shown { lines: report, .. }) = &mut self.shown else { return };
         report.extend_from_slice(b"print ");
         let shown = units.min(SHOWN);
         let text = &self.attempts.heap.bytes[at..at + 2 * shown.min(there) as usize];

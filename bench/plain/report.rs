@@ -96,7 +96,10 @@ pub fn cut(stop: &Stop) -> Option<&'static [u8]> {
 
 /// Writes the report of a run, of whose attempts the trace was kept.
 pub fn write_run(report: &mut Vec<u8>, run: &Machine, stop: &Stop) {
-    report.extend_from_slice(run.printed.as_deref().unwrap_or_default());
+    if let Some(shown) = &run.shown {
+        report.extend_from_slice(&shown.lines);
+        report.extend_from_slice(&shown.notes);
+    }
     write_trace(report, &run.attempts.log);
     write_stop(report, run, stop);
     push_number(report, b"steps ", run.steps());

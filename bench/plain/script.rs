@@ -48,8 +48,10 @@ pub enum Argument {
     Number(Number),
 }
 
-/// A line of a body, or what an `else` or an `end` comes to.
+/// A line of a body, or what an `else` or an `end` comes to. Its tag is a byte of its own, and not mixed with those of the
+/// lines inside.
 #[derive(Clone, Copy)]
+#[repr(u8)]
 pub enum Statement {
     Set(Local, Number),
     Add(Local, Number),
