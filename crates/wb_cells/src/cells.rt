@@ -24,8 +24,8 @@ use wb_model::memory::NoMemory;
 ///
 /// A free cell lies between two live ones, or before the first; the words link the free cells in order of place. No two
 /// free cells touch. One bit for each place of 16 bytes says whether a live cell begins there, so that no payload can
-/// pass for a header. An index of the free cells' lengths finds one without a walk: no call's cost grows with how many
-/// cells there are, live or free.
+/// pass for a header. An index of the free cells' lengths finds one without a walk, so no call costs more the more cells
+/// there are, live or free.
 #[derive(Drop)]
 pub struct Cells {
     pub(crate) words: Chunk,
@@ -107,8 +107,7 @@ impl Cells {
     }
 
     /// The lowest place where a cell of this length fits; the space above the last live cell counts as free without
-    /// end. Source: Symbian OS v9 SDK reference, RHeap (first fit in address
-    /// order).
+    /// end. Source: Symbian OS v9 SDK reference, RHeap (first fit in address order).
     pub fn first_fit(&self, length: u32) -> u32
         requires { 16 ≤ length }
         ensures place { result ≡ place_of (headers self.now.row) length }

@@ -10,7 +10,7 @@ use crate::layout;
 use wb_model::heap::Ptr;
 
 impl Cells {
-    /// Makes the `n` halves of a payload from an index on 0.
+    /// Makes the `n` halves of a payload from an index on 0, and changes nothing else.
     pub fn zero_halves(&mut self, ptr: Ptr, i: u32, n: u32)
         requires live { IsSome (cell_at ptr self.old.row) }
         requires within { i + n ≤ 2 * length (payload_of ptr self.old.row) }
@@ -23,7 +23,7 @@ impl Cells {
             .zero_halves(2 * layout::payload_at(ptr.place) + i, n);
     }
 
-    /// Writes halves into a payload, from an index on.
+    /// Writes halves into a payload, from an index on, and changes nothing else.
     pub fn write_halves(&mut self, ptr: Ptr, i: u32, halves: &[u16])
         requires live { IsSome (cell_at ptr self.old.row) }
         requires within { i + length halves.now ≤ 2 * length (payload_of ptr self.old.row) }

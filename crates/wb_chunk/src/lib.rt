@@ -159,7 +159,7 @@ impl Chunk {
         }
     }
 
-    /// Makes the `n` halves from `i` on 0.
+    /// Makes the `n` halves from `i` on 0, and changes nothing else.
     pub fn zero_halves(&mut self, i: u32, n: u32)
         requires { i + n ≤ 2 * length self.old }
         ensures { self.new ≡ with_halves self.old i (replicate n 0) }
@@ -169,7 +169,7 @@ impl Chunk {
         }
     }
 
-    /// Writes halves from `i` on.
+    /// Writes halves from `i` on, and changes nothing else.
     pub fn write_halves(&mut self, i: u32, halves: &[u16])
         requires { i + length halves.now ≤ 2 * length self.old }
         ensures { self.new ≡ with_halves self.old i halves.now }

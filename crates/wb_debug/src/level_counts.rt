@@ -42,8 +42,9 @@ pub struct LevelCount {
     pub cells: Counted,
 }
 
-/// The cells of each level that has any, in order of level. A level is sought by halving, so that a million levels take
-/// twenty steps, and levels without a cell take no memory.
+/// The cells of each level that has had any, in order of level. A level is sought by halving, so that a million levels take
+/// twenty steps. A level whose cells were all released has a count of 0 until its mark ends; one that never had a cell takes
+/// no memory.
 #[derive(Drop)]
 pub struct LevelCounts {
     counts: Vec<LevelCount>,

@@ -106,8 +106,8 @@ pub fn expect(heap: &Heap, tally: &Tally, levels: Levels, n: u32) -> Result<u32,
     Err(Panic::Alloc(lowest(heap, levels, from)))
 }
 
-/// Puts each cell of a level one level lower. They are `n`, and none of them is below `from`, so that no other cell is
-/// looked at but those between them.
+/// Puts each cell of a level one level lower. They are `n`, and none of them is below `from`, so that no cell below `from`, and
+/// none above the last of them, is looked at.
 pub fn lower(heap: &mut Heap, level: u32, from: u32, n: u32)
     requires sound { IsSoundHeap heap.old }
     requires some { 1 ≤ level }

@@ -9,7 +9,7 @@ use wb_rheap::HeapFault;
 /// The shape of most heaps here.
 const SHAPE: Shape = Shape { min: 0, step: 4096 };
 
-static GRANTS_AND_RELEASES: [WorkedHeap; 9] = [
+static GRANTS_AND_RELEASES: [WorkedHeap; 10] = [
     WorkedHeap {
         about: "first fit reuses a hole",
         limit: CEILING,
@@ -42,6 +42,35 @@ static GRANTS_AND_RELEASES: [WorkedHeap; 9] = [
             Call::Free((240, 5)),
             Call::Free((144, 6)),
             Call::NoneLive(144),
+        ],
+    },
+    WorkedHeap {
+        about: "free cells are found wherever they are",
+        limit: CEILING,
+        shape: SHAPE,
+        calls: &[
+            Call::Alloc(32, (144, 2)),
+            Call::Alloc(70_000, (176, 3)),
+            Call::Alloc(48, (70_176, 4)),
+            Call::Alloc(70_000, (70_224, 5)),
+            Call::Alloc(64, (140_224, 6)),
+            Call::Alloc(70_000, (140_288, 7)),
+            Call::Free((144, 2)),
+            Call::Free((70_176, 4)),
+            Call::Free((140_224, 6)),
+            Call::PlaceFor(48, 70_176),
+            Call::PlaceFor(64, 140_224),
+            Call::PlaceFor(80, 210_288),
+            Call::Available(2848, 2704),
+            Call::Free((176, 3)),
+            Call::Available(72_848, 70_080),
+            Call::Alloc(70_016, (144, 8)),
+            Call::PlaceFor(64, 70_160),
+            Call::Free((70_224, 5)),
+            Call::Available(72_832, 70_128),
+            Call::Alloc(70_128, (70_160, 9)),
+            Call::PlaceFor(16, 210_288),
+            Call::Size(4, 210_288, 212_992),
         ],
     },
     WorkedHeap {

@@ -29,6 +29,8 @@ mod lists;
 #[cfg(test)]
 mod literals;
 #[cfg(test)]
+mod marks;
+#[cfg(test)]
 mod object_calls;
 #[cfg(test)]
 mod objects;

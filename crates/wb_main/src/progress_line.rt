@@ -30,6 +30,7 @@ pub struct ProgressLine<'a> {
 }
 
 impl<'a> ProgressLine<'a> {
+    /// A line that isn't shown yet.
     pub fn new(rt: &'a HostRuntime) -> ProgressLine<'a> {
         ProgressLine {
             rt,

@@ -131,7 +131,8 @@ impl Heap {
         self.alloc_at(place, length, kind, number, level)
     }
 
-    /// The same where the place is known: it is the one that `place_for` gives, so that it need not be sought again.
+    /// Grants a cell as `alloc` does, at the place that `place_for` gives, so that it isn't sought again. It refuses as `alloc`
+    /// does, and a refusal leaves the heap as it was.
     pub fn alloc_at(
         &mut self,
         place: u32,
@@ -191,8 +192,7 @@ impl Heap {
         Ok(())
     }
 
-    /// The same where the header is known: it is the one that `header` gives for the pointer, so that it need not be
-    /// read again.
+    /// Releases a cell as `free` does, by the header that `header` gives for the pointer, so that it isn't read again.
     pub fn free_cell(&mut self, ptr: Ptr, cell: Header)
         requires { option_map (λ c. c.head) (cell_at ptr self.old.row) ≡ Some cell }
         ensures freed { self.new ≡ heap_without self.old ptr }

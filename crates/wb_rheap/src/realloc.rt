@@ -32,7 +32,7 @@ impl Heap {
         self.place_to_grow(cell, length)
     }
 
-    /// The same where the header is known: it is that of a live cell.
+    /// What `place_for_realloc` returns, for the header of a live cell.
     pub fn place_to_grow(&self, cell: Header, length: u32) -> u32
         requires live { option_map (λ c. c.head) (cell_at (pointer_to cell) self.now.row) ≡ Some cell }
         requires length { IsCellLength length }
@@ -105,7 +105,8 @@ impl Heap {
     }
 
     /// What `realloc` does to a cell that becomes longer, where its header and its place are known: the place is the one
-    /// that `place_to_grow` gives, so that it need not be sought again.
+    /// that `place_to_grow` gives, so that it isn't sought again. `TooShort` exactly where the new end passes the limit, and
+    /// else `NoMemory` at worst; a refusal leaves the heap as it was.
     pub fn lengthen(
         &mut self,
         cell: Header,

@@ -1,8 +1,8 @@
-//! What is told of a sweep while it goes on. No contract speaks of it, and no sweep depends on it.
+//! What a sweep reports while it goes on. No contract mentions it, and no sweep depends on it.
 
 use wb_model::failures::Failing;
 
-/// Who is told how far a sweep is. Nothing comes back, so that a sweep finds the same whoever is told.
+/// Receives how far a sweep has come. Its calls return nothing, so a sweep finds the same whatever receives them.
 pub trait Progress {
     /// A sweep begins, with the run without failure.
     fn begin(&mut self);
@@ -11,14 +11,14 @@ pub trait Progress {
     /// failure makes: the number of the last attempt that is tried alone, or as the first of two, and the last rate.
     fn begin_failures(&mut self, last: u32);
 
-    /// The run under this failure begins. Told once of each.
+    /// The run under this failure begins. Called once for each.
     fn begin_failure(&mut self, at: Failing);
 
     /// The sweep is over, whatever came of it.
     fn end(&mut self);
 }
 
-/// Says nothing of what it is told.
+/// Ignores what a sweep reports.
 #[derive(Clone, Copy, Debug)]
 pub struct Silent;
 

@@ -75,7 +75,8 @@ impl From<NoMemory> for ReportFault {
 /// exactly where one of them failed. After one that failed no other is made of that kind, and no read after one
 /// that brought no byte.
 ///
-/// `progress` is told of a sweep, all of it before anything is written. What it does makes no difference to anything.
+/// `progress` receives what a sweep reports, all of it before anything is written. What it does makes no difference to
+/// anything.
 pub fn answer<R: Source, W: Sink, P: Progress>(
     alloc: Global,
     command: &Command,

@@ -30,8 +30,9 @@ pub const COMMAND_LINE_FAULT: u8 = 6;
 /// and `output` is given the answer. Where the file can't be opened that is the line `read fault`, with
 /// `READ_OR_WRITE_FAULT`.
 ///
-/// `progress` is told of a sweep, all of it before anything is written. It is handed over beside `messages`, and what it does
-/// makes no difference to anything.
+/// `progress` receives what a sweep reports, all of it before anything is written. No clause mentions it, and what it does
+/// makes no difference to anything. Where it writes to the stream that is handed over as `messages`, as in `main`, that
+/// stream gets what it writes.
 pub fn program<S: AsStr + Drop, H: Host, W: Sink, M: Messages, P: Progress>(
     alloc: Global,
     words: io::Result<Vec<S>>,
