@@ -13,6 +13,8 @@ LIBRARY = Path("out/rlib")
 
 STATUS = re.compile(r"fn (\S+): (proved|no proof|not proved)(?:: |; |$)(.*)")
 CALLS = re.compile(r"(?:; )?it calls (.*), which (?:is|are) not proved$")
+# of such a function nothing else is said before what it calls is proved
+WAITS = re.compile(r"(?:; )?the borrow checker's part in its proof is not made yet: a call of (`[^`]*`), which has no proof: .*$")
 GOAL = re.compile(r"note: (?:\./)?src/\S+: it is not proved that ")
 CLAUSE = re.compile(r"\(`[^`]*\bclause-(\w+)`\)")
 PROOF_FILE = re.compile(r"((?:\./)?proofs/(\S+)/[A-Za-z]+\.antt:\d+):\d+: error: (.*)")
@@ -66,7 +68,7 @@ def read_verdict(text: str) -> Verdict:
             clauses |= set(CLAUSE.findall(line))
         elif told := STATUS.match(line):
             name, word, rest = told.groups()
-            calls, own = CALLS.search(rest), CALLS.sub("", rest)
+            calls, own = CALLS.search(rest) or WAITS.search(rest), WAITS.sub("", CALLS.sub("", rest))
             proof_file = errors.get(name.partition("::")[2], "")
             functions[name] = Said(word == "proved", has_goal or bool(own), proof_file, calls[1] if calls else "", frozenset(clauses))
             has_goal = False
