@@ -67,13 +67,18 @@ class Trial:
         said = {label: f"BAD EDIT: {why}" for label, why in bad.items()}
         make_room(self.crates, crate, self.folder / crate)
         together, alone = Twins(self.crates.folder(crate)).apart(edits)
-        if together:
+        while together:
             verdict = self.check(crate, together, jobs)
             strays = verdict.refused() - {it.function for it in together}
             said |= {f"{crate}: {it}": "is refused, and has no wrong body" for it in sorted(strays)}
             judged = [(it, what_is_said(it, verdict)) for it in together]
             said |= {it.label: text for it, text in judged if text}
-            alone += [it for it, text in judged if not text]
+            waiting = [it for it, text in judged if not text]
+            # those that only waited for others are tried again without these, as long as some are judged so
+            if len(waiting) == len(together):
+                alone += waiting
+                break
+            together = waiting
         for it in alone:
             said[it.label] = what_is_said_of_all(it, self.check(crate, [it], jobs))
         refused = sum(map(is_refusal, said.values()))
