@@ -1,2 +1,4 @@
+mod KeptFields
+mod MarkedWords
 mod RegionSteps
 pub mod WrittenHalves

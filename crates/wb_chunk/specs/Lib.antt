@@ -1,3 +1,4 @@
 pub mod Fields
 pub mod Halves
 pub mod Lending
+pub mod Marks

@@ -1,8 +1,10 @@
 //! How a region is filled, and by how much it grows: plain code over a region's own calls.
 
 ghost use Rattle.std.specs.Prelude.{◌≡◌, ◌+◌, ◌*◌, ◌≤◌, ◌++◌, length, max, min, replicate};
+ghost use Rattle.wb_chunk.specs.Marks.{AreMarked};
 
 use crate::MOST_WORDS;
+use crate::marks::BLOCK;
 use crate::region::Region;
 use std::alloc::Global;
 
@@ -17,6 +19,26 @@ pub(crate) fn append_words(region: &mut Region<Global>, count: u32, words: &[u32
     for word in words {
         region.append(next, *word);
         next += 1;
+    }
+}
+
+/// Writes these words where none is yet. Those of blocks without a mark are 0, and needn't be read.
+pub(crate) fn append_marked(region: &mut Region<Global>, words: &[u32], marks: &[bool])
+    requires fits { (length region.old.words ≡ 0) × (length words.now ≤ region.old.capacity) }
+    requires bound { region.old.capacity ≤ MOST_WORDS }
+    requires covered { length words.now ≤ BLOCK * length marks.now }
+    requires marked { AreMarked marks.now words.now }
+    ensures words { region.new.words ≡ words.now }
+    ensures room { (region.new.capacity ≡ region.old.capacity) × (region.new.alloc ≡ region.old.alloc) }
+{
+    for block in 0..words.len().div_ceil(BLOCK) {
+        let first = block * BLOCK;
+        let last = words.len().min(first + BLOCK);
+        if marks[block] {
+            append_words(region, first as u32, &words[first..last]);
+        } else {
+            append_zeros(region, first as u32, (last - first) as u32);
+        }
     }
 }
 

@@ -4,6 +4,9 @@
 ghost use Rattle.std.specs.Prelude.{◌≡◌, ◌+◌, ◌*◌, ◌%◌, ◌^◌, ◌<◌, ◌≤◌, length, replicate};
 ghost use Rattle.std.specs.List.{All};
 ghost use Rattle.wb_chunk.specs.Halves.{AreShifted, half_of, halves_from, with_half, with_halves};
+ghost use Rattle.wb_chunk.specs.Marks.{AreMarked};
+
+use crate::marks::{self, BLOCK};
 
 /// The half at a place.
 pub(crate) fn half(words: &[u32], i: usize) -> u16
@@ -31,26 +34,34 @@ pub(crate) fn set_half(words: &mut [u32], i: usize, v: u16)
     };
 }
 
-/// Makes the `n` halves from a place on 0.
-pub(crate) fn zero(words: &mut [u32], i: usize, n: usize)
-    requires { i + n ≤ 2 * length words.old }
-    ensures { words.new ≡ with_halves words.old i (replicate n 0) }
+/// Makes the `n` halves from a place on 0, as [`marks::zero`] does.
+#[tactic(auto, using(crate::proofs::MarkedWords::marked_zero_half))]
+pub(crate) fn zero(words: &mut [u32], marks: &mut [bool], i: usize, n: usize)
+    requires within { i + n ≤ 2 * length words.old }
+    requires covered { length words.old ≤ BLOCK * length marks.old }
+    requires marked { AreMarked marks.old words.old }
+    ensures zeros { words.new ≡ with_halves words.old i (replicate n 0) }
+    ensures marked { AreMarked marks.new words.new }
 {
     if i % 2 == 0 {
-        zero_from_word(words, i, n);
+        zero_from_word(words, marks, i, n);
     } else if 0 < n {
-        zero_from_word(words, i + 1, n - 1);
+        zero_from_word(words, marks, i + 1, n - 1);
         set_half(words, i, 0);
     }
 }
 
 /// The same from the beginning of a word.
-fn zero_from_word(words: &mut [u32], i: usize, n: usize)
+#[tactic(auto, using(crate::proofs::MarkedWords::marked_zero_half))]
+fn zero_from_word(words: &mut [u32], marks: &mut [bool], i: usize, n: usize)
     requires even { i % 2 ≡ 0 }
     requires within { i + n ≤ 2 * length words.old }
-    ensures { words.new ≡ with_halves words.old i (replicate n 0) }
+    requires covered { length words.old ≤ BLOCK * length marks.old }
+    requires marked { AreMarked marks.old words.old }
+    ensures zeros { words.new ≡ with_halves words.old i (replicate n 0) }
+    ensures marked { AreMarked marks.new words.new }
 {
-    words[i / 2..(i + n) / 2].fill(0);
+    marks::zero(words, marks, i / 2, n / 2);
     if n % 2 != 0 {
         set_half(words, i + n - 1, 0);
     }

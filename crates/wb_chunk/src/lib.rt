@@ -8,13 +8,15 @@ ghost use Rattle.std.specs.Prelude.{◌≡◌, ◌+◌, ◌*◌, ◌^◌, ◌<�
 ghost use Rattle.std.specs.List.{All, replace_range};
 ghost use Rattle.wb_chunk.specs.Halves.{half_of, halves_from, with_half, with_halves};
 
-use growth::{append_words, append_zeros, larger};
+use growth::{append_marked, append_words, append_zeros, larger};
+use marks::BLOCK;
 use region::Region;
 use std::alloc::{AllocError, Global};
 use std::marker::Model;
 
 mod growth;
 mod halves;
+mod marks;
 mod region;
 
 /// The most words that a chunk can have: 16,777,216 bytes, the ceiling of a simulated heap.
@@ -26,6 +28,8 @@ pub struct Chunk {
     region: Option<Region<Global>>,
     count: u32,
     capacity: u32,
+    /// For each block of words, as far as there is room, whether it may hold anything but zeros.
+    marks: Vec<bool>,
     alloc: Global,
 }
 
@@ -37,7 +41,7 @@ impl Model for Chunk {
 
     ghost view = { λ c. words_of c.region };
 
-    ghost invariant = { λ c. IsKept c.region c.count c.capacity c.alloc };
+    ghost invariant = { λ c. IsKept c.region c.count c.capacity c.marks.items c.alloc };
 }
 
 impl Drop for Chunk {
@@ -46,6 +50,7 @@ impl Drop for Chunk {
             region,
             count: _,
             capacity,
+            marks: _,
             alloc,
         } = self;
         if let Some(region) = region {
@@ -63,6 +68,7 @@ impl Chunk {
             region: None,
             count: 0,
             capacity: 0,
+            marks: Vec::new(alloc),
             alloc,
         }
     }
@@ -81,6 +87,7 @@ impl Chunk {
     /// Appends `n` words that are 0. On `Err` memory was refused, and the chunk is as it was; no words are always
     /// appended. Where the region has to grow it doubles, or gets as long as is wanted where that is more, so that many
     /// small growths cost no more than the words that they append.
+    #[tactic(auto, using(crate::proofs::MarkedWords::marked_longer))]
     pub fn grow(&mut self, n: u32) -> Result<(), AllocError>
         requires { length self.old + n ≤ MOST_WORDS }
         ensures grown { OnOk result (self.new ≡ self.old ++ replicate n 0) }
@@ -88,18 +95,23 @@ impl Chunk {
         ensures refused { OnErr result (self.new ≡ self.old) }
     {
         let count = self.count + n;
-        if self.capacity < count {
-            let capacity = larger(self.capacity, count);
-            let mut region = Region::allocate(&self.alloc, capacity)?;
-            append_words(&mut region, 0, self.as_slice());
-            append_zeros(&mut region, self.count, n);
-            if let Some(old) = self.region.replace(region) {
-                old.free(&self.alloc, self.capacity);
+        if count <= self.capacity {
+            if let Some(region) = &mut self.region {
+                append_zeros(region, self.count, n);
             }
-            self.capacity = capacity;
-        } else if let Some(region) = &mut self.region {
-            append_zeros(region, self.count, n);
+            self.count = count;
+            return Ok(());
         }
+        let capacity = larger(self.capacity, count);
+        self.marks
+            .resize((capacity as usize).div_ceil(BLOCK), false)?;
+        let mut region = Region::allocate(&self.alloc, capacity)?;
+        append_words(&mut region, 0, self.as_slice());
+        append_zeros(&mut region, self.count, n);
+        if let Some(old) = self.region.replace(region) {
+            old.free(&self.alloc, self.capacity);
+        }
+        self.capacity = capacity;
         self.count = count;
         Ok(())
     }
@@ -112,13 +124,14 @@ impl Chunk {
         if self.count == 0 {
             return Ok(Chunk::new(self.alloc));
         }
+        let marks = Vec::from_slice(self.alloc, self.marks.as_slice())?;
         let mut region = Region::allocate(&self.alloc, self.count)?;
-        let words = self.as_slice();
-        append_words(&mut region, 0, words);
+        append_marked(&mut region, self.as_slice(), marks.as_slice());
         Ok(Chunk {
             region: Some(region),
             count: self.count,
             capacity: self.count,
+            marks,
             alloc: self.alloc,
         })
     }
@@ -136,6 +149,7 @@ impl Chunk {
         requires { i < length self.old }
         ensures { self.new ≡ slice_set self.old i v }
     {
+        marks::mark_one(self.marks.as_mut_slice(), i as usize);
         if let Some(region) = &mut self.region {
             region.as_mut_slice(self.count)[i as usize] = v;
         }
@@ -154,6 +168,7 @@ impl Chunk {
         requires { i < 2 * length self.old }
         ensures { self.new ≡ with_half self.old i v }
     {
+        marks::mark_one(self.marks.as_mut_slice(), i as usize / 2);
         if let Some(region) = &mut self.region {
             halves::set_half(region.as_mut_slice(self.count), i as usize, v);
         }
@@ -165,7 +180,8 @@ impl Chunk {
         ensures { self.new ≡ with_halves self.old i (replicate n 0) }
     {
         if let Some(region) = &mut self.region {
-            halves::zero(region.as_mut_slice(self.count), i as usize, n as usize);
+            let words = region.as_mut_slice(self.count);
+            halves::zero(words, self.marks.as_mut_slice(), i as usize, n as usize);
         }
     }
 
@@ -174,9 +190,12 @@ impl Chunk {
         requires { i + length halves.now ≤ 2 * length self.old }
         ensures { self.new ≡ with_halves self.old i halves.now }
     {
-        if let Some(region) = &mut self.region {
-            halves::write(region.as_mut_slice(self.count), i as usize, halves);
-        }
+        let Some(region) = &mut self.region else {
+            return;
+        };
+        halves::write(region.as_mut_slice(self.count), i as usize, halves);
+        let end = i as usize + halves.len();
+        marks::mark(self.marks.as_mut_slice(), i as usize / 2, end.div_ceil(2));
     }
 
     /// Puts the `n` halves from `from` on at `to`, as if all had been read before any was written: the two ranges may
@@ -186,10 +205,13 @@ impl Chunk {
         requires target { to + n ≤ 2 * length self.old }
         ensures { self.new ≡ with_halves self.old to (halves_from self.old from n) }
     {
-        if let Some(region) = &mut self.region {
-            let words = region.as_mut_slice(self.count);
-            halves::copy(words, from as usize, to as usize, n as usize);
-        }
+        let Some(region) = &mut self.region else {
+            return;
+        };
+        let words = region.as_mut_slice(self.count);
+        halves::copy(words, from as usize, to as usize, n as usize);
+        let end = to as usize + n as usize;
+        marks::mark(self.marks.as_mut_slice(), to as usize / 2, end.div_ceil(2));
     }
 
     /// Makes the `n` words from `i` on 0.
@@ -198,7 +220,8 @@ impl Chunk {
         ensures { self.new ≡ replace_range self.old i (i + n) (replicate n 0) }
     {
         if let Some(region) = &mut self.region {
-            region.as_mut_slice(self.count)[i as usize..(i + n) as usize].fill(0);
+            let words = region.as_mut_slice(self.count);
+            marks::zero(words, self.marks.as_mut_slice(), i as usize, n as usize);
         }
     }
 
@@ -209,6 +232,7 @@ impl Chunk {
         requires target { to + n ≤ length self.old }
         ensures { self.new ≡ replace_range self.old to (to + n) (slice_range self.old from (from + n)) }
     {
+        marks::mark(self.marks.as_mut_slice(), to as usize, (to + n) as usize);
         if let Some(region) = &mut self.region {
             let words = region.as_mut_slice(self.count);
             words.copy_within(from as usize..(from + n) as usize, to as usize);

@@ -1,0 +1,6 @@
+use Rattle.std.proofs.Common.{◌+◌}
+use Rattle.wb_chunk.proofs.MarkedWords.{AreDone}
+use Rattle.wb_chunk.proofs.marks.zero.Given as goal
+
+abbrev pub invariant-loop-block : goal.invariant-loop-block
+invariant-loop-block l = AreDone l.fn.words l.words l.marks l.i (l.i + l.n) l.block

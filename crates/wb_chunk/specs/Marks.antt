@@ -1,0 +1,15 @@
+-- Words in blocks, each of which bears a mark where it may hold anything but zeros.
+use Rattle.std.specs.Prelude.{◌≡◌, ℕ, ◌/◌, ◌<◌, ◌≤◌, ◌⊎◌, Bool, false, List, slice_index, slice_index_or}
+use Rattle.wb_chunk.specs.declared.marks.TheConstants.{BLOCK}
+
+-- whether the block of a word bears a mark
+abbrev pub is_marked : List Bool → ℕ → Bool
+is_marked marks k = slice_index_or marks (k / BLOCK) false
+
+-- each word of a block without a mark is 0
+abbrev pub AreMarked : List Bool → List ℕ → Type 0
+AreMarked marks words = (k : ℕ) → is_marked marks k ≡ false → slice_index words k ≡ 0
+
+-- the words from one place up to another are marked too, and no word has lost its mark
+abbrev pub MarksToo : List Bool → List Bool → ℕ → ℕ → Type 0
+MarksToo old new first end = (k : ℕ) → is_marked new k ≡ false → (is_marked old k ≡ false) × ((k < first) ⊎ (end ≤ k))

@@ -1,0 +1,47 @@
+//! Which blocks of a chunk may hold anything but zeros: a mark for each 1,024 bytes. What a block without a mark holds is
+//! known, so nobody zeroes it again, or reads it to copy it.
+
+ghost use Rattle.std.specs.Prelude.{◌≡◌, ◌+◌, ◌*◌, ◌<◌, ◌≤◌, length, replicate};
+ghost use Rattle.std.specs.List.{replace_range};
+ghost use Rattle.wb_chunk.specs.Marks.{AreMarked, MarksToo};
+
+/// How many words a block has.
+pub(crate) const BLOCK: usize = 256;
+
+/// Marks the block of one word.
+pub(crate) fn mark_one(marks: &mut [bool], i: usize)
+    requires { i < BLOCK * length marks.old }
+    ensures { MarksToo marks.old marks.new i (i + 1) }
+{
+    marks[i / BLOCK] = true;
+}
+
+/// Marks the blocks of the words from `first` up to `end`.
+pub(crate) fn mark(marks: &mut [bool], first: usize, end: usize)
+    requires { end ≤ BLOCK * length marks.old }
+    ensures { MarksToo marks.old marks.new first end }
+{
+    for block in first / BLOCK..end.div_ceil(BLOCK) {
+        marks[block] = true;
+    }
+}
+
+/// Makes the `n` words from `i` on 0. Only marked blocks are written, and those that are zeros afterwards lose their mark.
+#[tactic(auto, using(crate::proofs::MarkedWords::range_zeroed))]
+pub(crate) fn zero(words: &mut [u32], marks: &mut [bool], i: usize, n: usize)
+    requires within { i + n ≤ length words.old }
+    requires covered { length words.old ≤ BLOCK * length marks.old }
+    requires marked { AreMarked marks.old words.old }
+    ensures zeros { words.new ≡ replace_range words.old i (i + n) (replicate n 0) }
+    ensures marked { AreMarked marks.new words.new }
+{
+    let end = i + n;
+    for block in i / BLOCK..end.div_ceil(BLOCK) {
+        if marks[block] {
+            let first = i.max(block * BLOCK);
+            let last = end.min(block * BLOCK + BLOCK);
+            words[first..last].fill(0);
+            marks[block] = last - first < BLOCK;
+        }
+    }
+}
