@@ -6,7 +6,8 @@ use Rattle.wb_model.specs.declared.heap.Header.{Header}
 use Rattle.wb_model.specs.declared.heap.Ptr.{Ptr}
 use Rattle.wb_model.specs.Row.{Cell, headers, end_of, inserted, without, top_from}
 use Rattle.wb_model.specs.CellRow.{resized_words, with_length}
-use Rattle.wb_cells.specs.Holes.{end_at, touches}
+use Rattle.wb_cells.specs.FreeList.{end_at}
+use Rattle.wb_cells.specs.Holes.{touches}
 use Rattle.wb_cells.specs.Inside.{IsLaid}
 use Rattle.wb_cells.specs.Segments.{Segment, live, free, total, cell_from, row_from, BeginsLive, AreMerged}
 use Rattle.wb_cells.proofs.Laying.{total-append, total-whole, row_from-append, top_from-row}
@@ -108,7 +109,7 @@ pub record IsLast (row : List (Cell (List ℕ))) (p : Ptr) (start end stop top :
   pub stops : stop ≡ top
 
 module _ (words : List ℕ) (starts : List Bool) (top first : ℕ) (laid : IsLaid words starts top first) (p : Ptr) (cell : IsCell p words laid.segments laid.spare)
-    (prior before after : ℕ) (round : AreNeighbours cell.front (live cell.kind cell.level p.number cell.body ∷ cell.back) prior before after) where
+    (prior before after : ℕ) (round : AreNeighbours words p.place cell.front (live cell.kind cell.level p.number cell.body ∷ cell.back) prior before after) where
   abbrev size : ℕ
   size = 16 + 4 * length cell.body
 

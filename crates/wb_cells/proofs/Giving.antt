@@ -7,8 +7,8 @@ use Rattle.wb_model.specs.declared.heap.Kind.{Kind}
 use Rattle.wb_model.specs.declared.heap.Ptr.{Ptr}
 use Rattle.wb_model.specs.Row.{Cell, without}
 use Rattle.wb_cells.specs.declared.free_list.Hole.{Hole}
-use Rattle.wb_cells.specs.FreeList.{NO_PLACE, Links, IsWithin}
-use Rattle.wb_cells.specs.Holes.{end_at, touches, hole_of}
+use Rattle.wb_cells.specs.FreeList.{NO_PLACE, Links, IsWithin, end_at}
+use Rattle.wb_cells.specs.Holes.{touches, hole_of}
 use Rattle.wb_cells.specs.Inside.{IsLaid}
 use Rattle.wb_cells.specs.Segments.{Segment, live, free, state_of, total, first_free, last_free, words_of, cell_from, row_from, starts_of, AreWhole, BeginsLive, AreMerged}
 use Rattle.wb_cells.proofs.Laying.{total-append, first_free-append, row_from-append, starts_of-append, length-words_of, length-starts_of, total-whole, whole_front, whole_back}
@@ -49,11 +49,12 @@ without-split p front kind level body back here =
 -- the free cells round a released cell
 pub rounds_of : (words : List ℕ) (starts : List Bool) (top first : ℕ) (laid : IsLaid words starts top first) (p : Ptr) (cell : IsCell p words laid.segments laid.spare)
     (prior before after : ℕ) → Rounds words first p.place prior before after →
-    AreNeighbours cell.front (live cell.kind cell.level p.number cell.body ∷ cell.back) prior before after
+    AreNeighbours words p.place cell.front (live cell.kind cell.level p.number cell.body ∷ cell.back) prior before after
 rounds_of words starts top first laid p cell prior before after rounds =
-    neighbours words first cell.front (live cell.kind cell.level p.number cell.body ∷ cell.back)
-    (subst (λ z. Links words first (gaps_from 0 z)) cell.is (links_laid words starts top first laid)) prior before after
-    (subst (λ n. Rounds words first n prior before after) cell.here rounds)
+    let rest = live cell.kind cell.level p.number cell.body ∷ cell.back in
+    let round = neighbours words first cell.front rest (subst (λ z. Links words first (gaps_from 0 z)) cell.is (links_laid words starts top first laid)) prior before after
+    (subst (λ n. Rounds words first n prior before after) cell.here rounds) in
+    subst (λ n. AreNeighbours words n cell.front rest prior before after) (sym cell.here) round
 
 -- words and bits round a hole, and the cells that are left
 pub record IsHollow (words : List ℕ) (bits : List Bool) (top first : ℕ) (cells : List (Cell (List ℕ))) (start end before next : ℕ) : Type 0 where
@@ -83,7 +84,7 @@ pub record IsHollow (words : List ℕ) (bits : List Bool) (top first : ℕ) (cel
 
 -- the hole that a released cell and the free cells at its sides leave
 module _ (words : List ℕ) (starts : List Bool) (top first : ℕ) (laid : IsLaid words starts top first) (p : Ptr) (cell : IsCell p words laid.segments laid.spare)
-    (prior before after : ℕ) (round : AreNeighbours cell.front (live cell.kind cell.level p.number cell.body ∷ cell.back) prior before after) where
+    (prior before after : ℕ) (round : AreNeighbours words p.place cell.front (live cell.kind cell.level p.number cell.body ∷ cell.back) prior before after) where
   abbrev own : Segment
   own = live cell.kind cell.level p.number cell.body
 

@@ -18,6 +18,7 @@ pub mod Giving
 pub mod Closing
 pub mod Sound
 pub mod Packing
+pub mod LastBits
 pub mod Gaps
 pub mod Behind
 pub mod Lengths

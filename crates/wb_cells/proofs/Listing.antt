@@ -10,8 +10,8 @@ use Rattle.wb_model.specs.CellRow.{IsGap, room_behind, with_length}
 use Rattle.wb_model.specs.Space.{free_runs, longest}
 use Rattle.wb_model.specs.Spelling.{spelled}
 use Rattle.wb_cells.specs.declared.free_list.Hole.{Hole}
-use Rattle.wb_cells.specs.FreeList.{Gap, Links}
-use Rattle.wb_cells.specs.Holes.{end_at, touches, hole_of, hole_past}
+use Rattle.wb_cells.specs.FreeList.{Gap, Links, end_at}
+use Rattle.wb_cells.specs.Holes.{touches, hole_of, hole_past}
 use Rattle.wb_cells.specs.Inside.{IsLaid}
 use Rattle.wb_cells.specs.Maxima.{IsFirstLong, IsGreatest}
 use Rattle.wb_cells.specs.RowGaps.{one_at, gap_from, gap_of, AreSet, AreListed, AreGapsOf, opened_lengths, closed_lengths, found_or}
@@ -242,7 +242,7 @@ module _ (words : List ℕ) (starts : List Bool) (top first : ℕ) (laid : IsLai
 
   -- a release, or a reallocation in place
   module _ (p : Ptr) (cell : IsCell p words laid.segments laid.spare) (prior before after : ℕ)
-      (round : AreNeighbours cell.front (live cell.kind cell.level p.number cell.body ∷ cell.back) prior before after) where
+      (round : AreNeighbours words p.place cell.front (live cell.kind cell.level p.number cell.body ∷ cell.back) prior before after) where
     abbrev end : ℕ
     end = p.place + (16 + 4 * length cell.body)
 

@@ -5,8 +5,8 @@ use Rattle.std.proofs.lemmas.List.{append-nil, get_or_at, get_or-append-add}
 use Rattle.std.proofs.lemmas.Bool.{eq-eqb, ne_eqb}
 use Rattle.wb_chunk.specs.declared.TheConstants.{MOST_WORDS}
 use Rattle.wb_model.specs.declared.heap.Kind.{Kind}
-use Rattle.wb_cells.specs.FreeList.{NO_PLACE, IsWithin, prior_place_or}
-use Rattle.wb_cells.specs.Holes.{end_at, touches}
+use Rattle.wb_cells.specs.FreeList.{NO_PLACE, IsWithin, prior_place_or, end_at}
+use Rattle.wb_cells.specs.Holes.{touches}
 use Rattle.wb_cells.specs.Segments.{Segment, live, free, total, first_free, last_free, words_of, row_from, starts_of, AreWhole, BeginsLive, AreMerged}
 use Rattle.wb_cells.proofs.Laying.{total-append, first_free-append, words_of-append, row_from-append, starts_of-append, length-words_of, total-whole, whole_front, whole_back}
 use Rattle.wb_cells.proofs.Linking.{gaps_from, first_free-above}
@@ -250,7 +250,7 @@ merged_before (free body' ∷ free body'' ∷ xs) body ys m = absurd m.0
 
 module _ (words spare : List ℕ) (xs ys : List Segment) (place prior before after : ℕ) (here : place ≡ total xs) (spelled : words ≡ words_of 0 (xs ++ ys) NO_PLACE ++ spare)
     (whole : AreWhole (xs ++ ys)) (merged : AreMerged (xs ++ ys)) (begins : BeginsLive ys) (below_none : total xs < NO_PLACE)
-    (second : prior ≡ prior_place_or (gaps_from 0 xs) NO_PLACE NO_PLACE) (last : before ≡ last_free 0 xs NO_PLACE) where
+    (second : end_at words before ≡ place → prior ≡ prior_place_or (gaps_from 0 xs) NO_PLACE NO_PLACE) (last : before ≡ last_free 0 xs NO_PLACE) where
   whole_xs : AreWhole xs
   whole_xs = whole_front xs ys whole
 
@@ -304,7 +304,8 @@ module _ (words spare : List ℕ) (xs ys : List Segment) (place prior before aft
       let size = size_at words spare f.front f.body ys before at w (spelled ∙ ap (λ z. words_of 0 z NO_PLACE ++ spare) parts) in
       let sum : total xs ≡ total f.front + (16 + 4 * length f.body) = ap total f.is ∙ total-append f.front (one ∷ []) ∙ omega arith in
       let some : nat_eq before NO_PLACE ≡ false = ne_eqb before NO_PLACE (λ e. omega (arith, e, at, sum, below_none)) in
-      let meets : nat_eq (end_at words before) place ≡ true = eq-eqb (end_at words before) place (omega (arith, size, at, sum, here)) in
+      let ends : end_at words before ≡ place = omega (arith, size, at, sum, here) in
+      let meets : nat_eq (end_at words before) place ≡ true = eq-eqb (end_at words before) place ends in
       let on : touches words before place ≡ true = rw (some, meets) refl in
       let quarter : length f.body % 4 ≡ 0 = (whole_back f.front (one ∷ ys) w).0 in
       rw on (record {
@@ -314,7 +315,7 @@ module _ (words spare : List ℕ) (xs ys : List Segment) (place prior before aft
         here = at;
         long = omega (arith, at, sum, here);
         rounded = omega (arith, quarter);
-        last = second ∙ ap (λ z. prior_place_or (gaps_from 0 z) NO_PLACE NO_PLACE) f.is ∙ prior_place-last f.front f.body 0 NO_PLACE NO_PLACE;
+        last = second ends ∙ ap (λ z. prior_place_or (gaps_from 0 z) NO_PLACE NO_PLACE) f.is ∙ prior_place-last f.front f.body 0 NO_PLACE NO_PLACE;
         spelled = ap (λ z. words_of 0 z after) f.is ∙ words_of-append f.front (one ∷ []) 0 after
             ∙ ap (λ n. words_of 0 f.front n ++ ((16 + 4 * length f.body) ∷ 0 ∷ after ∷ 0 ∷ (f.body ++ []))) (zero-add (total f.front))
             ∙ ap (λ b. words_of 0 f.front (total f.front) ++ ((16 + 4 * length f.body) ∷ 0 ∷ after ∷ 0 ∷ b)) (append-nil f.body);

@@ -1,9 +1,9 @@
 -- The free cells nearest to a place, as lengths by place find them.
 use Rattle.std.proofs.Common.{◌≡◌, ◌≢◌, ℕ, ◌+◌, ◌*◌, ◌/◌, ◌%◌, ◌<◌, ◌≤◌, ◌⊎◌, inl, inr, List, [], ◌∷◌, ◌++◌, length, slice_index, Option, Some, None, refl, sym, ◌∙◌, ap, subst, arith}
 use Rattle.std.proofs.lemmas.Bool.{cases_eq, cases_lt}
-use Rattle.wb_cells.specs.FreeList.{Gap, Links, NO_PLACE, AreBelow, AreFrom, IsRound, last_place_or, prior_place_or, first_place}
+use Rattle.wb_cells.specs.FreeList.{Gap, Links, NO_PLACE, end_at, AreBelow, AreFrom, IsRound, last_place_or, prior_place_or, first_place}
 use Rattle.wb_cells.specs.Maxima.{IsLast}
-use Rattle.wb_cells.specs.RowGaps.{gap_of, AreSet, AreListed, found_or}
+use Rattle.wb_cells.specs.RowGaps.{gap_of, AreSet, AreListed, IsPrior, found_or}
 use Rattle.wb_cells.proofs.RowGaps.{one_here, one_off}
 
 -- free cells that ascend from a place on
@@ -162,29 +162,31 @@ module _ (words lengths : List ℕ) (first place : ℕ) (rounded : place % 16 �
       (is.0, is.1, omega (arith, is.2, low_length b (omega (arith, is.1, le))), λ k from lt. sym (low_length k (omega (arith, lt, le))) ∙ is.3 k from lt)
 
   -- the first free cell is no lower than the place
-  pub round_first : place ≤ first → IsRound low high NO_PLACE NO_PLACE first
+  pub round_first : place ≤ first → IsRound words place low high NO_PLACE NO_PLACE first
   round_first le = go low high links below
     where
-      go : (xs ys : List Gap) → Links words first (xs ++ ys) → AreBelow place xs → IsRound xs ys NO_PLACE NO_PLACE first
-      go [] ys l b = record { second = refl; below = refl; above = first_of words ys first l }
+      go : (xs ys : List Gap) → Links words first (xs ++ ys) → AreBelow place xs → IsRound words place xs ys NO_PLACE NO_PLACE first
+      go [] ys l b = record { second = λ ends. refl; below = refl; above = first_of words ys first l }
       go (x ∷ xs) ys l b = absurd (omega (arith, l.0, b.0, le))
 
   -- none is below it
-  pub round_none : IsLast (slice_index lengths) 0 (place / 16) None → IsRound low high NO_PLACE NO_PLACE first
+  pub round_none : IsLast (slice_index lengths) 0 (place / 16) None → IsRound words place low high NO_PLACE NO_PLACE first
   round_none is = go low (last_none low (place / 16) set_low below_low (low_last (place / 16) None (omega arith) is)) links
     where
-      go : (xs : List Gap) → xs ≡ [] → Links words first (xs ++ high) → IsRound xs high NO_PLACE NO_PLACE first
-      go [] e l = record { second = refl; below = refl; above = first_of words high first l }
+      go : (xs : List Gap) → xs ≡ [] → Links words first (xs ++ high) → IsRound words place xs high NO_PLACE NO_PLACE first
+      go [] e l = record { second = λ ends. refl; below = refl; above = first_of words high first l }
       go (x ∷ xs) e l = absurd cc
 
   -- one is, and perhaps another
-  pub round_some : (b : ℕ) (found : Option ℕ) → IsLast (slice_index lengths) 0 (place / 16) (Some b) → IsLast (slice_index lengths) 0 b found →
-      IsRound low high (found_or found NO_PLACE) (16 * b) (slice_index words (16 * b / 16 * 4 + 2))
-  round_some b found is second =
+  pub round_some : (b prior : ℕ) → IsLast (slice_index lengths) 0 (place / 16) (Some b) → (end_at words (16 * b) ≡ place → IsPrior lengths b prior) →
+      IsRound words place low high prior (16 * b) (slice_index words (16 * b / 16 * 4 + 2))
+  round_some b prior is second =
       let last = low_last (place / 16) (Some b) (omega arith) is in
       let here = last_is low first (place / 16) b NO_PLACE ascends set_low below_low last in
       record {
-        second = sym (prior_is low first (place / 16) b NO_PLACE NO_PLACE found ascends set_low below_low last (low_last b found (omega (arith, is.1)) second));
+        second = λ ends.
+            let it = second ends in
+            it.is ∙ sym (prior_is low first (place / 16) b NO_PLACE NO_PLACE it.found ascends set_low below_low last (low_last b it.found (omega (arith, is.1)) it.last));
         below = sym here;
         above = ap (λ n. slice_index words (n / 16 * 4 + 2)) (sym here) ∙ go low links last;
       }

@@ -7,8 +7,8 @@ use Rattle.wb_model.specs.declared.heap.Ptr.{Ptr}
 use Rattle.wb_model.specs.Row.{Cell, headers, cell_at}
 use Rattle.wb_model.specs.Spelling.{spelled}
 use Rattle.wb_model.specs.CellRow.{FitsInPlace, resized_words, with_length}
-use Rattle.wb_cells.specs.FreeList.{NO_PLACE}
-use Rattle.wb_cells.specs.Holes.{end_at, hole_past, closed_words, closed_ends}
+use Rattle.wb_cells.specs.FreeList.{NO_PLACE, end_at}
+use Rattle.wb_cells.specs.Holes.{hole_past, closed_words, closed_ends}
 use Rattle.wb_cells.specs.declared.free_list.Hole.{Hole}
 use Rattle.wb_cells.specs.declared.free_list.Neighbours.{Neighbours}
 use Rattle.wb_cells.specs.Inside.{IsLaid}
@@ -25,7 +25,7 @@ use Rattle.wb_cells.proofs.Behind.{length_word}
 use Rattle.wb_cells.proofs.Lengths.{apart-length, length-resized, with_length-split, parted_room, fits_past, fits_below, length-replace_range}
 
 module _ (words : List ℕ) (starts : List Bool) (top first : ℕ) (laid : IsLaid words starts top first) (p : Ptr) (cell : IsCell p words laid.segments laid.spare)
-    (prior under above : ℕ) (round : AreNeighbours cell.front (live cell.kind cell.level p.number cell.body ∷ cell.back) prior under above)
+    (prior under above : ℕ) (round : AreNeighbours words p.place cell.front (live cell.kind cell.level p.number cell.body ∷ cell.back) prior under above)
     (to : ℕ) (rounded : to % 16 ≡ 0) (least : 16 ≤ to) (within : p.place + to ≤ 4 * length words) (fits : FitsInPlace p to (headers (row_from 0 laid.segments))) where
   abbrev own : Segment
   own = live cell.kind cell.level p.number cell.body

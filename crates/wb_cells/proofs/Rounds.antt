@@ -1,6 +1,6 @@
 -- The free cells below a place and above it, as the walk finds them and as segments have them.
 use Rattle.std.proofs.Common.{◌≡◌, ℕ, ◌+◌, ◌*◌, ◌≤◌, List, [], ◌∷◌, ◌++◌, length, refl, ◌∙◌, ap, subst, arith, add_assoc, add-zero, zero-add}
-use Rattle.wb_cells.specs.FreeList.{NO_PLACE, Gap, Links, AreBelow, AreFrom, IsRound, last_place, last_place_or, prior_place_or, first_place}
+use Rattle.wb_cells.specs.FreeList.{NO_PLACE, end_at, Gap, Links, AreBelow, AreFrom, IsRound, last_place, last_place_or, prior_place_or, first_place}
 use Rattle.wb_cells.specs.Segments.{Segment, live, free, total, first_free, last_free}
 use Rattle.wb_cells.proofs.Linking.{gaps_from}
 
@@ -38,14 +38,14 @@ prior_place-last [] body at prior before = refl
 prior_place-last (live kind level number body' ∷ xs) body at prior before = prior_place-last xs body (at + (16 + 4 * length body')) prior before
 prior_place-last (free body' ∷ xs) body at prior before = prior_place-last xs body (at + (16 + 4 * length body')) before at
 
-pub record AreNeighbours (front rest : List Segment) (prior before after : ℕ) : Type 0 where
-  pub second : prior ≡ prior_place_or (gaps_from 0 front) NO_PLACE NO_PLACE
+pub record AreNeighbours (words : List ℕ) (place : ℕ) (front rest : List Segment) (prior before after : ℕ) : Type 0 where
+  pub second : end_at words before ≡ place → prior ≡ prior_place_or (gaps_from 0 front) NO_PLACE NO_PLACE
   pub below : before ≡ last_free 0 front NO_PLACE
   pub above : after ≡ first_free (total front) rest NO_PLACE
 
 abbrev pub Rounds : List ℕ → ℕ → ℕ → ℕ → ℕ → ℕ → Type 0
 Rounds words first place prior before after =
-    (low high : List Gap) → Links words first (low ++ high) → AreBelow place low → AreFrom place high → IsRound low high prior before after
+    (low high : List Gap) → Links words first (low ++ high) → AreBelow place low → AreFrom place high → IsRound words place low high prior before after
 
 module _ (words : List ℕ) (first : ℕ) (front rest : List Segment) (links : Links words first (gaps_from 0 (front ++ rest))) where
   pub low_high : Links words first (gaps_from 0 front ++ gaps_from (total front) rest)
@@ -57,7 +57,7 @@ module _ (words : List ℕ) (first : ℕ) (front rest : List Segment) (links : L
   pub above_front : AreFrom (total front) (gaps_from (total front) rest)
   above_front = gaps_above rest (total front) (total front) (omega arith)
 
-  pub neighbours : (prior before after : ℕ) → Rounds words first (total front) prior before after → AreNeighbours front rest prior before after
+  pub neighbours : (prior before after : ℕ) → Rounds words first (total front) prior before after → AreNeighbours words (total front) front rest prior before after
   neighbours prior before after rounds =
       let r = rounds (gaps_from 0 front) (gaps_from (total front) rest) low_high below_front above_front in
       record {

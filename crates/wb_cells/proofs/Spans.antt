@@ -1,5 +1,5 @@
 -- The greatest of each span: what a search among them says of the numbers, and what one other number makes of them.
-use Rattle.std.proofs.Common.{◌≡◌, ◌≢◌, ℕ, ◌+◌, ◌-◌, ◌*◌, ◌/◌, ◌<◌, ◌≤◌, ◌⊎◌, inl, inr, List, [], ◌++◌, length, slice_index, replicate, Option, Some, None, is_some, false, max, min, refl, sym, ◌∙◌, ap, subst, arith, length-append}
+use Rattle.std.proofs.Common.{◌≡◌, ◌≢◌, ℕ, ◌+◌, ◌-◌, ◌*◌, ◌/◌, ◌<◌, ◌≤◌, ◌⊎◌, inl, inr, List, [], ◌++◌, length, slice_index, replicate, Option, Some, None, is_some, false, max, refl, sym, ◌∙◌, ap, subst, arith, length-append}
 use Rattle.std.proofs.lemmas.Bool.{cases_lt, cases_eq}
 use Rattle.std.proofs.lemmas.List.{get_or_append_left, get_or-append_right, get_or_past, length-replicate, get_or-replicate}
 use Rattle.wb_chunk.specs.declared.TheConstants.{MOST_WORDS}
@@ -34,10 +34,11 @@ all_same f g xs ys same spans are j =
     subst (λ n. IsGreatest g (64 * j) (64 * j + 64) n) (spans j) (greatest_same f g (64 * j) (64 * j + 64) (slice_index xs j) same (are j))
 
 -- no numbers
-pub none_greatest : AreMaxima [] [] []
+pub none_greatest : AreMaxima [] [] [] 0
 none_greatest = record {
   of_blocks = λ j. record { most = λ k low high. omega arith; some = λ any. absurd (any refl) };
   of_regions = λ j. record { most = λ k low high. omega arith; some = λ any. absurd (any refl) };
+  of_all = record { most = λ k low high. omega arith; some = λ any. absurd (any refl) };
   room = omega arith;
   more_room = omega arith;
   bounded = omega arith;
@@ -105,70 +106,89 @@ greatest_of_all f spans greatest n are most some = (
       record { at = s.at; above = omega arith; below = omega (arith, s.below, t.below); is = s.is ∙ t.is },
 )
 
--- a number changed, and the greatest of its span put right: it is the new one
-module _ (f g : ℕ → ℕ) (spans spans' : List ℕ) (at : ℕ) (are : AreGreatest f spans)
-    (others : (k : ℕ) → k ≢ at → f k ≡ g k) (same : (j : ℕ) → j ≢ at / 64 → slice_index spans' j ≡ slice_index spans j) where
-  elsewhere : (j : ℕ) → j ≢ at / 64 → IsGreatest g (64 * j) (64 * j + 64) (slice_index spans' j)
-  elsewhere j other =
-      let is = are j in
-      rw (same j other) (record {
-        most = λ k low high. omega (arith, is.most k low high, others k (λ e. other (omega (arith, e, low, high))));
-        some = λ any.
-            let t = is.some any in
-            record {
-              at = t.at;
-              above = t.above;
-              below = t.below;
-              is = sym (others t.at (λ e. other (omega (arith, e, t.above, t.below)))) ∙ t.is;
-            };
-      })
-
-  with_span : IsGreatest g (64 * (at / 64)) (64 * (at / 64) + 64) (slice_index spans' (at / 64)) → AreGreatest g spans'
-  with_span here j = go (cases_eq j (at / 64))
-    where
-      go : (j ≡ at / 64) ⊎ (j ≡ at / 64 → ⊥) → IsGreatest g (64 * j) (64 * j + 64) (slice_index spans' j)
-      go (inl e) = subst (λ i. IsGreatest g (64 * i) (64 * i + 64) (slice_index spans' i)) (sym e) here
-      go (inr other) = elsewhere j other
-
-  -- it is at least the old greatest
-  pub renewed_up : slice_index spans (at / 64) ≤ g at → slice_index spans' (at / 64) ≡ g at → AreGreatest g spans'
-  renewed_up le is = with_span (rw is (record {
+-- a number changed: the greatest of a range that it is in is the new one
+module _ (f g : ℕ → ℕ) (from end was at : ℕ) (above : from ≤ at) (below : at < end) (others : (k : ℕ) → k ≢ at → f k ≡ g k) where
+  pub greatest_up : was ≤ g at → IsGreatest f from end was → IsGreatest g from end (g at)
+  greatest_up le is = record {
     most = λ k low high. each k low high (cases_eq k at);
-    some = λ any. record { at = at; above = omega arith; below = omega arith; is = refl };
-  }))
+    some = λ any. record { at = at; above = above; below = below; is = refl };
+  }
     where
-      each : (k : ℕ) → 64 * (at / 64) ≤ k → k < 64 * (at / 64) + 64 → (k ≡ at) ⊎ (k ≡ at → ⊥) → g k ≤ g at
+      each : (k : ℕ) → from ≤ k → k < end → (k ≡ at) ⊎ (k ≡ at → ⊥) → g k ≤ g at
       each k low high (inl e) = rw e (omega arith)
-      each k low high (inr other) = omega (arith, (are (at / 64)).most k low high, others k other, le)
+      each k low high (inr other) = omega (arith, is.most k low high, others k other, le)
 
-  -- the span was gone over
-  pub renewed_all : (greatest : ℕ) → slice_index spans' (at / 64) ≡ greatest → IsGreatest g (64 * (at / 64)) (64 * (at / 64) + 64) greatest → AreGreatest g spans'
-  renewed_all greatest is there = with_span (rw is there)
-
-  -- the old greatest is another number
-  pub renewed_not : f at ≢ slice_index spans (at / 64) → g at < slice_index spans (at / 64) → slice_index spans' (at / 64) ≡ slice_index spans (at / 64) → AreGreatest g spans'
-  renewed_not less low is = with_span (rw is (record {
-    most = λ k from to. each k from to (cases_eq k at);
+  -- or the old one, which is another number
+  pub greatest_stays : f at ≢ was → g at < was → IsGreatest f from end was → IsGreatest g from end was
+  greatest_stays less low is = record {
+    most = λ k least high. each k least high (cases_eq k at);
     some = λ any.
-        let t = (are (at / 64)).some any in
+        let t = is.some any in
         record { at = t.at; above = t.above; below = t.below; is = sym (others t.at (λ e. less (sym (ap f e) ∙ t.is))) ∙ t.is };
-  }))
+  }
     where
-      each : (k : ℕ) → 64 * (at / 64) ≤ k → k < 64 * (at / 64) + 64 → (k ≡ at) ⊎ (k ≡ at → ⊥) → g k ≤ slice_index spans (at / 64)
-      each k from to (inl e) = rw e (omega (arith, low))
-      each k from to (inr other) = omega (arith, (are (at / 64)).most k from to, others k other)
+      each : (k : ℕ) → from ≤ k → k < end → (k ≡ at) ⊎ (k ≡ at → ⊥) → g k ≤ was
+      each k least high (inl e) = rw e (omega (arith, low))
+      each k least high (inr other) = omega (arith, is.most k least high, others k other)
+
+-- and with it those of all spans are right
+pub renewed_spans : (f g : ℕ → ℕ) (spans spans' : List ℕ) (at : ℕ) → AreGreatest f spans → ((k : ℕ) → k ≢ at → f k ≡ g k) →
+    ((j : ℕ) → j ≢ at / 64 → slice_index spans' j ≡ slice_index spans j) →
+    IsGreatest g (64 * (at / 64)) (64 * (at / 64) + 64) (slice_index spans' (at / 64)) → AreGreatest g spans'
+renewed_spans f g spans spans' at are others same here j = go (cases_eq j (at / 64))
+  where
+    go : (j ≡ at / 64) ⊎ (j ≡ at / 64 → ⊥) → IsGreatest g (64 * j) (64 * j + 64) (slice_index spans' j)
+    go (inl e) = subst (λ i. IsGreatest g (64 * i) (64 * i + 64) (slice_index spans' i)) (sym e) here
+    go (inr other) =
+        let is = are j in
+        rw (same j other) (record {
+          most = λ k low high. omega (arith, is.most k low high, others k (λ e. other (omega (arith, e, low, high))));
+          some = λ any.
+              let t = is.some any in
+              record {
+                at = t.at;
+                above = t.above;
+                below = t.below;
+                is = sym (others t.at (λ e. other (omega (arith, e, t.above, t.below)))) ∙ t.is;
+              };
+        })
 
 -- more numbers that are 0, with the spans for them
-pub grown_maxima : (numbers blocks regions : List ℕ) → AreMaxima numbers blocks regions → (n b r : ℕ) →
+grown_spans : (numbers spans : List ℕ) (n m : ℕ) → AreGreatest (slice_index numbers) spans → AreGreatest (slice_index (numbers ++ replicate n 0)) (spans ++ replicate m 0)
+grown_spans numbers spans n m are =
+    all_same (slice_index numbers) (slice_index (numbers ++ replicate n 0)) spans (spans ++ replicate m 0)
+    (λ k. sym (slice_index-zeros numbers n k)) (λ j. sym (slice_index-zeros spans m j)) are
+
+grown_room : (numbers spans : List ℕ) (n m : ℕ) → length numbers + n ≤ 64 * (length spans + m) → length (numbers ++ replicate n 0) ≤ 64 * length (spans ++ replicate m 0)
+grown_room numbers spans n m room =
+    omega (arith, room, length-append numbers (replicate n 0), length-replicate {A = ℕ} n 0, length-append spans (replicate m 0), length-replicate {A = ℕ} m 0)
+
+-- numbers that are no greater than another, also those past the end
+pub all_most : (numbers : List ℕ) (greatest : ℕ) → ((k : ℕ) → 0 ≤ k → k < length numbers → slice_index numbers k ≤ greatest) → (k : ℕ) → slice_index numbers k ≤ greatest
+all_most numbers greatest most k = go (cases_lt k (length numbers))
+  where
+    go : (k < length numbers) ⊎ (length numbers ≤ k) → slice_index numbers k ≤ greatest
+    go (inl lt) = most k (omega arith) lt
+    go (inr ge) = omega (arith, get_or_past numbers k 0 ge)
+
+grown_greatest : (numbers : List ℕ) (n greatest : ℕ) → IsGreatest (slice_index numbers) 0 (length numbers) greatest →
+    IsGreatest (slice_index (numbers ++ replicate n 0)) 0 (length (numbers ++ replicate n 0)) greatest
+grown_greatest numbers n greatest is = record {
+  most = λ k low high. omega (arith, slice_index-zeros numbers n k, all_most numbers greatest is.most k);
+  some = λ any.
+      let t = is.some any in
+      record { at = t.at; above = t.above; below = omega (arith, t.below, length-append numbers (replicate n 0)); is = slice_index-zeros numbers n t.at ∙ t.is };
+}
+
+pub grown_maxima : (numbers blocks regions : List ℕ) (longest : ℕ) → AreMaxima numbers blocks regions longest → (n b r : ℕ) →
     length numbers + n ≤ 64 * (length blocks + b) → length blocks + b ≤ 64 * (length regions + r) → length numbers + n ≤ MOST_WORDS →
-    AreMaxima (numbers ++ replicate n 0) (blocks ++ replicate b 0) (regions ++ replicate r 0)
-grown_maxima numbers blocks regions are n b r room more small = record {
-  of_blocks = all_same (slice_index numbers) (slice_index (numbers ++ replicate n 0)) blocks (blocks ++ replicate b 0)
-      (λ k. sym (slice_index-zeros numbers n k)) (λ j. sym (slice_index-zeros blocks b j)) are.of_blocks;
-  of_regions = all_same (slice_index blocks) (slice_index (blocks ++ replicate b 0)) regions (regions ++ replicate r 0)
-      (λ k. sym (slice_index-zeros blocks b k)) (λ j. sym (slice_index-zeros regions r j)) are.of_regions;
-  room = omega (arith, room, length-append numbers (replicate n 0), length-replicate {A = ℕ} n 0, length-append blocks (replicate b 0), length-replicate {A = ℕ} b 0);
-  more_room = omega (arith, more, length-append blocks (replicate b 0), length-replicate {A = ℕ} b 0, length-append regions (replicate r 0), length-replicate {A = ℕ} r 0);
+    AreMaxima (numbers ++ replicate n 0) (blocks ++ replicate b 0) (regions ++ replicate r 0) longest
+grown_maxima numbers blocks regions longest are n b r room more small = record {
+  of_blocks = grown_spans numbers blocks n b are.of_blocks;
+  of_regions = grown_spans blocks regions b r are.of_regions;
+  of_all = grown_greatest regions r longest are.of_all;
+  room = grown_room numbers blocks n b room;
+  more_room = grown_room blocks regions b r more;
   bounded = omega (arith, small, length-append numbers (replicate n 0), length-replicate {A = ℕ} n 0);
 }
 
@@ -190,13 +210,6 @@ all_short numbers least long short k = go (cases_lt k (length numbers))
     go (inl lt) = short k (omega arith) lt
     go (inr ge) = omega (arith, get_or_past numbers k 0 ge, long)
 
-pub all_most : (numbers : List ℕ) (greatest : ℕ) → ((k : ℕ) → 0 ≤ k → k < length numbers → slice_index numbers k ≤ greatest) → (k : ℕ) → slice_index numbers k ≤ greatest
-all_most numbers greatest most k = go (cases_lt k (length numbers))
-  where
-    go : (k < length numbers) ⊎ (length numbers ≤ k) → slice_index numbers k ≤ greatest
-    go (inl lt) = most k (omega arith) lt
-    go (inr ge) = omega (arith, get_or_past numbers k 0 ge)
-
 -- a number that is not 0 is within the list
 pub there_within : (numbers : List ℕ) (n greatest : ℕ) → greatest ≢ 0 → IsThere (slice_index numbers) 0 n greatest → IsThere (slice_index numbers) 0 (length numbers) greatest
 there_within numbers n greatest any t = go (cases_lt t.at (length numbers))
@@ -205,34 +218,53 @@ there_within numbers n greatest any t = go (cases_lt t.at (length numbers))
     go (inl lt) = record { at = t.at; above = t.above; below = lt; is = t.is }
     go (inr ge) = absurd (any (sym t.is ∙ get_or_past numbers t.at 0 ge))
 
--- one number more
-pub greatest_more : (f : ℕ → ℕ) (from at greatest : ℕ) → from ≤ at → IsGreatest f from at greatest → IsGreatest f from (at + 1) (max (f at) greatest)
-greatest_more f from at greatest le is = record {
-  most = λ k low high. each k low high (cases_lt k at);
-  some = λ any. go any (cases_lt greatest (f at));
+-- the last number that is not 0, and those behind it
+pub greatest_down : (f : ℕ → ℕ) (from at stop end greatest : ℕ) → stop ≤ end → IsLast f from stop (Some at) → IsGreatest f stop end greatest →
+    IsGreatest f at end (max (f at) greatest)
+greatest_down f from at stop end greatest le last is = record {
+  most = λ k low high. each k low high (cases_lt k stop) (cases_lt at k);
+  some = λ any. go (cases_lt greatest (f at));
 }
   where
-    each : (k : ℕ) → from ≤ k → k < at + 1 → (k < at) ⊎ (at ≤ k) → f k ≤ max (f at) greatest
-    each k low high (inl lt) = omega (arith, is.most k low lt)
-    each k low high (inr ge) = let e : k ≡ at = omega (arith, high, ge) in omega (arith, ap f e)
+    each : (k : ℕ) → at ≤ k → k < end → (k < stop) ⊎ (stop ≤ k) → (at < k) ⊎ (k ≤ at) → f k ≤ max (f at) greatest
+    each k low high (inl under) (inl past) = omega (arith, last.3 k past under)
+    each k low high (inl under) (inr here) = let e : k ≡ at = omega (arith, low, here) in omega (arith, ap f e)
+    each k low high (inr above) _ = omega (arith, is.most k above high)
 
-    go : max (f at) greatest ≢ 0 → (greatest < f at) ⊎ (f at ≤ greatest) → IsThere f from (at + 1) (max (f at) greatest)
-    go any (inl lt) = record { at = at; above = le; below = omega arith; is = omega (arith, lt) }
-    go any (inr ge) =
-        let t = is.some (λ e. any (omega (arith, e, ge))) in
-        record { at = t.at; above = t.above; below = omega (arith, t.below); is = omega (arith, t.is, ge) }
+    go : (greatest < f at) ⊎ (f at ≤ greatest) → IsThere f at end (max (f at) greatest)
+    go (inl lt) = record { at = at; above = omega arith; below = omega (arith, last.1, le); is = omega (arith, lt) }
+    go (inr ge) =
+        let t = is.some (λ e. omega (arith, e, ge, last.2)) in
+        record { at = t.at; above = omega (arith, t.above, last.1); below = t.below; is = omega (arith, t.is, ge) }
 
--- those past the end are 0
-pub greatest_to : (numbers : List ℕ) (from at end greatest : ℕ) → at ≤ end → min end (length numbers) ≤ at → IsGreatest (slice_index numbers) from at greatest →
-    IsGreatest (slice_index numbers) from end greatest
-greatest_to numbers from at end greatest le stop is = record {
-  most = λ k low high. each k low high (cases_lt k at);
-  some = λ any. let t = is.some any in record { at = t.at; above = t.above; below = omega (arith, t.below, le); is = t.is };
+-- those before them are 0
+pub greatest_rest : (f : ℕ → ℕ) (from stop end greatest : ℕ) → (greatest ≢ 0 → from ≤ stop) → IsLast f from stop None → IsGreatest f stop end greatest →
+    IsGreatest f from end greatest
+greatest_rest f from stop end greatest begun none is = record {
+  most = λ k low high. each k low high (cases_lt k stop);
+  some = λ any. let t = is.some any in record { at = t.at; above = omega (arith, t.above, begun any); below = t.below; is = t.is };
 }
   where
-    each : (k : ℕ) → from ≤ k → k < end → (k < at) ⊎ (at ≤ k) → slice_index numbers k ≤ greatest
-    each k low high (inl lt) = is.most k low lt
-    each k low high (inr ge) = omega (arith, get_or_past numbers k 0 (omega (arith, ge, high, stop)))
+    each : (k : ℕ) → from ≤ k → k < end → (k < stop) ⊎ (stop ≤ k) → f k ≤ greatest
+    each k low high (inl under) = omega (arith, none k low under)
+    each k low high (inr above) = is.most k above high
+
+-- or one of those behind is as great as any
+pub greatest_full : (f : ℕ → ℕ) (from stop end greatest most : ℕ) → (greatest ≢ 0 → from ≤ stop) → IsGreatest f stop end greatest →
+    ((k : ℕ) → from ≤ k → k < end → f k ≤ most) → most ≤ greatest → IsGreatest f from end greatest
+greatest_full f from stop end greatest most begun is bound full = record {
+  most = λ k low high. omega (arith, bound k low high, full);
+  some = λ any. let t = is.some any in record { at = t.at; above = omega (arith, t.above, begun any); below = t.below; is = t.is };
+}
+
+-- a number changed and became less, and the others are no greater than the greatest was
+pub changed_most : (f g : ℕ → ℕ) (from end was at : ℕ) → ((k : ℕ) → k ≢ at → f k ≡ g k) → g at < was → IsGreatest f from end was →
+    (k : ℕ) → from ≤ k → k < end → g k ≤ was
+changed_most f g from end was at others low is k least high = go (cases_eq k at)
+  where
+    go : (k ≡ at) ⊎ (k ≡ at → ⊥) → g k ≤ was
+    go (inl e) = rw e (omega (arith, low))
+    go (inr other) = omega (arith, is.most k least high, others k other)
 
 pub none_is : (o : Option ℕ) → is_some o ≡ false → o ≡ None
 none_is None e = refl
@@ -241,9 +273,3 @@ none_is (Some k) e = absurd cc
 -- of no numbers
 pub greatest_empty : (f : ℕ → ℕ) (from : ℕ) → IsGreatest f from from 0
 greatest_empty f from = record { most = λ k low high. absurd (omega (arith, low, high)); some = λ any. absurd (any refl) }
-
-pub greatest_none : (f : ℕ → ℕ) (from at end greatest : ℕ) → end < from → at ≤ from → IsGreatest f from at greatest → IsGreatest f from end greatest
-greatest_none f from at end greatest lt le is = record {
-  most = λ k low high. absurd (omega (arith, low, high, lt));
-  some = λ any. let t = is.some any in absurd (omega (arith, t.above, t.below, le));
-}

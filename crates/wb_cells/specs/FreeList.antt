@@ -48,9 +48,13 @@ abbrev pub prior_place_or : List Gap → ℕ → ℕ → ℕ
 prior_place_or [] prior before = prior
 prior_place_or (g ∷ gs) prior before = prior_place_or gs before g.place
 
--- the neighbours of a place that has these free cells below it and these from it on
-pub record IsRound (low high : List Gap) (prior before after : ℕ) : Type 0 where
-  pub second : prior ≡ prior_place_or low NO_PLACE NO_PLACE
+-- where the cell at a place ends
+abbrev pub end_at : List ℕ → ℕ → ℕ
+end_at words place = place + slice_index words (place / 16 * 4)
+
+-- the neighbours of a place that has these free cells below it and these from it on; the last but one counts where the last ends at the place
+pub record IsRound (words : List ℕ) (place : ℕ) (low high : List Gap) (prior before after : ℕ) : Type 0 where
+  pub second : end_at words before ≡ place → prior ≡ prior_place_or low NO_PLACE NO_PLACE
   pub below : before ≡ last_place low
   pub above : after ≡ first_place high
 

@@ -4,11 +4,7 @@ use Rattle.std.specs.List.{replace_range}
 use Rattle.wb_cells.specs.declared.free_list.Ends.{Ends}
 use Rattle.wb_cells.specs.declared.free_list.Hole.{Hole}
 use Rattle.wb_cells.specs.declared.free_list.Neighbours.{Neighbours}
-use Rattle.wb_cells.specs.FreeList.{NO_PLACE, IsWithin, linked_first, linked_words, next_past, parted_words}
-
--- where the cell at a place ends
-abbrev pub end_at : List ℕ → ℕ → ℕ
-end_at words place = place + slice_index words (place / 16 * 4)
+use Rattle.wb_cells.specs.FreeList.{NO_PLACE, IsWithin, end_at, linked_first, linked_words, next_past, parted_words}
 
 -- whether a free cell stands right below a place
 abbrev pub touches : List ℕ → ℕ → ℕ → Bool

@@ -5,5 +5,4 @@ pub mod Inside
 pub mod Maxima
 pub mod RowGaps
 pub mod Segments
-pub mod Starts
 pub mod States

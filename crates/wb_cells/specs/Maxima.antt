@@ -1,5 +1,5 @@
--- Numbers in a row, the greatest of each 64 of them, and searches among them.
-use Rattle.std.specs.Prelude.{ℕ, ◌+◌, ◌*◌, ◌≡◌, ◌≢◌, ◌≤◌, ◌<◌, List, length, slice_index, Option, Some, None}
+-- Numbers in a row, which of them are not 0, the greatest of each 64 of them, and searches among them.
+use Rattle.std.specs.Prelude.{ℕ, ◌+◌, ◌*◌, ◌≡◌, ◌≢◌, ◌≤◌, ◌<◌, List, length, slice_index, slice_index_or, nat_eq, Bool, false, not, Option, Some, None}
 use Rattle.wb_chunk.specs.declared.TheConstants.{MOST_WORDS}
 
 -- the first number from one index on, below another, that is so great, or none is
@@ -35,10 +35,16 @@ pub record IsGreatest (f : ℕ → ℕ) (from end greatest : ℕ) : Type 0 where
 abbrev pub AreGreatest : (ℕ → ℕ) → List ℕ → Type 0
 AreGreatest f spans = (j : ℕ) → IsGreatest f (64 * j) (64 * j + 64) (slice_index spans j)
 
--- the greatest of each 64 numbers, and of each 64 of these
-pub record AreMaxima (numbers blocks regions : List ℕ) : Type 0 where
+-- of each number a bit says whether it is another than 0
+pub record AreMarked (numbers : List ℕ) (marks : List Bool) : Type 0 where
+  pub told : (k : ℕ) → slice_index_or marks k false ≡ not (nat_eq (slice_index numbers k) 0)
+  pub room : length numbers ≤ length marks
+
+-- the greatest of each 64 numbers, of each 64 of these, and of all
+pub record AreMaxima (numbers blocks regions : List ℕ) (longest : ℕ) : Type 0 where
   pub of_blocks : AreGreatest (slice_index numbers) blocks
   pub of_regions : AreGreatest (slice_index blocks) regions
+  pub of_all : IsGreatest (slice_index regions) 0 (length regions) longest
   pub room : length numbers ≤ 64 * length blocks
   pub more_room : length blocks ≤ 64 * length regions
   pub bounded : length numbers ≤ MOST_WORDS

@@ -3,7 +3,8 @@ use Rattle.std.specs.Prelude.{ℕ, ◌+◌, ◌-◌, ◌*◌, ◌/◌, ◌%◌, 
 use Rattle.wb_model.specs.declared.heap.Header.{Header}
 use Rattle.wb_model.specs.Row.{Cell, headers, end_of}
 use Rattle.wb_cells.specs.declared.free_list.Hole.{Hole}
-use Rattle.wb_cells.specs.FreeList.{Gap}
+use Rattle.wb_cells.specs.FreeList.{Gap, NO_PLACE}
+use Rattle.wb_cells.specs.Maxima.{IsLast}
 
 -- a length at one place, which is counted in steps of 16 bytes, and 0 elsewhere
 abbrev pub one_at : ℕ → ℕ → ℕ → ℕ
@@ -49,3 +50,9 @@ closed_lengths lengths top end hole =
 abbrev pub found_or : Option ℕ → ℕ → ℕ
 found_or None other = other
 found_or (Some k) other = 16 * k
+
+-- the place of the last free cell before one, which is counted in steps of 16 bytes
+pub record IsPrior (lengths : List ℕ) (at prior : ℕ) : Type 0 where
+  pub found : Option ℕ
+  pub last : IsLast (slice_index lengths) 0 at found
+  pub is : prior ≡ found_or found NO_PLACE

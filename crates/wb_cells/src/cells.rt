@@ -8,10 +8,10 @@ ghost use Rattle.wb_model.specs.LimitedHeap.{next_live_of, zero_words};
 ghost use Rattle.wb_model.specs.Space.{free_runs, longest};
 ghost use Rattle.wb_model.specs.Row.{IsLeastPlace, cell_at, headers, inserted, place_of, top_of, without};
 
+use crate::bits::Bits;
 use crate::free_list::{self, Ends};
 use crate::gap_index::GapIndex;
 use crate::layout::{self, NONE};
-use crate::starts::Starts;
 use std::alloc::Global;
 use std::marker::Model;
 use wb_chunk::Chunk;
@@ -29,7 +29,7 @@ use wb_model::memory::NoMemory;
 #[derive(Drop)]
 pub struct Cells {
     pub(crate) words: Chunk,
-    starts: Starts,
+    starts: Bits,
     gaps: GapIndex,
     ends: Ends,
 }
@@ -52,7 +52,7 @@ impl Cells {
     {
         Cells {
             words: Chunk::new(alloc),
-            starts: Starts::new(alloc),
+            starts: Bits::new(alloc),
             gaps: GapIndex::new(alloc),
             ends: Ends {
                 top: 0,

@@ -1,10 +1,9 @@
 //! The free cells, linked in order of place: those round a place, and what a grant and a release make of them. Of live
 //! cells nothing here reads but the length of the one that is released.
 
-ghost use Rattle.std.specs.Prelude.{◌≡◌, ◌≢◌, ◌+◌, ◌*◌, ◌/◌, ◌%◌, ◌<◌, ◌≤◌, ◌⊎◌, [], ◌++◌, ℕ, List, Option, length, slice_index, slice_set, if◌then◌else◌, nat_eq};
-ghost use Rattle.wb_cells.specs.FreeList.{Gap, Links, NO_PLACE, AreBelow, AreFrom, last_place, IsRound, IsWithin, linked_first, linked_words, next_past, parted_words};
-ghost use Rattle.wb_cells.specs.Maxima.{IsLast};
-ghost use Rattle.wb_cells.specs.RowGaps.{AreListed, found_or};
+ghost use Rattle.std.specs.Prelude.{◌≡◌, ◌≢◌, ◌+◌, ◌*◌, ◌/◌, ◌%◌, ◌<◌, ◌≤◌, ◌⊎◌, [], ◌++◌, ℕ, List, length, slice_index, slice_set, if◌then◌else◌, nat_eq};
+ghost use Rattle.wb_cells.specs.FreeList.{Gap, Links, NO_PLACE, end_at, AreBelow, AreFrom, last_place, IsRound, IsWithin, linked_first, linked_words, next_past, parted_words};
+ghost use Rattle.wb_cells.specs.RowGaps.{AreListed, IsPrior};
 ghost use Rattle.wb_cells.specs.Holes.{IsOpenable, IsOpened, IsRaised, hole_of, hole_past, closed_words, closed_ends};
 
 use crate::gap_index::GapIndex;
@@ -15,7 +14,7 @@ use wb_model::limits::CEILING;
 /// The free cells on both sides of a place, or NONE.
 #[derive(Clone, Copy, Debug)]
 pub struct Neighbours {
-    /// The last one below that.
+    /// The last one below that, where that ends at the place; else it need not be known.
     pub prior: u32,
     /// The last one below the place.
     pub before: u32,
@@ -47,7 +46,7 @@ pub fn around(words: &Chunk, gaps: &GapIndex, first: u32, place: u32) -> Neighbo
     requires listed { (cells : List Gap) → Links words.now first cells → AreListed cells gaps.now }
     ensures under { result.before ≢ NO_PLACE → result.before < place }
     ensures round { (low high : List Gap) → Links words.now first (low ++ high) → AreBelow place low → AreFrom place high
-        → IsRound low high result.prior result.before result.after }
+        → IsRound words.now place low high result.prior result.before result.after }
 {
     let none = Neighbours {
         prior: NONE,
@@ -59,19 +58,24 @@ pub fn around(words: &Chunk, gaps: &GapIndex, first: u32, place: u32) -> Neighbo
     }
     match gaps.last_below(place / 16) {
         None => none,
-        Some(before) => Neighbours {
-            prior: place_before(gaps, before),
-            before: 16 * before,
-            after: link_at(words, 16 * before),
+        Some(at) => Neighbours {
+            prior: prior_to(words, gaps, at, place),
+            before: 16 * at,
+            after: link_at(words, 16 * at),
         },
     }
 }
 
-/// Where the last free cell before one begins, both counted by place, or NONE.
-fn place_before(gaps: &GapIndex, at: u32) -> u32
-    requires { 16 * at < NO_PLACE }
-    ensures { (found : Option ℕ) × (IsLast (slice_index gaps.now) 0 at found × (result ≡ found_or found NO_PLACE)) }
+/// Where the last free cell before one begins, or NONE. It is sought only where the one, whose index is given, ends at a
+/// place.
+fn prior_to(words: &Chunk, gaps: &GapIndex, at: u32, place: u32) -> u32
+    requires below { (16 * at < place) × (place < NO_PLACE) }
+    requires within { 16 * at / 16 * 4 + 4 ≤ length words.now }
+    ensures { end_at words.now (16 * at) ≡ place → IsPrior gaps.now at result }
 {
+    if length_at(words, 16 * at) != place - 16 * at {
+        return NONE;
+    }
     match gaps.last_below(at) {
         None => NONE,
         Some(prior) => 16 * prior,

@@ -1,30 +1,29 @@
-//! The lengths of the free cells, by place, and what finds them without a walk: the greatest length of each 1,024 bytes
-//! and of each 65,536 bytes.
+//! The lengths of the free cells, by place, and what finds them without a walk: the greatest length of each 1,024 bytes,
+//! of each 65,536 bytes, and of all.
 
 ghost use Rattle.std.specs.Prelude.{◌≡◌, ◌≢◌, ◌+◌, ◌-◌, ◌/◌, ◌<◌, ◌≤◌, [], ◌++◌, length, replicate, slice_index, slice_set, IfOk, IsOk, OnOk, OnErr};
 ghost use Rattle.wb_cells.specs.Maxima.{IsFirstLong, IsGreatest, IsLast};
 ghost use Rattle.wb_cells.specs.RowGaps.{closed_lengths, opened_lengths};
 
+use crate::bits::MOST_PLACES;
 use crate::free_list::Hole;
-use crate::layout;
 use crate::maxima::{self, SPAN};
+use crate::numbers::Numbers;
 use std::alloc::{AllocError, Global};
 use std::marker::Model;
-use wb_chunk::Chunk;
 use wb_model::limits::CEILING;
-
-/// How many places a chunk may have.
-const MOST_PLACES: u32 = CEILING / 16;
 
 /// A length in bytes for each place of 16 bytes: that of the free cell which begins there, or 0. It is a list that grows
 /// at its end; places are counted in steps of 16 bytes.
 #[derive(Drop)]
 pub struct GapIndex {
-    lengths: Chunk,
+    lengths: Numbers,
     /// The greatest of each 64 lengths.
-    blocks: Chunk,
+    blocks: Numbers,
     /// The greatest of each 64 blocks.
-    regions: Chunk,
+    regions: Numbers,
+    /// The greatest of all.
+    longest: u32,
 }
 
 impl Model for GapIndex {
@@ -35,7 +34,7 @@ impl Model for GapIndex {
 
     ghost view = { λ g. g.lengths };
 
-    ghost invariant = { λ g. AreMaxima g.lengths g.blocks g.regions };
+    ghost invariant = { λ g. AreMaxima g.lengths g.blocks g.regions g.longest };
 }
 
 impl GapIndex {
@@ -44,9 +43,10 @@ impl GapIndex {
         ensures { result ≡ [] }
     {
         GapIndex {
-            lengths: Chunk::new(alloc),
-            blocks: Chunk::new(alloc),
-            regions: Chunk::new(alloc),
+            lengths: Numbers::new(alloc),
+            blocks: Numbers::new(alloc),
+            regions: Numbers::new(alloc),
+            longest: 0,
         }
     }
 
@@ -58,6 +58,7 @@ impl GapIndex {
             lengths: self.lengths.try_copy()?,
             blocks: self.blocks.try_copy()?,
             regions: self.regions.try_copy()?,
+            longest: self.longest,
         })
     }
 
@@ -69,9 +70,9 @@ impl GapIndex {
         ensures enough { count ≤ length self.old → IsOk result }
         ensures refused { OnErr result (self.new ≡ self.old) }
     {
-        layout::grow_to(&mut self.regions, count.div_ceil(SPAN * SPAN))?;
-        layout::grow_to(&mut self.blocks, count.div_ceil(SPAN))?;
-        layout::grow_to(&mut self.lengths, count)?;
+        self.regions.grow_to(count.div_ceil(SPAN * SPAN))?;
+        self.blocks.grow_to(count.div_ceil(SPAN))?;
+        self.lengths.grow_to(count)?;
         Ok(())
     }
 
@@ -79,10 +80,10 @@ impl GapIndex {
     pub fn length_at(&self, at: u32) -> u32
         ensures { result ≡ slice_index self.now at }
     {
-        if self.lengths.words() <= at {
+        if self.lengths.count() <= at {
             return 0;
         }
-        self.lengths.word(at)
+        self.lengths.number(at)
     }
 
     /// Puts another length at a place.
@@ -90,15 +91,21 @@ impl GapIndex {
         requires { at < length self.old }
         ensures { self.new ≡ slice_set self.old at bytes }
     {
-        let length = self.lengths.word(at);
+        let length = self.lengths.number(at);
         if length == bytes {
             return;
         }
-        let block = at / SPAN;
-        let greatest = self.blocks.word(block);
-        self.lengths.set_word(at, bytes);
-        maxima::renew(&self.lengths, &mut self.blocks, at, length);
-        maxima::renew(&self.blocks, &mut self.regions, block, greatest);
+        self.lengths.set(at, bytes);
+        let Some(block) = maxima::renew(&self.lengths, &mut self.blocks, at, length) else {
+            return;
+        };
+        let Some(region) = maxima::renew(&self.blocks, &mut self.regions, at / SPAN, block) else {
+            return;
+        };
+        let at = at / SPAN / SPAN;
+        let count = self.regions.count();
+        let longest = maxima::greatest_now(&self.regions, 0, count, self.longest, at, region);
+        self.longest = longest;
     }
 
     /// Lists what a cell of so many bytes leaves of the free cell at whose start it is put, and nothing where it is put at
@@ -114,8 +121,7 @@ impl GapIndex {
             return;
         }
         let rest = self.length_at(place / 16) - bytes;
-        self.set(place / 16, 0);
-        self.set((place + bytes) / 16, rest);
+        self.shift(place / 16, (place + bytes) / 16, rest);
     }
 
     /// Lists a hole as a free cell, in place of the one that began at the end of a live cell, or as part of what lies above
@@ -130,15 +136,27 @@ impl GapIndex {
             self.clear(hole.start / 16);
             return;
         }
-        self.set(end / 16, 0);
-        self.set(hole.start / 16, hole.end - hole.start);
+        self.shift(end / 16, hole.start / 16, hole.end - hole.start);
+    }
+
+    /// The free cell that began at one place begins at another, and has another length. The other place comes first:
+    /// so a greatest length that stays great is not searched for.
+    fn shift(&mut self, from: u32, to: u32, bytes: u32)
+        requires from { from < length self.old }
+        requires to { to < length self.old }
+        ensures { self.new ≡ slice_set (slice_set self.old from 0) to bytes }
+    {
+        self.set(to, bytes);
+        if from != to {
+            self.set(from, 0);
+        }
     }
 
     /// No free cell begins at a place any more; past the end none does.
     fn clear(&mut self, at: u32)
         ensures { self.new ≡ slice_set self.old at 0 }
     {
-        if at < self.lengths.words() {
+        if at < self.lengths.count() {
             self.set(at, 0);
         }
     }
@@ -148,7 +166,10 @@ impl GapIndex {
         requires { 0 < bytes }
         ensures { IsFirstLong (slice_index self.now) bytes result }
     {
-        let region = maxima::first_among(&self.regions, 0, self.regions.words(), bytes)?;
+        if self.longest < bytes {
+            return None;
+        }
+        let region = maxima::first_among(&self.regions, 0, self.regions.count(), bytes)?;
         let blocks = region * SPAN;
         let block = maxima::first_among(&self.blocks, blocks, blocks + SPAN, bytes)?;
         let places = block * SPAN;
@@ -159,18 +180,18 @@ impl GapIndex {
     pub fn last_below(&self, at: u32) -> Option<u32>
         ensures { IsLast (slice_index self.now) 0 at result }
     {
-        let own = maxima::last_among(&self.lengths, at / SPAN * SPAN, at);
+        let own = self.lengths.last(at / SPAN * SPAN, at);
         if own.is_some() {
             return own;
         }
         let block = maxima::last_below(&self.blocks, &self.regions, at / SPAN)?;
-        maxima::last_among(&self.lengths, block * SPAN, block * SPAN + SPAN)
+        self.lengths.last(block * SPAN, block * SPAN + SPAN)
     }
 
     /// The greatest length, or 0 where there is no free cell.
     pub fn longest(&self) -> u32
         ensures { IsGreatest (slice_index self.now) 0 (length self.now) result }
     {
-        maxima::greatest_among(&self.regions, 0, self.regions.words())
+        self.longest
     }
 }

@@ -5,10 +5,11 @@ pub use cells::Cells;
 pub use wb_model::heap::{Header, Ptr};
 pub use wb_model::memory::NoMemory;
 
+mod bits;
 pub mod cells;
 mod free_list;
 mod gap_index;
 mod layout;
 mod maxima;
+mod numbers;
 mod payloads;
-mod starts;

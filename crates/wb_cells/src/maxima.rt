@@ -1,87 +1,101 @@
 //! Numbers in a row, the greatest of each 64 of them, and searches among them. What the numbers mean is not said here.
 
-ghost use Rattle.std.specs.Prelude.{◌≡◌, ◌≢◌, ℕ, ◌+◌, ◌*◌, ◌/◌, ◌<◌, ◌≤◌, length, slice_index};
+ghost use Rattle.std.specs.Prelude.{◌≡◌, ◌≢◌, ℕ, ◌+◌, ◌*◌, ◌/◌, ◌<◌, ◌≤◌, length, slice_index, IfNone, IfSome};
 ghost use Rattle.wb_cells.specs.Maxima.{AreGreatest, IsFirst, IsGreatest, IsLast};
 
-use wb_chunk::{Chunk, MOST_WORDS};
+use crate::numbers::Numbers;
+use wb_chunk::MOST_WORDS;
 
 /// How many numbers have one greatest number.
 pub const SPAN: u32 = 64;
 
 /// The first number from one index on, below another, that is at least so great.
-pub fn first_among(numbers: &Chunk, from: u32, end: u32, least: u32) -> Option<u32>
+pub fn first_among(numbers: &Numbers, from: u32, end: u32, least: u32) -> Option<u32>
     requires { 0 < least }
     ensures { IsFirst (slice_index numbers.now) from end least result }
 {
-    let stop = end.min(numbers.words());
     let mut at = from;
-    while at < stop {
-        if least <= numbers.word(at) {
-            return Some(at);
+    while let Some(found) = numbers.next(at) {
+        if end <= found {
+            return None;
         }
-        at += 1;
+        if least <= numbers.number(found) {
+            return Some(found);
+        }
+        at = found + 1;
     }
     None
 }
 
-/// The last number from one index on, below another, that is not 0.
-pub fn last_among(numbers: &Chunk, from: u32, end: u32) -> Option<u32>
-    ensures { IsLast (slice_index numbers.now) from end result }
+/// The greatest number from one index on, below another, or 0 where there is none, given that none is greater than `most`:
+/// so the search ends where one is as great.
+fn greatest_among(numbers: &Numbers, from: u32, end: u32, most: u32) -> u32
+    ensures { ((k : ℕ) → from ≤ k → k < end → slice_index numbers.now k ≤ most)
+        → IsGreatest (slice_index numbers.now) from end result }
 {
-    let mut at = end.min(numbers.words());
-    while from < at {
-        at -= 1;
-        if numbers.word(at) != 0 {
-            return Some(at);
-        }
-    }
-    None
-}
-
-/// The greatest number from one index on, below another, or 0 where there is none.
-pub fn greatest_among(numbers: &Chunk, from: u32, end: u32) -> u32
-    ensures { IsGreatest (slice_index numbers.now) from end result }
-{
-    let stop = end.min(numbers.words());
     let mut greatest = 0;
-    let mut at = from;
-    while at < stop {
-        greatest = numbers.word(at).max(greatest);
-        at += 1;
+    let mut stop = end;
+    while greatest < most {
+        let Some(at) = numbers.last(from, stop) else {
+            return greatest;
+        };
+        greatest = numbers.number(at).max(greatest);
+        stop = at;
     }
     greatest
 }
 
 /// The last number below an index that is not 0, where the greatest of each span is known.
-pub fn last_below(numbers: &Chunk, spans: &Chunk, at: u32) -> Option<u32>
+pub fn last_below(numbers: &Numbers, spans: &Numbers, at: u32) -> Option<u32>
     requires { AreGreatest (slice_index numbers.now) spans.now }
     ensures { IsLast (slice_index numbers.now) 0 at result }
 {
-    let own = last_among(numbers, at / SPAN * SPAN, at);
+    let own = numbers.last(at / SPAN * SPAN, at);
     if own.is_some() {
         return own;
     }
-    let span = last_among(spans, 0, at / SPAN)?;
-    last_among(numbers, span * SPAN, span * SPAN + SPAN)
+    let span = spans.last(0, at / SPAN)?;
+    numbers.last(span * SPAN, span * SPAN + SPAN)
 }
 
-/// Makes the greatest of a span right again, once the number at an index, which was `old`, was changed.
-pub fn renew(numbers: &Chunk, spans: &mut Chunk, at: u32, old: u32)
+/// Makes the greatest of a span right again, once the number at an index, which was `old`, was changed. Answers what the
+/// greatest was, where it is another one now.
+pub fn renew(numbers: &Numbers, spans: &mut Numbers, at: u32, old: u32) -> Option<u32>
     requires within { at < length numbers.now }
     requires room { at / SPAN < length spans.old }
     requires small { at < MOST_WORDS }
+    ensures same { IfNone result (spans.new ≡ spans.old) }
+    ensures was { IfSome result (λ was. was ≡ slice_index spans.old (at / SPAN)) }
     ensures count { length spans.new ≡ length spans.old }
     ensures others { (j : ℕ) → j ≢ at / SPAN → slice_index spans.new j ≡ slice_index spans.old j }
     ensures renewed { (f : ℕ → ℕ) → f at ≡ old → ((k : ℕ) → k ≢ at → f k ≡ slice_index numbers.now k)
         → AreGreatest f spans.old → AreGreatest (slice_index numbers.now) spans.new }
 {
     let span = at / SPAN;
-    let greatest = spans.word(span);
-    let now = numbers.word(at);
-    if greatest <= now {
-        spans.set_word(span, now);
-    } else if old == greatest {
-        let renewed = greatest_among(numbers, span * SPAN, span * SPAN + SPAN);
-        spans.set_word(span, renewed);
+    let was = spans.number(span);
+    let from = span * SPAN;
+    let now = greatest_now(numbers, from, from + SPAN, was, at, old);
+    if now == was {
+        return None;
+    }
+    spans.set(span, now);
+    Some(was)
+}
+
+/// The greatest number from one index on, below another, which was `was`, once the number at an index between them, which
+/// was `old`, was changed. It goes over the numbers only where that one was the greatest and is it no more.
+pub fn greatest_now(numbers: &Numbers, from: u32, end: u32, was: u32, at: u32, old: u32) -> u32
+    requires within { at < length numbers.now }
+    requires between { (from ≤ at) × (at < end) }
+    ensures { (f : ℕ → ℕ) → f at ≡ old → ((k : ℕ) → k ≢ at → f k ≡ slice_index numbers.now k)
+        → IsGreatest f from end was → IsGreatest (slice_index numbers.now) from end result }
+{
+    let now = numbers.number(at);
+    if was <= now {
+        now
+    } else if old == was {
+        greatest_among(numbers, from, end, was)
+    } else {
+        was
     }
 }

@@ -1,9 +1,9 @@
-use Rattle.std.proofs.Common.{◌-◌, ◌≤◌, max, slice_index}
+use Rattle.std.proofs.Common.{◌≢◌, ◌≤◌, slice_index}
 use Rattle.wb_cells.specs.Maxima.{IsGreatest}
 use Rattle.wb_cells.proofs.maxima.greatest_among.Given as goal
 
-abbrev pub invariant-loop-at : goal.invariant-loop-at
-invariant-loop-at l = (l.from ≤ l.at) × (l.at ≤ max l.from l.stop) × IsGreatest (slice_index l.numbers) l.from l.at l.greatest
+abbrev pub invariant-loop-greatest : goal.invariant-loop-greatest
+invariant-loop-greatest l = (l.stop ≤ l.end) × (l.greatest ≢ 0 → l.from ≤ l.stop) × IsGreatest (slice_index l.numbers) l.stop l.end l.greatest
 
-abbrev pub decreases-loop-at : goal.decreases-loop-at
-decreases-loop-at l = l.stop - l.at
+abbrev pub decreases-loop-greatest : goal.decreases-loop-greatest
+decreases-loop-greatest l = l.stop

@@ -1,8 +1,0 @@
-use Rattle.std.proofs.Common.{length, ap, ◌∙◌, sym, arith}
-use Rattle.wb_cells.proofs.Packing.{length-bits_of}
-use Rattle.wb_cells.proofs.starts.Starts.count.Goals as goal
-
-pub returns : goal.returns
-returns c =
-    let count = ap length (sym c.self.view_is) ∙ length-bits_of c.self.inside.words in
-    record { count = omega (arith, c.words.ensures.count, count); most = omega (arith, count, c.self.invariant) }

@@ -1,0 +1,144 @@
+//! Bits in order, and searches for those that are on. What a bit says is not said here.
+
+ghost use Rattle.std.specs.Prelude.{◌≡◌, ◌+◌, ◌-◌, ◌*◌, ◌/◌, ◌<◌, ◌≤◌, [], ◌++◌, length, replicate, slice_set, slice_index_or, false, IfOk, IsOk, OnOk, OnErr};
+ghost use Rattle.wb_cells.specs.Bits.{IsLastIn, IsLastOn, IsNext, IsWithBit};
+
+use crate::layout;
+use std::alloc::{AllocError, Global};
+use std::marker::Model;
+use wb_chunk::Chunk;
+use wb_model::limits::CEILING;
+
+/// How many places of 16 bytes a chunk may have; a list has a bit for each, or for fewer.
+pub const MOST_PLACES: u32 = CEILING / 16;
+
+/// A list of bits, 32 to a word, which grows at its end.
+#[derive(Drop)]
+pub struct Bits {
+    words: Chunk,
+}
+
+impl Model for Bits {
+    ghost use Rattle.std.specs.Prelude.{List, Bool, length, ◌*◌, ◌≤◌};
+    ghost use Rattle.wb_cells.specs.Bits.{bits_of};
+
+    ghost Value = { List Bool };
+
+    ghost view = { λ s. bits_of s.words };
+
+    ghost use Rattle.wb_cells.specs.declared.bits.TheConstants.{MOST_PLACES};
+
+    ghost invariant = { λ s. 32 * length s.words ≤ MOST_PLACES };
+}
+
+impl Bits {
+    /// No bits, which takes no memory.
+    pub fn new(alloc: Global) -> Bits
+        ensures { result ≡ [] }
+    {
+        Bits {
+            words: Chunk::new(alloc),
+        }
+    }
+
+    /// The same bits, in memory of their own. On `Err` memory was refused.
+    pub fn try_copy(&self) -> Result<Bits, AllocError>
+        ensures { IfOk result (λ copy. copy ≡ self.now) }
+    {
+        Ok(Bits {
+            words: self.words.try_copy()?,
+        })
+    }
+
+    /// How many bits there are.
+    pub fn count(&self) -> u32
+        ensures count { result ≡ length self.now }
+        ensures most { length self.now ≤ MOST_PLACES }
+    {
+        32 * self.words.words()
+    }
+
+    /// Appends bits that are off, in steps of 32, until there are at least `count`. Where memory is refused, the bits
+    /// are as they were; it takes none where there are so many.
+    pub fn grow_to(&mut self, count: u32) -> Result<(), AllocError>
+        requires { count ≤ MOST_PLACES }
+        ensures grown { OnOk result (self.new ≡ self.old ++ replicate (32 * ((count + 31) / 32) - length self.old) false) }
+        ensures enough { count ≤ length self.old → IsOk result }
+        ensures refused { OnErr result (self.new ≡ self.old) }
+    {
+        layout::grow_to(&mut self.words, count.div_ceil(32))?;
+        Ok(())
+    }
+
+    /// Whether the bit is on; past the end none is.
+    pub fn is_on(&self, at: u32) -> bool
+        ensures { result ≡ slice_index_or self.now at false }
+    {
+        if self.words.words() <= at / 32 {
+            return false;
+        }
+        self.words.word(at / 32) >> (at % 32) & 1 == 1
+    }
+
+    /// Puts one bit on or off.
+    pub fn set(&mut self, at: u32, on: bool)
+        requires { at < length self.old }
+        ensures { self.new ≡ slice_set self.old at on }
+    {
+        let word = with_bit(self.words.word(at / 32), at % 32, on);
+        self.words.set_word(at / 32, word);
+    }
+
+    /// The first bit from one on that is on.
+    pub fn next(&self, from: u32) -> Option<u32>
+        ensures { IsNext self.now from result }
+    {
+        let count = self.count();
+        let mut at = from;
+        while at < count {
+            let rest = self.words.word(at / 32) >> (at % 32);
+            if rest != 0 {
+                return Some(at + rest.trailing_zeros());
+            }
+            at = (at / 32 + 1) * 32;
+        }
+        None
+    }
+
+    /// The last bit that is on, from one on and below another.
+    pub fn last(&self, from: u32, end: u32) -> Option<u32>
+        ensures { IsLastOn self.now from end result }
+    {
+        let mut stop = end.min(self.count());
+        while from < stop {
+            let top = stop - 1;
+            stop = top / 32 * 32;
+            if let Some(bit) = last_in(self.words.word(top / 32), top % 32) {
+                let at = stop + bit;
+                return if from <= at { Some(at) } else { None };
+            }
+        }
+        None
+    }
+}
+
+/// The last bit of a word that is on, up to one.
+fn last_in(word: u32, top: u32) -> Option<u32>
+    requires { top < 32 }
+    ensures { IsLastIn word top result }
+{
+    let low = word & (u32::MAX >> (31 - top));
+    if low == 0 {
+        return None;
+    }
+    Some(31 - low.leading_zeros())
+}
+
+/// A word with one bit put on or off.
+fn with_bit(word: u32, bit: u32, on: bool) -> u32
+    requires { bit < 32 }
+    ensures { IsWithBit word result bit on }
+{
+    let mask = 1 << bit;
+    if on { word | mask } else { word & !mask }
+}
