@@ -1,11 +1,12 @@
 -- What is counted of a level, found by its place among the levels, and what an edit there does.
-use Rattle.std.proofs.Common.{◌≡◌, ℕ, zero, suc, ◌+◌, ◌-◌, ◌<◌, ◌≤◌, ◌≢◌, List, [], ◌∷◌, length, get_or, set, Result, Ok, Err, IfOk, IfErr, refl, sym, ap, subst, arith}
+use Rattle.std.proofs.Common.{◌≡◌, ℕ, zero, suc, ◌+◌, ◌-◌, ◌<◌, ◌≤◌, ◌≢◌, ◌⊎◌, inl, inr, List, [], ◌∷◌, length, get_or, set, Result, Ok, Err, IfOk, IfErr, refl, sym, ap, subst, arith}
 use Rattle.std.specs.List.{insert, remove}
 use Rattle.std.specs.List.Sorted.{IsSearchInRange, IsBinarySearchResult, IsNonDecreasingBy}
 use Rattle.std.specs.Ordering.{nat_cmp, ordering_index}
 use Rattle.std.proofs.lemmas.Cmp.{ranked}
 use Rattle.std.proofs.lemmas.List.Sorted.{IsNonDecreasingBy-from_default}
 use Rattle.std.proofs.lemmas.List.Edits.{length-insert, get_or-insert_below, get_or-insert_at, get_or-insert_above, length-remove, get_or-remove_below, get_or-remove_above}
+use Rattle.std.proofs.lemmas.Bool.{cases_eq}
 use Rattle.std.proofs.lemmas.Bool.Decides.{nat_tests}
 use Rattle.std.proofs.lemmas.Grind.{common_steps}
 use Rattle.wb_debug.specs.declared.level_counts.Counted.{Counted}
@@ -133,3 +134,22 @@ module _ (cs : List LevelCount) (k at : ℕ) (gap : IsGapFor cs k at) where
       let above : (m : ℕ) → at < m → level_at new m ≡ level_at cs (m - 1) =
       λ m after. subst (λ q. level_at new q ≡ level_at cs (m - 1)) {x = m - 1 + 1} (omega arith) (ap level (get_or-insert_above cs at e no_count (m - 1) (omega arith) gap.in_range)) in
       grind (arith, below i, here i, above i, below j, here j, above j, rises i j, rises i (j - 1), rises (i - 1) (j - 1), gap.lower_before i, gap.higher_after (j - 1))
+
+-- no level, or none but lower ones
+pub gap_of_none : (cs : List LevelCount) (k : ℕ) → length cs ≡ 0 → IsGapFor cs k 0
+gap_of_none cs k none = record {
+  in_range = omega arith;
+  lower_before = λ j lt. absurd (omega (arith, lt));
+  higher_after = λ j le lt. absurd (omega (arith, lt, none));
+}
+
+pub gap_past : (cs : List LevelCount) (k : ℕ) → IsRising cs → length cs ≢ 0 → level_at cs (length cs - 1) < k → IsGapFor cs k (length cs)
+gap_past cs k rises some lower = record {
+  in_range = omega arith;
+  lower_before = λ j lt. go j lt (cases_eq j (length cs - 1));
+  higher_after = λ j le lt. absurd (omega (arith, le, lt));
+}
+  where
+    go : (j : ℕ) → j < length cs → (j ≡ length cs - 1) ⊎ (j ≡ length cs - 1 → ⊥) → level_at cs j < k
+    go j lt (inl last) = rw last lower
+    go j lt (inr before) = omega (arith, rises j (length cs - 1) (omega (arith, lt, before)) (omega (arith, lt)), lower)

@@ -42,8 +42,8 @@ pub struct LevelCount {
     pub cells: Counted,
 }
 
-/// The cells of each level that has had any, in order of level. A level is sought by halving, so that a million levels take
-/// twenty steps. A level whose cells were all released has a count of 0 until its mark ends; one that never had a cell takes
+/// The cells of each level that has had any, in order of level. The innermost one is found at once, and another by halving,
+/// so that a million levels take twenty steps. A level whose cells were all released has a count of 0 until its mark ends; one that never had a cell takes
 /// no memory.
 #[derive(Drop)]
 pub struct LevelCounts {
@@ -156,8 +156,28 @@ impl LevelCounts {
         self.add(level - 1, ended.count, ended.lowest)
     }
 
-    /// The index of a level's count, or where it would go.
+    /// The index of a level's count, or where it would go. The innermost level's is the last, and is looked at first: most
+    /// calls are about that level.
     fn search(&self, level: u32) -> Result<usize, usize>
+        ensures found { IfOk result (IsAt self.now level) }
+        ensures absent { IfErr result (IsGapFor self.now level) }
+    {
+        let count = self.counts.len();
+        if count == 0 {
+            return Err(0);
+        }
+        let last = self.counts[count - 1].level;
+        if last == level {
+            Ok(count - 1)
+        } else if last < level {
+            Err(count)
+        } else {
+            self.halve(level)
+        }
+    }
+
+    /// The same among all levels.
+    fn halve(&self, level: u32) -> Result<usize, usize>
         ensures found { IfOk result (IsAt self.now level) }
         ensures absent { IfErr result (IsGapFor self.now level) }
     {

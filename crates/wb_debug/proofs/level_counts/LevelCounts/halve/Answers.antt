@@ -2,7 +2,7 @@ use Rattle.std.proofs.lemmas.List.Sorted.{answers_always}
 use Rattle.std.proofs.Common.{rules}
 use Rattle.wb_debug.specs.declared.level_counts.LevelCount.{LevelCount}
 use Rattle.wb_debug.proofs.LevelCounts.{searched}
-use Rattle.wb_debug.proofs.level_counts.LevelCounts.search.Goals as goal
+use Rattle.wb_debug.proofs.level_counts.LevelCounts.halve.Goals as goal
 
 -- the closure gives a count's level, and the slice is the counts
 pub returns : goal.returns
