@@ -10,7 +10,7 @@ use crate::sources::Source;
 use arrayvec::ArrayVec;
 use wb_debug::DebugHeap;
 use wb_model::heap::Ptr;
-use wb_text::Units;
+use wb_text::{Units, append_bytes, append_units};
 
 /// How many units a source has.
 pub fn count(source: Source) -> u32
@@ -89,6 +89,9 @@ impl Units for Part<'_, '_> {
     fn append_to(&self, to: &mut ArrayVec<u16, 256>) {
         match self.source {
             Source::Buffer(buf, from, count) => append_part(to, buf.units(), from, count),
+            Source::Literal(chars, from, count) => {
+                append_literal(to, chars.as_slice(), from, count)
+            }
             _ => append_each(to, self.heap, self.source),
         }
     }
@@ -114,10 +117,20 @@ fn append_part(to: &mut ArrayVec<u16, 256>, units: &[u16], from: u32, count: u32
 {
     let start = (from as usize).min(units.len());
     let there = (count as usize).min(units.len() - start);
-    match to.try_extend_from_slice(&units[start..start + there]) {
-        Ok(()) => push_zeros(to, count as usize - there),
-        Err(_) => unreachable!(),
-    }
+    append_units(to, &units[start..start + there]);
+    push_zeros(to, count as usize - there);
+}
+
+/// Appends a part of a literal, with zeros past its end.
+fn append_literal(to: &mut ArrayVec<u16, 256>, bytes: &[u8], from: u32, count: u32)
+    requires { length to.old.items + count ≤ 256 }
+    ensures items { to.new.items ≡ to.old.items ++ units_of_part bytes.now from count }
+    ensures are_units { AreUnits to.old.items → AreUnits to.new.items }
+{
+    let start = (from as usize).min(bytes.len());
+    let there = (count as usize).min(bytes.len() - start);
+    append_bytes(to, &bytes[start..start + there]);
+    push_zeros(to, count as usize - there);
 }
 
 /// Appends so many zeros.

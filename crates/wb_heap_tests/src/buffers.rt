@@ -3,10 +3,11 @@
 ghost use Rattle.std.specs.Prelude.{◌≤◌};
 
 use crate::literals::literal;
+use arrayvec::ArrayVec;
 use std::alloc::{AllocError, Global};
 use std::test::Fail;
 use wb_model::heap::Panic;
-use wb_text::{Buf, Units};
+use wb_text::{Buf, Units, append_bytes, append_units};
 
 /// What is done to a buffer.
 #[derive(Clone, Copy)]
@@ -141,5 +142,15 @@ fn worked_buffers(rt: HostRuntime) -> Result<(), Fail> {
     assert!(rt; is_so(rt.alloc(), &EDITED)?);
     assert!(rt; is_so(rt.alloc(), &INSERTED)?);
     assert!(rt; is_so(rt.alloc(), &REFUSED)?);
+    Ok(())
+}
+
+#[test]
+fn appended_runs(rt: HostRuntime) -> Result<(), Fail> {
+    let mut units = ArrayVec::new();
+    append_bytes(&mut units, b"a~");
+    append_units(&mut units, &[0, 65_535]);
+    append_units(&mut units, &[]);
+    assert!(rt; units.as_slice() == [97, 126, 0, 65_535].as_slice());
     Ok(())
 }

@@ -3,7 +3,7 @@
 ghost use Rattle.std.specs.Prelude.{◌≡◌, ◌+◌, ◌-◌, ◌<◌, ◌≤◌, [], ◌++◌, length, take, drop, replicate, slice_index};
 ghost use Rattle.wb_model.specs.Texts.{AreUnits, IsBuffer, answer_of, at_most, delete_text, edited, insert_text, set_length_text};
 
-use crate::units::Units;
+use crate::units::{Units, append_units};
 use arrayvec::ArrayVec;
 use std::marker::Model;
 use wb_model::heap::Panic;
@@ -167,10 +167,7 @@ impl Units for Buf {
     }
 
     fn append_to(&self, to: &mut ArrayVec<u16, 256>) {
-        match to.try_extend_from_slice(self.units()) {
-            Ok(()) => (),
-            Err(_) => unreachable!(),
-        }
+        append_units(to, self.units());
     }
 }
 
@@ -182,9 +179,11 @@ fn put_in<U: Units>(units: &mut ArrayVec<u16, 256>, at: usize, source: &U)
     ensures items { units.new.items ≡ take at units.old.items ++ U.units source.now ++ drop at units.old.items }
     ensures are_units { AreUnits units.old.items → AreUnits units.new.items }
 {
-    let len = units.len();
+    let mut behind = ArrayVec::new();
+    append_units(&mut behind, &units.as_slice()[at..]);
+    units.truncate(at);
     source.append_to(units);
-    move_back(units.as_mut_slice(), at, len);
+    append_units(units, behind.as_slice());
 }
 
 /// Takes out `count` units from a place on.
@@ -193,7 +192,7 @@ fn take_out(units: &mut ArrayVec<u16, 256>, at: usize, count: usize)
     ensures { units.new.items ≡ take at units.old.items ++ drop (at + count) units.old.items }
 {
     let len = units.len();
-    move_back(units.as_mut_slice(), at, at + count);
+    units.as_mut_slice().copy_within(at + count.., at);
     units.truncate(len - count);
 }
 
@@ -206,13 +205,4 @@ fn fill_up(units: &mut ArrayVec<u16, 256>, len: usize)
     for _ in units.len()..len {
         units.push(0);
     }
-}
-
-/// Moves the units from one place up to another behind all others.
-fn move_back(units: &mut [u16], from: usize, to: usize)
-    requires ordered { from ≤ to }
-    requires within { to ≤ length units.old }
-    ensures { units.new ≡ take from units.old ++ drop to units.old ++ take (to - from) (drop from units.old) }
-{
-    units[from..].rotate_left(to - from);
 }

@@ -8,7 +8,7 @@ pub mod buf;
 pub mod units;
 
 pub use buf::Buf;
-pub use units::Units;
+pub use units::{Units, append_bytes, append_units};
 pub use wb_model::heap::Panic;
 pub use wb_model::script::Chars;
 pub use wb_model::text::{Base, View};

@@ -50,12 +50,24 @@ impl Units for Chars {
     }
 
     fn append_to(&self, to: &mut ArrayVec<u16, 256>) {
-        push_bytes(to, self.as_slice());
+        append_bytes(to, self.as_slice());
+    }
+}
+
+/// Appends units.
+pub fn append_units(to: &mut ArrayVec<u16, 256>, units: &[u16])
+    requires { length to.old.items + length units.now ≤ 256 }
+    ensures items { to.new.items ≡ to.old.items ++ units.now }
+    ensures are_units { AreUnits to.old.items → AreUnits to.new.items }
+{
+    match to.try_extend_from_slice(units) {
+        Ok(()) => (),
+        Err(_) => unreachable!(),
     }
 }
 
 /// Appends bytes, each of them as a unit.
-fn push_bytes(to: &mut ArrayVec<u16, 256>, bytes: &[u8])
+pub fn append_bytes(to: &mut ArrayVec<u16, 256>, bytes: &[u8])
     requires { length to.old.items + length bytes.now ≤ 256 }
     ensures items { to.new.items ≡ to.old.items ++ bytes.now }
     ensures are_units { AreUnits to.old.items → AreUnits to.new.items }

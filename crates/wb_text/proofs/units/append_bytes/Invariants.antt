@@ -1,7 +1,7 @@
 -- So far a number of bytes were appended.
 use Rattle.std.proofs.Common.{◌≡◌, ◌++◌, take}
 use Rattle.wb_model.specs.Texts.{AreUnits}
-use Rattle.wb_text.proofs.units.push_bytes.Given as goal
+use Rattle.wb_text.proofs.units.append_bytes.Given as goal
 
 abbrev pub invariant-loop-byte : goal.invariant-loop-byte
 invariant-loop-byte l = record {
