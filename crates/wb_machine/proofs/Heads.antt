@@ -21,7 +21,7 @@ use Rattle.wb_model.specs.State.{null, initial, pointer, Process, goes_on, and_t
 use Rattle.wb_model.specs.Operands.{within, not_negative}
 use Rattle.wb_model.specs.Statements.{all, turns, destroy_items, destroy_object, Where, Layer, statement, choice, trapped, in_frame, plain, with_class, is_null, release, destroyed_item, destroyed_object}
 use Rattle.wb_model.specs.Bodies.{procedure_at, operation_at, class_at, no_body}
-use Rattle.wb_model.specs.Meaning.{meaning_of}
+use Rattle.wb_model.specs.Meaning.{piece, meaning_within, meaning_of}
 use Rattle.wb_model.specs.Run.{whole_of}
 use Rattle.wb_model.specs.Rest.{Pending, Afterwards, nothing_more, gives_to, releases, doing, catching, calling, after_frame, resumed, resume}
 use Rattle.wb_model.proofs.ResumeLemmas.{and_then-assoc}
@@ -48,6 +48,17 @@ module _ (script : Script) (budget : ℕ) (r : Rule) (at : Where) where
   chosen_rest c first other part old new h is chosen ok =
       rest_on_top script budget r new old (doing at (all part)) h is
       ∙ ap (λ (ss : List Numbered). whole_of (flow r (resume script budget (doing at (all ss) ∷ pending_in h.callers old) goes_on (state_of script h)) h)) chosen
+      ∙ sym (ap (λ x. whole_of (flow r (and_then x (resume script budget (pending_in h.callers old))) h))
+      (condition_is script h c (λ b. meaning_of script budget at (all (choice b first other)) (state_of script h)) ok))
+
+  -- a part without a line is nothing to do
+  pub nothing_chosen : (c : Condition) (first other part : List Numbered) (old : List Piece) (h : RunState) →
+      part ≡ [] → part ≡ choice (condition_read script h c) first other → first_refusal h (of_condition c) ≡ None →
+      rest_from script budget r GoesOn old h ≡ rest_of_statement script budget r at (Statement-F.IfElse c first other) old h
+  unfolding and_then statement meaning_of meaning_within piece
+  nothing_chosen c first other part old h none chosen ok =
+      rest_flow script budget r GoesOn old h
+      ∙ ap (λ (ss : List Numbered). whole_of (flow r (and_then (meaning_of script budget at (all ss) (state_of script h)) (resume script budget (pending_in h.callers old))) h)) (sym none ∙ chosen)
       ∙ sym (ap (λ x. whole_of (flow r (and_then x (resume script budget (pending_in h.callers old))) h))
       (condition_is script h c (λ b. meaning_of script budget at (all (choice b first other)) (state_of script h)) ok))
 

@@ -5,6 +5,7 @@ pub mod Buffers
 pub mod Copies
 pub mod Counted
 pub mod Destructions
+pub mod EditedBuffers
 pub mod Ends
 pub mod Falls
 pub mod Fitting

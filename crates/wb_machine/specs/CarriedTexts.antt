@@ -15,7 +15,7 @@ use Rattle.wb_model.specs.declared.text.View.{View}
 use Rattle.wb_model.specs.Row.{Cell, cell_at}
 use Rattle.wb_model.specs.declared.script.Readable.{Readable}
 use Rattle.wb_model.specs.declared.script.Number.{Number}
-use Rattle.wb_model.specs.Texts.{Buffer, Edited, delete_text, set_length_text, left_part, right_part, mid_part, view_of_part}
+use Rattle.wb_model.specs.Texts.{Edited, delete_text, set_length_text, left_part, right_part, mid_part, view_of_part}
 use Rattle.wb_model.specs.State.{number, buffer, view}
 use Rattle.wb_model.specs.Operands.{within, not_negative}
 use Rattle.wb_model.specs.Reading.{is_same_base, printed}
@@ -71,11 +71,6 @@ IsWritten h to (Ok us) ending g = (ending ≡ GoesOn) × (g ≡ h)
 abbrev pub ending_by : Result (Unit {0}) Panic → Ending
 ending_by (Ok done) = GoesOn
 ending_by (Err panic) = Panics panic
-
--- a buffer that was edited in its local, unless the edit was refused
-abbrev pub put_back_by : RunState → ℕ → Buffer → Result (Unit {0}) Panic → RunState
-put_back_by h i b (Ok done) = stored h i (buffer b.max b.units)
-put_back_by h i b (Err panic) = h
 
 -- a text isn't put into itself
 abbrev pub SuitsBase : Edit → Base → Base → Type 0

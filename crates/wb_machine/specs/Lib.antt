@@ -1,11 +1,13 @@
 pub mod Asks
 pub mod Bodies
+pub mod BufferEdits
 pub mod Carried
 pub mod CarriedCleanup
 pub mod CarriedObjects
 pub mod CarriedTexts
 pub mod Fault
 pub mod Flow
+pub mod InPlace
 pub mod RunState
 pub mod StateView
 pub mod Seen

@@ -5,6 +5,7 @@ ghost use Rattle.wb_model.specs.Sound.{is_script};
 ghost use Rattle.wb_model.specs.declared.script.Statement.TheViews.{out-Statement};
 ghost use Rattle.wb_machine.specs.Flow.{IsSimple, IsCarriedOut};
 ghost use Rattle.wb_machine.specs.Owed.{HasStack, KeepsCount, MayAttempt};
+ghost use Rattle.wb_machine.specs.InPlace.{is_in_place};
 ghost use Rattle.wb_machine.specs.PointerOperands.{operands_refused};
 
 use crate::pieces::Ending;
@@ -38,34 +39,9 @@ impl State {
             Statement::Realloc(target, source, bytes, refusal) => {
                 self.realloc(script, target, source, bytes, *refusal)
             }
-            Statement::Free(pointer) => Ok(self.free(script, pointer)),
-            Statement::AllocLen(local, pointer) => Ok(self.alloc_len(script, *local, pointer)),
-            Statement::Store(pointer, index, value) => {
-                let value = self.number(*value);
-                Ok(self.store(script, pointer, index, value))
-            }
-            Statement::Load(local, pointer, index) => {
-                Ok(self.load(script, *local, pointer, index))
-            }
             Statement::New(target, class, refusal) => {
                 self.new_object(script, target, *class, *refusal)
             }
-            Statement::Set(target, source) => Ok(self.copy_pointer(script, target, source)),
-            Statement::SetNumber(local, value) => Ok(self.set_number(*local, value)),
-            Statement::SetNull(target) => Ok(self.set_null(target)),
-            Statement::Add(local, value) => Ok(self.add(*local, value)),
-            Statement::Leave(code) => Ok(self.leave(code)),
-            Statement::LeaveIfError(code) => Ok(self.leave_if_error(code)),
-            Statement::LeaveIfNull(pointer) => Ok(self.leave_if_null(script, pointer)),
-            Statement::Return => Ok(self.end_body()),
-            Statement::ReturnPointer(pointer) => Ok(self.end_body_with(script, pointer)),
-            Statement::Mark => Ok(self.mark()),
-            Statement::MarkEnd(count) => Ok(self.mark_end(count)),
-            Statement::Check(count) => Ok(self.check(count)),
-            Statement::CheckAll(count) => Ok(self.check_all(count)),
-            Statement::FailNext(rate) => Ok(self.fail_next(rate)),
-            Statement::FailEvery(rate) => Ok(self.fail_every(rate)),
-            Statement::FailNone => Ok(self.fail_none()),
             Statement::PrintNumber(value) => self.print_number(value),
             Statement::NoteHeap => self.note_heap(),
             Statement::NoteAvailable => self.note_available(),
@@ -75,8 +51,28 @@ impl State {
             Statement::PushOperation(pointer, operation) => {
                 self.push_operation(script, pointer, *operation)
             }
-            Statement::Pop(count) => Ok(self.pop(floor, count)),
-            Statement::PopCheck(pointer) => Ok(self.pop_check(script, floor, pointer)),
+            Statement::Free(_)
+            | Statement::AllocLen(..)
+            | Statement::Store(..)
+            | Statement::Load(..)
+            | Statement::Set(..)
+            | Statement::SetNumber(..)
+            | Statement::SetNull(_)
+            | Statement::Add(..)
+            | Statement::Leave(_)
+            | Statement::LeaveIfError(_)
+            | Statement::LeaveIfNull(_)
+            | Statement::Return
+            | Statement::ReturnPointer(_)
+            | Statement::Mark
+            | Statement::MarkEnd(_)
+            | Statement::Check(_)
+            | Statement::CheckAll(_)
+            | Statement::FailNext(_)
+            | Statement::FailEvery(_)
+            | Statement::FailNone
+            | Statement::Pop(_)
+            | Statement::PopCheck(_) => Ok(self.carry_out_in_place(script, floor, first)),
             Statement::Construct(_)
             | Statement::Delete(_)
             | Statement::PopDestroy(_)
@@ -87,6 +83,49 @@ impl State {
             | Statement::Repeat(..)
             | Statement::Trap(..) => unreachable!(),
             _ => self.carry_out_text(script, first),
+        }
+    }
+
+    /// Carries out a statement that takes no memory, as `carry_out` does any other. What it ends in is written once, and not into a
+    /// place of its own for each kind of statement, which each step would have to clear.
+    #[inline(always)]
+    fn carry_out_in_place(&mut self, script: &Script, floor: u32, first: &Statement) -> Ending
+        requires script { IsTrue (is_script script.now) }
+        requires in_place { IsTrue (is_in_place (out-Statement first.now)) }
+        requires statement { IsSimple script.now (out-Statement first.now) }
+        requires operands { operands_refused self.old (out-Statement first.now) ≡ None }
+        requires level { self.old.debug.heap.level + 1 < 2 ^ 32 }
+        requires stack { HasStack self.old }
+        ensures kept { IsCarriedOut script.now floor (out-Statement first.now) self.old result self.new }
+        ensures keeps { KeepsCount self.old self.new }
+    {
+        match first {
+            Statement::Free(pointer) => self.free(script, pointer),
+            Statement::AllocLen(local, pointer) => self.alloc_len(script, *local, pointer),
+            Statement::Store(pointer, index, value) => {
+                let value = self.number(*value);
+                self.store(script, pointer, index, value)
+            }
+            Statement::Load(local, pointer, index) => self.load(script, *local, pointer, index),
+            Statement::Set(target, source) => self.copy_pointer(script, target, source),
+            Statement::SetNumber(local, value) => self.set_number(*local, value),
+            Statement::SetNull(target) => self.set_null(target),
+            Statement::Add(local, value) => self.add(*local, value),
+            Statement::Leave(code) => self.leave(code),
+            Statement::LeaveIfError(code) => self.leave_if_error(code),
+            Statement::LeaveIfNull(pointer) => self.leave_if_null(script, pointer),
+            Statement::Return => self.end_body(),
+            Statement::ReturnPointer(pointer) => self.end_body_with(script, pointer),
+            Statement::Mark => self.mark(),
+            Statement::MarkEnd(count) => self.mark_end(count),
+            Statement::Check(count) => self.check(count),
+            Statement::CheckAll(count) => self.check_all(count),
+            Statement::FailNext(rate) => self.fail_next(rate),
+            Statement::FailEvery(rate) => self.fail_every(rate),
+            Statement::FailNone => self.fail_none(),
+            Statement::Pop(count) => self.pop(floor, count),
+            Statement::PopCheck(pointer) => self.pop_check(script, floor, pointer),
+            _ => unreachable!(),
         }
     }
 }

@@ -1,5 +1,5 @@
 //! What is still to do, as explicit pieces, and its steps. What the pieces act on stands in `state`, what the head of a
-//! statement leaves in `heads`, the steps that destroy in `destroying`, what becomes of pieces that are done in `unwinding`, and turns in
+//! statement leaves in `heads` and `calls`, the steps that destroy in `destroying`, what becomes of pieces that are done in `unwinding`, and turns in
 //! `running`.
 
 ghost use Rattle.std.specs.Prelude.{IfOk, List, take, vec_len, ◌-◌, ◌≡◌, ◌+◌, ◌^◌, ◌<◌, ◌≤◌, ◌⊎◌, ◌++◌, ◌∷◌, [], ℕ, true, false, if◌then◌else◌, length, unwrap_or, max, IsTrue, OnOk};
@@ -23,6 +23,7 @@ ghost use Rattle.wb_machine.specs.ObjectInvariant.{AreWhole, StaysWhole};
 ghost use Rattle.wb_machine.specs.Owed.{HasStack, MayAttempt, Stays};
 ghost use Rattle.wb_machine.specs.SlotInvariant.{slots_for, slots_for_all, to_destroy, to_destroy_first, IsFree, HasRoom};
 
+mod calls;
 mod destroying;
 mod heads;
 mod running;

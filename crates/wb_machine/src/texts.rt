@@ -1,16 +1,14 @@
 //! Statements that change texts.
 
 ghost use Rattle.std.specs.Prelude.{◌≡◌, [], None, IsTrue};
-ghost use Rattle.wb_model.specs.Reading.{max_in};
 ghost use Rattle.wb_model.specs.Sound.{is_script};
 ghost use Rattle.wb_model.specs.Texts.{delete_text, set_length_text};
 ghost use Rattle.wb_model.specs.declared.text.Base.{Base};
 ghost use Rattle.wb_model.specs.declared.text.Base.TheVariants as B;
 ghost use Rattle.wb_hbuf.specs.Sources.{edit_text};
-ghost use Rattle.wb_machine.specs.RunState.{value_in};
 ghost use Rattle.wb_machine.specs.Carried.{number_read};
-ghost use Rattle.wb_machine.specs.TextOperands.{base_named, base_refusal, base_text, base_max, is_writable_base, window_read, window_units};
-ghost use Rattle.wb_machine.specs.CarriedTexts.{ending_by, put_back_by, IsWritten, IsEditedBy, IsInsertedBy, IsDeletedBy, IsLengthSet, SuitsBase};
+ghost use Rattle.wb_machine.specs.TextOperands.{base_named, base_refusal, base_text, base_max, is_writable_base, window_read, window_units, buffer_under};
+ghost use Rattle.wb_machine.specs.CarriedTexts.{ending_by, IsWritten, IsEditedBy, IsInsertedBy, IsDeletedBy, IsLengthSet, SuitsBase};
 ghost use Rattle.wb_machine.specs.Owed.{KeepsCount};
 
 use crate::locals::copy_of;
@@ -36,6 +34,16 @@ fn ending_of(answer: Result<(), Panic>) -> Ending
 
 /// Edits of a text that can be changed.
 impl State {
+    /// A copy of the buffer of a base, and an empty one where it is no buffer.
+    fn buffer_copy(&self, base: Base) -> Buf
+        ensures { result ≡ buffer_under self.now base }
+    {
+        match base {
+            Base::Local(index) => copy_of(self.locals.buffer(index)),
+            Base::Nothing | Base::Literal(_) | Base::Cell(_) => Buf::new(0),
+        }
+    }
+
     /// Changes the text in a cell by what a view shows.
     fn write_cell(&mut self, script: &Script, ptr: Ptr, change: Edit, window: Window) -> Ending
         requires target { base_refusal self.old (B.Cell ptr) ≡ None }
@@ -49,22 +57,9 @@ impl State {
             let own = Source::Own(view.position, view.length);
             return ending_of(self.edit_cell(ptr, change, own));
         }
-        let copy = copy_of(self.buffer(view.base));
+        let copy = self.buffer_copy(view.base);
         let source = self.source(script, &copy, view);
         ending_of(self.edit_cell(ptr, change, source))
-    }
-
-    /// A buffer that was edited goes back to its local, unless the edit was refused.
-    fn put_back(&mut self, index: u8, buf: Buf, answer: Result<(), Panic>) -> Ending
-        requires { buf.max ≡ max_in (value_in self.old.locals index) }
-        ensures ending { result ≡ ending_by answer }
-        ensures locals { self.new ≡ put_back_by self.old index buf answer }
-        ensures keeps { KeepsCount self.old self.new }
-    {
-        if answer.is_ok() {
-            self.locals.set_buffer(index, buf);
-        }
-        ending_of(answer)
     }
 
     /// Changes a buffer by what a view shows.
@@ -74,10 +69,9 @@ impl State {
         ensures keeps { KeepsCount self.old self.new }
     {
         let view = window.view();
-        let mut buf = copy_of(self.locals.buffer(index));
-        let source = self.source(script, self.buffer(view.base), view);
-        let answer = wb_hbuf::edit_buf(&self.heap, &mut buf, change, source);
-        self.put_back(index, buf, answer)
+        let copy = self.buffer_copy(view.base);
+        let source = self.source(script, &copy, view);
+        ending_of(self.locals.edit_buffer(index, &self.heap, change, source))
     }
 
     /// Changes a text by what a view shows.
@@ -160,9 +154,7 @@ impl State {
     {
         match to {
             Base::Local(index) => {
-                let mut buf = copy_of(self.locals.buffer(index));
-                let answer = buf.delete(position, count);
-                self.put_back(index, buf, answer)
+                ending_of(self.locals.delete_in_buffer(index, position, count))
             }
             Base::Cell(ptr) => ending_of(self.delete_in_cell(ptr, position, count)),
             Base::Nothing | Base::Literal(_) => unreachable!(),
@@ -177,11 +169,7 @@ impl State {
         ensures keeps { KeepsCount self.old self.new }
     {
         match to {
-            Base::Local(index) => {
-                let mut buf = copy_of(self.locals.buffer(index));
-                let answer = buf.set_length(length);
-                self.put_back(index, buf, answer)
-            }
+            Base::Local(index) => { ending_of(self.locals.set_buffer_length(index, length)) }
             Base::Cell(ptr) => ending_of(self.set_cell_length(ptr, length)),
             Base::Nothing | Base::Literal(_) => unreachable!(),
         }

@@ -18,9 +18,8 @@ ghost use Rattle.wb_machine.specs.SlotInvariant.{slots_for_all, IsFree, HasRoom}
 ghost use Rattle.wb_machine.specs.Owed.{HasStack, MayAttempt, KeepsSteps, IsQuiet};
 
 use crate::arguments::Handed;
-use crate::bodies::{Lines, construct_at, lines_of};
-use crate::control::{Control, procedure_at};
-use crate::locals::NULL;
+use crate::bodies::{Lines, construct_at};
+use crate::control::Control;
 use crate::operands::{not_negative, number_within};
 use crate::pieces::{After, Ending, Piece, Standing};
 use crate::state::State;
@@ -30,7 +29,7 @@ use wb_model::memory::NoMemory;
 use wb_model::script::{Condition, Number, Numbered, Pointer, Script, Statement};
 
 impl<'a> Control<'a> {
-    /// The part of an `if` that its condition chooses.
+    /// The part of an `if` that its condition chooses, where there is one.
     #[inline(always)]
     fn begin_if(
         &mut self,
@@ -56,6 +55,9 @@ impl<'a> Control<'a> {
         } else {
             other
         };
+        if part.is_empty() {
+            return Ok(());
+        }
         self.push(Piece::Code(at, part))?;
         Ok(())
     }
@@ -290,14 +292,10 @@ impl<'a> Control<'a> {
             Statement::Construct(object) => self.begin_construct(script, at, object, state),
             Statement::Delete(object) => self.begin_delete_of(script, at, object, state),
             Statement::Call(index, arguments) => {
-                let body = lines_of(procedure_at(script, *index));
-                let handed = Handed::Arguments(arguments.as_slice());
-                self.begin_body(script, at, NULL, handed, body, After::Nothing, state)
+                self.begin_call(script, at, *index, arguments.as_slice(), state)
             }
             Statement::CallTo(target, index, arguments) => {
-                let body = lines_of(procedure_at(script, *index));
-                let handed = Handed::Arguments(arguments.as_slice());
-                self.begin_body(script, at, NULL, handed, body, After::Gives(*target), state)
+                self.begin_call_to(script, at, *target, *index, arguments.as_slice(), state)
             }
             _ => {
                 self.ending = state.carry_out(script, at.floor, statement)?;
@@ -305,6 +303,7 @@ impl<'a> Control<'a> {
             }
         }
     }
+
     /// A statement begins, unless it is refused for an operand, which is asked before any cell and any range.
     #[inline(always)]
     pub fn begin_unless_refused(

@@ -1,13 +1,31 @@
-use Rattle.std.proofs.Common.{◌≡◌, ap, ◌∙◌, sym, subst}
+use Rattle.std.proofs.Common.{◌≡◌, ap, ◌∙◌, sym, subst, arith}
+use Rattle.std.proofs.lemmas.Grind.{common_steps}
+use Rattle.std.proofs.lemmas.Bool.Decides.{nat_tests}
+use Rattle.std.proofs.lemmas.List.{nil_from_length}
 use Rattle.wb_model.specs.Statements.{choice}
 use Rattle.wb_machine.specs.declared.pieces.Piece.TheVariants.{Code}
 use Rattle.wb_machine.specs.Carried.{condition_read}
 use Rattle.wb_machine.specs.Flow.{where_of, AreOwn, rest_from}
-use Rattle.wb_machine.proofs.Heads.{chosen_rest}
+use Rattle.wb_machine.proofs.Heads.{chosen_rest, nothing_chosen}
 use Rattle.wb_machine.proofs.Steps.{pending_pushed}
 use Rattle.wb_machine.proofs.Scripts.{sound_pushed}
 use Rattle.wb_machine.proofs.control.Control.begin_if.Goals.{then-holds, else-holds}
 use Rattle.wb_machine.proofs.control.Control.begin_if.Goals as goal
+
+pub returns-then-is_empty-clause-kept : goal.returns-then-is_empty-clause-kept
+returns-then-is_empty-clause-kept c r budget ok =
+    let script = c.args.script.now in
+    let h = c.args.state.now in
+    let old = c.args.self.now.pieces.items in
+    let first = c.args.first.now in
+    let other = c.args.other.now in
+    let chosen : c.if-holds.part.now ≡ choice (condition_read script h c.args.condition.now) first other = elim c.if-holds.branch [
+      | then-holds w ↦ ap (λ x. x.now) w.part-is ∙ sym (ap (λ b. choice b first other) (sym c.holds.ensures ∙ w.if-holds.true))
+      | else-holds w ↦ ap (λ x. x.now) w.part-is ∙ sym (ap (λ b. choice b first other) (sym c.holds.ensures ∙ w.if-holds.false))
+    ] in
+    ap (λ e. rest_from script budget r e old h) c.requires
+    ∙ nothing_chosen script budget r (where_of c.args.at) c.args.condition.now first other c.if-holds.part.now old h
+    (nil_from_length c.if-holds.part.now (grind (arith, common_steps, nat_tests, c.if-is_empty.ensures))) chosen ok
 
 pub returns-clause-kept : goal.returns-clause-kept
 returns-clause-kept c r budget ok =

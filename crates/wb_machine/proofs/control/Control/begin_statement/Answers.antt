@@ -1,26 +1,20 @@
-use Rattle.std.proofs.Common.{◌≡◌, List, [], map, refl, ap, ◌∙◌, sym, subst, arith}
-use Rattle.std.specs.List.{list_all}
-use Rattle.wb_model.specs.declared.script.Body.{Body}
+use Rattle.std.proofs.Common.{◌≡◌, List, [], refl, ap, ◌∙◌, sym, subst, arith}
 use Rattle.wb_model.specs.declared.script.Numbered.{Numbered}
-use Rattle.wb_machine.specs.LocalValues.{is_small}
 use Rattle.wb_model.specs.declared.script.Statement.TheOpen.{Statement-F}
-use Rattle.wb_model.specs.State.{null}
 use Rattle.wb_model.specs.declared.script.Argument.{Argument}
 use Rattle.wb_model.specs.Statements.{Layer}
-use Rattle.wb_model.specs.Bodies.{procedure_at}
 use Rattle.wb_model.specs.Meaning.{meaning_of}
 use Rattle.wb_model.specs.Run.{whole_of}
-use Rattle.wb_model.specs.Rest.{nothing_more, gives_to, resume}
+use Rattle.wb_model.specs.Rest.{resume}
 use Rattle.wb_machine.proofs.Steps.{rest_known}
 use Rattle.wb_machine.specs.RunState.{Values}
 use Rattle.wb_model.specs.declared.script.Statement.TheViews.{out-Statement, outs-If, outs-IfElse, outs-Repeat, outs-Trap, outs-Call, outs-CallTo}
-use Rattle.wb_machine.specs.Flow.{where_of, pending_in, AreOwn, rest_of_statement, rest_of_body}
-use Rattle.wb_machine.specs.LocalValues.{passed}
-use Rattle.wb_machine.specs.PointerOperands.{operands_refused}
+use Rattle.wb_machine.specs.Flow.{where_of, pending_in, AreOwn, rest_of_statement}
+use Rattle.wb_machine.specs.PointerOperands.{first_refusal, of_arguments, operands_refused}
 use Rattle.wb_machine.proofs.Outcomes.{on_ok_then, on_ok_anyhow}
 use Rattle.wb_machine.proofs.WholeCells.{carried_whole}
-use Rattle.wb_machine.proofs.Heads.{if_as_choice, call_as_body, call_to_as_body}
-use Rattle.wb_machine.proofs.Scripts.{own_if, own_choice, own_turns, own_trapped, own_none, own_call, own_call_to, procedure_locals, procedure_statements}
+use Rattle.wb_machine.proofs.Heads.{if_as_choice}
+use Rattle.wb_machine.proofs.Scripts.{own_if, own_choice, own_turns, own_trapped, own_none, own_call, own_call_to}
 use Rattle.wb_machine.proofs.SlotsKept.{carried_room, free_room, still_room, quiet_room}
 use Rattle.wb_machine.proofs.control.Control.begin_statement.Goals as goal
 
@@ -85,88 +79,8 @@ returns-in_ok-self-in_default c =
 pub returns-in-PopDestroy-clause-sound : goal.returns-in-PopDestroy-clause-sound
 returns-in-PopDestroy-clause-sound c = on_ok_then c.begin_pop.result c.begin_pop.ensures.sound (λ sound. sound c.args.script.now c.requires.sound)
 
--- the body that a call names is there
-pub procedure_at-requires : goal.procedure_at-requires
-procedure_at-requires c =
-    (own_call c.args.script.now (out-Statement c.args.statement.now) c.requires.own c.in-Call.index c.in-Call.arguments
-    (ap out-Statement c.in-Call.is ∙ outs-Call c.in-Call.index c.in-Call.arguments)).1
-
-pub begin_body-requires-clause-locals : goal.begin_body-requires-clause-locals
-begin_body-requires-clause-locals c =
-    let script = c.args.script.now in
-    let called = own_call script (out-Statement c.args.statement.now) c.requires.own c.in-Call.index c.in-Call.arguments (ap out-Statement c.in-Call.is ∙ outs-Call c.in-Call.index c.in-Call.arguments) in
-    ap (list_all is_small) (c.lines_of-body.ensures.locals ∙ ap (λ (b : Body). b.locals) c.procedure_at.ensures) ∙ procedure_locals script c.requires.script c.in-Call.index called.1
-
-pub returns-in-Call-clause-kept : goal.returns-in-Call-clause-kept
-returns-in-Call-clause-kept c =
-    on_ok_then c.begin_body.result c.begin_body.ensures.kept (λ kept r budget f.
-    let script = c.args.script.now in
-    let h = c.args.state.now in
-    let old = c.args.self.now.pieces.items in
-    let at = where_of c.args.at in
-    let layer = out-Statement c.args.statement.now in
-    let is : layer ≡ Statement-F.Call c.in-Call.index c.in-Call.arguments = ap out-Statement c.in-Call.is ∙ outs-Call c.in-Call.index c.in-Call.arguments in
-    let called = own_call script layer c.requires.own c.in-Call.index c.in-Call.arguments is in
-    kept r budget (procedure_at script c.in-Call.index)
-    (record { locals = c.lines_of-body.ensures.locals ∙ ap (λ (b : Body). b.locals) c.procedure_at.ensures; statements = c.lines_of-body.ensures.statements ∙ ap (λ (b : Body). b.statements) c.procedure_at.ensures })
-    ∙ ap (λ (arguments : List Argument). rest_of_body script budget r at null (map (passed script h) arguments) (procedure_at script c.in-Call.index) nothing_more old h) c.as_slice-in-Call.ensures
-    ∙ call_as_body script budget r at c.in-Call.index c.in-Call.arguments old h (sym (ap (operands_refused h) is) ∙ c.requires.operands)
-    ∙ ap (λ (l : Layer). rest_of_statement script budget r at l old h) (sym is))
-
-pub returns-in-Call-clause-sound : goal.returns-in-Call-clause-sound
-returns-in-Call-clause-sound c =
-    let script = c.args.script.now in
-    let called = own_call script (out-Statement c.args.statement.now) c.requires.own c.in-Call.index c.in-Call.arguments (ap out-Statement c.in-Call.is ∙ outs-Call c.in-Call.index c.in-Call.arguments) in
-    on_ok_then c.begin_body.result c.begin_body.ensures.sound (λ sound.
-    sound script (subst (AreOwn script) (sym (c.lines_of-body.ensures.statements ∙ ap (λ (b : Body). b.statements) c.procedure_at.ensures)) (procedure_statements script c.requires.script c.in-Call.index called.1))
-    c.requires.sound)
-
-pub procedure_at-requires-in-CallTo : goal.procedure_at-requires-in-CallTo
-procedure_at-requires-in-CallTo c =
-    (own_call_to c.args.script.now (out-Statement c.args.statement.now) c.requires.own c.in-CallTo.target c.in-CallTo.index c.in-CallTo.arguments
-    (ap out-Statement c.in-CallTo.is ∙ outs-CallTo c.in-CallTo.target c.in-CallTo.index c.in-CallTo.arguments)).1
-
-pub begin_body-requires-in-CallTo-clause-locals : goal.begin_body-requires-in-CallTo-clause-locals
-begin_body-requires-in-CallTo-clause-locals c =
-    let script = c.args.script.now in
-    let called = own_call_to script (out-Statement c.args.statement.now) c.requires.own c.in-CallTo.target c.in-CallTo.index c.in-CallTo.arguments
-    (ap out-Statement c.in-CallTo.is ∙ outs-CallTo c.in-CallTo.target c.in-CallTo.index c.in-CallTo.arguments) in
-    ap (list_all is_small) (c.lines_of-body-in-CallTo.ensures.locals ∙ ap (λ (b : Body). b.locals) c.procedure_at-in-CallTo.ensures) ∙ procedure_locals script c.requires.script c.in-CallTo.index called.1
-
-pub returns-in-CallTo-clause-kept : goal.returns-in-CallTo-clause-kept
-returns-in-CallTo-clause-kept c =
-    on_ok_then c.begin_body-in-CallTo.result c.begin_body-in-CallTo.ensures.kept (λ kept r budget f.
-    let script = c.args.script.now in
-    let h = c.args.state.now in
-    let old = c.args.self.now.pieces.items in
-    let at = where_of c.args.at in
-    let x = c.in-CallTo.target in
-    let layer = out-Statement c.args.statement.now in
-    let is : layer ≡ Statement-F.CallTo x c.in-CallTo.index c.in-CallTo.arguments = ap out-Statement c.in-CallTo.is ∙ outs-CallTo x c.in-CallTo.index c.in-CallTo.arguments in
-    let called = own_call_to script layer c.requires.own x c.in-CallTo.index c.in-CallTo.arguments is in
-    kept r budget (procedure_at script c.in-CallTo.index)
-    (record { locals = c.lines_of-body-in-CallTo.ensures.locals ∙ ap (λ (b : Body). b.locals) c.procedure_at-in-CallTo.ensures; statements = c.lines_of-body-in-CallTo.ensures.statements ∙ ap (λ (b : Body). b.statements) c.procedure_at-in-CallTo.ensures })
-    ∙ ap (λ (arguments : List Argument). rest_of_body script budget r at null (map (passed script h) arguments) (procedure_at script c.in-CallTo.index) (gives_to x) old h) c.as_slice-in-CallTo.ensures
-    ∙ call_to_as_body script budget r at x c.in-CallTo.index c.in-CallTo.arguments old h (sym (ap (operands_refused h) is) ∙ c.requires.operands)
-    ∙ ap (λ (l : Layer). rest_of_statement script budget r at l old h) (sym is))
-
-pub returns-in-CallTo-clause-sound : goal.returns-in-CallTo-clause-sound
-returns-in-CallTo-clause-sound c =
-    let script = c.args.script.now in
-    let called = own_call_to script (out-Statement c.args.statement.now) c.requires.own c.in-CallTo.target c.in-CallTo.index c.in-CallTo.arguments
-    (ap out-Statement c.in-CallTo.is ∙ outs-CallTo c.in-CallTo.target c.in-CallTo.index c.in-CallTo.arguments) in
-    on_ok_then c.begin_body-in-CallTo.result c.begin_body-in-CallTo.ensures.sound (λ sound.
-    sound script (subst (AreOwn script) (sym (c.lines_of-body-in-CallTo.ensures.statements ∙ ap (λ (b : Body). b.statements) c.procedure_at-in-CallTo.ensures)) (procedure_statements script c.requires.script c.in-CallTo.index called.1))
-    c.requires.sound)
-
 pub returns-in-Construct-clause-whole : goal.returns-in-Construct-clause-whole
 returns-in-Construct-clause-whole c = on_ok_anyhow c.begin_construct.result (c.begin_construct.ensures.quiet.whole c.args.script.now)
-
-pub returns-in-Call-clause-whole : goal.returns-in-Call-clause-whole
-returns-in-Call-clause-whole c = on_ok_anyhow c.begin_body.result (c.begin_body.ensures.quiet.whole c.args.script.now)
-
-pub returns-in-CallTo-clause-whole : goal.returns-in-CallTo-clause-whole
-returns-in-CallTo-clause-whole c = on_ok_anyhow c.begin_body-in-CallTo.result (c.begin_body-in-CallTo.ensures.quiet.whole c.args.script.now)
 
 pub returns-in-If-clause-room : goal.returns-in-If-clause-room
 returns-in-If-clause-room c =
@@ -199,12 +113,62 @@ returns-in-Construct-clause-room c =
     on_ok_then c.begin_construct.result c.begin_construct.ensures.slots (λ slots.
     quiet_room c.begin_construct.new.self.ending c.args.self.now.pieces.items c.begin_construct.new.self.pieces.items c.args.state.now c.begin_construct.new.state c.requires.free slots c.begin_construct.ensures.quiet)
 
+-- the body that a call names is there
+pub begin_call-requires-clause-there : goal.begin_call-requires-clause-there
+begin_call-requires-clause-there c =
+    (own_call c.args.script.now (out-Statement c.args.statement.now) c.requires.own c.in-Call.index c.in-Call.arguments
+    (ap out-Statement c.in-Call.is ∙ outs-Call c.in-Call.index c.in-Call.arguments)).1
+
+pub returns-in-Call-clause-kept : goal.returns-in-Call-clause-kept
+returns-in-Call-clause-kept c =
+    on_ok_then c.begin_call.result c.begin_call.ensures.kept (λ kept r budget f.
+    let script = c.args.script.now in
+    let h = c.args.state.now in
+    let old = c.args.self.now.pieces.items in
+    let at = where_of c.args.at in
+    let layer = out-Statement c.args.statement.now in
+    let is : layer ≡ Statement-F.Call c.in-Call.index c.in-Call.arguments = ap out-Statement c.in-Call.is ∙ outs-Call c.in-Call.index c.in-Call.arguments in
+    kept r budget (ap (λ (given : List Argument). first_refusal h (of_arguments given)) c.as_slice-in-Call.ensures ∙ sym (ap (operands_refused h) is) ∙ c.requires.operands)
+    ∙ ap (λ (given : List Argument). rest_of_statement script budget r at (Statement-F.Call c.in-Call.index given) old h) c.as_slice-in-Call.ensures
+    ∙ ap (λ (l : Layer). rest_of_statement script budget r at l old h) (sym is))
+
+pub returns-in-Call-clause-sound : goal.returns-in-Call-clause-sound
+returns-in-Call-clause-sound c = on_ok_then c.begin_call.result c.begin_call.ensures.sound (λ sound. sound c.requires.sound)
+
+pub returns-in-Call-clause-whole : goal.returns-in-Call-clause-whole
+returns-in-Call-clause-whole c = on_ok_anyhow c.begin_call.result (c.begin_call.ensures.quiet.whole c.args.script.now)
+
 pub returns-in-Call-clause-room : goal.returns-in-Call-clause-room
 returns-in-Call-clause-room c =
-    on_ok_then c.begin_body.result c.begin_body.ensures.slots (λ slots.
-    quiet_room c.begin_body.new.self.ending c.args.self.now.pieces.items c.begin_body.new.self.pieces.items c.args.state.now c.begin_body.new.state c.requires.free slots c.begin_body.ensures.quiet)
+    on_ok_then c.begin_call.result c.begin_call.ensures.slots (λ slots.
+    quiet_room c.begin_call.new.self.ending c.args.self.now.pieces.items c.begin_call.new.self.pieces.items c.args.state.now c.begin_call.new.state c.requires.free slots c.begin_call.ensures.quiet)
+
+-- the body that a call names is there
+pub begin_call_to-requires-clause-there : goal.begin_call_to-requires-clause-there
+begin_call_to-requires-clause-there c =
+    (own_call_to c.args.script.now (out-Statement c.args.statement.now) c.requires.own c.in-CallTo.target c.in-CallTo.index c.in-CallTo.arguments
+    (ap out-Statement c.in-CallTo.is ∙ outs-CallTo c.in-CallTo.target c.in-CallTo.index c.in-CallTo.arguments)).1
+
+pub returns-in-CallTo-clause-kept : goal.returns-in-CallTo-clause-kept
+returns-in-CallTo-clause-kept c =
+    on_ok_then c.begin_call_to.result c.begin_call_to.ensures.kept (λ kept r budget f.
+    let script = c.args.script.now in
+    let h = c.args.state.now in
+    let old = c.args.self.now.pieces.items in
+    let at = where_of c.args.at in
+    let layer = out-Statement c.args.statement.now in
+    let is : layer ≡ Statement-F.CallTo c.in-CallTo.target c.in-CallTo.index c.in-CallTo.arguments = ap out-Statement c.in-CallTo.is ∙ outs-CallTo c.in-CallTo.target c.in-CallTo.index c.in-CallTo.arguments in
+    kept r budget (ap (λ (given : List Argument). first_refusal h (of_arguments given)) c.as_slice-in-CallTo.ensures ∙ sym (ap (operands_refused h) is) ∙ c.requires.operands)
+    ∙ ap (λ (given : List Argument). rest_of_statement script budget r at (Statement-F.CallTo c.in-CallTo.target c.in-CallTo.index given) old h) c.as_slice-in-CallTo.ensures
+    ∙ ap (λ (l : Layer). rest_of_statement script budget r at l old h) (sym is))
+
+pub returns-in-CallTo-clause-sound : goal.returns-in-CallTo-clause-sound
+returns-in-CallTo-clause-sound c = on_ok_then c.begin_call_to.result c.begin_call_to.ensures.sound (λ sound. sound c.requires.sound)
+
+pub returns-in-CallTo-clause-whole : goal.returns-in-CallTo-clause-whole
+returns-in-CallTo-clause-whole c = on_ok_anyhow c.begin_call_to.result (c.begin_call_to.ensures.quiet.whole c.args.script.now)
 
 pub returns-in-CallTo-clause-room : goal.returns-in-CallTo-clause-room
 returns-in-CallTo-clause-room c =
-    on_ok_then c.begin_body-in-CallTo.result c.begin_body-in-CallTo.ensures.slots (λ slots.
-    quiet_room c.begin_body-in-CallTo.new.self.ending c.args.self.now.pieces.items c.begin_body-in-CallTo.new.self.pieces.items c.args.state.now c.begin_body-in-CallTo.new.state c.requires.free slots c.begin_body-in-CallTo.ensures.quiet)
+    on_ok_then c.begin_call_to.result c.begin_call_to.ensures.slots (λ slots.
+    quiet_room c.begin_call_to.new.self.ending c.args.self.now.pieces.items c.begin_call_to.new.self.pieces.items c.args.state.now c.begin_call_to.new.state c.requires.free slots c.begin_call_to.ensures.quiet)
