@@ -9,6 +9,7 @@ pub mod laws;
 mod lines;
 mod lists;
 mod reading;
+mod same;
 mod tree;
 
 pub use reading::read;

@@ -10,6 +10,7 @@ ghost use Rattle.wb_script.specs.Lent.{lent_form, lent_forms, lent_item, lent_it
 use crate::checks::known::first_name;
 use crate::lines::forms::role;
 use crate::lists::{add, add_some};
+use crate::same::are_same;
 use std::alloc::{AllocError, Global};
 use wb_model::items::Items;
 use wb_model::script_lines::{Form, ItemKind, Key, Operand, Role, Taken};
@@ -212,7 +213,7 @@ pub(crate) fn place_of_item(items: &[Item], name: &[u8]) -> Option<usize>
     ensures { result ≡ first_declaration_of (names_of (lent_items items.now)) name.now }
 {
     for (index, item) in items.iter().enumerate() {
-        if item.name == name {
+        if are_same(item.name, name) {
             return Some(index);
         }
     }

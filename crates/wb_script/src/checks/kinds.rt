@@ -13,6 +13,7 @@ ghost use Rattle.wb_script.specs.Lent.{lent_form, lent_items, lent_operands, len
 use crate::checks::items::{Item, item_of_kind};
 use crate::checks::known::Known;
 use crate::lines::keys::{Letters, is_pointer_sort, takes};
+use crate::same::are_same;
 use wb_model::script_lines::{BodyKind, Form, ItemKind, Key, Letter, Meant, Operand, Sort, Taken};
 
 /// What an operand is that is a name.
@@ -69,6 +70,7 @@ fn sort_of(operand: &Operand<Meant>) -> Sort
     }
 }
 
+#[inline(always)]
 fn is_right(letter: Letter, operand: &Operand<Meant>) -> bool
     ensures { result ≡ is_right letter operand.now }
 {
@@ -191,7 +193,7 @@ fn misuses_main(form: &Form<&[u8]>) -> bool
     match form {
         Form::Line(key, operands) => match operands.as_slice() {
             [Operand::Name(name), rest @ ..] => {
-                *name == b"main".as_slice() && (has_parameter(rest) || is_class_key(*key))
+                are_same(name, b"main") && (has_parameter(rest) || is_class_key(*key))
             }
             _ => false,
         },

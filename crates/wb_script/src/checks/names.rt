@@ -10,6 +10,7 @@ ghost use Rattle.wb_script.specs.Lent.{lent_texts, lent_operands, lent_form, len
 use crate::checks::items::{Item, place_of_item};
 use crate::checks::known::{Known, first_name};
 use crate::lines::forms::role;
+use crate::same::are_same;
 use wb_model::script_lines::{Form, Meant, Operand, Role, Taken};
 
 /// The index of the first declaration of a name.
@@ -17,7 +18,7 @@ pub(crate) fn place_of(names: &[&[u8]], name: &[u8]) -> Option<usize>
     ensures { result ≡ first_declaration_of (lent_texts names.now) name.now }
 {
     for (index, known) in names.iter().enumerate() {
-        if *known == name {
+        if are_same(known, name) {
             return Some(index);
         }
     }

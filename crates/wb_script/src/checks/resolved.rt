@@ -14,6 +14,7 @@ use crate::checks::known::Known;
 use crate::checks::names::place_of;
 use crate::lines::keys::Letters;
 use crate::lists::add;
+use crate::same::are_same;
 use std::alloc::{AllocError, Global};
 use wb_model::items::Items;
 use wb_model::script_lines::{BodyKind, Form, ItemKind, Key, Kind, Letter, Meant, Operand, Taken};
@@ -60,7 +61,7 @@ fn has_this(body: BodyKind) -> bool
 fn is_this(name: &[u8]) -> bool
     ensures { result ≡ is_this name.now }
 {
-    name == b"self".as_slice()
+    are_same(name, b"self")
 }
 
 fn this_meant(body: BodyKind) -> Meant

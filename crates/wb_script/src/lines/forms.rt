@@ -17,6 +17,7 @@ use crate::lines::words::{
     parameter_taken, used_name,
 };
 use crate::lists::add;
+use crate::same::are_same;
 use std::alloc::{AllocError, Global};
 use wb_model::items::Items;
 use wb_model::script_lines::{Form, Key, Keyword, Letter, Operand, Role, Taken, WordKind};
@@ -175,7 +176,7 @@ fn operands_if<'a>(
     ensures { IfOk result (λ found.
         option_map (λ o. lent_operands o.items) found ≡ operands_if (bytes_eq (text_of key) first.now) key (lent_texts words.now)) }
 {
-    if text_of(key) == first {
+    if are_same(text_of(key), first) {
         operands_of(alloc, Letters::of(key), words)
     } else {
         Ok(None)
@@ -259,7 +260,8 @@ fn add_form<'a>(
     add(forms, line_form(alloc, words, line)?)
 }
 
-/// The forms of lines, one for each.
+/// The forms of lines, one for each. It is never inlined: what is at hand for each line is the most that registers hold.
+#[inline(never)]
 pub(crate) fn forms<'a>(
     alloc: Global,
     lines: &[&'a [u8]],

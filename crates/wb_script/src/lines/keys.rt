@@ -193,6 +193,7 @@ impl Letters {
 }
 
 /// What the lines of a key are to the grammar of blocks.
+#[inline(always)]
 pub(crate) fn role_of(key: Key) -> Role
     ensures { result ≡ role_of key }
 {

@@ -120,7 +120,7 @@ fn statement_in(
 {
     let here = scope_of(space, body);
     let blocks = body.nest.blocks.as_slice();
-    plain_statement(alloc, space.items, here, blocks, key, operands)
+    plain_statement(alloc, space.items, &here, blocks, key, operands)
 }
 
 /// Appends a statement to the innermost block of an open body, or to the body.
@@ -193,7 +193,7 @@ fn begun_block(
         return Ok(None);
     }
     let here = scope_of(space, &body);
-    match head_of(here, key, operands) {
+    match head_of(&here, key, operands) {
         Some(head) => {
             let nest = entered(alloc, body.nest, number, head)?;
             Ok(Some(Left::Inside(OpenBody { nest, ..body })))

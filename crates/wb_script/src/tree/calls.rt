@@ -19,10 +19,10 @@ use wb_model::script::{Argument, Statement};
 use wb_model::script_lines::{ItemKind, Meant, Operand, Taken};
 
 /// The argument that an operand is for a parameter; none where it doesn't fit.
-fn argument(here: Scope, parameter: &Taken<&[u8]>, operand: &Operand<Meant>) -> Option<Argument>
+fn argument(here: &Scope, parameter: &Taken<&[u8]>, operand: &Operand<Meant>) -> Option<Argument>
     ensures { (items : List model.Item) → MatchOption result
-        (argument_fits here.entry.literals (scope_in here.entry) (lent_parameter items parameter.now) operand.now ≡ false)
-        (λ a. (argument_operand a ≡ Some operand.now) × IsTrue (is_passed (scope_in here.entry) (lent_parameter items parameter.now) a)) }
+        (argument_fits here.now.literals (scope_in here.now) (lent_parameter items parameter.now) operand.now ≡ false)
+        (λ a. (argument_operand a ≡ Some operand.now) × IsTrue (is_passed (scope_in here.now) (lent_parameter items parameter.now) a)) }
 {
     match parameter {
         Taken::Number => Some(Argument::Given(here.number(operand)?)),
@@ -33,11 +33,11 @@ fn argument(here: Scope, parameter: &Taken<&[u8]>, operand: &Operand<Meant>) -> 
 /// The arguments that operands are, one for each parameter; none where they don't fit.
 fn arguments(
     alloc: Global,
-    here: Scope,
+    here: &Scope,
     parameters: &[Taken<&[u8]>],
     operands: &[Operand<Meant>],
 ) -> Result<Option<Items<Argument>>, AllocError>
-    ensures { (items : List model.Item) → IfOk result (ArePassed here.entry (map (lent_parameter items) parameters.now) operands.now) }
+    ensures { (items : List model.Item) → IfOk result (ArePassed here.now (map (lent_parameter items) parameters.now) operands.now) }
 {
     let mut given = Items::new(alloc);
     for operand in operands {
@@ -77,11 +77,11 @@ pub(crate) struct Called {
 fn call_in(
     alloc: Global,
     items: &[Item],
-    here: Scope,
+    here: &Scope,
     operands: &[Operand<Meant>],
 ) -> Result<Option<Called>, AllocError>
     requires { length items.now ≤ LONGEST_SCRIPT }
-    ensures { IfOk result (IsCalled (declared_by here.entry.literals items.now) (scope_in here.entry) operands.now) }
+    ensures { IfOk result (IsCalled (declared_by here.now.literals items.now) (scope_in here.now) operands.now) }
 {
     match operands.split_first() {
         Some((Operand::Name(Meant::Procedure(index)), given)) => match signature_at(items, *index) {
@@ -102,11 +102,11 @@ fn call_in(
 pub(crate) fn call(
     alloc: Global,
     items: &[Item],
-    here: Scope,
+    here: &Scope,
     operands: &[Operand<Meant>],
 ) -> Result<Option<Statement>, AllocError>
     requires { length items.now ≤ LONGEST_SCRIPT }
-    ensures { IfOk result (IsNestedOf (declared_by here.entry.literals items.now) (scope_in here.entry) key.Call operands.now) }
+    ensures { IfOk result (IsNestedOf (declared_by here.now.literals items.now) (scope_in here.now) key.Call operands.now) }
 {
     match call_in(alloc, items, here, operands)? {
         Some(called) => Ok(Some(Statement::Call(called.procedure, called.arguments))),
@@ -118,11 +118,11 @@ pub(crate) fn call(
 pub(crate) fn call_to(
     alloc: Global,
     items: &[Item],
-    here: Scope,
+    here: &Scope,
     operands: &[Operand<Meant>],
 ) -> Result<Option<Statement>, AllocError>
     requires { length items.now ≤ LONGEST_SCRIPT }
-    ensures { IfOk result (IsNestedOf (declared_by here.entry.literals items.now) (scope_in here.entry) key.CallTo operands.now) }
+    ensures { IfOk result (IsNestedOf (declared_by here.now.literals items.now) (scope_in here.now) key.CallTo operands.now) }
 {
     match operands.split_first() {
         Some((target, behind)) => match here.receiver(target) {

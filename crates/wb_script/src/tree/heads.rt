@@ -12,8 +12,8 @@ use wb_model::script::{Condition, Number};
 use wb_model::script_lines::{Key, Meant, Operand};
 
 #[inline(never)]
-fn if_null(here: Scope, operands: &[Operand<Meant>]) -> Option<Head>
-    ensures { IsHeadOf here.entry key.IfNull operands.now result }
+fn if_null(here: &Scope, operands: &[Operand<Meant>]) -> Option<Head>
+    ensures { IsHeadOf here.now key.IfNull operands.now result }
 {
     match operands {
         [Operand::Keyword, pointer] => Some(Head::If(Condition::IsNull(here.pointer(pointer)?))),
@@ -22,8 +22,8 @@ fn if_null(here: Scope, operands: &[Operand<Meant>]) -> Option<Head>
 }
 
 #[inline(never)]
-fn if_some(here: Scope, operands: &[Operand<Meant>]) -> Option<Head>
-    ensures { IsHeadOf here.entry key.IfSome operands.now result }
+fn if_some(here: &Scope, operands: &[Operand<Meant>]) -> Option<Head>
+    ensures { IsHeadOf here.now key.IfSome operands.now result }
 {
     match operands {
         [Operand::Keyword, pointer] => Some(Head::If(Condition::NotNull(here.pointer(pointer)?))),
@@ -32,8 +32,8 @@ fn if_some(here: Scope, operands: &[Operand<Meant>]) -> Option<Head>
 }
 
 /// The two numbers that a line compares, behind its keyword.
-fn compared(here: Scope, operands: &[Operand<Meant>]) -> Option<(Number, Number)>
-    ensures { (keyword : Keyword) → AreCompared here.entry keyword operands.now result }
+fn compared(here: &Scope, operands: &[Operand<Meant>]) -> Option<(Number, Number)>
+    ensures { (keyword : Keyword) → AreCompared here.now keyword operands.now result }
 {
     match operands {
         [Operand::Keyword, left, right] => Some((here.number(left)?, here.number(right)?)),
@@ -42,8 +42,8 @@ fn compared(here: Scope, operands: &[Operand<Meant>]) -> Option<(Number, Number)
 }
 
 #[inline(never)]
-fn if_equal(here: Scope, operands: &[Operand<Meant>]) -> Option<Head>
-    ensures { IsHeadOf here.entry key.IfEqual operands.now result }
+fn if_equal(here: &Scope, operands: &[Operand<Meant>]) -> Option<Head>
+    ensures { IsHeadOf here.now key.IfEqual operands.now result }
 {
     match compared(here, operands) {
         Some((left, right)) => Some(Head::If(Condition::Equal(left, right))),
@@ -52,8 +52,8 @@ fn if_equal(here: Scope, operands: &[Operand<Meant>]) -> Option<Head>
 }
 
 #[inline(never)]
-fn if_less(here: Scope, operands: &[Operand<Meant>]) -> Option<Head>
-    ensures { IsHeadOf here.entry key.IfLess operands.now result }
+fn if_less(here: &Scope, operands: &[Operand<Meant>]) -> Option<Head>
+    ensures { IsHeadOf here.now key.IfLess operands.now result }
 {
     match compared(here, operands) {
         Some((left, right)) => Some(Head::If(Condition::Less(left, right))),
@@ -62,8 +62,8 @@ fn if_less(here: Scope, operands: &[Operand<Meant>]) -> Option<Head>
 }
 
 #[inline(never)]
-fn repeat(here: Scope, operands: &[Operand<Meant>]) -> Option<Head>
-    ensures { IsHeadOf here.entry key.Repeat operands.now result }
+fn repeat(here: &Scope, operands: &[Operand<Meant>]) -> Option<Head>
+    ensures { IsHeadOf here.now key.Repeat operands.now result }
 {
     match operands {
         [turns] => Some(Head::Repeat(here.number(turns)?)),
@@ -72,8 +72,8 @@ fn repeat(here: Scope, operands: &[Operand<Meant>]) -> Option<Head>
 }
 
 #[inline(never)]
-fn trap(here: Scope, operands: &[Operand<Meant>]) -> Option<Head>
-    ensures { IsHeadOf here.entry key.Trap operands.now result }
+fn trap(here: &Scope, operands: &[Operand<Meant>]) -> Option<Head>
+    ensures { IsHeadOf here.now key.Trap operands.now result }
 {
     match operands {
         [variable] => Some(Head::Trap(here.variable(variable)?)),
@@ -82,9 +82,9 @@ fn trap(here: Scope, operands: &[Operand<Meant>]) -> Option<Head>
 }
 
 /// What a line begins; none where its operands don't fit.
-pub(crate) fn head_of(here: Scope, key: Key, operands: &[Operand<Meant>]) -> Option<Head>
+pub(crate) fn head_of(here: &Scope, key: Key, operands: &[Operand<Meant>]) -> Option<Head>
     requires { IsTrue (begins_block key) }
-    ensures { IsHeadOf here.entry key operands.now result }
+    ensures { IsHeadOf here.now key operands.now result }
 {
     match key {
         Key::IfNull => if_null(here, operands),

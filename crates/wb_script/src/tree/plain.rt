@@ -38,9 +38,9 @@ fn operation(items: &[Item], operand: &Operand<Meant>) -> Option<u16>
 
 /// A `pushop` of a pointer, with an operation by its name; none where the operands don't fit.
 #[inline(never)]
-fn push_operation(items: &[Item], here: Scope, operands: &[Operand<Meant>]) -> Option<Statement>
+fn push_operation(items: &[Item], here: &Scope, operands: &[Operand<Meant>]) -> Option<Statement>
     requires { length items.now ≤ LONGEST_SCRIPT }
-    ensures { IsNestedOf (declared_by here.entry.literals items.now) (scope_in here.entry) key.PushOp operands.now result }
+    ensures { IsNestedOf (declared_by here.now.literals items.now) (scope_in here.now) key.PushOp operands.now result }
 {
     match operands {
         [pointer, named] => {
@@ -54,16 +54,16 @@ fn push_operation(items: &[Item], here: Scope, operands: &[Operand<Meant>]) -> O
 
 /// A `construct` of the object of a pointer.
 #[inline(never)]
-fn construct(here: Scope, operands: &[Operand<Meant>]) -> Option<Statement>
-    ensures { (declared : Declared) → declared.literals ≡ here.entry.literals → IsNestedOf declared (scope_in here.entry) key.Construct operands.now result }
+fn construct(here: &Scope, operands: &[Operand<Meant>]) -> Option<Statement>
+    ensures { (declared : Declared) → declared.literals ≡ here.now.literals → IsNestedOf declared (scope_in here.now) key.Construct operands.now result }
 {
     Some(Statement::Construct(one_pointer(here, operands)?))
 }
 
 /// A `delete` of the object of a pointer.
 #[inline(never)]
-fn delete(here: Scope, operands: &[Operand<Meant>]) -> Option<Statement>
-    ensures { (declared : Declared) → declared.literals ≡ here.entry.literals → IsNestedOf declared (scope_in here.entry) key.Delete operands.now result }
+fn delete(here: &Scope, operands: &[Operand<Meant>]) -> Option<Statement>
+    ensures { (declared : Declared) → declared.literals ≡ here.now.literals → IsNestedOf declared (scope_in here.now) key.Delete operands.now result }
 {
     Some(Statement::Delete(one_pointer(here, operands)?))
 }
@@ -72,14 +72,14 @@ fn delete(here: Scope, operands: &[Operand<Meant>]) -> Option<Statement>
 pub(crate) fn plain_statement(
     alloc: Global,
     items: &[Item],
-    here: Scope,
+    here: &Scope,
     blocks: &[OpenBlock],
     key: Key,
     operands: &[Operand<Meant>],
 ) -> Result<Option<Statement>, AllocError>
     requires plain { role_of key ≡ Plain }
     requires few { length items.now ≤ LONGEST_SCRIPT }
-    ensures { IfOk result (IsStatedWhereFit (declared_by here.entry.literals items.now) (scope_in here.entry) (keys_of_blocks blocks.now) key operands.now) }
+    ensures { IfOk result (IsStatedWhereFit (declared_by here.now.literals items.now) (scope_in here.now) (keys_of_blocks blocks.now) key operands.now) }
 {
     match key {
         Key::Call => call(alloc, items, here, operands),

@@ -21,9 +21,9 @@ use wb_model::script_lines::{Key, Meant, Operand};
 
 /// The statement of a line that takes no operand.
 #[inline(never)]
-fn alone(here: Scope, statement: Statement, operands: &[Operand<Meant>]) -> Option<Statement>
+fn alone(here: &Scope, statement: Statement, operands: &[Operand<Meant>]) -> Option<Statement>
     ensures { MatchOption result
-        (letters_fit here.entry.literals (scope_in here.entry) [] operands.now ≡ false)
+        (letters_fit here.now.literals (scope_in here.now) [] operands.now ≡ false)
         (λ s. (s ≡ statement) × (operands.now ≡ [])) }
 {
     match operands {
@@ -33,24 +33,24 @@ fn alone(here: Scope, statement: Statement, operands: &[Operand<Meant>]) -> Opti
 }
 
 /// The operand of a line that takes one pointer.
-pub(crate) fn one_pointer(here: Scope, operands: &[Operand<Meant>]) -> Option<Pointer>
-    ensures { IsOnlySpelled pointer_operand (is_pointer (scope_in here.entry)) here.entry letter.Pointer operands.now result }
+pub(crate) fn one_pointer(here: &Scope, operands: &[Operand<Meant>]) -> Option<Pointer>
+    ensures { IsOnlySpelled pointer_operand (is_pointer (scope_in here.now)) here.now letter.Pointer operands.now result }
 {
     let pointer = one(operands)?;
     here.pointer(pointer)
 }
 
 /// The operand of a line that takes one number.
-fn one_number(here: Scope, operands: &[Operand<Meant>]) -> Option<Number>
-    ensures { IsOnlySpelled number_operand (is_number here.entry.locals.now) here.entry letter.Value operands.now result }
+fn one_number(here: &Scope, operands: &[Operand<Meant>]) -> Option<Number>
+    ensures { IsOnlySpelled number_operand (is_number here.now.locals.now) here.now letter.Value operands.now result }
 {
     let number = one(operands)?;
     here.number(number)
 }
 
 /// A `set` of a local to a source: of one that holds a pointer, or of one that holds a number.
-fn set_local(here: Scope, target: &Operand<Meant>, source: &Operand<Meant>) -> Option<Statement>
-    ensures { IsStatementOf here.entry key.Set (target.now ∷ source.now ∷ []) result }
+fn set_local(here: &Scope, target: &Operand<Meant>, source: &Operand<Meant>) -> Option<Statement>
+    ensures { IsStatementOf here.now key.Set (target.now ∷ source.now ∷ []) result }
 {
     match here.receiver(target) {
         Some(local) => Some(Statement::Set(
@@ -66,8 +66,8 @@ fn set_local(here: Scope, target: &Operand<Meant>, source: &Operand<Meant>) -> O
 
 /// A `set` of a local that holds a pointer or a number, by what its target is.
 #[inline(never)]
-fn set(here: Scope, operands: &[Operand<Meant>]) -> Option<Statement>
-    ensures { IsStatementOf here.entry key.Set operands.now result }
+fn set(here: &Scope, operands: &[Operand<Meant>]) -> Option<Statement>
+    ensures { IsStatementOf here.now key.Set operands.now result }
 {
     match operands {
         [target, source] => set_local(here, target, source),
@@ -77,8 +77,8 @@ fn set(here: Scope, operands: &[Operand<Meant>]) -> Option<Statement>
 
 /// A `set` of a field.
 #[inline(never)]
-fn set_field(here: Scope, operands: &[Operand<Meant>]) -> Option<Statement>
-    ensures { IsStatementOf here.entry key.SetField operands.now result }
+fn set_field(here: &Scope, operands: &[Operand<Meant>]) -> Option<Statement>
+    ensures { IsStatementOf here.now key.SetField operands.now result }
 {
     let (target, source) = two(operands)?;
     match (here.field_target(target), here.pointer(source)) {
@@ -88,8 +88,8 @@ fn set_field(here: Scope, operands: &[Operand<Meant>]) -> Option<Statement>
 }
 
 #[inline(never)]
-fn set_null(here: Scope, operands: &[Operand<Meant>]) -> Option<Statement>
-    ensures { IsStatementOf here.entry key.Null operands.now result }
+fn set_null(here: &Scope, operands: &[Operand<Meant>]) -> Option<Statement>
+    ensures { IsStatementOf here.now key.Null operands.now result }
 {
     let target = one(operands)?;
     Some(Statement::SetNull(here.written(target)?))
@@ -97,8 +97,8 @@ fn set_null(here: Scope, operands: &[Operand<Meant>]) -> Option<Statement>
 
 /// A new object of a class.
 #[inline(never)]
-fn new_object(here: Scope, operands: &[Operand<Meant>], refusal: Refusal) -> Option<Statement>
-    ensures { IsStatementOf here.entry (new_key refusal) operands.now result }
+fn new_object(here: &Scope, operands: &[Operand<Meant>], refusal: Refusal) -> Option<Statement>
+    ensures { IsStatementOf here.now (new_key refusal) operands.now result }
 {
     let (target, class) = two(operands)?;
     match (here.written(target), here.class(class)) {
@@ -108,8 +108,8 @@ fn new_object(here: Scope, operands: &[Operand<Meant>], refusal: Refusal) -> Opt
 }
 
 /// The operands of a line that writes a pointer, by a number.
-fn pointer_and_number(here: Scope, operands: &[Operand<Meant>]) -> Option<(Pointer, Number)>
-    ensures { IsPairSpelled here.entry operands.now result }
+fn pointer_and_number(here: &Scope, operands: &[Operand<Meant>]) -> Option<(Pointer, Number)>
+    ensures { IsPairSpelled here.now operands.now result }
 {
     let (target, number) = two(operands)?;
     match (here.written(target), here.number(number)) {
@@ -120,10 +120,10 @@ fn pointer_and_number(here: Scope, operands: &[Operand<Meant>]) -> Option<(Point
 
 /// The operands of a line that writes a pointer, by another and a number.
 fn pointers_and_number(
-    here: Scope,
+    here: &Scope,
     operands: &[Operand<Meant>],
 ) -> Option<(Pointer, Pointer, Number)>
-    ensures { IsTripleSpelled here.entry operands.now result }
+    ensures { IsTripleSpelled here.now operands.now result }
 {
     let (target, source, number) = three(operands)?;
     match (
@@ -137,40 +137,40 @@ fn pointers_and_number(
 }
 
 #[inline(never)]
-fn alloc(here: Scope, operands: &[Operand<Meant>], refusal: Refusal) -> Option<Statement>
-    ensures { IsStatementOf here.entry (alloc_key refusal) operands.now result }
+fn alloc(here: &Scope, operands: &[Operand<Meant>], refusal: Refusal) -> Option<Statement>
+    ensures { IsStatementOf here.now (alloc_key refusal) operands.now result }
 {
     let (pointer, size) = pointer_and_number(here, operands)?;
     Some(Statement::Alloc(pointer, size, refusal))
 }
 
 #[inline(never)]
-fn realloc(here: Scope, operands: &[Operand<Meant>], refusal: Refusal) -> Option<Statement>
-    ensures { IsStatementOf here.entry (realloc_key refusal) operands.now result }
+fn realloc(here: &Scope, operands: &[Operand<Meant>], refusal: Refusal) -> Option<Statement>
+    ensures { IsStatementOf here.now (realloc_key refusal) operands.now result }
 {
     let (target, source, size) = pointers_and_number(here, operands)?;
     Some(Statement::Realloc(target, source, size, refusal))
 }
 
 #[inline(never)]
-fn new_text(here: Scope, operands: &[Operand<Meant>], refusal: Refusal) -> Option<Statement>
-    ensures { IsStatementOf here.entry (new_text_key refusal) operands.now result }
+fn new_text(here: &Scope, operands: &[Operand<Meant>], refusal: Refusal) -> Option<Statement>
+    ensures { IsStatementOf here.now (new_text_key refusal) operands.now result }
 {
     let (pointer, maximum) = pointer_and_number(here, operands)?;
     Some(Statement::NewText(pointer, maximum, refusal))
 }
 
 #[inline(never)]
-fn realloc_text(here: Scope, operands: &[Operand<Meant>]) -> Option<Statement>
-    ensures { IsStatementOf here.entry key.HRealloc operands.now result }
+fn realloc_text(here: &Scope, operands: &[Operand<Meant>]) -> Option<Statement>
+    ensures { IsStatementOf here.now key.HRealloc operands.now result }
 {
     let (target, source, maximum) = pointers_and_number(here, operands)?;
     Some(Statement::ReallocText(target, source, maximum))
 }
 
 #[inline(never)]
-fn alloc_len(here: Scope, operands: &[Operand<Meant>]) -> Option<Statement>
-    ensures { IsStatementOf here.entry key.AllocLen operands.now result }
+fn alloc_len(here: &Scope, operands: &[Operand<Meant>]) -> Option<Statement>
+    ensures { IsStatementOf here.now key.AllocLen operands.now result }
 {
     let (variable, pointer) = two(operands)?;
     match (here.variable(variable), here.pointer(pointer)) {
@@ -180,8 +180,8 @@ fn alloc_len(here: Scope, operands: &[Operand<Meant>]) -> Option<Statement>
 }
 
 #[inline(never)]
-fn store(here: Scope, operands: &[Operand<Meant>]) -> Option<Statement>
-    ensures { IsStatementOf here.entry key.Store operands.now result }
+fn store(here: &Scope, operands: &[Operand<Meant>]) -> Option<Statement>
+    ensures { IsStatementOf here.now key.Store operands.now result }
 {
     let (pointer, index, value) = three(operands)?;
     match (
@@ -195,8 +195,8 @@ fn store(here: Scope, operands: &[Operand<Meant>]) -> Option<Statement>
 }
 
 #[inline(never)]
-fn load(here: Scope, operands: &[Operand<Meant>]) -> Option<Statement>
-    ensures { IsStatementOf here.entry key.Load operands.now result }
+fn load(here: &Scope, operands: &[Operand<Meant>]) -> Option<Statement>
+    ensures { IsStatementOf here.now key.Load operands.now result }
 {
     let (variable, pointer, index) = three(operands)?;
     match (
@@ -212,8 +212,8 @@ fn load(here: Scope, operands: &[Operand<Meant>]) -> Option<Statement>
 }
 
 #[inline(never)]
-fn add(here: Scope, operands: &[Operand<Meant>]) -> Option<Statement>
-    ensures { IsStatementOf here.entry key.Add operands.now result }
+fn add(here: &Scope, operands: &[Operand<Meant>]) -> Option<Statement>
+    ensures { IsStatementOf here.now key.Add operands.now result }
 {
     let (variable, number) = two(operands)?;
     match (here.variable(variable), here.number(number)) {
@@ -224,9 +224,9 @@ fn add(here: Scope, operands: &[Operand<Meant>]) -> Option<Statement>
 
 /// The statement of a line that takes one pointer.
 #[inline(never)]
-fn of_pointer(here: Scope, key: Key, operands: &[Operand<Meant>]) -> Option<Statement>
+fn of_pointer(here: &Scope, key: Key, operands: &[Operand<Meant>]) -> Option<Statement>
     requires { IsTrue (takes_pointer key) }
-    ensures { IsStatementOf here.entry key operands.now result }
+    ensures { IsStatementOf here.now key operands.now result }
 {
     let pointer = one_pointer(here, operands)?;
     match key {
@@ -241,9 +241,9 @@ fn of_pointer(here: Scope, key: Key, operands: &[Operand<Meant>]) -> Option<Stat
 
 /// The statement of a line that takes one number.
 #[inline(never)]
-fn of_number(here: Scope, key: Key, operands: &[Operand<Meant>]) -> Option<Statement>
+fn of_number(here: &Scope, key: Key, operands: &[Operand<Meant>]) -> Option<Statement>
     requires { IsTrue (takes_number key) }
-    ensures { IsStatementOf here.entry key operands.now result }
+    ensures { IsStatementOf here.now key operands.now result }
 {
     let number = one_number(here, operands)?;
     match key {
@@ -262,9 +262,9 @@ fn of_number(here: Scope, key: Key, operands: &[Operand<Meant>]) -> Option<State
 
 /// The statement of a line; none where its operands don't fit.
 #[inline(never)]
-pub(crate) fn statement_of(here: Scope, key: Key, operands: &[Operand<Meant>]) -> Option<Statement>
+pub(crate) fn statement_of(here: &Scope, key: Key, operands: &[Operand<Meant>]) -> Option<Statement>
     requires { IsTrue (is_lasting key) }
-    ensures { IsStatementOf here.entry key operands.now result }
+    ensures { IsStatementOf here.now key operands.now result }
 {
     match key {
         Key::Alloc => alloc(here, operands, Refusal::GivesNull),
@@ -315,11 +315,11 @@ pub(crate) fn statement_of(here: Scope, key: Key, operands: &[Operand<Meant>]) -
 /// A `return` without a value; none inside a TRAP.
 #[inline(never)]
 pub(crate) fn return_nothing(
-    here: Scope,
+    here: &Scope,
     blocks: &[OpenBlock],
     operands: &[Operand<Meant>],
 ) -> Option<Statement>
-    ensures { IsReturnOf here.entry blocks.now key.Return operands.now result }
+    ensures { IsReturnOf here.now blocks.now key.Return operands.now result }
 {
     if has_trap(blocks) {
         return None;
@@ -330,11 +330,11 @@ pub(crate) fn return_nothing(
 /// A `return` of a pointer; none inside a TRAP.
 #[inline(never)]
 pub(crate) fn return_pointer(
-    here: Scope,
+    here: &Scope,
     blocks: &[OpenBlock],
     operands: &[Operand<Meant>],
 ) -> Option<Statement>
-    ensures { IsReturnOf here.entry blocks.now key.ReturnPointer operands.now result }
+    ensures { IsReturnOf here.now blocks.now key.ReturnPointer operands.now result }
 {
     if has_trap(blocks) {
         return None;

@@ -17,8 +17,8 @@ use wb_model::script_lines::{Meant, Operand};
 
 impl<'a> Scope<'a> {
     /// The local with an index.
-    fn local(self, index: usize) -> Option<Local>
-        ensures found { result ≡ slice_get self.entry.locals.now index }
+    fn local(&self, index: usize) -> Option<Local>
+        ensures found { result ≡ slice_get self.now.locals.now index }
         ensures few { IsSome result → index < MOST_LOCALS }
     {
         match self.locals.get(index) {
@@ -28,8 +28,8 @@ impl<'a> Scope<'a> {
     }
 
     /// The local with an index, where it holds a pointer.
-    fn pointer_local(self, index: usize) -> Option<u8>
-        ensures { IsPointerLocal (scope_in self.entry) index result }
+    fn pointer_local(&self, index: usize) -> Option<u8>
+        ensures { IsPointerLocal (scope_in self.now) index result }
     {
         match self.local(index) {
             Some(Local::OfPointer(_)) => Some(index as u8),
@@ -38,8 +38,8 @@ impl<'a> Scope<'a> {
     }
 
     /// What holds a pointer by its name: a local, or `self`.
-    fn holder(self, name: Meant) -> Option<Holder>
-        ensures { IsHolderOf (scope_in self.entry) name result }
+    fn holder(&self, name: Meant) -> Option<Holder>
+        ensures { IsHolderOf (scope_in self.now) name result }
     {
         match name {
             Meant::Pointer(index) => Some(Holder::Local(self.pointer_local(index)?)),
@@ -52,8 +52,8 @@ impl<'a> Scope<'a> {
     }
 
     /// The class that a local or `self` is declared with.
-    fn class_held(self, holder: Holder) -> Option<u16>
-        ensures { result ≡ Rattle.wb_model.specs.Sound.class_held (scope_in self.entry) holder }
+    fn class_held(&self, holder: Holder) -> Option<u16>
+        ensures { result ≡ Rattle.wb_model.specs.Sound.class_held (scope_in self.now) holder }
     {
         match holder {
             Holder::Local(index) => match self.local(index as usize) {
@@ -65,8 +65,8 @@ impl<'a> Scope<'a> {
     }
 
     /// How many fields the class with an index has.
-    fn field_count(self, class: usize) -> Option<u8>
-        ensures { result ≡ slice_get self.entry.fields.now class }
+    fn field_count(&self, class: usize) -> Option<u8>
+        ensures { result ≡ slice_get self.now.fields.now class }
     {
         match self.fields.get(class) {
             Some(count) => Some(*count),
@@ -75,10 +75,10 @@ impl<'a> Scope<'a> {
     }
 
     /// The field with an index in a class, of what holds an object, where this is declared with that class.
-    fn field_of(self, holder: Holder, class: usize, index: usize) -> Option<Pointer>
+    fn field_of(&self, holder: Holder, class: usize, index: usize) -> Option<Pointer>
         ensures { MatchOption result
-            (is_pointer (scope_in self.entry) (P.Field holder class index) ≡ false)
-            (λ p. (p ≡ P.Field holder class index) × IsTrue (is_pointer (scope_in self.entry) p)) }
+            (is_pointer (scope_in self.now) (P.Field holder class index) ≡ false)
+            (λ p. (p ≡ P.Field holder class index) × IsTrue (is_pointer (scope_in self.now) p)) }
     {
         match (self.class_held(holder), self.field_count(class)) {
             (Some(own), Some(count)) => {
@@ -93,8 +93,8 @@ impl<'a> Scope<'a> {
     }
 
     /// The field of what a name stands for, where it is of the class that this is declared with.
-    fn field(self, base: Meant, field: Meant) -> Option<Pointer>
-        ensures { IsFieldOf (scope_in self.entry) base field result }
+    fn field(&self, base: Meant, field: Meant) -> Option<Pointer>
+        ensures { IsFieldOf (scope_in self.now) base field result }
     {
         match field {
             Meant::Field(class, index) => self.field_of(self.holder(base)?, class, index),
@@ -103,8 +103,8 @@ impl<'a> Scope<'a> {
     }
 
     /// The pointer that an operand spells: a local, `self`, or a field of one of these.
-    pub(crate) fn pointer(self, operand: &Operand<Meant>) -> Option<Pointer>
-        ensures { IsSpelled pointer_operand (is_pointer (scope_in self.entry)) self.entry.literals (scope_in self.entry) letter.Pointer operand.now result }
+    pub(crate) fn pointer(&self, operand: &Operand<Meant>) -> Option<Pointer>
+        ensures { IsSpelled pointer_operand (is_pointer (scope_in self.now)) self.now.literals (scope_in self.now) letter.Pointer operand.now result }
     {
         match operand {
             Operand::Name(name) => Some(Pointer::Held(self.holder(*name)?)),
@@ -114,8 +114,8 @@ impl<'a> Scope<'a> {
     }
 
     /// The pointer that an operand spells and that a line may write: a local, or a field.
-    pub(crate) fn written(self, operand: &Operand<Meant>) -> Option<Pointer>
-        ensures { IsSpelled pointer_operand (is_target (scope_in self.entry)) self.entry.literals (scope_in self.entry) letter.Written operand.now result }
+    pub(crate) fn written(&self, operand: &Operand<Meant>) -> Option<Pointer>
+        ensures { IsSpelled pointer_operand (is_target (scope_in self.now)) self.now.literals (scope_in self.now) letter.Written operand.now result }
     {
         match operand {
             Operand::Field(base, field) => self.field(*base, *field),
@@ -124,8 +124,8 @@ impl<'a> Scope<'a> {
     }
 
     /// The local that holds a pointer and that an operand spells.
-    pub(crate) fn receiver(self, operand: &Operand<Meant>) -> Option<u8>
-        ensures { IsReceiver self.entry operand.now result }
+    pub(crate) fn receiver(&self, operand: &Operand<Meant>) -> Option<u8>
+        ensures { IsReceiver self.now operand.now result }
     {
         match operand {
             Operand::Name(Meant::Pointer(index)) => self.pointer_local(*index),
@@ -134,8 +134,8 @@ impl<'a> Scope<'a> {
     }
 
     /// The field that an operand spells.
-    pub(crate) fn field_target(self, operand: &Operand<Meant>) -> Option<Pointer>
-        ensures spelled { IsSpelled pointer_operand (is_target (scope_in self.entry)) self.entry.literals (scope_in self.entry) letter.FieldTarget operand.now result }
+    pub(crate) fn field_target(&self, operand: &Operand<Meant>) -> Option<Pointer>
+        ensures spelled { IsSpelled pointer_operand (is_target (scope_in self.now)) self.now.literals (scope_in self.now) letter.FieldTarget operand.now result }
         ensures key { IfSome result (λ p. set_key p ≡ key.SetField) }
     {
         match operand {
@@ -145,8 +145,8 @@ impl<'a> Scope<'a> {
     }
 
     /// The class that an operand spells.
-    pub(crate) fn class(self, operand: &Operand<Meant>) -> Option<u16>
-        ensures { IsSpelled class_operand (λ class. nat_lt class (length self.entry.fields.now)) self.entry.literals (scope_in self.entry) letter.Class operand.now result }
+    pub(crate) fn class(&self, operand: &Operand<Meant>) -> Option<u16>
+        ensures { IsSpelled class_operand (λ class. nat_lt class (length self.now.fields.now)) self.now.literals (scope_in self.now) letter.Class operand.now result }
     {
         match operand {
             Operand::Name(Meant::Class(index)) => {
@@ -161,8 +161,8 @@ impl<'a> Scope<'a> {
     }
 
     /// The local that holds a number and that an operand spells.
-    pub(crate) fn variable(self, operand: &Operand<Meant>) -> Option<u8>
-        ensures { IsSpelled variable_operand (is_variable self.entry.locals.now) self.entry.literals (scope_in self.entry) letter.Variable operand.now result }
+    pub(crate) fn variable(&self, operand: &Operand<Meant>) -> Option<u8>
+        ensures { IsSpelled variable_operand (is_variable self.now.locals.now) self.now.literals (scope_in self.now) letter.Variable operand.now result }
     {
         match operand {
             Operand::Name(Meant::Number(index)) => match self.local(*index) {
@@ -174,8 +174,8 @@ impl<'a> Scope<'a> {
     }
 
     /// The number that an operand spells, or the local that holds it.
-    pub(crate) fn number(self, operand: &Operand<Meant>) -> Option<Number>
-        ensures { IsSpelled number_operand (is_number self.entry.locals.now) self.entry.literals (scope_in self.entry) letter.Value operand.now result }
+    pub(crate) fn number(&self, operand: &Operand<Meant>) -> Option<Number>
+        ensures { IsSpelled number_operand (is_number self.now.locals.now) self.now.literals (scope_in self.now) letter.Value operand.now result }
     {
         match operand {
             Operand::Number(number) => {
@@ -190,8 +190,8 @@ impl<'a> Scope<'a> {
     }
 
     /// The local that holds a view and that an operand spells.
-    pub(crate) fn view(self, operand: &Operand<Meant>) -> Option<u8>
-        ensures { IsSpelled view_operand (is_view self.entry.locals.now) self.entry.literals (scope_in self.entry) letter.ViewName operand.now result }
+    pub(crate) fn view(&self, operand: &Operand<Meant>) -> Option<u8>
+        ensures { IsSpelled view_operand (is_view self.now.locals.now) self.now.literals (scope_in self.now) letter.ViewName operand.now result }
     {
         match operand {
             Operand::Name(Meant::View(index)) => match self.local(*index) {
@@ -203,8 +203,8 @@ impl<'a> Scope<'a> {
     }
 
     /// The text that an operand spells and that can be changed.
-    pub(crate) fn writable(self, operand: &Operand<Meant>) -> Option<Writable>
-        ensures { IsSpelled writable_operand (is_writable (scope_in self.entry)) self.entry.literals (scope_in self.entry) letter.Writable operand.now result }
+    pub(crate) fn writable(&self, operand: &Operand<Meant>) -> Option<Writable>
+        ensures { IsSpelled writable_operand (is_writable (scope_in self.now)) self.now.literals (scope_in self.now) letter.Writable operand.now result }
     {
         match operand {
             Operand::Name(Meant::Buffer(index)) => match self.local(*index) {
@@ -216,8 +216,8 @@ impl<'a> Scope<'a> {
     }
 
     /// The text that an operand spells and that can be read.
-    pub(crate) fn readable(self, operand: &Operand<Meant>) -> Option<Readable>
-        ensures { IsSpelled text_operand (is_readable self.entry.literals (scope_in self.entry)) self.entry.literals (scope_in self.entry) letter.Readable operand.now result }
+    pub(crate) fn readable(&self, operand: &Operand<Meant>) -> Option<Readable>
+        ensures { IsSpelled text_operand (is_readable self.now.literals (scope_in self.now)) self.now.literals (scope_in self.now) letter.Readable operand.now result }
     {
         match operand {
             Operand::Literal(Meant::Literal(index)) => {

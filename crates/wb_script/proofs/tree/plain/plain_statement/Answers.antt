@@ -8,14 +8,14 @@ use Rattle.wb_script.proofs.tree.plain.plain_statement.Goals as goal
 
 pub returns-in-Construct : goal.returns-in-Construct
 returns-in-Construct c =
-    let declared = declared_by c.args.here.literals c.args.items.now in
+    let declared = declared_by c.args.here.now.literals c.args.items.now in
     let blocks = keys_of_blocks c.args.blocks.now in
-    subst (λ k. IsStatedWhereFit declared (scope_in c.args.here) blocks k c.args.operands.now c.construct.result) (sym c.in-Construct.is)
-    (stands_inside declared (scope_in c.args.here) blocks key.Construct c.args.operands.now c.construct.result refl (c.construct.ensures declared refl))
+    subst (λ k. IsStatedWhereFit declared (scope_in c.args.here.now) blocks k c.args.operands.now c.construct.result) (sym c.in-Construct.is)
+    (stands_inside declared (scope_in c.args.here.now) blocks key.Construct c.args.operands.now c.construct.result refl (c.construct.ensures declared refl))
 
 pub returns-in-Delete : goal.returns-in-Delete
 returns-in-Delete c =
-    let declared = declared_by c.args.here.literals c.args.items.now in
+    let declared = declared_by c.args.here.now.literals c.args.items.now in
     let blocks = keys_of_blocks c.args.blocks.now in
-    subst (λ k. IsStatedWhereFit declared (scope_in c.args.here) blocks k c.args.operands.now c.delete.result) (sym c.in-Delete.is)
-    (stands_inside declared (scope_in c.args.here) blocks key.Delete c.args.operands.now c.delete.result refl (c.delete.ensures declared refl))
+    subst (λ k. IsStatedWhereFit declared (scope_in c.args.here.now) blocks k c.args.operands.now c.delete.result) (sym c.in-Delete.is)
+    (stands_inside declared (scope_in c.args.here.now) blocks key.Delete c.args.operands.now c.delete.result refl (c.delete.ensures declared refl))

@@ -5,4 +5,4 @@ use Rattle.wb_script.specs.Stated.{IsStatementOf, scope_in}
 use Rattle.wb_script.proofs.tree.statements.load.Goals as goal
 
 pub returns-in_err-variable : goal.returns-in_err-variable
-returns-in_err-variable c = subst (IsStatementOf c.args.here key.Load c.args.operands.now) (sym c.from_residual.ensures) (c.in_err-variable.ensures c.args.here.literals (scope_in c.args.here) letter.Variable letter.Pointer letter.Value)
+returns-in_err-variable c = subst (IsStatementOf c.args.here.now key.Load c.args.operands.now) (sym c.from_residual.ensures) (c.in_err-variable.ensures c.args.here.now.literals (scope_in c.args.here.now) letter.Variable letter.Pointer letter.Value)

@@ -4,4 +4,4 @@ use Rattle.wb_script.specs.Stated.{IsTripleSpelled, scope_in}
 use Rattle.wb_script.proofs.tree.statements.pointers_and_number.Goals as goal
 
 pub returns-in_err-target : goal.returns-in_err-target
-returns-in_err-target c = subst (IsTripleSpelled c.args.here c.args.operands.now) (sym c.from_residual.ensures) (c.in_err-target.ensures c.args.here.literals (scope_in c.args.here) letter.Written letter.Pointer letter.Value)
+returns-in_err-target c = subst (IsTripleSpelled c.args.here.now c.args.operands.now) (sym c.from_residual.ensures) (c.in_err-target.ensures c.args.here.now.literals (scope_in c.args.here.now) letter.Written letter.Pointer letter.Value)

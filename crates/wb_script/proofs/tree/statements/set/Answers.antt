@@ -10,11 +10,11 @@ use Rattle.wb_script.proofs.tree.statements.set.Goals as goal
 use Rattle.wb_script.proofs.tree.statements.set.Goals.{in_default-via-then-operands-lt2, in_default-via-else-operands-lt2+else-operands-lt3}
 
 pub returns-in-len2 : goal.returns-in-len2
-returns-in-len2 c = subst (λ l. IsStatementOf c.args.here key.Set l c.set_local.result) (sym (two_items c.args.operands.now (Name (meant.Declared 0)) c.in-len2.len_at_least c.in-len2.len_below)) c.set_local.ensures
+returns-in-len2 c = subst (λ l. IsStatementOf c.args.here.now key.Set l c.set_local.result) (sym (two_items c.args.operands.now (Name (meant.Declared 0)) c.in-len2.len_at_least c.in-len2.len_below)) c.set_local.ensures
 
 pub returns-in_default : goal.returns-in_default
 returns-in_default c =
     elim c.in_default.branch [
-      | in_default-via-then-operands-lt2 w ↦ no_sides (alone_in c.args.here) (scope_in c.args.here) c.args.operands.now (λ e. grind (arith, nat_tests, e))
-      | in_default-via-else-operands-lt2+else-operands-lt3 w ↦ no_sides (alone_in c.args.here) (scope_in c.args.here) c.args.operands.now (λ e. grind (arith, nat_tests, e))
+      | in_default-via-then-operands-lt2 w ↦ no_sides (alone_in c.args.here.now) (scope_in c.args.here.now) c.args.operands.now (λ e. grind (arith, nat_tests, e))
+      | in_default-via-else-operands-lt2+else-operands-lt3 w ↦ no_sides (alone_in c.args.here.now) (scope_in c.args.here.now) c.args.operands.now (λ e. grind (arith, nat_tests, e))
     ]

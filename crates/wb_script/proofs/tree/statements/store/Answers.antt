@@ -5,4 +5,4 @@ use Rattle.wb_script.specs.Stated.{IsStatementOf, scope_in}
 use Rattle.wb_script.proofs.tree.statements.store.Goals as goal
 
 pub returns-in_err-pointer : goal.returns-in_err-pointer
-returns-in_err-pointer c = subst (IsStatementOf c.args.here key.Store c.args.operands.now) (sym c.from_residual.ensures) (c.in_err-pointer.ensures c.args.here.literals (scope_in c.args.here) letter.Pointer letter.Value letter.Value)
+returns-in_err-pointer c = subst (IsStatementOf c.args.here.now key.Store c.args.operands.now) (sym c.from_residual.ensures) (c.in_err-pointer.ensures c.args.here.now.literals (scope_in c.args.here.now) letter.Pointer letter.Value letter.Value)

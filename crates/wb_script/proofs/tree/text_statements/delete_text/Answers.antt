@@ -5,4 +5,4 @@ use Rattle.wb_script.specs.Stated.{IsStatementOf, scope_in}
 use Rattle.wb_script.proofs.tree.text_statements.delete_text.Goals as goal
 
 pub returns-in_err-target : goal.returns-in_err-target
-returns-in_err-target c = subst (IsStatementOf c.args.here key.DelText c.args.operands.now) (sym c.from_residual.ensures) (c.in_err-target.ensures c.args.here.literals (scope_in c.args.here) letter.Writable letter.Value letter.Value)
+returns-in_err-target c = subst (IsStatementOf c.args.here.now key.DelText c.args.operands.now) (sym c.from_residual.ensures) (c.in_err-target.ensures c.args.here.now.literals (scope_in c.args.here.now) letter.Writable letter.Value letter.Value)

@@ -5,4 +5,4 @@ use Rattle.wb_script.specs.Stated.{IsStatementOf, scope_in}
 use Rattle.wb_script.proofs.tree.text_statements.right.Goals as goal
 
 pub returns-in_err-view : goal.returns-in_err-view
-returns-in_err-view c = subst (IsStatementOf c.args.here key.Right c.args.operands.now) (sym c.from_residual.ensures) (c.in_err-view.ensures c.args.here.literals (scope_in c.args.here) letter.ViewName letter.Readable letter.Value)
+returns-in_err-view c = subst (IsStatementOf c.args.here.now key.Right c.args.operands.now) (sym c.from_residual.ensures) (c.in_err-view.ensures c.args.here.now.literals (scope_in c.args.here.now) letter.ViewName letter.Readable letter.Value)
