@@ -2936,6 +2936,13 @@ limit_zero_run : run script_limit_zero_run (R.Limit 0) 10000 (shaped 4096 4096) 
 unfolding everything
 limit_zero_run = refl
 
+abbrev script_prints_come_before_notes_run : Script
+script_prints_come_before_notes_run = record { classes = []; procedures = (record { line = 1; parameters = []; body = record { locals = (OfPointer None) ∷ []; statements = (on 3 (Statement-F.Alloc (Held (H.Local 0)) (Constant (pos 20)) GivesNull)) ∷ (on 4 Statement-F.NoteHeap) ∷ (on 5 (Statement-F.PrintText (Quoted 0))) ∷ (on 6 (Statement-F.Free (Held (H.Local 0)))) ∷ (on 7 Statement-F.NoteAvailable) ∷ (on 8 (Statement-F.PrintText (Quoted 1))) ∷ (on 9 Statement-F.NoteCompress) ∷ (on 10 (Statement-F.PrintText (Quoted 2))) ∷ [] } }) ∷ []; operations = []; literals = (111 ∷ 110 ∷ 101 ∷ 32 ∷ 99 ∷ 101 ∷ 108 ∷ 108 ∷ 32 ∷ 105 ∷ 115 ∷ 32 ∷ 108 ∷ 105 ∷ 118 ∷ 101 ∷ []) ∷ (105 ∷ 116 ∷ 32 ∷ 119 ∷ 97 ∷ 115 ∷ 32 ∷ 102 ∷ 114 ∷ 101 ∷ 101 ∷ 100 ∷ []) ∷ (97 ∷ 110 ∷ 100 ∷ 32 ∷ 105 ∷ 116 ∷ 115 ∷ 32 ∷ 109 ∷ 101 ∷ 109 ∷ 111 ∷ 114 ∷ 121 ∷ 32 ∷ 103 ∷ 105 ∷ 118 ∷ 101 ∷ 110 ∷ 32 ∷ 117 ∷ 112 ∷ []) ∷ []; main = 0 }
+
+prints_come_before_notes_run : run script_prints_come_before_notes_run R.Unlimited 10000 (shaped 256 64) ≡ record { outcome = Ended None []; trace = (line 1 144 0 Granted) ∷ (line 2 48 144 Granted) ∷ []; lines = (111 ∷ 110 ∷ 101 ∷ 32 ∷ 99 ∷ 101 ∷ 108 ∷ 108 ∷ 32 ∷ 105 ∷ 115 ∷ 32 ∷ 108 ∷ 105 ∷ 118 ∷ 101 ∷ []) ∷ (105 ∷ 116 ∷ 32 ∷ 119 ∷ 97 ∷ 115 ∷ 32 ∷ 102 ∷ 114 ∷ 101 ∷ 101 ∷ 100 ∷ []) ∷ (97 ∷ 110 ∷ 100 ∷ 32 ∷ 105 ∷ 116 ∷ 115 ∷ 32 ∷ 109 ∷ 101 ∷ 109 ∷ 111 ∷ 114 ∷ 121 ∷ 32 ∷ 103 ∷ 105 ∷ 118 ∷ 101 ∷ 110 ∷ 32 ∷ 117 ∷ 112 ∷ []) ∷ []; notes = (Heap 2 192 256) ∷ (Available 112 112) ∷ (Compress 0) ∷ []; steps = 8 }
+unfolding everything
+prints_come_before_notes_run = refl
+
 abbrev script_cell_for_zero_bytes_run : Script
 script_cell_for_zero_bytes_run = record { classes = []; procedures = (record { line = 1; parameters = []; body = record { locals = (OfPointer None) ∷ OfNumber ∷ []; statements = (on 4 (Statement-F.Alloc (Held (H.Local 0)) (Constant (pos 0)) GivesNull)) ∷ (on 5 (Statement-F.AllocLen 1 (Held (H.Local 0)))) ∷ (on 6 (Statement-F.PrintNumber (Variable 1))) ∷ (on 7 (Statement-F.Free (Held (H.Local 0)))) ∷ [] } }) ∷ []; operations = []; literals = []; main = 0 }
 
