@@ -179,3 +179,71 @@ block-of-zeros ws marks block last are off le near fits =
         let here : (block * 256 + j) / 256 ≡ block = omega arith in
         get_or-replicate (last - block * 256) j 0 0 lt
         ∙ sym (get_or-take (last - block * 256) (drop (block * 256) ws) j 0 lt ∙ get_or-drop (block * 256) ws j 0 ∙ are (block * 256 + j) (ap (λ b. get_or marks b false) here ∙ off))
+
+-- the words of so many blocks are those of another list, and the marks are right
+pub record AreCopied (source ws : List ℕ) (marks : List Bool) (block : ℕ) : Type 0 where
+  pub same : (k : ℕ) → k < block * 256 → get_or ws k 0 ≡ get_or source k 0
+  pub marked : AreMarked marks ws
+
+-- so are those of one more block, which has the other list's mark
+pub block-copied : (source ws new : List ℕ) (marks others : List Bool) (block : ℕ) → AreCopied source ws marks block → AreMarked others source → block < length marks →
+    ((k : ℕ) → k / 256 ≡ block → get_or new k 0 ≡ get_or source k 0) → ((k : ℕ) → k / 256 ≢ block → get_or new k 0 ≡ get_or ws k 0) →
+    AreCopied source new (set marks block (get_or others block false)) (block + 1)
+block-copied source ws new marks others block done are lt inside outside = record {
+  same = λ k within. same k within (cases_eq (k / 256) block);
+  marked = λ k off. marked k off (cases_eq (k / 256) block);
+}
+  where
+    same : (k : ℕ) → k < (block + 1) * 256 → (k / 256 ≡ block) ⊎ (k / 256 ≡ block → ⊥) → get_or new k 0 ≡ get_or source k 0
+    same k within (inl e) = inside k e
+    same k within (inr ne) = outside k ne ∙ done.same k (omega (arith, within, ne))
+
+    marked : (k : ℕ) → get_or (set marks block (get_or others block false)) (k / 256) false ≡ false → (k / 256 ≡ block) ⊎ (k / 256 ≡ block → ⊥) → get_or new k 0 ≡ 0
+    marked k off (inl e) =
+        let clear : get_or others block false ≡ false =
+        sym (ap (λ j. get_or (set marks block (get_or others block false)) j false) e ∙ get_or-set_same marks block (get_or others block false) false lt) ∙ off in
+        inside k e ∙ are k (ap (λ j. get_or others j false) e ∙ clear)
+    marked k off (inr ne) = outside k ne ∙ done.marked k (sym (get_or-set_other marks block (k / 256) _ false ne) ∙ off)
+
+-- where neither list has a mark, nothing is done
+pub block-same : (source ws : List ℕ) (marks others : List Bool) (block : ℕ) → AreCopied source ws marks block → AreMarked others source → block < length marks →
+    get_or others block false ≡ false → get_or marks block false ≡ false → AreCopied source ws (set marks block (get_or others block false)) (block + 1)
+block-same source ws marks others block done are lt off clear =
+    block-copied source ws ws marks others block done are lt
+    (λ k e. done.marked k (ap (λ j. get_or marks j false) e ∙ clear) ∙ sym (are k (ap (λ j. get_or others j false) e ∙ off))) (λ k _. refl)
+
+-- else the words of the block are put there
+pub block-put : (source ws ys : List ℕ) (marks others : List Bool) (block last : ℕ) → AreCopied source ws marks block → AreMarked others source → block < length marks →
+    length source ≡ length ws → last ≡ min (length source) (block * 256 + 256) → block * 256 ≤ last → ys ≡ take (last - block * 256) (drop (block * 256) source) →
+    AreCopied source (take (block * 256) ws ++ (ys ++ drop (last - block * 256) (drop (block * 256) ws))) (set marks block (get_or others block false)) (block + 1)
+block-put source ws ys marks others block last done are lt long ends le is =
+    block-copied source ws new marks others block done are lt (λ k e. inside k e (cases_lt k last)) (λ k ne. outside k ne (cases_lt k (block * 256)))
+  where
+    new : List ℕ
+    new = take (block * 256) ws ++ (ys ++ drop (last - block * 256) (drop (block * 256) ws))
+
+    count : length ys ≡ last - block * 256
+    count = ap length is ∙ length-take-le (last - block * 256) (drop (block * 256) source) (omega (arith, ends, length-drop (block * 256) source))
+
+    inside : (k : ℕ) → k / 256 ≡ block → (k < last) ⊎ (last ≤ k) → get_or new k 0 ≡ get_or source k 0
+    inside k e (inl less) =
+        let here : block * 256 + (k - block * 256) ≡ k = omega (arith, e) in
+        ap (λ j. get_or new j 0) (sym here)
+        ∙ words-in ws ys (drop (last - block * 256) (drop (block * 256) ws)) (block * 256) (k - block * 256) (omega (arith, long, ends, le)) (omega (arith, count, less, e))
+        ∙ ap (λ zs. get_or zs (k - block * 256) 0) is
+        ∙ get_or-take (last - block * 256) (drop (block * 256) source) (k - block * 256) 0 (omega (arith, less, e))
+        ∙ get_or-drop (block * 256) source (k - block * 256) 0 ∙ ap (λ j. get_or source j 0) here
+    inside k e (inr past) =
+        let behind : length source ≤ k = omega (arith, ends, past, e) in
+        words-out ws ys (block * 256) (last - block * 256) k (omega (arith, long, ends, le)) count (inr (omega (arith, past)))
+        ∙ get_or_past ws k 0 (omega (arith, behind, long)) ∙ sym (get_or_past source k 0 behind)
+
+    outside : (k : ℕ) → k / 256 ≢ block → (k < block * 256) ⊎ (block * 256 ≤ k) → get_or new k 0 ≡ get_or ws k 0
+    outside k ne (inl less) = words-out ws ys (block * 256) (last - block * 256) k (omega (arith, long, ends, le)) count (inl less)
+    outside k ne (inr ge) =
+        let past : block * 256 + 256 ≤ k = omega (arith, ge, ne) in
+        words-out ws ys (block * 256) (last - block * 256) k (omega (arith, long, ends, le)) count (inr (omega (arith, ends, past)))
+
+-- with all blocks the words are those of the other list
+pub all-copied : (source ws : List ℕ) (marks : List Bool) (block : ℕ) → AreCopied source ws marks block → length source ≡ length ws → length source ≤ block * 256 → ws ≡ source
+all-copied source ws marks block done long all = ext_get_or 0 ws source (sym long) (λ k lt. done.same k (omega (arith, lt, long, all)))

@@ -2,12 +2,13 @@
 --     region_had, region_made      what a region owns, taken apart to its block, and made of it
 --     shows_start                  what a `&` to a region shows of its pointer
 --     snoc, words_room             a word behind others; words, and room behind them, are room
+--     words_dropped                so are the words past a number of them
 use mathlib.Core.Path.{◌≡◌, refl, ◌∙◌}
 use mathlib.Core.List.{List, [], ◌∷◌, ◌++◌}
-use Prim.Native.Nat.{ℕ, suc, ◌+◌, ◌-◌, ◌*◌}
+use Prim.Native.Nat.{ℕ, zero, suc, ◌+◌, ◌-◌, ◌*◌}
 use native.Mathlib.Omega.{arith}
 use lib.Dec.{T, lit<}
-use lib.ListN.{length}
+use lib.ListN.{length, take}
 use seplogic.Ra.Ura.{Ura}
 use mir.Syntax.{Ty, Args, w32, a_type, ty_int, ty_array, dcons, dnil}
 use mir.Val.{Val, vint, vstruct, vcons, vnil, of_list, has_ty, WT}
@@ -15,7 +16,7 @@ use base.Logic.{ent, sep}
 use base.Fraction.{full_share}
 use base.Fml.{Lft, Fml, fsep, fat, froom}
 use types.Logic.{Logic, sem}
-use types.Kit.{Goal, Step, step, Seq, Item, ‵, ◌$◌, ◌∵◌, !, qed, move, keep, drop, use1, use2, rewrite, fsplit, fjoin, fpick, feq_l, done}
+use types.Kit.{Goal, Step, step, Seq, Item, ‵, ◌⊛◌, ◌$◌, ◌∵◌, !, qed, move, keep, drop, use1, use2, split, rewrite, fsplit, fjoin, fpick, feq_l, done}
 use denote.RattleType.{RattleType, RowLaws}
 use denote.Builtin.{u32}
 use denote.Index.{row}
@@ -123,3 +124,18 @@ module _ {M : Type 1} {𝓤 : Ura M} (𝓛 : Logic 𝓤) (b : ℕ) where
       use1 𝓛 (‵ (fat full_share (ty_int w32) b o (vint w32 y))) (uint_out 𝓛 full_share w32 y b o) $ use1 𝓛 (‵ (froom (ty_int w32) b o)) (𝓛.laws.at_room (ty_int w32) b o (vint w32 y)) $
       move ! (0 ∷ 1 ∷ []) $ use2 𝓛 (‵ (froom (room_ty (suc (length ys + n))) b o)) (𝓛.laws.room_cons (ty_int w32) (length ys + n) b o) $
       rewrite ! 0 (λ (k : ℕ). ‵ (froom (room_ty k) b o)) all refl $ done !
+
+  pub words_dropped : (xs : List ℕ) (n k m o at : ℕ) → length xs ≡ n + k → at ≡ o + length xs * 4 →
+      ent 𝓤 (sep 𝓤 (sem 𝓛 (Row xs o)) (sem 𝓛 (froom (room_ty m) b at))) (sep 𝓤 (sem 𝓛 (Row (take n xs) o)) (sem 𝓛 (froom (room_ty (k + m)) b (o + n * 4))))
+  words_dropped xs zero k m o at all e =
+      let same : o ≡ o + zero * 4 = omega arith in let count : length xs + m ≡ k + m = omega (arith, all) in
+      qed 𝓛 (‵ (Row xs o) ∷ ‵ (froom (room_ty m) b at) ∷ []) ∵
+      use2 𝓛 (‵ (froom (room_ty (length xs + m)) b o)) (words_room xs m o at e) $
+      rewrite ! 0 (λ (j : ℕ). ‵ (froom (room_ty (length xs + m)) b j)) same refl $ rewrite ! 0 (λ (j : ℕ). ‵ (froom (room_ty j) b (o + zero * 4))) count refl $ nothing ! $ done !
+  words_dropped [] (suc n) k m o at all e = absurd (omega (arith, all))
+  words_dropped (y ∷ ys) (suc n) k m o at all e =
+      let rest : length ys ≡ n + k = omega (arith, all) in let more : at ≡ o + 4 + length ys * 4 = omega (arith, e) in
+      let same : o + 4 + n * 4 ≡ o + suc n * 4 = omega arith in
+      qed 𝓛 (‵ (Row (y ∷ ys) o) ∷ ‵ (froom (room_ty m) b at) ∷ []) ∵ fsplit ! $ move ! (1 ∷ 2 ∷ []) $
+      use2 𝓛 (‵ (Row (take n ys) (o + 4)) ⊛ ‵ (froom (room_ty (k + m)) b (o + 4 + n * 4))) (words_dropped ys n k m (o + 4) at rest more) $ split ! $
+      rewrite ! 1 (λ (j : ℕ). ‵ (froom (room_ty (k + m)) b j)) same refl $ move ! (2 ∷ 0 ∷ []) $ fjoin ! $ done !

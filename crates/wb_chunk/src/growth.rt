@@ -1,6 +1,6 @@
 //! How a region is filled, and by how much it grows: plain code over a region's own calls.
 
-ghost use Rattle.std.specs.Prelude.{◌≡◌, ◌+◌, ◌*◌, ◌≤◌, ◌++◌, length, max, min, replicate};
+ghost use Rattle.std.specs.Prelude.{◌≡◌, ◌+◌, ◌-◌, ◌*◌, ◌≤◌, ◌++◌, length, max, min, replicate, take};
 ghost use Rattle.wb_chunk.specs.Marks.{AreMarked};
 
 use crate::MOST_WORDS;
@@ -51,6 +51,21 @@ pub(crate) fn append_zeros(region: &mut Region<Global>, count: u32, n: u32)
 {
     for i in 0..n {
         region.append(count + i, 0);
+    }
+}
+
+/// Leaves the first `wanted` of the `count` words that are there, or appends words that are 0 until there are so many.
+pub(crate) fn set_count(region: &mut Region<Global>, count: u32, wanted: u32)
+    requires there { (count ≡ length region.old.words) × (count ≤ region.old.capacity) }
+    requires fits { wanted ≤ region.old.capacity }
+    requires bound { region.old.capacity ≤ MOST_WORDS }
+    ensures words { region.new.words ≡ take wanted region.old.words ++ replicate (wanted - count) 0 }
+    ensures room { (region.new.capacity ≡ region.old.capacity) × (region.new.alloc ≡ region.old.alloc) }
+{
+    if wanted <= count {
+        region.truncate(count, wanted);
+    } else {
+        append_zeros(region, count, wanted - count);
     }
 }
 

@@ -8,7 +8,7 @@ ghost use Rattle.std.specs.Prelude.{◌≡◌, ◌+◌, ◌*◌, ◌^◌, ◌<�
 ghost use Rattle.std.specs.List.{All, replace_range};
 ghost use Rattle.wb_chunk.specs.Halves.{half_of, halves_from, with_half, with_halves};
 
-use growth::{append_marked, append_words, append_zeros, larger};
+use growth::{append_marked, append_words, append_zeros, larger, set_count};
 use marks::BLOCK;
 use region::Region;
 use std::alloc::{AllocError, Global};
@@ -134,6 +134,30 @@ impl Chunk {
             marks,
             alloc: self.alloc,
         })
+    }
+
+    /// A chunk of the same words, over the memory of `spare`, whose words are lost, where that has room for them; else in
+    /// memory of its own. Only blocks that may differ are written: those that are marked in either. On `Err` memory was
+    /// refused.
+    pub fn try_copy_over(&self, mut spare: Chunk) -> Result<Chunk, AllocError>
+        ensures { IfOk result (λ copy. copy ≡ self.now) }
+    {
+        if spare.capacity < self.count {
+            drop(spare);
+            return self.try_copy();
+        }
+        let Some(region) = &mut spare.region else {
+            return self.try_copy();
+        };
+        set_count(region, spare.count, self.count);
+        spare.count = self.count;
+        marks::overwrite(
+            region.as_mut_slice(self.count),
+            spare.marks.as_mut_slice(),
+            self.as_slice(),
+            self.marks.as_slice(),
+        );
+        Ok(spare)
     }
 
     /// The word at an index.

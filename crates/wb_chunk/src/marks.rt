@@ -45,3 +45,33 @@ pub(crate) fn zero(words: &mut [u32], marks: &mut [bool], i: usize, n: usize)
         }
     }
 }
+
+/// Puts other words, with marks of their own, over as many words. Only blocks that are marked in either are written. No
+/// block behind the words has a mark afterwards.
+pub(crate) fn overwrite(
+    words: &mut [u32],
+    marks: &mut [bool],
+    source: &[u32],
+    source_marks: &[bool],
+)
+    requires as_many { length source.now ≡ length words.old }
+    requires covered { length words.old ≤ BLOCK * length marks.old }
+    requires source_covered { length source.now ≤ BLOCK * length source_marks.now }
+    requires marked { AreMarked marks.old words.old }
+    requires source_marked { AreMarked source_marks.now source.now }
+    ensures same { words.new ≡ source.now }
+    ensures marked { AreMarked marks.new words.new }
+{
+    let blocks = source.len().div_ceil(BLOCK);
+    for block in 0..blocks {
+        let first = block * BLOCK;
+        let last = source.len().min(first + BLOCK);
+        if source_marks[block] {
+            words[first..last].copy_from_slice(&source[first..last]);
+        } else if marks[block] {
+            words[first..last].fill(0);
+        }
+        marks[block] = source_marks[block];
+    }
+    marks[blocks..].fill(false);
+}

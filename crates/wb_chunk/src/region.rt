@@ -3,7 +3,7 @@
 //! Only the functions here follow a raw pointer, and each is proved by hand. A region does not keep how many words it
 //! has, nor for how many it has room: its owner does, and passes them in.
 
-ghost use Rattle.std.specs.Prelude.{◌≡◌, ℕ, ◌<◌, ◌≤◌, List, [], ◌∷◌, ◌++◌, length, IfOk};
+ghost use Rattle.std.specs.Prelude.{◌≡◌, ℕ, ◌<◌, ◌≤◌, List, [], ◌∷◌, ◌++◌, length, take, IfOk};
 ghost use Rattle.std.specs.Borrow.{u32, Array, sem};
 ghost use Rattle.std.specs.Allocator.{block_with_items};
 ghost use denote.Struct.Lending.{lent_at};
@@ -60,6 +60,12 @@ impl<A: Allocator> Region<A> {
     {
         unsafe { self.start.add(count as usize).write(word) }
     }
+
+    /// Leaves the first `n` words, and makes the others room. Nothing is written.
+    pub(crate) fn truncate(&mut self, count: u32, n: u32)
+        requires { (count ≡ length self.old.words) × (count ≤ self.old.capacity) × (n ≤ count) }
+        ensures { (self.new.words ≡ take n self.old.words) × (self.new.capacity ≡ self.old.capacity) × (self.new.alloc ≡ self.old.alloc) }
+    {}
 
     /// The words, to be read.
     pub(crate) fn as_slice(&self, count: u32) -> &[u32]
