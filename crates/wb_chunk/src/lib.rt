@@ -179,6 +179,18 @@ impl Chunk {
         }
     }
 
+    /// Puts four words at the indexes from `i` on, in one write, and changes nothing else.
+    pub fn set_four(&mut self, i: u32, four: [u32; 4])
+        requires { i + 4 ≤ length self.old }
+        ensures { self.new ≡ replace_range self.old i (i + 4) four }
+    {
+        let end = i as usize + 4;
+        marks::mark(self.marks.as_mut_slice(), i as usize, end);
+        if let Some(region) = &mut self.region {
+            region.as_mut_slice(self.count)[i as usize..end].copy_from_slice(&four);
+        }
+    }
+
     /// The 16 bits at an index of halves: half 2k is the low half of word k, and half 2k + 1 the high one.
     pub fn half(&self, i: u32) -> u16
         requires { i < 2 * length self.now }
