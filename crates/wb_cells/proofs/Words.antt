@@ -3,16 +3,6 @@ use Rattle.std.proofs.Common.{◌≡◌, ◌≢◌, ℕ, zero, suc, ◌+◌, ◌
 use Rattle.std.specs.Prelude.{slice_range}
 use Rattle.std.specs.List.{replace_range}
 use Rattle.std.proofs.lemmas.List.{take_at, drop_at, drop-drop, drop-append-le, take-append-le}
-use Rattle.std.proofs.lemmas.List.Edits.{sets-eq}
-
--- four words, one after another
-pub four_sets : (l : List ℕ) (i a b c d : ℕ) → i + 4 ≤ length l →
-    slice_set (slice_set (slice_set (slice_set l i a) (i + 1) b) (i + 2) c) (i + 3) d ≡ replace_range l i (i + 4) (a ∷ b ∷ c ∷ d ∷ [])
-four_sets l i a b c d le =
-    let e1 : i + 1 ≡ suc i = omega arith in
-    let e2 : i + 2 ≡ suc (suc i) = omega arith in
-    let e3 : i + 3 ≡ suc (suc (suc i)) = omega arith in
-    rw (e1, e2, e3) (sets-eq (a ∷ b ∷ c ∷ d ∷ []) l i le)
 
 -- words over a part of the list that begins after two others
 pub replace_range-inside : (before head body after new : List ℕ) (at n : ℕ) → length before + length head ≡ at → n ≤ length body →

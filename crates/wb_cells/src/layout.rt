@@ -76,11 +76,7 @@ pub fn write_header(words: &mut Chunk, place: u32, bytes: u32, state: u32, link:
     ensures count { length words.new ≡ length words.old }
     ensures words { words.new ≡ replace_range words.old (place / 16 * 4) (place / 16 * 4 + 4) (bytes ∷ state ∷ link ∷ number ∷ []) }
 {
-    let at = words_in(place);
-    words.set_word(at, bytes);
-    words.set_word(at + 1, state);
-    words.set_word(at + 2, link);
-    words.set_word(at + 3, number);
+    words.set_four(words_in(place), [bytes, state, link, number]);
 }
 
 /// Appends words that are 0 until there are `count`. Where memory is refused, the words are as they were; it takes
