@@ -3,10 +3,8 @@
 ghost use Rattle.std.specs.Prelude.{◌≡◌, ◌+◌, ◌-◌, ◌*◌, ◌/◌, ◌<◌, ◌≤◌, [], ◌++◌, length, replicate, slice_set, slice_index_or, false, IfOk, IsOk, OnOk, OnErr};
 ghost use Rattle.wb_cells.specs.Bits.{IsLastIn, IsLastOn, IsNext, IsWithBit};
 
-use crate::layout;
 use std::alloc::{AllocError, Global};
 use std::marker::Model;
-use wb_chunk::Chunk;
 use wb_model::limits::CEILING;
 
 /// How many places of 16 bytes a chunk may have; a list has a bit for each, or for fewer.
@@ -15,7 +13,7 @@ pub const MOST_PLACES: u32 = CEILING / 16;
 /// A list of bits, 32 to a word, which grows at its end.
 #[derive(Drop)]
 pub struct Bits {
-    words: Chunk,
+    words: Vec<u32>,
 }
 
 impl Model for Bits {
@@ -24,11 +22,11 @@ impl Model for Bits {
 
     ghost Value = { List Bool };
 
-    ghost view = { λ s. bits_of s.words };
+    ghost view = { λ s. bits_of s.words.items };
 
     ghost use Rattle.wb_cells.specs.declared.bits.TheConstants.{MOST_PLACES};
 
-    ghost invariant = { λ s. 32 * length s.words ≤ MOST_PLACES };
+    ghost invariant = { λ s. 32 * length s.words.items ≤ MOST_PLACES };
 }
 
 impl Bits {
@@ -37,7 +35,7 @@ impl Bits {
         ensures { result ≡ [] }
     {
         Bits {
-            words: Chunk::new(alloc),
+            words: Vec::new(alloc),
         }
     }
 
@@ -46,7 +44,7 @@ impl Bits {
         ensures { IfOk result (λ copy. copy ≡ self.now) }
     {
         Ok(Bits {
-            words: self.words.try_copy()?,
+            words: Vec::from_slice(*self.words.allocator(), self.words.as_slice())?,
         })
     }
 
@@ -55,7 +53,7 @@ impl Bits {
         ensures count { result ≡ length self.now }
         ensures most { length self.now ≤ MOST_PLACES }
     {
-        32 * self.words.words()
+        32 * self.words.len() as u32
     }
 
     /// Appends bits that are off, in steps of 32, until there are at least `count`. Where memory is refused, the bits
@@ -66,7 +64,10 @@ impl Bits {
         ensures enough { count ≤ length self.old → IsOk result }
         ensures refused { OnErr result (self.new ≡ self.old) }
     {
-        layout::grow_to(&mut self.words, count.div_ceil(32))?;
+        let words = count.div_ceil(32) as usize;
+        if self.words.len() < words {
+            self.words.resize(words, 0)?;
+        }
         Ok(())
     }
 
@@ -74,10 +75,12 @@ impl Bits {
     pub fn is_on(&self, at: u32) -> bool
         ensures { result ≡ slice_index_or self.now at false }
     {
-        if self.words.words() <= at / 32 {
+        let words = self.words.as_slice();
+        let index = at as usize / 32;
+        if words.len() <= index {
             return false;
         }
-        self.words.word(at / 32) >> (at % 32) & 1 == 1
+        words[index] >> (at % 32) & 1 == 1
     }
 
     /// Puts one bit on or off.
@@ -85,18 +88,20 @@ impl Bits {
         requires { at < length self.old }
         ensures { self.new ≡ slice_set self.old at on }
     {
-        let word = with_bit(self.words.word(at / 32), at % 32, on);
-        self.words.set_word(at / 32, word);
+        let words = self.words.as_mut_slice();
+        let index = at as usize / 32;
+        words[index] = with_bit(words[index], at % 32, on);
     }
 
     /// The first bit from one on that is on.
     pub fn next(&self, from: u32) -> Option<u32>
         ensures { IsNext self.now from result }
     {
+        let words = self.words.as_slice();
         let count = self.count();
         let mut at = from;
         while at < count {
-            let rest = self.words.word(at / 32) >> (at % 32);
+            let rest = words[at as usize / 32] >> (at % 32);
             if rest != 0 {
                 return Some(at + rest.trailing_zeros());
             }
@@ -109,11 +114,12 @@ impl Bits {
     pub fn last(&self, from: u32, end: u32) -> Option<u32>
         ensures { IsLastOn self.now from end result }
     {
+        let words = self.words.as_slice();
         let mut stop = end.min(self.count());
         while from < stop {
             let top = stop - 1;
             stop = top / 32 * 32;
-            if let Some(bit) = last_in(self.words.word(top / 32), top % 32) {
+            if let Some(bit) = last_in(words[top as usize / 32], top % 32) {
                 let at = stop + bit;
                 return if from <= at { Some(at) } else { None };
             }

@@ -74,6 +74,23 @@ impl Cells {
         })
     }
 
+    /// The same as [`Cells::try_copy`], over the memory of `spare`, whose cells are lost, where that has room. Of the words
+    /// only blocks are written that may differ.
+    pub fn try_copy_over(&self, spare: Cells) -> Result<Cells, NoMemory>
+        ensures { IfOk result (λ copy. copy ≡ self.now) }
+    {
+        let words = self.words.try_copy_over(spare.words)?;
+        let starts = self.starts.try_copy()?;
+        let gaps = self.gaps.try_copy_over(spare.gaps)?;
+        let ends = self.ends;
+        Ok(Cells {
+            words,
+            starts,
+            gaps,
+            ends,
+        })
+    }
+
     /// Holds at least `bytes` bytes; the cells stay as they are. Where memory is refused, nothing changes; it takes
     /// none where so many are held.
     pub fn reserve(&mut self, bytes: u32) -> Result<(), NoMemory>

@@ -62,6 +62,23 @@ impl GapIndex {
         })
     }
 
+    /// The same lengths, over the memory of `spare`, whose lengths are lost, where that has room for them. On `Err` memory
+    /// was refused.
+    pub fn try_copy_over(&self, spare: GapIndex) -> Result<GapIndex, AllocError>
+        ensures { IfOk result (λ copy. copy ≡ self.now) }
+    {
+        let lengths = self.lengths.try_copy_over(spare.lengths)?;
+        let blocks = self.blocks.try_copy()?;
+        let regions = self.regions.try_copy()?;
+        let longest = self.longest;
+        Ok(GapIndex {
+            lengths,
+            blocks,
+            regions,
+            longest,
+        })
+    }
+
     /// Appends places where no free cell begins until there are `count`. Where memory is refused, the lengths are as they
     /// were; it takes none where there are so many.
     pub fn grow_to(&mut self, count: u32) -> Result<(), AllocError>

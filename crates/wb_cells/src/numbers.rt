@@ -49,6 +49,16 @@ impl Numbers {
         })
     }
 
+    /// The same numbers, over the memory of `spare`, whose numbers are lost, where that has room for them. On `Err` memory
+    /// was refused.
+    pub fn try_copy_over(&self, spare: Numbers) -> Result<Numbers, AllocError>
+        ensures { IfOk result (λ copy. copy ≡ self.now) }
+    {
+        let words = self.words.try_copy_over(spare.words)?;
+        let marks = self.marks.try_copy()?;
+        Ok(Numbers { words, marks })
+    }
+
     /// Appends numbers that are 0 until there are `count`. Where memory is refused, the numbers are as they were; it
     /// takes none where there are so many.
     pub fn grow_to(&mut self, count: u32) -> Result<(), AllocError>

@@ -4,5 +4,5 @@ use Rattle.wb_cells.proofs.bits.Bits.count.Goals as goal
 
 pub returns : goal.returns
 returns c =
-    let count = ap length (sym c.self.view_is) ∙ length-bits_of c.self.inside.words in
-    record { count = omega (arith, c.words.ensures.count, count); most = omega (arith, count, c.self.invariant) }
+    let count = ap length (sym c.self.view_is) ∙ length-bits_of c.self.inside.words.items in
+    record { count = omega (arith, c.len.ensures, c.self.inside.words.ok.0, count); most = omega (arith, count, c.self.invariant) }

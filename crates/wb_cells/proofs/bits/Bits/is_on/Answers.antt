@@ -1,5 +1,4 @@
-use Rattle.std.proofs.Common.{◌%◌, get_or, false, ap, ◌∙◌, sym, arith}
-use Rattle.std.specs.Int.{bit_at}
+use Rattle.std.proofs.Common.{◌/◌, ◌%◌, get_or, false, length, ap, ◌∙◌, sym, arith}
 use Rattle.std.specs.Prelude.{nat_eq}
 use Rattle.std.proofs.lemmas.List.{get_or_past}
 use Rattle.std.proofs.lemmas.Nat.Bits.{shr_and_one}
@@ -7,14 +6,15 @@ use Rattle.wb_cells.specs.Bits.{bits_of}
 use Rattle.wb_cells.proofs.Packing.{length-bits_of, get_or-bits_of}
 use Rattle.wb_cells.proofs.bits.Bits.is_on.Goals as goal
 
-pub returns-then-words-at : goal.returns-then-words-at
-returns-then-words-at c =
+pub returns-then-words-index : goal.returns-then-words-index
+returns-then-words-index c =
+    let words = c.self.inside.words.items in
     sym (ap (λ b. get_or b c.args.at false) (sym c.self.view_is)
-    ∙ get_or_past (bits_of c.self.inside.words) c.args.at false (omega (arith, length-bits_of c.self.inside.words, c.words.ensures.count)))
+    ∙ get_or_past (bits_of words) c.args.at false (omega (arith, length-bits_of words, c.if-words-index.true, ap length c.as_slice-words.ensures.value)))
 
 pub returns : goal.returns
 returns c =
-    ap (λ b. nat_eq b 1) (shr_and_one c.word.result (c.args.at % 32))
-    ∙ ap (λ w. nat_eq (bit_at w (c.args.at % 32)) 1) c.word.ensures
-    ∙ sym (get_or-bits_of c.self.inside.words c.args.at)
-    ∙ ap (λ b. get_or b c.args.at false) c.self.view_is
+    let words = c.as_slice-words.result.now in
+    ap (λ b. nat_eq b 1) (shr_and_one (get_or words (c.args.at / 32) 0) (c.args.at % 32))
+    ∙ sym (get_or-bits_of words c.args.at)
+    ∙ ap (λ b. get_or b c.args.at false) (ap bits_of c.as_slice-words.ensures.value ∙ c.self.view_is)
