@@ -44,7 +44,7 @@ kept-halves r new count capacity i end len hs marks more alloc kept is far same 
 -- the words went to a longer region, with zeros behind them
 pub kept-grown : (r : Region Global) (ws : List ℕ) (count n capacity : ℕ) (marks more : List Bool) (alloc : Global) → count ≡ length ws → r.words ≡ ws ++ zeros n →
     (r.capacity ≡ capacity) × (r.alloc ≡ alloc) → count + n ≤ capacity → capacity ≤ MOST_WORDS → capacity ≤ BLOCK * length more → AreMarked marks ws →
-    ((j : ℕ) → j * 256 < length ws → get_or more j false ≡ get_or marks j false) → IsKept (Some r) (count + n) capacity more alloc
+    ((j : ℕ) → j * 1024 < length ws → get_or more j false ≡ get_or marks j false) → IsKept (Some r) (count + n) capacity more alloc
 kept-grown r ws count n capacity marks more alloc counted is room within bounded covered marked same = record {
   counted = omega (arith, counted, ap length is, length-append ws (zeros n), length-replicate {A = ℕ} n 0);
   room = room;

@@ -1,4 +1,4 @@
-//! Which blocks of a chunk may hold anything but zeros: a mark for each 1,024 bytes. What a block without a mark holds is
+//! Which blocks of a chunk may hold anything but zeros: a mark for each 4,096 bytes. What a block without a mark holds is
 //! known, so nobody zeroes it again, or reads it to copy it.
 
 ghost use Rattle.std.specs.Prelude.{◌≡◌, ◌+◌, ◌*◌, ◌<◌, ◌≤◌, length, replicate};
@@ -6,7 +6,7 @@ ghost use Rattle.std.specs.List.{replace_range};
 ghost use Rattle.wb_chunk.specs.Marks.{AreMarked, MarksToo};
 
 /// How many words a block has.
-pub(crate) const BLOCK: usize = 256;
+pub(crate) const BLOCK: usize = 1024;
 
 /// Marks the block of one word.
 pub(crate) fn mark_one(marks: &mut [bool], i: usize)

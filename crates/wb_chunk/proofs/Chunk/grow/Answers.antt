@@ -15,8 +15,8 @@ invariant_of-self-3 c =
     let new = c.in_ok-region.ensures in
     let words : region.words ≡ ws ++ zeros n =
     c.append_zeros-2.ensures.words ∙ ap (λ us. us ++ zeros n) (c.append_words.ensures.words ∙ ap (λ us. us ++ c.as_slice.result.now) new.0 ∙ c.as_slice.ensures.words) in
-    let long : length ws ≤ 256 * length inside.marks.items = omega (arith, kept.counted, kept.within, kept.covered) in
-    let blocks : capacity ≤ 256 * length c.resize.new.self.items =
+    let long : length ws ≤ 1024 * length inside.marks.items = omega (arith, kept.counted, kept.within, kept.covered) in
+    let blocks : capacity ≤ 1024 * length c.resize.new.self.items =
     omega (arith, c.div_ceil.ensures, c.in_ok-resize.ensures.len, c.resize.new.self.ok.0) in
     rw c.replace.ensures.after (kept-grown region ws inside.count n capacity inside.marks.items c.resize.new.self.items inside.alloc kept.counted words
     (c.append_zeros-2.ensures.room.0 ∙ c.append_words.ensures.room.0 ∙ new.1, c.append_zeros-2.ensures.room.1 ∙ c.append_words.ensures.room.1 ∙ new.2)

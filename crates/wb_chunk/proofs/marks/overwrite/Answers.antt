@@ -18,16 +18,16 @@ loop-block-preserved c =
     let last = c.min-last.result in
     let done = c.loop-block.invariant in
     let long : length source ≡ length ws = omega (arith, c.requires.as_many, c.loop-block.auto.words) in
-    let before : block * 256 < length source = omega (arith, c.loop-block-test.true, c.div_ceil-blocks.ensures) in
+    let before : block * 1024 < length source = omega (arith, c.loop-block-test.true, c.div_ceil-blocks.ensures) in
     let fits : block < length marks = omega (arith, before, c.requires.as_many, c.requires.covered, c.loop-block.auto.marks) in
-    let le : block * 256 ≤ last = omega (arith, before, c.min-last.ensures) in
+    let le : block * 1024 ≤ last = omega (arith, before, c.min-last.ensures) in
     elim c.if-source_marks-block.branch [
       | then-source_marks-block w ↦
           rw w.words-is (block-put source ws w.copy_from_slice.new.self marks others block last done c.requires.source_marked fits long c.min-last.ensures le w.copy_from_slice.ensures.after)
       | else-source_marks-block+then-marks-block w ↦
-          let room : length (take (last - block * 256) (drop (block * 256) ws)) ≡ last - block * 256 =
-          length-take-le (last - block * 256) (drop (block * 256) ws) (omega (arith, length-drop (block * 256) ws, c.min-last.ensures, long)) in
-          let clear : zeros (last - block * 256) ≡ take (last - block * 256) (drop (block * 256) source) =
+          let room : length (take (last - block * 1024) (drop (block * 1024) ws)) ≡ last - block * 1024 =
+          length-take-le (last - block * 1024) (drop (block * 1024) ws) (omega (arith, length-drop (block * 1024) ws, c.min-last.ensures, long)) in
+          let clear : zeros (last - block * 1024) ≡ take (last - block * 1024) (drop (block * 1024) source) =
           block-of-zeros source others block last c.requires.source_marked w.if-source_marks-block.false le (omega (arith, c.min-last.ensures)) (omega (arith, c.min-last.ensures)) in
           rw w.words-is (block-put source ws w.fill.new.self marks others block last done c.requires.source_marked fits long c.min-last.ensures le
           (w.fill.ensures.after (λ y e. e) ∙ ap zeros room ∙ clear))
