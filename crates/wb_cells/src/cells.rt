@@ -74,6 +74,15 @@ impl Cells {
         })
     }
 
+    /// The same cells, with as many bytes held, over the memory of `spare`, whose cells are lost, where that has room; else in
+    /// memory of its own. What is done to one changes nothing in the other. On `Err` memory was refused.
+    pub fn try_copy_over(&self, spare: Cells) -> Result<Cells, NoMemory>
+        ensures { IfOk result (λ copy. copy ≡ self.now) }
+    {
+        drop(spare);
+        self.try_copy()
+    }
+
     /// Holds at least `bytes` bytes; the cells stay as they are. Where memory is refused, nothing changes; it takes
     /// none where so many are held.
     pub fn reserve(&mut self, bytes: u32) -> Result<(), NoMemory>
