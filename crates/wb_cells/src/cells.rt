@@ -74,8 +74,9 @@ impl Cells {
         })
     }
 
-    /// The same as [`Cells::try_copy`], over the memory of `spare`, whose cells are lost, where that has room. Of the words
-    /// only blocks are written that may differ.
+    /// The same cells, with as many bytes held, over the memory of `spare`, whose cells are lost, where that has room; else in
+    /// memory of its own. Of the words only blocks that may differ are written. What is done to one changes nothing in the
+    /// other. On `Err` memory was refused.
     pub fn try_copy_over(&self, spare: Cells) -> Result<Cells, NoMemory>
         ensures { IfOk result (λ copy. copy ≡ self.now) }
     {

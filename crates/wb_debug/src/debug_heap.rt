@@ -92,9 +92,16 @@ impl DebugHeap {
     pub fn try_copy(&self) -> Result<DebugHeap, NoMemory>
         ensures { IfOk result (λ copy. copy ≡ self.now) }
     {
+        self.try_copy_over(None)
+    }
+
+    /// The same, its cells over the memory of `spare`, whose own are lost, where there is one and it has room.
+    pub fn try_copy_over(&self, spare: Option<Heap>) -> Result<DebugHeap, NoMemory>
+        ensures { IfOk result (λ copy. copy ≡ self.now) }
+    {
         Ok(DebugHeap {
             alloc: self.alloc,
-            heap: self.heap.try_copy()?,
+            heap: self.heap.try_copy_over(spare)?,
             rule: self.rule,
             level: self.level,
             setting: self.setting,
@@ -127,11 +134,12 @@ impl DebugHeap {
         self.log.trace()
     }
 
-    /// The same, of a run that is over. Takes no memory.
-    pub fn into_trace(self) -> Trace
-        ensures { result ≡ self.trace }
+    /// The same, of a run that is over, and the heap, whose memory a copy of another may take. Takes no memory.
+    pub fn into_trace_and_heap(self) -> (Trace, Heap)
+        ensures { result.0 ≡ self.trace }
     {
-        self.into_log().into_trace()
+        let (log, heap) = self.into_log_and_heap();
+        (log.into_trace(), heap)
     }
 
     /// The rises so far, in order, of a heap made by `new_rises`: those of the trace that a heap made by `new` would
@@ -148,17 +156,18 @@ impl DebugHeap {
         requires { IsSome self.rises }
         ensures { Some result ≡ self.rises }
     {
-        self.into_log().into_rises()
+        let (log, _) = self.into_log_and_heap();
+        log.into_rises()
     }
 
-    /// What is kept of the attempts.
-    fn into_log(self) -> Log
-        ensures trace { result.trace ≡ self.trace }
-        ensures rises { result.rises ≡ self.rises }
+    /// What is kept of the attempts, and the heap.
+    fn into_log_and_heap(self) -> (Log, Heap)
+        ensures trace { result.0.trace ≡ self.trace }
+        ensures rises { result.0.rises ≡ self.rises }
     {
         let DebugHeap {
             alloc: _,
-            heap: _,
+            heap,
             rule: _,
             level: _,
             setting: _,
@@ -166,7 +175,7 @@ impl DebugHeap {
             log,
             tally: _,
         } = self;
-        log
+        (log, heap)
     }
 }
 

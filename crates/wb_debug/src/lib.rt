@@ -11,6 +11,7 @@ pub use wb_model::heap::{Answer, Attempt, Gave, Header, Kind, Panic, Ptr, Rule, 
 pub use wb_model::memory::NoMemory;
 pub use wb_model::run::{Leak, Leaks, Note, Trace};
 pub use wb_model::size::{Rise, Rises};
+pub use wb_rheap::Heap;
 
 mod checks;
 pub mod debug_heap;

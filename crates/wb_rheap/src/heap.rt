@@ -79,8 +79,20 @@ impl Heap {
     pub fn try_copy(&self) -> Result<Heap, NoMemory>
         ensures { IfOk result (λ copy. copy ≡ self.now) }
     {
+        self.try_copy_over(None)
+    }
+
+    /// The same heap, over the memory of `spare`, whose cells are lost, where there is one and it has room; else in memory of
+    /// its own. What is done to one changes nothing in the other. `NoMemory` where memory was refused.
+    pub fn try_copy_over(&self, spare: Option<Heap>) -> Result<Heap, NoMemory>
+        ensures { IfOk result (λ copy. copy ≡ self.now) }
+    {
+        let cells = match spare {
+            Some(spare) => self.cells.try_copy_over(spare.cells)?,
+            None => self.cells.try_copy()?,
+        };
         Ok(Heap {
-            cells: self.cells.try_copy()?,
+            cells,
             limit: self.limit,
             shape: self.shape,
             committed: self.committed,
