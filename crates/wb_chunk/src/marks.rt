@@ -1,5 +1,5 @@
 //! Which blocks of a chunk may hold anything but zeros: a mark for each 4,096 bytes. What a block without a mark holds is
-//! known, so nobody zeroes it again, or reads it to copy it.
+//! known, so nobody zeroes it again, reads it to copy it, or writes zeros over it.
 
 ghost use Rattle.std.specs.Prelude.{◌≡◌, ◌+◌, ◌*◌, ◌<◌, ◌≤◌, length, replicate};
 ghost use Rattle.std.specs.List.{replace_range};

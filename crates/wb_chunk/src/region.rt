@@ -64,7 +64,8 @@ impl<A: Allocator> Region<A> {
     /// Leaves the first `n` words, and makes the others room. Nothing is written.
     pub(crate) fn truncate(&mut self, count: u32, n: u32)
         requires { (count ≡ length self.old.words) × (count ≤ self.old.capacity) × (n ≤ count) }
-        ensures { (self.new.words ≡ take n self.old.words) × (self.new.capacity ≡ self.old.capacity) × (self.new.alloc ≡ self.old.alloc) }
+        ensures { (self.new.words ≡ take n self.old.words)
+            × (self.new.capacity ≡ self.old.capacity) × (self.new.alloc ≡ self.old.alloc) }
     {}
 
     /// The words, to be read.

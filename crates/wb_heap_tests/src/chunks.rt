@@ -117,6 +117,78 @@ fn a_copy_reads_its_source_first(rt: HostRuntime) -> Result<(), Fail> {
     Ok(())
 }
 
+#[test]
+fn four_words_are_written_at_once(rt: HostRuntime) -> Result<(), Fail> {
+    let mut chunk = six_words(rt.alloc())?;
+    chunk.set_four(1, [9, 8, 7, 0]);
+    assert!(rt; holds(&chunk, &[1, 9, 8, 7, 0, 6]));
+    Ok(())
+}
+
+// Words of which each is its index and one more, where that can be divided by a step, and else 0.
+fn spread(alloc: Global, count: u32, step: u32) -> Result<Chunk, AllocError>
+    requires bound { count ≤ MOST_WORDS }
+    requires step { 1 ≤ step }
+    ensures { IfOk result (λ c. length c ≡ count) }
+{
+    let mut chunk = Chunk::new(alloc);
+    chunk.grow(count)?;
+    for i in 0..count {
+        if (i + 1) % step == 0 {
+            chunk.set_word(i, i + 1);
+        }
+    }
+    Ok(chunk)
+}
+
+fn is_spread(chunk: &Chunk, count: u32, step: u32) -> bool
+    requires { 1 ≤ step }
+{
+    let mut same = chunk.words() == count;
+    for i in 0..chunk.words() {
+        let word = if (i + 1) % step == 0 { i + 1 } else { 0 };
+        same = same && chunk.word(i) == word;
+    }
+    same
+}
+
+// Of a chunk that another is copied over: how many words it has, and the step of those that are not 0.
+static SPARES: [(u32, u32); 8] = [
+    (0, 1),
+    (300, 1),
+    (700, 1),
+    (700, 5),
+    (700, 600),
+    (1500, 1),
+    (1500, 400),
+    (1500, 1500),
+];
+
+// Whether a copy of 700 words over another chunk has them, and what is done to one changes nothing in the other.
+fn is_apart_over(alloc: Global, count: u32, step: u32) -> Result<bool, AllocError> {
+    if MOST_WORDS < count || step == 0 {
+        return Ok(false);
+    }
+    let mut chunk = spread(alloc, 700, 350)?;
+    let spare = spread(alloc, count, step)?;
+    let mut copy = chunk.try_copy_over(spare)?;
+    let same = is_spread(&copy, 700, 350);
+    copy.grow(1000)?;
+    let longer = copy.words() == 1700 && copy.word(1699) == 0;
+    copy.set_word(699, 1);
+    let kept = is_spread(&chunk, 700, 350);
+    chunk.zero(0, 700);
+    Ok(same && longer && kept && copy.word(349) == 350)
+}
+
+#[test]
+fn a_copy_over_another_chunk_is_apart(rt: HostRuntime) -> Result<(), Fail> {
+    for (count, step) in &SPARES {
+        assert!(rt; is_apart_over(rt.alloc(), *count, *step)?);
+    }
+    Ok(())
+}
+
 // Where an allocation is made to fail, this meets the refusal.
 #[test]
 fn a_refused_growth_leaves_the_chunk(rt: HostRuntime) {

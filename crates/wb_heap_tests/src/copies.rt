@@ -166,7 +166,7 @@ fn a_copy_of_cells_is_apart(rt: HostRuntime) -> Result<(), Fail> {
     assert_eq!(rt; copy.top(), 0);
     assert_eq!(rt; cells.top(), 32);
     assert_eq!(rt; cells.header(cell), Some(header));
-    let second = cells.try_copy()?;
+    let second = cells.try_copy_over(copy)?;
     cells.give(cell);
     assert_eq!(rt; second.header(cell), Some(header));
     assert_eq!(rt; second.held(), 256);
