@@ -10,7 +10,7 @@ use Rattle.wb_model.specs.declared.script.Statement.TheOpen.{Statement-F}
 use Rattle.wb_model.specs.declared.script.Statement.TheViews.{roll-Statement}
 use Rattle.wb_model.specs.declared.script.Statement.TheFolds.{fold-Numbered, fold_out-Numbered, fold-roll-Statement, map-Statement, ind-Statement}
 use Rattle.wb_model.specs.Trees.{Marked, number_operand, variable_operand, line, condition_line, layer_lines, numbered_layer, lines_joined, lines_of_statement, numbered_lines, statement_lines, end_line, else_line}
-use Rattle.wb_script.proofs.TypedLemmas.{both}
+use Rattle.wb_lines.proofs.TypedLemmas.{both}
 use Rattle.wb_script.proofs.KnownLines.{is_known, is_told}
 use Rattle.wb_script.proofs.Said.{Part, with_statement, opened, with_line, with_lines, with_lines-append}
 use Rattle.wb_script.proofs.StatementLaws.{plain_line, statement_said, choice_said, loop_said}

@@ -7,7 +7,7 @@ use Rattle.wb_model.specs.Names.{Text, Known, Item, names_of, nothing_known, kno
 use Rattle.wb_model.specs.Resolved.{resolved_among, resolved_line, uses_unknown}
 use Rattle.wb_model.specs.Scripts.{number_of_line}
 use Rattle.wb_script.specs.Checks.{known_in, or_here, AreChecked}
-use Rattle.wb_script.specs.Lent.{lent_texts}
+use Rattle.wb_lines.specs.Lent.{lent_texts}
 use Rattle.wb_script.specs.declared.checks.Checked.{Checked}
 use Rattle.wb_script.proofs.Passes.{state_last, each_last, each_length, first_last}
 

@@ -21,13 +21,13 @@ use Rattle.wb_model.specs.Resolved.{resolved}
 use Rattle.wb_script.specs.Building.{Counts, counts_after, counts_of, nothing_counted, classes_after, with_field}
 use Rattle.wb_script.specs.Lent.{fields_among}
 use Rattle.wb_nesting.specs.Machine.{step}
-use Rattle.wb_script.specs.Typed.{is_typed, AreTyped}
+use Rattle.wb_lines.specs.Typed.{is_typed, AreTyped}
 use Rattle.wb_nesting.specs.declared.open.Open.{Open}
 use Rattle.wb_nesting.specs.declared.open.Open.TheVariants.{Fields, Made, Destroyed, Declarations}
 use Rattle.wb_script.proofs.KnownLines.{never_unknown}
 use Rattle.wb_script.proofs.ResolvedLemmas.{of_kind-append, contents_of, contents_behind, lines_from, next_counts}
 use Rattle.wb_nesting.proofs.Runs.{run, items_run}
-use Rattle.wb_script.proofs.TypedLemmas.{both}
+use Rattle.wb_lines.proofs.TypedLemmas.{both}
 use Rattle.wb_script.proofs.Whereabouts.{run_first, are_no_heads, is_class_role, no_heads_after, class_outside, never_in_body, one_name}
 
 -- the last class has so many fields more

@@ -27,10 +27,10 @@ use Rattle.wb_model.specs.Resolved.{class_named, item_meant, resolved_taken, res
 use Rattle.wb_model.specs.Sound.{local_of_parameter}
 use Rattle.wb_script.specs.Building.{Counts, nothing_counted, counts_after, parameter_taking, parameters_of, classes_after, last_count, is_small, is_due, declares}
 use Rattle.wb_script.specs.Lent.{parameter_named}
-use Rattle.wb_script.specs.Typed.{is_operand, are_operands, is_typed}
+use Rattle.wb_lines.specs.Typed.{is_operand, are_operands, is_typed}
 use Rattle.wb_script.proofs.CountLemmas.{as_many_with_field}
 use Rattle.wb_script.proofs.FitLemmas.{kind_held, kind_known, both_hold}
-use Rattle.wb_script.proofs.TypedLemmas.{both}
+use Rattle.wb_lines.proofs.TypedLemmas.{both}
 
 -- the parameters stay what they are, with indexes for their classes
 parameters_resolved : (own : List Item) (known : Known) (k : Key) (letters : List Letter) (operands : List (Operand Text)) → are_operands letters operands ≡ true →

@@ -13,7 +13,7 @@ use Rattle.wb_model.specs.Names.{Text, Known, known_after, nothing_known, begins
 use Rattle.wb_model.specs.Passes.{state_after}
 use Rattle.wb_model.specs.Resolved.{has_this, is_this}
 use Rattle.wb_model.specs.Undeclared.{stays_inside, is_of_object, declares, IsDeclared}
-use Rattle.wb_script.proofs.TypedLemmas.{both}
+use Rattle.wb_lines.proofs.TypedLemmas.{both}
 use Rattle.wb_script.proofs.AbsentNames.{or_false, is_known_here}
 
 -- one more line declares a name, or leaves those that its body declares

@@ -8,7 +8,8 @@ use Rattle.wb_model.specs.declared.script_lines.ItemKind.TheVariants as kind
 use Rattle.wb_model.specs.Names as model
 use Rattle.wb_model.specs.Names.{is_same_kind, of_kind}
 use Rattle.wb_script.specs.declared.checks.items.Item.{Item}
-use Rattle.wb_script.specs.Lent.{fields_among, lent_item, lent_items, lent_text}
+use Rattle.wb_lines.specs.Lent.{lent_text}
+use Rattle.wb_script.specs.Lent.{fields_among, lent_item, lent_items}
 use Rattle.wb_script.proofs.Tests.{parts, within_of}
 
 -- the counts of items behind others, with that of the first where it is a class

@@ -33,9 +33,9 @@ use Rattle.wb_model.specs.Sound.{Scope, Declared, is_pointer_local, is_number_lo
 use Rattle.wb_model.specs.Sound as sound
 use Rattle.wb_script.specs.Fitting.{is_name_there, is_field_there, is_taken_there, is_there, operand_fits, letters_fit, argument_fits, arguments_fit, fit_signature, is_operation_there}
 use Rattle.wb_script.specs.Lent.{parameter_named, signatures_among, fields_among}
-use Rattle.wb_script.specs.Typed.{is_short, is_word_of, is_operand, are_operands}
+use Rattle.wb_lines.specs.Typed.{is_short, is_word_of, is_operand, are_operands}
 use Rattle.wb_script.proofs.KindCounts.{as_many_classes}
-use Rattle.wb_script.proofs.TypedLemmas.{both, either_first}
+use Rattle.wb_lines.proofs.TypedLemmas.{both, either_first}
 use Rattle.wb_script.proofs.FoundItems.{place_within, index_within}
 
 -- what a local holds

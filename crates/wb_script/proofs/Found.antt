@@ -1,22 +1,15 @@
 -- The steps of loops that find a list: each element of another gives some of it.
-use Rattle.std.proofs.Common.{◌≡◌, ℕ, suc, ◌+◌, ◌<◌, ◌≤◌, List, [], ◌∷◌, ◌++◌, length, get_or, drop, map, Option, Some, None, refl, sym, ap, ◌∙◌, add-one, append-nil, append_assoc, drop-cons}
-use Rattle.std.proofs.lemmas.List.{drop_all, map-append}
+use Rattle.std.proofs.Common.{◌≡◌, ℕ, suc, ◌+◌, ◌<◌, ◌≤◌, List, [], ◌++◌, length, get_or, drop, map, refl, sym, ap, ◌∙◌, add-one, append-nil, append_assoc, drop-cons}
+use Rattle.std.proofs.lemmas.List.{drop_all}
 use Rattle.std.specs.Borrow.{Bor}
 use Rattle.std.specs.List.{flat_map}
-use Rattle.std.specs.Option.{option_map, option_to_list}
 use Rattle.wb_model.specs.declared.script_lines.Form.{Form}
 use Rattle.wb_model.specs.declared.script_lines.Role.{Role}
 use Rattle.wb_model.specs.declared.script_lines.Role.TheVariants as role
 use Rattle.wb_model.specs.Forms.{role_of_form}
 use Rattle.wb_model.specs.Names.{Text, first_name, fields_with, fields_behind}
-use Rattle.wb_script.specs.Lent.{lent_text, lent_form, lent_forms}
-use Rattle.wb_script.proofs.Lent.{role-renamed}
-
-module _ {X Y : Type 0} (f : X → Y) where
-  -- a list with one more, where there is one, under a function that maps each
-  pub map_some : (xs : List X) (o : Option X) → map f (xs ++ option_to_list o) ≡ map f xs ++ option_to_list (option_map f o)
-  map_some xs None = map-append f xs []
-  map_some xs (Some x) = map-append f xs (x ∷ [])
+use Rattle.wb_lines.specs.Lent.{lent_text, lent_form, lent_forms}
+use Rattle.wb_lines.proofs.Lent.{role-renamed}
 
 module _ {V L X : Type 0} (view : V → L) (gives : L → List X) (xs : List V) (i : ℕ) where
   -- what one more element gives is found

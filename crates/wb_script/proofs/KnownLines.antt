@@ -15,7 +15,7 @@ use Rattle.wb_nesting.specs.declared.open.Open.{Open}
 use Rattle.wb_nesting.specs.declared.open.Open.TheVariants.{Fields, Made, Destroyed, Declarations, Statements, Branch, Block}
 use Rattle.wb_nesting.specs.Machine.{step}
 use Rattle.wb_nesting.proofs.Runs.{run, items_run}
-use Rattle.wb_script.proofs.TypedLemmas.{both}
+use Rattle.wb_lines.proofs.TypedLemmas.{both}
 
 abbrev is_said : Role → Bool
 is_said role.Unknown = false

@@ -1,75 +1,16 @@
 -- The steps of loops over the letters of a line and what stands for them.
-use Rattle.std.proofs.Common.{◌≡◌, ℕ, zero, suc, ◌+◌, ◌<◌, ◌≤◌, List, [], ◌∷◌, ◌++◌, length, drop, map, Option, Some, None, Bool, true, false, ◌&&◌, refl, sym, ap, ◌∙◌, append_assoc, get_or, add-one, drop-cons, arith}
+use Rattle.std.proofs.Common.{◌≡◌, ℕ, suc, ◌+◌, ◌<◌, ◌≤◌, List, [], ◌∷◌, length, drop, map, Some, None, Bool, true, false, ◌&&◌, refl, sym, ap, get_or, add-one, drop-cons}
 use Rattle.std.specs.Prelude.{slice_get}
-use Rattle.std.specs.Borrow.{Bor}
-use Rattle.std.specs.Option.{option_and_then, option_map}
 use Rattle.std.proofs.lemmas.List.{drop_all}
-use Rattle.std.proofs.lemmas.Option.{slice_get_within, get_or_from_slice_get}
 use Rattle.wb_model.specs.declared.script_lines.Letter.{Letter}
 use Rattle.wb_model.specs.declared.script_lines.Meant.{Meant}
 use Rattle.wb_model.specs.declared.script_lines.Operand.{Operand}
 use Rattle.wb_model.specs.declared.script_lines.Key.{Key}
 use Rattle.wb_model.specs.declared.script_lines.Taken.{Taken}
-use Rattle.std.specs.Str.{bytes_eq}
-use Rattle.wb_model.specs.Forms.{operand_of, operands_of, onto, operands_if, line_or, form_in}
-use Rattle.wb_model.specs.Keys.{text_of}
 use Rattle.wb_model.specs.Kinds.{is_right, are_right, is_given, are_given}
 use Rattle.wb_model.specs.Names.{Text, Item, Known}
 use Rattle.wb_model.specs.Resolved.{resolved_operand, resolved_operands}
-use Rattle.wb_script.specs.Lent.{lent_texts}
-
-module _ {X : Type 0} where
-  -- from an element on
-  pub drop_some : (xs : List X) (i : ℕ) (x : X) → slice_get xs i ≡ Some x → drop i xs ≡ x ∷ drop (i + 1) xs
-  drop_some xs i x is =
-      let within = slice_get_within xs i x is in
-      rw (add-one i) (drop-cons xs i x within ∙ ap (λ y. y ∷ drop (suc i) xs) (get_or_from_slice_get xs i x x is))
-
-  -- behind the last one
-  pub drop_none : (xs : List X) (i : ℕ) → slice_get xs i ≡ None → drop i xs ≡ []
-  drop_none [] i is = drop_all i [] (omega arith)
-  drop_none (x ∷ xs) zero is = let clash : ⊥ = cc in absurd clash
-  drop_none (x ∷ xs) (suc i) is = drop_none xs i is
-
-  pub none_past : (xs : List X) (i : ℕ) → slice_get xs i ≡ None → length xs ≤ i
-  none_past [] i is = omega arith
-  none_past (x ∷ xs) zero is = let clash : ⊥ = cc in absurd clash
-  none_past (x ∷ xs) (suc i) is = let past = none_past xs i is in omega arith
-
--- words are operands only where there are as many as letters
-pub as_many : (letters : List Letter) (words : List (List ℕ)) → (length letters ≡ length words → ⊥) → operands_of letters words ≡ None
-as_many [] [] differ = absurd (differ refl)
-as_many [] (word ∷ words) differ = refl
-as_many (letter ∷ letters) [] differ = refl
-as_many (letter ∷ letters) (word ∷ words) differ = ap (onto (operand_of letter word)) (as_many letters words (λ e. differ (ap suc e))) ∙ none (operand_of letter word)
-  where
-    none : (operand : Option (Operand (List ℕ))) → onto operand None ≡ None
-    none None = refl
-    none (Some operand) = refl
-
-module _ (letters : List Letter) (words : List (Bor Text)) (many : length letters ≡ length words) (i : ℕ) (d : Bor Text) (lt : i < length words) where
-  abbrev later : Option (List (Operand Text))
-  later = operands_of (drop (i + 1) letters) (lent_texts (drop (i + 1) words))
-
-  words_here : (o : Option (Operand Text)) → option_and_then (λ letter. operand_of letter (get_or words i d).now) (slice_get letters i) ≡ o → operands_of (drop i letters) (lent_texts (drop i words)) ≡ onto o later
-  words_here o is = go (slice_get letters i) refl is
-    where
-      go : (at : Option Letter) → slice_get letters i ≡ at → option_and_then (λ letter. operand_of letter (get_or words i d).now) at ≡ o → operands_of (drop i letters) (lent_texts (drop i words)) ≡ onto o later
-      go None at is = absurd (omega (arith, none_past letters i at, many, lt))
-      go (Some letter) at is = rw (drop_some letters i letter at, drop-cons words i d lt, add-one i, is) refl
-
-  -- a word that is an operand
-  pub operand_here : (found : List (Operand Text)) (operand : Operand Text) → option_and_then (λ letter. operand_of letter (get_or words i d).now) (slice_get letters i) ≡ Some operand →
-      option_map (λ (rest : List (Operand Text)). (found ++ operand ∷ []) ++ rest) later ≡ option_map (λ (rest : List (Operand Text)). found ++ rest) (operands_of (drop i letters) (lent_texts (drop i words)))
-  operand_here found operand is = rw (words_here (Some operand) is) (go later)
-    where
-      go : (o : Option (List (Operand Text))) → option_map (λ (rest : List (Operand Text)). (found ++ operand ∷ []) ++ rest) o ≡ option_map (λ (rest : List (Operand Text)). found ++ rest) (onto (Some operand) o)
-      go None = refl
-      go (Some rest) = ap Some (append_assoc found (operand ∷ []) rest)
-
-  -- and one that is none
-  pub no_operand_here : (found : List (Operand Text)) → option_and_then (λ letter. operand_of letter (get_or words i d).now) (slice_get letters i) ≡ None → option_map (λ (rest : List (Operand Text)). found ++ rest) (operands_of (drop i letters) (lent_texts (drop i words))) ≡ None
-  no_operand_here found is = rw (words_here None is) refl
+use Rattle.wb_lines.proofs.Letters.{drop_some, drop_none}
 
 module _ (letters : List Letter) (operands : List (Operand Meant)) (i : ℕ) where
   -- whether an operand is right, and the ones behind it
@@ -118,8 +59,3 @@ given_differ (p ∷ ps) (o ∷ os) differ = rw (given_differ ps os (λ e. differ
     neither : (a : Bool) → (a && false) ≡ false
     neither true = refl
     neither false = refl
-
--- the first key that fits is one of the keys behind, or the one here
-pub form_here : (keys : List Key) (i : ℕ) (d : Key) (first : Text) (words : List Text) → i < length keys →
-    form_in (drop i keys) first words ≡ line_or (get_or keys i d) (operands_if (bytes_eq (text_of (get_or keys i d)) first) (get_or keys i d) words) (form_in (drop (i + 1) keys) first words)
-form_here keys i d first words lt = rw (drop-cons keys i d lt, add-one i) refl

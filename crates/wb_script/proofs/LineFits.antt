@@ -19,9 +19,9 @@ use Rattle.wb_model.specs.Resolved.{own_meant, item_meant, class_of_this, resolv
 use Rattle.wb_model.specs.Sound.{Scope, Declared}
 use Rattle.wb_script.specs.Fitting.{is_name_there, is_there, letters_fit, sides_fit, call_fits, operands_fit}
 use Rattle.wb_script.specs.Lent.{fields_among}
-use Rattle.wb_script.specs.Typed.{is_operand, are_operands}
+use Rattle.wb_lines.specs.Typed.{is_operand, are_operands}
 use Rattle.wb_script.proofs.FitLemmas.{kind_held, kind_known, both_hold, never, declared_among, operation_there, signature_fits, resolved_many, stands_apart, letters_inside, letters_apart, own_there, resolved_there, all_there, letters_fit_resolved}
-use Rattle.wb_script.proofs.TypedLemmas.{both}
+use Rattle.wb_lines.proofs.TypedLemmas.{both}
 
 -- a number that a `set` may read is a value
 source_value : (s : Sort) → takes letter.Source s ≡ true → not (is_pointer_sort s) ≡ true → takes letter.Value s ≡ true

@@ -16,8 +16,8 @@ use Rattle.wb_model.specs.declared.script_lines.Form.TheVariants.{Skip, Unknown,
 use Rattle.wb_model.specs.Keys.{letters_of, letters_for, word_kinds}
 use Rattle.wb_model.specs.Names.{Text, literal_text, literals_in, literals_of}
 use Rattle.wb_model.specs.Sound.{is_literal_text}
-use Rattle.wb_script.specs.Typed.{is_word_of, is_operand, are_operands, is_typed, AreTyped}
-use Rattle.wb_script.proofs.TypedLemmas.{both, either_first}
+use Rattle.wb_lines.specs.Typed.{is_word_of, is_operand, are_operands, is_typed, AreTyped}
+use Rattle.wb_lines.proofs.TypedLemmas.{both, either_first}
 use Rattle.wb_script.proofs.FitLemmas.{both_hold}
 
 quoted_of : (kinds : List WordKind) (text : Text) → list_any (is_word_of (Literal text)) kinds ≡ true → is_literal_text text ≡ true

@@ -16,11 +16,11 @@ use Rattle.wb_model.specs.Names.{Text, Known, Item, known_after, nothing_known, 
 use Rattle.wb_model.specs.Passes.{first_bad, state_after}
 use Rattle.wb_model.specs.Resolved.{uses_unknown}
 use Rattle.wb_model.specs.Undeclared.{local_used, item_used, used_in, IsDeclared, uses_undeclared_field, UsesUndeclared, UsesDeclaredUpTo, IsFirstUndeclaredLine}
-use Rattle.wb_script.specs.Typed.{is_typed, AreTyped}
-use Rattle.wb_script.proofs.Cuts.{lines_within}
+use Rattle.wb_lines.specs.Typed.{is_typed, AreTyped}
+use Rattle.wb_lines.proofs.Cuts.{lines_within}
 use Rattle.wb_script.proofs.FaultLaws.{found_line}
-use Rattle.wb_script.proofs.Foreign.{at_most}
-use Rattle.wb_script.proofs.TypedLemmas.{both, lines_typed}
+use Rattle.wb_lines.proofs.Foreign.{at_most}
+use Rattle.wb_lines.proofs.TypedLemmas.{both, lines_typed}
 use Rattle.wb_script.proofs.ResolvedLemmas.{names_and_kinds}
 use Rattle.wb_script.proofs.AbsentNames.{absent, is_known_here, absent_here, unknown_is_absent}
 use Rattle.wb_script.proofs.DeclaredHere.{either_true, known_behind, declared_is, is_declared}

@@ -21,7 +21,8 @@ use Rattle.wb_model.specs.Names.{item_of_kind, of_kind}
 use Rattle.wb_model.specs.Sound.{Declared, Scope, is_passed, are_passed}
 use Rattle.wb_model.specs.Trees.{Spelled, and_operand, all_spelled, argument_operand}
 use Rattle.wb_script.specs.Fitting.{argument_fits, arguments_fit}
-use Rattle.wb_script.specs.Lent.{lent_text, lent_item, lent_items, parameter_named, signatures_among}
+use Rattle.wb_lines.specs.Lent.{lent_text}
+use Rattle.wb_script.specs.Lent.{lent_item, lent_items, parameter_named, signatures_among}
 use Rattle.wb_script.specs.Building.{may_stand}
 use Rattle.wb_script.specs.Stated.{IsNestedOf, IsStatedWhereFit, lent_parameter}
 use Rattle.wb_script.specs.declared.checks.items.Item.{Item}

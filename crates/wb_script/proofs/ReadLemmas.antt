@@ -26,13 +26,13 @@ use Rattle.wb_model.specs.Sound.{is_entry}
 use Rattle.wb_script.specs.Building.{counts_of}
 use Rattle.wb_script.specs.Checks.{AreChecked, AreNamed, IsFirstFault}
 use Rattle.wb_script.specs.Lent.{parameter_named, signatures_among}
-use Rattle.wb_script.specs.Typed.{AreTyped}
+use Rattle.wb_lines.specs.Typed.{AreTyped}
 use Rattle.wb_script.specs.declared.checks.Checked.{Checked}
 use Rattle.wb_script.proofs.FitLemmas.{both_hold}
 use Rattle.wb_script.proofs.FoundItems.{item_here}
-use Rattle.wb_script.proofs.Lent.{role-renamed}
+use Rattle.wb_lines.proofs.Lent.{role-renamed}
 use Rattle.wb_script.proofs.Steps.{good_first}
-use Rattle.wb_script.proofs.TypedLemmas.{both}
+use Rattle.wb_lines.proofs.TypedLemmas.{both}
 use Rattle.wb_script.proofs.ResolvedLemmas.{procedures-resolved, none_wrong}
 
 pub roles-renamed : {N M : Type 0} (f : N → M) (forms : List (Form N)) → map role_of_form (map (renamed f) forms) ≡ map role_of_form forms

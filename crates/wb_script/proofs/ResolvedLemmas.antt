@@ -25,7 +25,7 @@ use Rattle.wb_model.specs.Names.{Text, Known, Item, nothing_known, literals_in, 
 use Rattle.wb_model.specs.Resolved.{class_of_this, resolved_line, resolved_among, resolved}
 use Rattle.wb_script.specs.Building.{Counts, nothing_counted, counts_after, counts_of, last_count, may_stand, fits, unfit, scope_at, AllFit}
 use Rattle.wb_script.specs.Lent.{parameter_named, signatures_among}
-use Rattle.wb_script.specs.Typed.{is_typed, AreTyped}
+use Rattle.wb_lines.specs.Typed.{is_typed, AreTyped}
 use Rattle.wb_nesting.specs.declared.open.Open.{Open}
 use Rattle.wb_nesting.specs.Machine.{step}
 use Rattle.wb_script.proofs.CountedLines.{Counted, line_parameters, due, line_counts, nothing_yet}
@@ -34,7 +34,7 @@ use Rattle.wb_script.proofs.KnownLines.{never_unknown}
 use Rattle.wb_script.proofs.LineFits.{operands_fit_resolved}
 use Rattle.wb_nesting.proofs.Runs.{run, items_run}
 use Rattle.wb_script.proofs.Steps.{good_first}
-use Rattle.wb_script.proofs.TypedLemmas.{both}
+use Rattle.wb_lines.proofs.TypedLemmas.{both}
 use Rattle.wb_script.proofs.Whereabouts.{IsWhere, run_first, role_needs_body, this_known, fields_known, where_next, where_skipped}
 
 resolved_role : (own : List Item) (known : Known) (form : Form Text) → role_of_form (resolved_line own known form) ≡ role_of_form form

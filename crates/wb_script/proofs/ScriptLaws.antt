@@ -21,7 +21,7 @@ use Rattle.wb_model.specs.Resolved.{resolved}
 use Rattle.wb_model.specs.Scripts.{IsScriptOf}
 use Rattle.wb_model.specs.Trees.{Marked, Lines, counted_from, parameter_operand, and_operand, all_spelled, line_or_unknown, statement_lines, local_line, local_lines, field_line, field_lines, own_body_lines, end_line, body_lines, head_line, class_head, class_lines, procedure_lines, operation_head, operation_lines, each_from, lines_of_class, lines_of_procedure, lines_of_operation, in_order, all_lines, bodies_in_order, script_lines}
 use Rattle.wb_script.proofs.ResolvedLemmas.{roles-resolved}
-use Rattle.wb_script.proofs.TypedLemmas.{both}
+use Rattle.wb_lines.proofs.TypedLemmas.{both}
 use Rattle.wb_script.proofs.KnownLines.{is_known, is_told, known_lines}
 use Rattle.wb_script.proofs.Said.{Part, Item, Told, nothing, opened, with_line, with_lines, with_lines-append}
 use Rattle.wb_script.proofs.OperandLaws.{parameters_back}

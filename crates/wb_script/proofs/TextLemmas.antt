@@ -14,7 +14,7 @@ use Rattle.wb_model.specs.Lines.{lines_of, is_too_long, ends_line, pieces_from, 
 use Rattle.wb_model.specs.Names.{Text}
 use Rattle.wb_model.specs.Scripts.{IsGrammarLine, IsPlainText, IsTreeOf, IsScriptOf, IsFaultOf}
 use Rattle.wb_script.specs.Reads.{roles_of, IsFormsFault}
-use Rattle.wb_script.proofs.Foreign.{at_most}
+use Rattle.wb_lines.proofs.Foreign.{at_most}
 
 -- the text `end` is the line that ends a block
 end_role : role_of_form (line_form (codes "end")) ≡ role.End

@@ -19,7 +19,7 @@ use Rattle.wb_model.specs.Names.{Text, Known, Item, known_after, begins_body, fi
 use Rattle.wb_model.specs.Resolved.{has_this, class_of_this, resolved_line}
 use Rattle.wb_script.specs.Building.{Counts, counts_after, classes_after, with_field, last_count}
 use Rattle.wb_nesting.specs.Machine.{move_of, moved, step}
-use Rattle.wb_script.specs.Typed.{is_typed}
+use Rattle.wb_lines.specs.Typed.{is_typed}
 use Rattle.wb_nesting.specs.declared.open.Open.{Open}
 use Rattle.wb_nesting.specs.declared.open.Open.TheVariants.{Fields, Made, Destroyed, Declarations, Statements, Branch, Block}
 use Rattle.wb_nesting.specs.declared.open.Move.{Move}
@@ -28,7 +28,7 @@ use Rattle.wb_script.proofs.CountLemmas.{as_many_with_field}
 use Rattle.wb_script.proofs.CountedLines.{Counted}
 use Rattle.wb_script.proofs.FitLemmas.{both_hold, stands_apart}
 use Rattle.wb_nesting.proofs.Runs.{run}
-use Rattle.wb_script.proofs.TypedLemmas.{both}
+use Rattle.wb_lines.proofs.TypedLemmas.{both}
 
 -- the first of lines that are read
 pub run_first : (stack last : List Open) (r : Role) (roles : List Role) → run stack (r ∷ roles) ≡ Some last → (next : List Open) × (step stack r ≡ Some next) × (run next roles ≡ Some last)

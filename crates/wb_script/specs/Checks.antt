@@ -11,7 +11,8 @@ use Rattle.wb_model.specs.Passes.{state_after}
 use Rattle.wb_model.specs.Kinds.{has_wrong_kind, may_leave}
 use Rattle.wb_model.specs.Resolved.{resolved_among, item_meant, uses_unknown}
 use Rattle.wb_model.specs.Scripts.{number_of_line, procedure_meant}
-use Rattle.wb_script.specs.Lent.{lent_texts, lent_kind}
+use Rattle.wb_lines.specs.Lent.{lent_texts}
+use Rattle.wb_script.specs.Lent.{lent_kind}
 use Rattle.wb_script.specs.declared.checks.known.Known.{Known}
 use Rattle.wb_script.specs.declared.checks.Checked.{Checked}
 use Rattle.wb_script.specs.declared.checks.FirstLines.{FirstLines}

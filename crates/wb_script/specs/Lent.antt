@@ -1,8 +1,7 @@
--- What references to texts lend: the same forms, operands and texts, with bytes in place of references to bytes.
+-- What kinds and items lend that hold references to texts: the same with bytes in place of the references. And what the items of a
+-- script tell of its classes and procedures.
 use Rattle.std.specs.Prelude.{ℕ, List, None, length, map}
 use Rattle.std.specs.Borrow.{Bor}
-use Rattle.wb_model.specs.declared.script_lines.Form.{Form}
-use Rattle.wb_model.specs.declared.script_lines.Operand.{Operand}
 use Rattle.std.specs.Option.{option_map}
 use Rattle.wb_model.specs.declared.script_lines.Kind.{Kind}
 use Rattle.wb_model.specs.declared.script_lines.Kind.TheVariants.{Pointer, Number, Buffer, View}
@@ -10,31 +9,14 @@ use Rattle.wb_model.specs.declared.script_lines.Taken.{Taken}
 use Rattle.wb_model.specs.declared.script_lines.Taken.TheVariants as taken
 use Rattle.wb_model.specs.declared.script.Parameter.{Parameter}
 use Rattle.wb_model.specs.declared.script.Parameter.TheVariants as parameter
-use Rattle.wb_model.specs.Forms.{renamed, renamed_operand, renamed_taken}
+use Rattle.wb_model.specs.Forms.{renamed_taken}
 use Rattle.wb_model.specs.Resolved.{class_named}
 use Rattle.wb_model.specs.declared.script_lines.ItemKind.TheVariants as kind
 use Rattle.wb_model.specs.Names.{Text, of_kind, count_among}
 use Rattle.wb_model.specs.Names as model
 use Rattle.wb_model.specs.Sound.{Declared}
+use Rattle.wb_lines.specs.Lent.{lent_text}
 use Rattle.wb_script.specs.declared.checks.items.Item.{Item}
-
-abbrev pub lent_text : Bor Text → Text
-lent_text text = text.now
-
-abbrev pub lent_texts : List (Bor Text) → List Text
-lent_texts = map lent_text
-
-abbrev pub lent_operand : Operand (Bor Text) → Operand Text
-lent_operand = renamed_operand lent_text
-
-abbrev pub lent_operands : List (Operand (Bor Text)) → List (Operand Text)
-lent_operands = map lent_operand
-
-abbrev pub lent_form : Form (Bor Text) → Form Text
-lent_form = renamed lent_text
-
-abbrev pub lent_forms : List (Form (Bor Text)) → List (Form Text)
-lent_forms = map lent_form
 
 abbrev pub lent_kind : Kind (Bor Text) → Kind Text
 lent_kind (Pointer class) = Pointer (option_map lent_text class)

@@ -1,10 +1,7 @@
 pub mod Building
 pub mod Growing
 pub mod Checks
-pub mod FirstBytes
 pub mod Fitting
 pub mod Lent
-pub mod Pieces
 pub mod Reads
 pub mod Stated
-pub mod Typed

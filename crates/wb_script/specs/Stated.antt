@@ -40,7 +40,8 @@ use Rattle.wb_script.specs.declared.tree.blocks.Head.{Head}
 use Rattle.wb_script.specs.declared.tree.blocks.OpenBlock.{OpenBlock}
 use Rattle.wb_script.specs.declared.tree.calls.Called.{Called}
 use Rattle.wb_script.specs.Building.{head_form, head_key, keys_of_blocks, first_part, is_head, may_stand}
-use Rattle.wb_script.specs.Lent.{lent_text, parameter_named}
+use Rattle.wb_lines.specs.Lent.{lent_text}
+use Rattle.wb_script.specs.Lent.{parameter_named}
 use Rattle.wb_script.specs.Fitting.{is_name_there, is_field_there, letters_fit, operand_fits, arguments_fit, call_fits, is_operation_there, operands_fit}
 
 -- a scope, as what may be named in it

@@ -14,7 +14,8 @@ ghost use Rattle.wb_model.specs.Kinds.{has_wrong_kind, may_leave};
 ghost use Rattle.wb_model.specs.Names as space;
 ghost use Rattle.wb_model.specs.Names.{Text, declares_again, items_before, names_of, passes_limit};
 ghost use Rattle.wb_model.specs.Resolved.{uses_unknown, resolved_line};
-ghost use Rattle.wb_script.specs.Lent.{lent_form, lent_forms, lent_items};
+ghost use Rattle.wb_lines.specs.Lent.{lent_form, lent_forms};
+ghost use Rattle.wb_script.specs.Lent.{lent_items};
 ghost use Rattle.wb_script.specs.Checks.{known_in, or_here, AreChecked, IsFew};
 
 use crate::checks::items::Item;
@@ -24,8 +25,8 @@ use crate::checks::leaving::may_leave;
 use crate::checks::limits::passes_limit;
 use crate::checks::names::{declares_again, has_unknown};
 use crate::checks::resolved::resolved_line;
-use crate::lists::add;
 use std::alloc::{AllocError, Global};
+use wb_lines::lists::add;
 use wb_model::limits::LONGEST_SCRIPT;
 use wb_model::script_lines::{Form, Meant};
 

@@ -6,10 +6,7 @@
 
 mod checks;
 pub mod laws;
-mod lines;
-mod lists;
 mod reading;
-mod same;
 mod tree;
 
 pub use reading::read;

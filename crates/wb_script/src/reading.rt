@@ -9,19 +9,20 @@ ghost use Rattle.wb_model.specs.Sound.{is_script, is_sound_script, is_entry, is_
 ghost use Rattle.wb_model.specs.Trees.{script_lines, counted_from};
 ghost use Rattle.wb_script.specs.Building.{AllFit, counts_of};
 ghost use Rattle.wb_script.specs.Checks.{IsMain, IsFirstFault};
-ghost use Rattle.wb_script.specs.Lent.{declared_by, lent_texts, lent_forms, lent_items};
+ghost use Rattle.wb_lines.specs.Lent.{lent_texts, lent_forms};
+ghost use Rattle.wb_script.specs.Lent.{declared_by, lent_items};
 ghost use Rattle.wb_script.specs.Reads.{roles_of, IsFormsFault};
-ghost use Rattle.wb_script.specs.Typed.{AreTyped};
+ghost use Rattle.wb_lines.specs.Typed.{AreTyped};
 
 use crate::checks::items::{Item, items_of};
 use crate::checks::resolved::item_meant;
 use crate::checks::{FirstLines, checked_lines};
-use crate::lines::bytes::{first_foreign_line, is_too_long};
-use crate::lines::forms::{forms, role};
-use crate::lines::pieces::lines;
-use crate::lists::add;
 use crate::tree::bodies_of;
 use std::alloc::{AllocError, Global};
+use wb_lines::bytes::{first_foreign_line, is_too_long};
+use wb_lines::forms::{forms, role};
+use wb_lines::lists::add;
+use wb_lines::pieces::lines;
 use wb_model::fault::ScriptFault;
 use wb_model::items::Items;
 use wb_model::limits::LONGEST_SCRIPT;

@@ -26,7 +26,6 @@ ghost use Rattle.wb_script.specs.Growing.{AreSound, GrowsWhereFit, IsBelow, IsSo
 ghost use Rattle.wb_script.specs.Lent.{declared_by};
 
 use crate::checks::items::Item;
-use crate::lines::keys::role_of;
 use crate::tree::bodies::{Left, OpenBody, add_stated, inside};
 use crate::tree::classes::{begun_class, in_class};
 use crate::tree::openings::{begun_operation, begun_procedure};
@@ -34,6 +33,7 @@ use crate::tree::space::{Space, field_counts};
 use crate::tree::whole::{Building, Owner, Stage, WholeItems, finished};
 use std::alloc::{AllocError, Global};
 use std::mem::replace;
+use wb_lines::keys::role_of;
 use wb_model::limits::LONGEST_SCRIPT;
 use wb_model::script_lines::{Form, Key, Meant, Operand, Role};
 

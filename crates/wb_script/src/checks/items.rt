@@ -5,13 +5,14 @@ ghost use Rattle.std.specs.List.{flat_map};
 ghost use Rattle.std.specs.Option.{option_map, option_to_list};
 ghost use Rattle.wb_model.specs.Forms.{renamed_taken};
 ghost use Rattle.wb_model.specs.Names.{count_among, fields_begun, fields_behind, first_declaration_of, is_same_kind, item_begun, item_declared, item_of_kind, items_by, items_of, kind_begun, names_of, parameters_in, taken_by};
-ghost use Rattle.wb_script.specs.Lent.{lent_form, lent_forms, lent_item, lent_items, lent_operand, lent_operands, lent_text, lent_texts};
+ghost use Rattle.wb_lines.specs.Lent.{lent_form, lent_forms, lent_operand, lent_operands, lent_text, lent_texts};
+ghost use Rattle.wb_script.specs.Lent.{lent_item, lent_items};
 
 use crate::checks::known::first_name;
-use crate::lines::forms::role;
-use crate::lists::{add, add_some};
-use crate::same::are_same;
 use std::alloc::{AllocError, Global};
+use wb_lines::forms::role;
+use wb_lines::lists::{add, add_some};
+use wb_lines::same::are_same;
 use wb_model::items::Items;
 use wb_model::script_lines::{Form, ItemKind, Key, Operand, Role, Taken};
 

@@ -8,12 +8,14 @@ ghost use Rattle.wb_model.specs.Kinds.{are_given, are_right, arguments_agree, ca
 ghost use Rattle.wb_model.specs.Names.{taken_by};
 ghost use Rattle.wb_model.specs.Resolved.{resolved_line};
 ghost use Rattle.wb_script.specs.Checks.{known_in};
-ghost use Rattle.wb_script.specs.Lent.{lent_form, lent_items, lent_operands, lent_text};
+ghost use Rattle.wb_lines.specs.Lent.{lent_form, lent_operands, lent_text};
+ghost use Rattle.wb_script.specs.Lent.{lent_items};
 
 use crate::checks::items::{Item, item_of_kind};
 use crate::checks::known::Known;
-use crate::lines::keys::{Letters, is_pointer_sort, takes};
-use crate::same::are_same;
+use wb_lines::keys::Letters;
+use wb_lines::same::are_same;
+use wb_lines::sorts::{is_pointer_sort, takes};
 use wb_model::script_lines::{BodyKind, Form, ItemKind, Key, Letter, Meant, Operand, Sort, Taken};
 
 /// What an operand is that is a name.

@@ -6,13 +6,14 @@ ghost use Rattle.std.specs.List.{flat_map};
 ghost use Rattle.wb_model.specs.Names.{blocks_after, bodies_before, body_after, body_begun, body_in, count_begun, fields_after, first_name, items_before, key_in, kind_declared, kind_in, kind_of_parameter, kinds_after, known_after, literal_text, literals_in, locals_after, name_passed, nothing_known, parameter_names, parameters_in, second_name, taken_by, with_one};
 ghost use Rattle.wb_model.specs.Forms.{renamed_taken, role_of_form};
 ghost use Rattle.wb_model.specs.declared.script_lines.ItemKind.TheVariants as item;
-ghost use Rattle.wb_script.specs.Lent.{lent_text, lent_texts, lent_kind, lent_operand, lent_operands, lent_form};
+ghost use Rattle.wb_lines.specs.Lent.{lent_text, lent_texts, lent_operand, lent_operands, lent_form};
+ghost use Rattle.wb_script.specs.Lent.{lent_kind};
 ghost use Rattle.wb_script.specs.Checks.{known_in, AreSameItems, IsFew};
 
 use crate::checks::items::item_begun;
-use crate::lines::forms::role;
-use crate::lists::{add, add_some};
 use std::alloc::{AllocError, Global};
+use wb_lines::forms::role;
+use wb_lines::lists::{add, add_some};
 use wb_model::script_lines::{BodyKind, Form, ItemKind, Key, Kind, Operand, Role, Taken};
 
 /// The name that the first word of a line spells.

@@ -3,7 +3,7 @@
 ghost use Rattle.std.specs.Prelude.{◌≡◌};
 ghost use Rattle.wb_model.specs.Kinds.{is_loud, is_outside, is_quiet, may_leave, may_leave_in};
 ghost use Rattle.wb_script.specs.Checks.{known_in};
-ghost use Rattle.wb_script.specs.Lent.{lent_form};
+ghost use Rattle.wb_lines.specs.Lent.{lent_form};
 
 use crate::checks::known::Known;
 use wb_model::script_lines::{BodyKind, Form, Key};

@@ -5,10 +5,10 @@ ghost use Rattle.std.specs.List.{flat_map, list_any};
 ghost use Rattle.wb_model.specs.Names.{has_long_class, has_long_name, has_more_parameters, is_large, is_long, is_long_name, is_one_more, passes_limit, taken_by};
 ghost use Rattle.wb_script.specs.Checks.{known_in, is_size_above, IsFew};
 ghost use Rattle.wb_model.specs.Forms.{renamed_taken};
-ghost use Rattle.wb_script.specs.Lent.{lent_operand, lent_operands, lent_form, lent_text};
+ghost use Rattle.wb_lines.specs.Lent.{lent_operand, lent_operands, lent_form, lent_text};
 
 use crate::checks::known::Known;
-use crate::lines::forms::role;
+use wb_lines::forms::role;
 use wb_model::limits::{
     DEEPEST_BLOCK, LARGEST_BUFFER, LONGEST_NAME, MOST_CLASSES, MOST_EXTRA, MOST_FIELDS,
     MOST_LOCALS, MOST_PARAMETERS, MOST_PROCEDURES,

@@ -5,12 +5,13 @@ ghost use Rattle.std.specs.List.{flat_map, list_any};
 ghost use Rattle.wb_model.specs.Names.{first_declaration_of, is_among, is_item_before, has_double, name_passed, names_of, parameter_names, stands_declared, declares_again};
 ghost use Rattle.wb_model.specs.Resolved.{has_unknown, is_nothing_meant, means_nothing, takes_nothing};
 ghost use Rattle.wb_script.specs.Checks.{known_in, IsFew};
-ghost use Rattle.wb_script.specs.Lent.{lent_texts, lent_operands, lent_form, lent_items};
+ghost use Rattle.wb_lines.specs.Lent.{lent_texts, lent_operands, lent_form};
+ghost use Rattle.wb_script.specs.Lent.{lent_items};
 
 use crate::checks::items::{Item, place_of_item};
 use crate::checks::known::{Known, first_name};
-use crate::lines::forms::role;
-use crate::same::are_same;
+use wb_lines::forms::role;
+use wb_lines::same::are_same;
 use wb_model::script_lines::{Form, Meant, Operand, Role, Taken};
 
 /// The index of the first declaration of a name.

@@ -6,16 +6,17 @@ ghost use Rattle.wb_model.specs.Forms.{renamed_taken};
 ghost use Rattle.wb_model.specs.Keys.{letters_for};
 ghost use Rattle.wb_model.specs.Names.{first_declaration_of, names_before};
 ghost use Rattle.wb_model.specs.Resolved.{class_in, class_named, class_of_base, class_of_kind, class_of_local, class_of_this, field_at, field_meant, has_this, is_this, item_at, item_meant, kind_meant, local_meant, meant_at, name_meant, own_meant, resolved_line, resolved_operand, resolved_operands, resolved_taken, this_meant};
-ghost use Rattle.wb_script.specs.Lent.{lent_kind, lent_operand, lent_operands, lent_form, lent_items, lent_text};
+ghost use Rattle.wb_lines.specs.Lent.{lent_operand, lent_operands, lent_form, lent_text};
+ghost use Rattle.wb_script.specs.Lent.{lent_kind, lent_items};
 ghost use Rattle.wb_script.specs.Checks.{known_in};
 
 use crate::checks::items::{Item, count_among, item_of_kind, place_of_item};
 use crate::checks::known::Known;
 use crate::checks::names::place_of;
-use crate::lines::keys::Letters;
-use crate::lists::add;
-use crate::same::are_same;
 use std::alloc::{AllocError, Global};
+use wb_lines::keys::Letters;
+use wb_lines::lists::add;
+use wb_lines::same::are_same;
 use wb_model::items::Items;
 use wb_model::script_lines::{BodyKind, Form, ItemKind, Key, Kind, Letter, Meant, Operand, Taken};
 

@@ -1,7 +1,8 @@
 use Rattle.std.proofs.Common.{◌∙◌, ◌+◌, ap, sym, subst, take}
 use Rattle.std.proofs.lemmas.List.{take_all}
 use Rattle.wb_script.specs.Checks.{AreChecked}
-use Rattle.wb_script.specs.Lent.{lent_form, lent_forms, lent_items}
+use Rattle.wb_lines.specs.Lent.{lent_form, lent_forms}
+use Rattle.wb_script.specs.Lent.{lent_items}
 use Rattle.wb_script.proofs.Passes.{map_more}
 use Rattle.wb_script.proofs.checks.checked_lines.Goals as goal
 

@@ -1,5 +1,6 @@
 use Rattle.std.proofs.Common.{◌≡◌, ◌≤◌, length, take}
-use Rattle.wb_script.specs.Lent.{lent_items, lent_forms}
+use Rattle.wb_lines.specs.Lent.{lent_forms}
+use Rattle.wb_script.specs.Lent.{lent_items}
 use Rattle.wb_model.specs.Names.{items_before}
 use Rattle.wb_script.specs.Checks.{known_in, AreChecked}
 use Rattle.wb_script.proofs.checks.checked_lines.Given as goal

@@ -13,7 +13,8 @@ use Rattle.wb_model.specs.Sound.{Declared, is_literal_text, is_sound_script}
 use Rattle.wb_model.specs.Trees.{counted_from}
 use Rattle.wb_script.specs.Building.{AllFit, counts_of}
 use Rattle.wb_script.specs.Checks.{AreChecked, IsFirstFault}
-use Rattle.wb_script.specs.Lent.{declared_by, lent_text, lent_texts, lent_items, lent_form, lent_forms, signatures_among, fields_among}
+use Rattle.wb_lines.specs.Lent.{lent_text, lent_texts, lent_form, lent_forms}
+use Rattle.wb_script.specs.Lent.{declared_by, lent_items, signatures_among, fields_among}
 use Rattle.wb_script.proofs.CountedClasses.{counted_classes}
 use Rattle.wb_script.proofs.FitLemmas.{declared_among}
 use Rattle.wb_script.proofs.LiteralLemmas.{few_literals, literals_sound}

@@ -1,6 +1,6 @@
 use Rattle.std.proofs.Common.{ap, ◌∙◌, sym}
 use Rattle.std.proofs.lemmas.List.{map_more, take_all}
-use Rattle.wb_script.specs.Lent.{lent_text, lent_texts}
+use Rattle.wb_lines.specs.Lent.{lent_text, lent_texts}
 use Rattle.wb_script.proofs.reading.literals_of.Goals as goal
 
 pub loop-text-preserved : goal.loop-text-preserved

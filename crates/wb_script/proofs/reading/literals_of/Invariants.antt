@@ -1,5 +1,5 @@
 use Rattle.std.proofs.Common.{◌≡◌, take}
-use Rattle.wb_script.specs.Lent.{lent_texts}
+use Rattle.wb_lines.specs.Lent.{lent_texts}
 use Rattle.wb_script.proofs.reading.literals_of.Given as goal
 
 abbrev pub invariant-loop-text : goal.invariant-loop-text

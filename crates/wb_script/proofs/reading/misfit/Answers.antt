@@ -2,7 +2,7 @@ use Rattle.std.proofs.Common.{List, ◌∙◌, sym, subst}
 use Rattle.std.specs.Prelude.{IfOk, MatchOption}
 use Rattle.wb_model.specs.declared.script_lines.Role.{Role}
 use Rattle.wb_model.specs.Grammar.{IsGrammatical, IsFirstMisfit}
-use Rattle.wb_script.specs.Lent.{lent_text}
+use Rattle.wb_lines.specs.Lent.{lent_text}
 use Rattle.wb_script.proofs.ReadLemmas.{roles-renamed}
 use Rattle.wb_script.proofs.reading.misfit.Goals as goal
 

@@ -2,12 +2,12 @@ use Rattle.std.proofs.Common.{◌∙◌, sym, ap, subst, length, arith}
 use Rattle.std.proofs.lemmas.List.{length-map}
 use Rattle.wb_model.specs.Forms.{forms_of}
 use Rattle.wb_model.specs.Lines.{lines_of}
-use Rattle.wb_script.specs.Lent.{lent_texts, lent_forms}
-use Rattle.wb_script.specs.Typed.{AreTyped}
-use Rattle.wb_script.proofs.Cuts.{lines_within}
-use Rattle.wb_script.proofs.Foreign.{at_most}
+use Rattle.wb_lines.specs.Lent.{lent_texts, lent_forms}
+use Rattle.wb_lines.specs.Typed.{AreTyped}
+use Rattle.wb_lines.proofs.Cuts.{lines_within}
+use Rattle.wb_lines.proofs.Foreign.{at_most}
 use Rattle.wb_script.proofs.TextLemmas.{few_lines, faults_of_lines, scripts_of_lines}
-use Rattle.wb_script.proofs.TypedLemmas.{lines_typed}
+use Rattle.wb_lines.proofs.TypedLemmas.{lines_typed}
 use Rattle.wb_script.proofs.reading.read_text.Goals as goal
 
 pub read_forms-requires-clause-few : goal.read_forms-requires-clause-few

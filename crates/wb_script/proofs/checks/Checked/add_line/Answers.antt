@@ -1,6 +1,7 @@
 use Rattle.std.proofs.Common.{◌∙◌, ◌++◌, ◌∷◌, [], ap, arith}
 use Rattle.std.proofs.lemmas.Grind.{common_steps}
-use Rattle.wb_script.specs.Lent.{lent_items, lent_form}
+use Rattle.wb_lines.specs.Lent.{lent_form}
+use Rattle.wb_script.specs.Lent.{lent_items}
 use Rattle.wb_script.proofs.CheckedLemmas.{one_more_checked}
 use Rattle.wb_script.proofs.checks.Checked.add_line.Goals as goal
 

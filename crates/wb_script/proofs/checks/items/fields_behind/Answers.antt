@@ -1,6 +1,7 @@
 use Rattle.std.proofs.Common.{sym, ◌∙◌}
-use Rattle.wb_script.specs.Lent.{lent_text, lent_texts}
-use Rattle.wb_script.proofs.Found.{map_some, all_fields, field_found, line_skipped, fields_end}
+use Rattle.wb_lines.specs.Lent.{lent_text, lent_texts}
+use Rattle.wb_lines.proofs.Lent.{map_some}
+use Rattle.wb_script.proofs.Found.{all_fields, field_found, line_skipped, fields_end}
 use Rattle.wb_script.proofs.checks.items.fields_behind.Goals as goal
 use Rattle.wb_script.proofs.checks.items.fields_behind.Goals.{in-Field+in_ok-add_some-in-Field, in-Skip}
 

@@ -1,6 +1,7 @@
 use Rattle.std.proofs.Common.{◌≡◌, ◌++◌, drop}
 use Rattle.wb_model.specs.Names.{items_of}
-use Rattle.wb_script.specs.Lent.{lent_items, lent_forms}
+use Rattle.wb_lines.specs.Lent.{lent_forms}
+use Rattle.wb_script.specs.Lent.{lent_items}
 use Rattle.wb_script.proofs.checks.items.items_of.Given as goal
 
 abbrev pub invariant-loop-index : goal.invariant-loop-index

@@ -1,8 +1,9 @@
 use Rattle.std.proofs.Common.{map, ◌∙◌}
 use Rattle.wb_model.specs.Forms.{renamed_taken}
 use Rattle.wb_model.specs.Names.{taken_by}
-use Rattle.wb_script.specs.Lent.{lent_text, lent_operand}
-use Rattle.wb_script.proofs.Found.{map_some, one_found, all_found}
+use Rattle.wb_lines.specs.Lent.{lent_text, lent_operand}
+use Rattle.wb_lines.proofs.Lent.{map_some}
+use Rattle.wb_script.proofs.Found.{one_found, all_found}
 use Rattle.wb_script.proofs.checks.items.parameters_among.Goals as goal
 
 pub loop-operand-preserved : goal.loop-operand-preserved

@@ -1,7 +1,7 @@
 use Rattle.std.proofs.Common.{map, sym, ◌∙◌}
 use Rattle.std.proofs.lemmas.List.{length-map}
 use Rattle.wb_model.specs.Forms.{renamed_taken}
-use Rattle.wb_script.specs.Lent.{lent_text}
+use Rattle.wb_lines.specs.Lent.{lent_text}
 use Rattle.wb_script.proofs.Letters.{given_differ}
 use Rattle.wb_script.proofs.checks.kinds.are_given.Goals as goal
 

@@ -1,7 +1,7 @@
 use Rattle.std.proofs.Common.{◌≡◌, drop, length, map}
 use Rattle.wb_model.specs.Forms.{renamed_taken}
 use Rattle.wb_model.specs.Kinds.{are_given}
-use Rattle.wb_script.specs.Lent.{lent_text}
+use Rattle.wb_lines.specs.Lent.{lent_text}
 use Rattle.wb_script.proofs.checks.kinds.are_given.Given as goal
 
 abbrev pub invariant-loop-index : goal.invariant-loop-index

@@ -1,7 +1,8 @@
 use Rattle.std.proofs.Common.{◌∙◌}
 use Rattle.wb_model.specs.Names.{literal_text}
-use Rattle.wb_script.specs.Lent.{lent_text, lent_texts, lent_operand}
-use Rattle.wb_script.proofs.Found.{map_some, one_found, all_found}
+use Rattle.wb_lines.specs.Lent.{lent_text, lent_texts, lent_operand}
+use Rattle.wb_lines.proofs.Lent.{map_some}
+use Rattle.wb_script.proofs.Found.{one_found, all_found}
 use Rattle.wb_script.proofs.checks.known.add_literals.Goals as goal
 
 pub loop-operand-preserved : goal.loop-operand-preserved

@@ -1,7 +1,7 @@
 use Rattle.std.proofs.Common.{◌≡◌, ◌++◌, drop}
 use Rattle.std.specs.List.{flat_map}
 use Rattle.wb_model.specs.Names.{literal_text}
-use Rattle.wb_script.specs.Lent.{lent_texts, lent_operands}
+use Rattle.wb_lines.specs.Lent.{lent_texts, lent_operands}
 use Rattle.wb_script.proofs.checks.known.add_literals.Given as goal
 
 abbrev pub invariant-loop-operand : goal.invariant-loop-operand

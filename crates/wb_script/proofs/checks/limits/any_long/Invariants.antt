@@ -1,7 +1,7 @@
 use Rattle.std.proofs.Common.{◌≡◌, drop}
 use Rattle.std.specs.List.{list_any}
 use Rattle.wb_model.specs.Names.{is_long}
-use Rattle.wb_script.specs.Lent.{lent_operands}
+use Rattle.wb_lines.specs.Lent.{lent_operands}
 use Rattle.wb_script.proofs.checks.limits.any_long.Given as goal
 
 abbrev pub invariant-loop-operand : goal.invariant-loop-operand

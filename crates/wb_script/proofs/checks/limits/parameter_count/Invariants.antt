@@ -1,7 +1,7 @@
 use Rattle.std.proofs.Common.{◌≡◌, ◌+◌, ◌≤◌, drop, length}
 use Rattle.std.specs.List.{flat_map}
 use Rattle.wb_model.specs.Names.{taken_by}
-use Rattle.wb_script.specs.Lent.{lent_operands}
+use Rattle.wb_lines.specs.Lent.{lent_operands}
 use Rattle.wb_script.proofs.checks.limits.parameter_count.Given as goal
 
 abbrev pub invariant-loop-operand : goal.invariant-loop-operand

@@ -1,7 +1,7 @@
 use Rattle.std.proofs.Common.{◌≡◌, drop}
 use Rattle.std.specs.List.{flat_map}
 use Rattle.wb_model.specs.Names.{has_double, name_passed}
-use Rattle.wb_script.specs.Lent.{lent_operands}
+use Rattle.wb_lines.specs.Lent.{lent_operands}
 use Rattle.wb_script.proofs.checks.names.has_double.Given as goal
 
 abbrev pub invariant-loop-index : goal.invariant-loop-index

@@ -1,7 +1,7 @@
 use Rattle.std.proofs.Common.{◌≡◌, drop}
 use Rattle.std.specs.List.{flat_map}
 use Rattle.wb_model.specs.Names.{is_among, name_passed}
-use Rattle.wb_script.specs.Lent.{lent_operands}
+use Rattle.wb_lines.specs.Lent.{lent_operands}
 use Rattle.wb_script.proofs.checks.names.is_parameter.Given as goal
 
 abbrev pub invariant-loop-operand : goal.invariant-loop-operand

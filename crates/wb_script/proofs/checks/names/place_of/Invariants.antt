@@ -1,7 +1,7 @@
 use Rattle.std.proofs.Common.{◌≡◌}
 use Rattle.std.specs.Str.{bytes_eq}
 use Rattle.wb_model.specs.Names.{first_declaration_of}
-use Rattle.wb_script.specs.Lent.{lent_text, lent_texts}
+use Rattle.wb_lines.specs.Lent.{lent_text, lent_texts}
 use Rattle.wb_script.proofs.Passes.{found_from}
 use Rattle.wb_script.proofs.checks.names.place_of.Given as goal
 

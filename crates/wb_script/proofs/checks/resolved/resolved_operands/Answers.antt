@@ -4,7 +4,8 @@ use Rattle.wb_model.specs.Resolved.{resolved_operands}
 use Rattle.wb_model.specs.declared.script_lines.Meant.{Meant}
 use Rattle.wb_model.specs.declared.script_lines.Operand.{Operand}
 use Rattle.wb_script.specs.Checks.{known_in}
-use Rattle.wb_script.specs.Lent.{lent_items, lent_operand, lent_operands}
+use Rattle.wb_lines.specs.Lent.{lent_operand, lent_operands}
+use Rattle.wb_script.specs.Lent.{lent_items}
 use Rattle.wb_script.proofs.Letters.{resolved_here, resolved_past, resolved_short}
 use Rattle.wb_script.proofs.checks.resolved.resolved_operands.Goals as goal
 

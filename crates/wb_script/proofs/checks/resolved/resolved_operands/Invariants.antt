@@ -1,7 +1,8 @@
 use Rattle.std.proofs.Common.{◌≡◌, ◌++◌, drop, length}
 use Rattle.wb_model.specs.Keys.{letters_with}
 use Rattle.wb_model.specs.Resolved.{resolved_operands}
-use Rattle.wb_script.specs.Lent.{lent_items, lent_operands}
+use Rattle.wb_lines.specs.Lent.{lent_operands}
+use Rattle.wb_script.specs.Lent.{lent_items}
 use Rattle.wb_script.specs.Checks.{known_in}
 use Rattle.wb_script.proofs.checks.resolved.resolved_operands.Given as goal
 

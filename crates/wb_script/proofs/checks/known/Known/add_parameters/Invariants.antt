@@ -2,7 +2,8 @@ use Rattle.std.proofs.Common.{◌≡◌, ◌++◌, drop, map}
 use Rattle.std.specs.List.{flat_map}
 use Rattle.wb_model.specs.Names.{kind_of_parameter, taken_by, name_passed}
 use Rattle.wb_script.specs.Checks.{AreSameItems}
-use Rattle.wb_script.specs.Lent.{lent_kind, lent_texts, lent_operands}
+use Rattle.wb_lines.specs.Lent.{lent_texts, lent_operands}
+use Rattle.wb_script.specs.Lent.{lent_kind}
 use Rattle.wb_script.proofs.checks.known.Known.add_parameters.Given as goal
 
 abbrev pub invariant-loop-operand : goal.invariant-loop-operand

@@ -1,0 +1,4 @@
+pub mod FirstBytes
+pub mod Lent
+pub mod Pieces
+pub mod Typed

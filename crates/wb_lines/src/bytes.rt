@@ -1,0 +1,53 @@
+//! Bytes of which no script is made: too many, or ones that no line holds.
+
+ghost use Rattle.std.specs.Prelude.{◌≡◌, false};
+ghost use Rattle.std.specs.List.{list_any};
+ghost use Rattle.wb_model.specs.Lines.{is_foreign, first_foreign_line, is_too_long};
+
+use wb_model::limits::LONGEST_SCRIPT;
+
+/// More bytes than a script may have.
+pub fn is_too_long(bytes: &[u8]) -> bool
+    ensures { result ≡ is_too_long bytes.now }
+{
+    bytes.len() > LONGEST_SCRIPT as usize
+}
+
+/// Whether a byte is none that stands in a line or ends one.
+pub fn is_foreign(byte: u8) -> bool
+    ensures { result ≡ is_foreign byte }
+{
+    !matches!(byte, b'\t' | b'\n' | b'\r' | b' '..=b'~')
+}
+
+/// Whether a byte is one that no line holds. All bytes are looked at, so that many are at a time.
+fn has_foreign(bytes: &[u8]) -> bool
+    ensures { result ≡ list_any is_foreign bytes.now }
+{
+    let mut found = false;
+    for byte in bytes {
+        found |= is_foreign(*byte);
+    }
+    found
+}
+
+/// The number of the first line that holds a byte other than a tab, a carriage return or printable
+/// ASCII; lines count from 1.
+pub fn first_foreign_line(bytes: &[u8]) -> Option<u32>
+    requires { is_too_long bytes.now ≡ false }
+    ensures { result ≡ first_foreign_line bytes.now }
+{
+    if !has_foreign(bytes) {
+        return None;
+    }
+    let mut line = 1;
+    for byte in bytes {
+        if is_foreign(*byte) {
+            return Some(line);
+        }
+        if *byte == b'\n' {
+            line += 1;
+        }
+    }
+    None
+}

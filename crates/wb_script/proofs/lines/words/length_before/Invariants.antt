@@ -1,6 +1,0 @@
-use Rattle.std.proofs.Common.{◌≡◌, ◌+◌, drop}
-use Rattle.wb_model.specs.Words.{length_before}
-use Rattle.wb_script.proofs.lines.words.length_before.Given as goal
-
-abbrev pub invariant-loop-index : goal.invariant-loop-index
-invariant-loop-index l = l.index + length_before l.byte (drop l.index l.word) ≡ length_before l.byte l.word
