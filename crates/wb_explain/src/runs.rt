@@ -34,6 +34,7 @@ use wb_model::heap::{Rule, Shape};
 use wb_model::limits::LARGEST_BUDGET;
 use wb_model::memory::NoMemory;
 use wb_model::script::Script;
+use wb_model::size::Rise;
 
 /// How a run is made: the attempts that are refused, the greatest number of steps, and the heap's shape.
 #[derive(Clone, Copy, Debug, PartialEq, Eq)]
@@ -61,20 +62,21 @@ pub fn run_found(
     Ok(text)
 }
 
-/// Which line made each attempt that a shorter heap refuses first; empty where the run without a limit is cut. The only
-/// error is that memory ran out.
+/// Returns which line made each attempt that a shorter heap refuses first: those of `rises`, which the run without a limit
+/// makes. The only error is that memory ran out.
 pub fn lengths_found(
     alloc: Global,
     file: ScriptFile<'_>,
     script: &Script,
     budget: u32,
     shape: Shape,
+    rises: &[Rise],
 ) -> Result<String, NoMemory>
     requires script { IsTrue (is_script script.now) }
     requires least { 1 ≤ budget }
     requires greatest { budget ≤ LARGEST_BUDGET }
 {
     let mut text = String::new(alloc);
-    put_lengths(&mut text, file, script, budget, shape)?;
+    put_lengths(&mut text, file, script, budget, shape, rises)?;
     Ok(text)
 }

@@ -5,46 +5,42 @@
 mod explanation;
 mod progress_line;
 mod recorded;
-mod told;
 
 use crate::explanation::explain_answer;
 use crate::progress_line::ProgressLine;
-use crate::recorded::{Record, Recorded, RecordedHost};
+use crate::recorded::{FirstFault, Recorded, RecordedHost};
 use std::cell::RefCell;
 use std::io::Write;
 use std::process::ExitCode;
 use std::{env, io};
-use workbench::program::program;
+use workbench::program::{Exit, program};
 
 fn main(rt: HostRuntime) -> ExitCode {
-    let record = RefCell::new(Record::new(rt.alloc()));
-    let status = program(
+    let first = RefCell::new(None);
+    let exit = program(
         rt.alloc(),
         words(&rt),
         &mut RecordedHost {
             rt: &rt,
-            record: &record,
+            first: &first,
         },
         &mut Recorded {
             stream: io::writer(&rt),
-            record: &record,
+            first: &first,
         },
         &mut rt.stderr(),
         &mut ProgressLine::new(&rt),
     );
-    explain(&rt, &record, status);
-    ExitCode::from(status)
+    explain(&rt, &first, &exit);
+    ExitCode::from(exit.status)
 }
 
 /// Says what there is to say of the answer. Where memory runs out, or a write fails, it is left out.
-fn explain(rt: &HostRuntime, record: &RefCell<Record>, status: u8) {
-    let Ok(words) = words(rt) else {
+fn explain(rt: &HostRuntime, first: &RefCell<FirstFault>, exit: &Exit) {
+    let Ok(first) = first.try_borrow() else {
         return;
     };
-    let Ok(record) = record.try_borrow() else {
-        return;
-    };
-    if let Ok(text) = explain_answer(rt.alloc(), words.as_slice(), &record, status) {
+    if let Ok(text) = explain_answer(rt.alloc(), exit, *first) {
         let _ = rt.stderr().write_all(text.as_bytes());
     }
 }

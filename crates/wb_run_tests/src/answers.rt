@@ -210,8 +210,8 @@ const FAILURES: [Option<ErrorKind>; 3] = [
 /// Whether the answer to what a reader gives is this line alone, that reading failed.
 fn is_read_fault(alloc: Global, reader: &mut impl Read) -> bool {
     let mut writer = Vec::new(alloc);
-    let status = answer(alloc, &run_command(), reader, &mut writer, &mut Silent);
-    writer.as_slice() == READ_FAULT && status == READ_OR_WRITE_FAULT
+    let answered = answer(alloc, &run_command(), reader, &mut writer, &mut Silent);
+    writer.as_slice() == READ_FAULT && answered.status == READ_OR_WRITE_FAULT
 }
 
 #[test]
@@ -238,14 +238,14 @@ fn reads_no_more_where_a_read_failed(rt: HostRuntime) {
 fn reads_no_more_where_the_end_is_met(rt: HostRuntime) {
     let mut reader = giving(LEAKING, None);
     let mut writer = taking(rt.alloc(), 1000, None);
-    let status = answer(
+    let answered = answer(
         rt.alloc(),
         &run_command(),
         &mut reader,
         &mut writer,
         &mut Silent,
     );
-    assert_eq!(rt; status, 1);
+    assert_eq!(rt; answered.status, 1);
     assert!(rt; writer.taken.as_slice() == LEAKING_REPORT);
     assert_eq!(rt; reader.reads, 6);
 }
@@ -253,8 +253,8 @@ fn reads_no_more_where_the_end_is_met(rt: HostRuntime) {
 /// Whether the script that a reader gives has its report.
 fn has_its_report(alloc: Global, reader: &mut impl Read) -> bool {
     let mut writer = Vec::new(alloc);
-    let status = answer(alloc, &run_command(), reader, &mut writer, &mut Silent);
-    writer.as_slice() == LEAKING_REPORT && status == 1
+    let answered = answer(alloc, &run_command(), reader, &mut writer, &mut Silent);
+    writer.as_slice() == LEAKING_REPORT && answered.status == 1
 }
 
 #[test]
@@ -285,14 +285,14 @@ fn reads_no_further_than_a_script_may_be_long(rt: HostRuntime) {
     for (at_once, reads) in [(1, 65_537), (1000, 66), (100_000, 1)] {
         let mut reader = Endless { at_once, reads: 0 };
         let mut writer = Vec::new(rt.alloc());
-        let status = answer(
+        let answered = answer(
             rt.alloc(),
             &run_command(),
             &mut reader,
             &mut writer,
             &mut Silent,
         );
-        assert_eq!(rt; status, 2);
+        assert_eq!(rt; answered.status, 2);
         assert!(rt; writer.as_slice() == b"refused 1\n".as_slice());
         assert_eq!(rt; reader.reads, reads);
     }
@@ -300,7 +300,7 @@ fn reads_no_further_than_a_script_may_be_long(rt: HostRuntime) {
 
 /// Whether writing fails, with this beginning of the text taken before.
 fn stops(alloc: Global, reader: &mut Giver<'_>, writer: &mut impl Write) -> bool {
-    answer(alloc, &run_command(), reader, writer, &mut Silent) == READ_OR_WRITE_FAULT
+    answer(alloc, &run_command(), reader, writer, &mut Silent).status == READ_OR_WRITE_FAULT
 }
 
 /// Whether the report, which is this text, goes out up to its `at`-th write, of five bytes each, where that fails.
@@ -312,7 +312,7 @@ fn ends_at_write(
     kind: Option<ErrorKind>,
 ) -> bool {
     let mut writer = FailingOnce::new(taking(alloc, 1000, None), at, kind);
-    let status = answer(
+    let answered = answer(
         alloc,
         &run_command_in(json),
         &mut giving(LEAKING, None),
@@ -320,7 +320,7 @@ fn ends_at_write(
         &mut Silent,
     );
     let begun = text.get(..at.wrapping_mul(5));
-    status == READ_OR_WRITE_FAULT
+    answered.status == READ_OR_WRITE_FAULT
         && Some(writer.stream.taken.as_slice()) == begun
         && writer.calls == at.wrapping_add(1)
 }
@@ -330,14 +330,14 @@ fn ends_at_write(
 fn writes_no_more_where_a_write_failed(rt: HostRuntime) {
     for json in [false, true] {
         let mut whole = taking(rt.alloc(), 1000, None);
-        let status = answer(
+        let answered = answer(
             rt.alloc(),
             &run_command_in(json),
             &mut giving(LEAKING, None),
             &mut whole,
             &mut Silent,
         );
-        assert_eq!(rt; status, 1);
+        assert_eq!(rt; answered.status, 1);
         let text = whole.taken.as_slice();
         assert_eq!(rt; whole.writes, text.len().div_ceil(5));
         for at in 0..whole.writes {
@@ -378,7 +378,7 @@ fn reads_and_writes_no_oftener_than_there_are_bytes(rt: HostRuntime) -> Result<(
     reader.at_once = 1;
     let mut writer = taking(rt.alloc(), 100, None);
     writer.at_once = 1;
-    let status = answer(
+    let answered = answer(
         rt.alloc(),
         &run_command(),
         &mut reader,
@@ -388,6 +388,6 @@ fn reads_and_writes_no_oftener_than_there_are_bytes(rt: HostRuntime) -> Result<(
     assert_eq!(rt; reader.reads, 65_537);
     assert!(rt; writer.taken.as_slice() == b"refused 1\n".as_slice());
     assert_eq!(rt; writer.writes, 10);
-    assert_eq!(rt; status, 2);
+    assert_eq!(rt; answered.status, 2);
     Ok(())
 }

@@ -97,12 +97,12 @@ fn command_of(wanted: &Wanted) -> Command
 pub(crate) fn is_answered(alloc: Global, wanted: &Wanted) -> bool {
     let mut script = FALLBACK;
     let mut report = Vec::new(alloc);
-    let status = answer(
+    let answered = answer(
         alloc,
         &command_of(wanted),
         &mut script,
         &mut report,
         &mut Silent,
     );
-    report.as_slice() == wanted.report.as_bytes() && status == wanted.status
+    report.as_slice() == wanted.report.as_bytes() && answered.status == wanted.status
 }

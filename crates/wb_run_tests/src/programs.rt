@@ -157,7 +157,7 @@ fn comes_to(alloc: Global, words: io::Result<Vec<&'static str>>, wanted: &Wanted
     let mut desk = full_desk();
     let mut output = Vec::new(alloc);
     let mut messages = Vec::new(alloc);
-    let status = program(
+    let exit = program(
         alloc,
         words,
         &mut desk,
@@ -167,7 +167,7 @@ fn comes_to(alloc: Global, words: io::Result<Vec<&'static str>>, wanted: &Wanted
     );
     output.as_slice() == wanted.output.as_bytes()
         && messages.as_slice() == wanted.messages.as_bytes()
-        && status == wanted.status
+        && exit.status == wanted.status
         && desk.opened == wanted.opened
         && desk.lent == wanted.lent
 }
@@ -210,7 +210,7 @@ fn is_left_alone(alloc: Global, words: Vec<&'static str>) -> bool {
     let mut desk = full_desk();
     let mut output = Vec::new(alloc);
     let mut messages = Vec::new(alloc);
-    let status = program(
+    let exit = program(
         alloc,
         Ok(words),
         &mut desk,
@@ -218,7 +218,7 @@ fn is_left_alone(alloc: Global, words: Vec<&'static str>) -> bool {
         &mut messages,
         &mut Silent,
     );
-    output.is_empty() && status == 6 && desk.opened == 0 && desk.lent == 0
+    output.is_empty() && exit.status == 6 && desk.opened == 0 && desk.lent == 0
 }
 
 #[test]

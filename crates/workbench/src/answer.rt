@@ -13,6 +13,7 @@ ghost use Rattle.wb_model.specs.declared.limits.TheConstants.{LONGEST_SCRIPT};
 ghost use Rattle.workbench.specs.Report.{no_memory, read_fault};
 ghost use Rattle.wb_streams.specs.Streams.{AppendsFirst, Reads, TakesAtMost, Writes};
 
+use crate::findings::Findings;
 use crate::json_report::json_text;
 use crate::report::{Report, report_on};
 use std::alloc::{AllocError, Global};
@@ -63,8 +64,17 @@ impl From<NoMemory> for ReportFault {
     }
 }
 
+/// What came of a command.
+#[derive(Debug, Drop)]
+pub struct Answered {
+    /// The exit status.
+    pub status: u8,
+    /// What the report was made of; `None` if there is no report. No contract speaks of it.
+    pub findings: Option<Findings>,
+}
+
 /// Answers a command whose numbers are in their ranges: reads the script, at most `MOST_READ` bytes of it,
-/// writes the report, as lines or as a JSON object, and gives the exit status.
+/// writes the report, as lines or as a JSON object, and returns the exit status, with what the report was made of.
 ///
 /// Statuses 0 to 3 are those of a report, and the whole of it went out. At `WANT_OF_MEMORY` the line
 /// `no memory` went out alone. At `READ_OR_WRITE_FAULT` a read failed, an interrupted one too, and the line
@@ -83,14 +93,14 @@ pub fn answer<R: Source, W: Sink, P: Progress>(
     reader: &mut R,
     writer: &mut W,
     progress: &mut P,
-) -> u8
+) -> Answered
     requires { IsTrue (is_answerable command.now) }
     ensures answer { IsAnswer R.remaining R.reads W.contents W.writes
-        command.now reader.old reader.new writer.old writer.new result }
-    ensures status { result ≤ 5 }
-    ensures report { result < 4 → IsReportWritten command.now (R.remaining reader.old)
-        (W.contents writer.old) (W.contents writer.new) result }
-    ensures no_memory { result ≡ 4 →
+        command.now reader.old reader.new writer.old writer.new result.status }
+    ensures status { result.status ≤ 5 }
+    ensures report { result.status < 4 → IsReportWritten command.now (R.remaining reader.old)
+        (W.contents writer.old) (W.contents writer.new) result.status }
+    ensures no_memory { result.status ≡ 4 →
         Appends (W.contents writer.old) (W.contents writer.new) no_memory }
     ensures nothing_else { IsPartWritten command.now (R.remaining reader.old)
         (W.contents writer.old) (W.contents writer.new) }
@@ -107,25 +117,34 @@ fn read_and_say<R: Source, W: Sink, P: Progress>(
     reader: &mut R,
     writer: &mut W,
     progress: &mut P,
-) -> u8
+) -> Answered
     requires { IsTrue (is_answerable command.now) }
     ensures answer { IsAnswer R.remaining R.reads W.contents W.writes
-        command.now reader.old reader.new writer.old writer.new result }
+        command.now reader.old reader.new writer.old writer.new result.status }
     ensures taken { TakesAtMost (LONGEST_SCRIPT + 1)
         (R.remaining reader.old) (R.remaining reader.new) }
 {
-    match reported(alloc, command, reader, progress) {
-        Ok(message) => say(writer, message.text.as_slice(), message.status),
-        Err(ReportFault::NoMemory) => say(writer, b"no memory\n", WANT_OF_MEMORY),
+    match read_and_report(alloc, command, reader, progress) {
+        Ok(message) => Answered {
+            status: say(writer, message.text.as_slice(), message.status),
+            findings: Some(message.findings),
+        },
+        Err(ReportFault::NoMemory) => Answered {
+            status: say(writer, b"no memory\n", WANT_OF_MEMORY),
+            findings: None,
+        },
         Err(ReportFault::Read) => say_read_fault(writer),
     }
 }
 
-/// Writes the line of a read that failed, and gives its status.
-pub fn say_read_fault<W: Sink>(writer: &mut W) -> u8
-    ensures { IsWritten W.contents W.writes writer.old writer.new read_fault 5 result }
+/// Writes the line of a read that failed, and returns its status.
+pub fn say_read_fault<W: Sink>(writer: &mut W) -> Answered
+    ensures { IsWritten W.contents W.writes writer.old writer.new read_fault 5 result.status }
 {
-    say(writer, b"read fault\n", READ_OR_WRITE_FAULT)
+    Answered {
+        status: say(writer, b"read fault\n", READ_OR_WRITE_FAULT),
+        findings: None,
+    }
 }
 
 /// Writes a text and gives its status, or `READ_OR_WRITE_FAULT` where a write failed.
@@ -138,16 +157,17 @@ fn say<W: Sink>(writer: &mut W, text: &[u8], status: u8) -> u8
     }
 }
 
-/// A text that is ready to be written, and the exit status that goes with it.
+/// A text that is ready to be written, the exit status that goes with it, and what it was made of.
 #[derive(Debug, Drop)]
 struct Message {
     text: Vec<u8>,
     status: u8,
+    findings: Findings,
 }
 
 /// The report of the command on the first bytes that the reader gives, as the command wants it.
 #[tactic(auto, using(crate::proofs::AsciiLemmas::report_lines))]
-fn reported<R: Source, P: Progress>(
+fn read_and_report<R: Source, P: Progress>(
     alloc: Global,
     command: &Command,
     reader: &mut R,
@@ -162,23 +182,38 @@ fn reported<R: Source, P: Progress>(
 {
     let bytes = first_bytes(alloc, reader, MOST_READ)?;
     let report = report_on(alloc, command, bytes.as_slice(), progress)?;
-    Ok(laid_out(alloc, command, report)?)
+    Ok(lay_out(alloc, command, report, bytes)?)
 }
 
-/// A report as the command wants it: as its lines, or as JSON.
-fn laid_out(alloc: Global, command: &Command, report: Report) -> Result<Message, NoMemory>
+/// Returns a report as the command wants it: as its lines, or as JSON. `bytes` are those of the script.
+fn lay_out(
+    alloc: Global,
+    command: &Command,
+    report: Report,
+    bytes: Vec<u8>,
+) -> Result<Message, NoMemory>
     requires { HasPrintableLines report.text.items }
     ensures text { IfOk result (λ m. m.text.items
         ≡ laid_out command.now report.text.items report.figures report.status) }
     ensures status { IfOk result (λ m. m.status ≡ report.status) }
 {
-    let status = report.status;
-    let text = if command.json {
-        json_text(alloc, command.task, &report)?
+    let json = if command.json {
+        Some(json_text(alloc, command.task, &report)?)
     } else {
-        report.text
+        None
     };
-    Ok(Message { text, status })
+    let Report {
+        text,
+        figures,
+        status,
+        at,
+    } = report;
+    let rises = figures.rises;
+    Ok(Message {
+        text: json.unwrap_or(text),
+        status,
+        findings: Findings { bytes, at, rises },
+    })
 }
 
 /// The first bytes that the reader gives, up to its end or to the most that are wanted.
@@ -192,14 +227,14 @@ fn first_bytes<R: Source>(
     ensures read { Reads R.reads reader.old (is_read_fault result) reader.new }
 {
     let mut bytes = vec![in alloc; 0; most]?;
-    let count = filled(reader, bytes.as_mut_slice())?;
+    let count = fill(reader, bytes.as_mut_slice())?;
     bytes.truncate(count);
     Ok(bytes)
 }
 
 /// Reads until the buffer is full or the reader has no more, and gives how many bytes came. Each read but
 /// the last brings a byte, so there are no more reads than the buffer has bytes, and one.
-fn filled<R: Source>(reader: &mut R, buffer: &mut [u8]) -> Result<usize, StreamFault>
+fn fill<R: Source>(reader: &mut R, buffer: &mut [u8]) -> Result<usize, StreamFault>
     ensures bound { ReadsAtMost result buffer.new }
     ensures bytes { IfOk result (λ n. IfSome (R.remaining reader.old)
         (λ all. take n buffer.new ≡ take (length buffer.old) all)) }

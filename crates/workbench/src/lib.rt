@@ -4,8 +4,9 @@
 #![tactic(auto)]
 
 pub mod answer;
-mod appended;
+mod appending;
 mod figures;
+pub mod findings;
 pub mod host;
 mod json_report;
 pub mod laws;

@@ -4,7 +4,7 @@
 ghost use Rattle.std.specs.Prelude.{◌≡◌, ◌++◌, OnOk};
 ghost use Rattle.workbench.specs.TwoNumbers.{cut_at_line, failing_line, none_line, refuses_line, size_text, sweep_text, table_text};
 
-use crate::appended::appended;
+use crate::appending::or_no_memory;
 use crate::line::Line;
 use crate::run_text::put_run;
 use std::io::Write;
@@ -20,9 +20,9 @@ pub fn put_sizing(text: &mut Vec<u8>, sizing: &Sizing) -> Result<(), NoMemory>
     ensures { OnOk result (text.new.items ≡ text.old.items ++ size_text sizing.now.required sizing.now.rises) }
 {
     let required = sizing.required;
-    appended(writeln!(text, "required {required}"))?;
+    or_no_memory(writeln!(text, "required {required}"))?;
     put_table(text, sizing.rises.as_slice())?;
-    appended(writeln!(text, "enough from {required}"))
+    or_no_memory(writeln!(text, "enough from {required}"))
 }
 
 /// Appends a line for each rise, from the top of the one before on.
@@ -54,7 +54,7 @@ pub fn put_sweep(text: &mut Vec<u8>, failures: Failures, sweep: &Sweep) -> Resul
     ensures { OnOk result (text.new.items ≡ text.old.items ++ sweep_text failures sweep.now) }
 {
     let attempts = sweep.attempts;
-    appended(writeln!(text, "attempts {attempts}"))?;
+    or_no_memory(writeln!(text, "attempts {attempts}"))?;
     match &sweep.found {
         Some(found) => {
             put_failing(text, found.at)?;
@@ -72,7 +72,7 @@ fn put_failing(text: &mut Vec<u8>, failing: Failing) -> Result<(), NoMemory>
         Failing::Every(rate) => writeln!(text, "every {rate}"),
         Failing::Pair(first, second) => writeln!(text, "pair {first} {second}"),
     };
-    appended(put)
+    or_no_memory(put)
 }
 
 fn put_none(text: &mut Vec<u8>, failures: Failures) -> Result<(), NoMemory>
@@ -83,7 +83,7 @@ fn put_none(text: &mut Vec<u8>, failures: Failures) -> Result<(), NoMemory>
         Failures::Every => writeln!(text, "every none"),
         Failures::Pairs => writeln!(text, "pair none"),
     };
-    appended(put)
+    or_no_memory(put)
 }
 
 /// Appends the line of a run that was cut under this failure.
@@ -105,7 +105,7 @@ fn put_cut(text: &mut Vec<u8>, number: u32, why: Why) -> Result<(), NoMemory>
         Why::Budget => writeln!(text, "cut {number} budget"),
         Why::Ceiling => writeln!(text, "cut {number} ceiling"),
     };
-    appended(put)
+    or_no_memory(put)
 }
 
 fn put_cut_pair(text: &mut Vec<u8>, first: u32, second: u32, why: Why) -> Result<(), NoMemory>
@@ -116,5 +116,5 @@ fn put_cut_pair(text: &mut Vec<u8>, first: u32, second: u32, why: Why) -> Result
         Why::Budget => writeln!(text, "cut {first} {second} budget"),
         Why::Ceiling => writeln!(text, "cut {first} {second} ceiling"),
     };
-    appended(put)
+    or_no_memory(put)
 }

@@ -8,7 +8,8 @@ ghost use Rattle.wb_command_line.specs.Command.{is_answerable};
 ghost use Rattle.workbench.specs.Program.{IsCarriedOut, IsDone, IsReadAs, IsRefused, fault_of_words, words_status};
 ghost use Rattle.workbench.specs.Report.{read_fault};
 
-use crate::answer::{READ_OR_WRITE_FAULT, WANT_OF_MEMORY, answer, say_read_fault};
+use crate::answer::{Answered, WANT_OF_MEMORY, answer, say_read_fault};
+use crate::findings::Findings;
 use crate::host::{Host, Messages, WordsFault};
 use std::alloc::Global;
 use std::convert::AsStr;
@@ -21,8 +22,19 @@ use wb_sweep::Progress;
 /// The exit status of a fault in the command line.
 pub const COMMAND_LINE_FAULT: u8 = 6;
 
-/// Carries out the command that the words spell, and gives the exit status. `words` are all of the program's
-/// words, its name first, or why they could not be had; all of them are handed to `command`.
+/// What came of the program's words.
+#[derive(Debug, Drop)]
+pub struct Exit {
+    /// The exit status.
+    pub status: u8,
+    /// The command that the words spell; `None` if they spell none. No contract speaks of it.
+    pub command: Option<Command>,
+    /// What the report was made of; `None` if there is no report. No contract speaks of it.
+    pub findings: Option<Findings>,
+}
+
+/// Carries out the command that the words spell, and returns the exit status, with what an explanation of the answer needs.
+/// `words` are all of the program's words, its name first, or why they could not be had; all of them are handed to `command`.
 ///
 /// Where they are no command, `messages` is told why, and nothing else is touched: the status is
 /// `COMMAND_LINE_FAULT`, or `WANT_OF_MEMORY` where the memory for the command ran out. Else `messages` is not
@@ -40,7 +52,7 @@ pub fn program<S: AsStr + Drop, H: Host, W: Sink, M: Messages, P: Progress>(
     output: &mut W,
     messages: &mut M,
     progress: &mut P,
-) -> u8
+) -> Exit
     ensures done { MatchResult words
         (λ had. IsDone
         (IsCarriedOut H.lends H.opens
@@ -48,22 +60,33 @@ pub fn program<S: AsStr + Drop, H: Host, W: Sink, M: Messages, P: Progress>(
         (IsAnswer H.File.remaining H.File.reads W.contents W.writes)
         (λ old new. IsWritten W.contents W.writes old new read_fault 5))
         M.tells (map S.text had.items)
-        host.old host.new output.old output.new messages.old messages.new result)
+        host.old host.new output.old output.new messages.old messages.new result.status)
         (λ error. IsRefused M.tells (fault_of_words error)
-        host.old host.new output.old output.new messages.old messages.new result) }
-    ensures status { result ≤ 6 }
+        host.old host.new output.old output.new messages.old messages.new result.status) }
+    ensures status { result.status ≤ 6 }
 {
-    match commanded(alloc, words) {
-        Ok(command) => carry_out(alloc, &command, host, output, progress),
+    match read_words(alloc, words) {
+        Ok(command) => {
+            let answered = carry_out(alloc, &command, host, output, progress);
+            Exit {
+                status: answered.status,
+                command: Some(command),
+                findings: answered.findings,
+            }
+        }
         Err(fault) => {
             messages.tell(&fault);
-            status_of(&fault)
+            Exit {
+                status: status_of(&fault),
+                command: None,
+                findings: None,
+            }
         }
     }
 }
 
 /// The command of the words, where they could be had.
-fn commanded<S: AsStr + Drop>(
+fn read_words<S: AsStr + Drop>(
     alloc: Global,
     words: io::Result<Vec<S>>,
 ) -> Result<Command, WordsFault>
@@ -83,14 +106,14 @@ fn carry_out<H: Host, W: Sink, P: Progress>(
     host: &mut H,
     output: &mut W,
     progress: &mut P,
-) -> u8
+) -> Answered
     requires { IsTrue (is_answerable command.now) }
     ensures done { IsCarriedOut H.lends H.opens
         (IsAnswer H.Input.remaining H.Input.reads W.contents W.writes)
         (IsAnswer H.File.remaining H.File.reads W.contents W.writes)
         (λ old new. IsWritten W.contents W.writes old new read_fault 5)
-        command.now host.old host.new output.old output.new result }
-    ensures status { result ≤ 5 }
+        command.now host.old host.new output.old output.new result.status }
+    ensures status { result.status ≤ 5 }
 {
     let Some(name) = &command.file else {
         let mut input = host.standard_input();

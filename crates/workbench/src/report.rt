@@ -6,12 +6,13 @@ ghost use Rattle.wb_command_line.specs.Command.{is_answerable};
 ghost use Rattle.workbench.specs.Figures.{no_figures};
 ghost use Rattle.workbench.specs.Report.{IsReport, fault_line, refused, refused_at};
 
-use crate::appended::appended;
+use crate::appending::or_no_memory;
 use crate::figures::Figures;
 use crate::tasks::carry_out;
 use std::alloc::Global;
 use std::io::Write;
 use wb_command_line::command::Command;
+use wb_model::failures::Failing;
 use wb_model::fault::ScriptFault;
 use wb_model::memory::NoMemory;
 use wb_sweep::Progress;
@@ -22,6 +23,8 @@ pub struct Report {
     pub text: Vec<u8>,
     pub figures: Figures,
     pub status: u8,
+    /// The failure whose run it shows, or under which a run was cut. No contract speaks of it.
+    pub at: Option<Failing>,
 }
 
 /// The report of a command for the bytes of a script: what its task comes to, or the one line that says why the
@@ -55,6 +58,7 @@ fn refusal(alloc: Global, fault: ScriptFault) -> Result<Report, NoMemory>
         text,
         figures: Figures::none(),
         status: 2,
+        at: None,
     })
 }
 
@@ -80,11 +84,11 @@ fn put_fault(text: &mut Vec<u8>, fault: ScriptFault) -> Result<(), NoMemory>
 fn put_refused(text: &mut Vec<u8>, fault: u8) -> Result<(), NoMemory>
     ensures { OnOk result (text.new.items ≡ text.old.items ++ refused fault) }
 {
-    appended(writeln!(text, "refused {fault}"))
+    or_no_memory(writeln!(text, "refused {fault}"))
 }
 
 fn put_refused_at(text: &mut Vec<u8>, fault: u8, line: u32) -> Result<(), NoMemory>
     ensures { OnOk result (text.new.items ≡ text.old.items ++ refused_at fault line) }
 {
-    appended(writeln!(text, "refused {fault} line {line}"))
+    or_no_memory(writeln!(text, "refused {fault} line {line}"))
 }

@@ -5,7 +5,7 @@ ghost use Rattle.std.specs.Prelude.{◌≡◌, ◌++◌, OnOk};
 ghost use Rattle.std.specs.List.{flat_map};
 ghost use Rattle.workbench.specs.RunText.{answer_word, print_line, note_line, attempt_line, leak_line, leaks_text, end_line, panic_line, cut_line, outcome_text, run_text};
 
-use crate::appended::appended;
+use crate::appending::or_no_memory;
 use crate::line::Line;
 use std::io::Write;
 use wb_model::heap::{Answer, Attempt, Panic};
@@ -21,7 +21,7 @@ pub fn put_run(text: &mut Vec<u8>, run: &RunResult) -> Result<(), NoMemory>
     put_trace(text, &run.trace)?;
     put_outcome(text, &run.outcome)?;
     let steps = run.steps;
-    appended(writeln!(text, "steps {steps}"))
+    or_no_memory(writeln!(text, "steps {steps}"))
 }
 
 fn put_lines(text: &mut Vec<u8>, lines: &Lines) -> Result<(), NoMemory>
@@ -123,7 +123,7 @@ fn put_outcome(text: &mut Vec<u8>, outcome: &Outcome) -> Result<(), NoMemory>
             put_leaks(text, leaks)
         }
         Outcome::Panicked(panic) => put_panic(text, *panic),
-        Outcome::NoCleanup => appended(writeln!(text, "nocleanup")),
+        Outcome::NoCleanup => or_no_memory(writeln!(text, "nocleanup")),
         Outcome::Cut(why) => put_cut(text, *why),
     }
 }
@@ -135,14 +135,14 @@ fn put_end(text: &mut Vec<u8>, left: Option<i32>) -> Result<(), NoMemory>
         None => writeln!(text, "ended"),
         Some(code) => writeln!(text, "left {code}"),
     };
-    appended(put)
+    or_no_memory(put)
 }
 
 fn put_leaks(text: &mut Vec<u8>, leaks: &Leaks) -> Result<(), NoMemory>
     ensures { OnOk result (text.new.items ≡ text.old.items ++ leaks_text leaks.now) }
 {
     let count = leaks.len();
-    appended(writeln!(text, "leaks {count}"))?;
+    or_no_memory(writeln!(text, "leaks {count}"))?;
     for leak in leaks.as_slice() {
         put_leak(text, *leak)?;
     }
@@ -167,16 +167,16 @@ fn put_panic(text: &mut Vec<u8>, panic: Panic) -> Result<(), NoMemory>
     ensures { OnOk result (text.new.items ≡ text.old.items ++ panic_line panic) }
 {
     match panic {
-        Panic::User(number) => appended(writeln!(text, "panic USER {number}")),
+        Panic::User(number) => or_no_memory(writeln!(text, "panic USER {number}")),
         Panic::Alloc(place) => put_failed_check(text, place),
-        Panic::Workbench(number) => { appended(writeln!(text, "panic WORKBENCH {number}")) }
+        Panic::Workbench(number) => { or_no_memory(writeln!(text, "panic WORKBENCH {number}")) }
     }
 }
 
 fn put_failed_check(text: &mut Vec<u8>, place: u32) -> Result<(), NoMemory>
     ensures { OnOk result (text.new.items ≡ text.old.items ++ panic_line (Panic.Alloc place)) }
 {
-    appended(writeln!(text, "panic ALLOC {place:08x}"))
+    or_no_memory(writeln!(text, "panic ALLOC {place:08x}"))
 }
 
 fn put_cut(text: &mut Vec<u8>, why: Why) -> Result<(), NoMemory>
@@ -186,5 +186,5 @@ fn put_cut(text: &mut Vec<u8>, why: Why) -> Result<(), NoMemory>
         Why::Budget => writeln!(text, "cut budget"),
         Why::Ceiling => writeln!(text, "cut ceiling"),
     };
-    appended(put)
+    or_no_memory(put)
 }

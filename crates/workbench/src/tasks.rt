@@ -79,6 +79,7 @@ fn run_report(
                 text,
                 figures: Figures::of_run(&run),
                 status: status_of(&run.outcome),
+                at: None,
             })
         }
         // The command's shape is one that a heap may have.
@@ -121,11 +122,12 @@ fn size_report(
                 text,
                 figures: Figures::of_size(sizing),
                 status: NOTHING_FOUND,
+                at: None,
             })
         }
         Err(SizeFault::Cut { number, why }) => {
             put_cut_at(&mut text, Failing::Number(number), why)?;
-            Ok(cut_report(text))
+            Ok(cut_report(text, Failing::Number(number)))
         }
         // The command's shape is one that a heap may have.
         Err(SizeFault::BadShape) => unreachable!(),
@@ -161,11 +163,12 @@ fn sweep_report<P: Progress>(
                 text,
                 figures: Figures::of_sweep(sweep.attempts, number),
                 status,
+                at: sweep.found.map(|found| found.at),
             })
         }
         Err(SweepFault::Cut { at, why }) => {
             put_cut_at(&mut text, at, why)?;
-            Ok(cut_report(text))
+            Ok(cut_report(text, at))
         }
         // The command's shape is one that a heap may have.
         Err(SweepFault::BadShape) => unreachable!(),
@@ -173,8 +176,8 @@ fn sweep_report<P: Progress>(
     }
 }
 
-/// The report of a run that was cut, whose line is the text.
-fn cut_report(text: Vec<u8>) -> Report
+/// The report of a run that was cut under a failure, whose line is the text.
+fn cut_report(text: Vec<u8>, at: Failing) -> Report
     ensures text { result.text ≡ text }
     ensures figures { result.figures ≡ no_figures }
     ensures status { result.status ≡ 3 }
@@ -183,6 +186,7 @@ fn cut_report(text: Vec<u8>) -> Report
         text,
         figures: Figures::none(),
         status: CUT,
+        at: Some(at),
     }
 }
 
@@ -210,5 +214,6 @@ fn check_report<P: Progress>(
     report.text.extend_from_slice(sweep.text.as_slice())?;
     report.figures = Figures::of_both(report.figures, sweep.figures);
     report.status = sweep.status;
+    report.at = sweep.at;
     Ok(report)
 }

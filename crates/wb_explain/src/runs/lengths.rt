@@ -1,5 +1,5 @@
-//! What is said of the table of lengths: which line makes each attempt that a shorter heap refuses first. The run is made
-//! twice: once for its rises, and once more up to the last of them that is told. Neither keeps a trace.
+//! What is said of the table of lengths: which line makes each attempt that a shorter heap refuses first. The run is made once
+//! more for this, without a trace, up to the last of these attempts that is named.
 
 ghost use Rattle.std.specs.Prelude.{◌≤◌, IsTrue};
 ghost use Rattle.wb_model.specs.Sound.{is_script};
@@ -7,55 +7,32 @@ ghost use Rattle.wb_model.specs.Sound.{is_script};
 use crate::runs::counts::plural;
 use crate::runs::script_file::ScriptFile;
 use std::alloc::{AllocError, Global};
-use wb_machine::{Machine, RunFault, run_rises};
+use wb_machine::{Machine, RunFault};
 use wb_model::heap::Shape;
 use wb_model::limits::LARGEST_BUDGET;
 use wb_model::memory::NoMemory;
-use wb_model::run::{Outcome, RisesResult};
 use wb_model::script::Script;
 use wb_model::size::Rise;
 
-/// The most rows that are told.
+/// The most rows that are shown.
 const MOST_ROWS: usize = 20;
 
-/// Says of each row of the table which line makes its attempt, unless the run is cut, or no heap may have the shape.
+/// Says of each row of the table which line makes its attempt, unless no heap may have the shape.
 pub fn put_lengths(
     text: &mut String,
     file: ScriptFile<'_>,
     script: &Script,
     budget: u32,
     shape: Shape,
+    rises: &[Rise],
 ) -> Result<(), NoMemory>
     requires script { IsTrue (is_script script.now) }
     requires least { 1 ≤ budget }
     requires greatest { budget ≤ LARGEST_BUDGET }
 {
-    let alloc = *text.allocator();
-    match run_rises(alloc, script, budget, shape) {
-        Ok(told) => put_rises(text, file, script, budget, shape, &told),
-        Err(RunFault::BadShape) => Ok(()),
-        Err(RunFault::NoMemory) => Err(NoMemory),
-    }
-}
-
-fn put_rises(
-    text: &mut String,
-    file: ScriptFile<'_>,
-    script: &Script,
-    budget: u32,
-    shape: Shape,
-    told: &RisesResult,
-) -> Result<(), NoMemory>
-    requires script { IsTrue (is_script script.now) }
-    requires least { 1 ≤ budget }
-    requires greatest { budget ≤ LARGEST_BUDGET }
-{
-    if let Outcome::Cut(_) = told.outcome {
-        return Ok(());
-    }
     let alloc = *text.allocator();
     match Machine::new_rises(alloc, script, budget, shape) {
-        Ok(mut machine) => put_rows(text, file, &mut machine, budget, told.rises.as_slice()),
+        Ok(mut machine) => put_rows(text, file, &mut machine, budget, rises),
         Err(RunFault::BadShape) => Ok(()),
         Err(RunFault::NoMemory) => Err(NoMemory),
     }

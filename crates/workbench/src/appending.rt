@@ -5,8 +5,8 @@ ghost use Rattle.std.specs.Prelude.{IsOk, OnOk};
 use std::io;
 use wb_model::memory::NoMemory;
 
-/// Tells a line that could not be appended by its one reason: the text could not grow.
-pub fn appended(put: io::Result<()>) -> Result<(), NoMemory>
+/// Returns why a line could not be appended: there is one reason, that the text could not grow.
+pub fn or_no_memory(put: io::Result<()>) -> Result<(), NoMemory>
     ensures { OnOk result (IsOk put) }
 {
     match put {

@@ -1,8 +1,8 @@
--- Proof: commanded. A fault of the words is the one that `command` finds.
+-- Proof: read_words. A fault of the words is the one that `command` finds.
 use Rattle.std.proofs.Common.{map, rules}
 use Rattle.workbench.specs.Program.{fault_of_words}
 use Rattle.workbench.proofs.ProgramLemmas.{read_as_fault}
-use Rattle.workbench.proofs.program.commanded.Goals as goal
+use Rattle.workbench.proofs.program.read_words.Goals as goal
 
 pub returns-in_err-command : goal.returns-in_err-command
 returns-in_err-command g c =

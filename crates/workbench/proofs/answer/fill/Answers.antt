@@ -1,9 +1,9 @@
--- Proof: filled. Each read puts its bytes behind those that came before.
+-- Proof: fill. Each read puts its bytes behind those that came before.
 use Rattle.std.proofs.Common.{rules}
 use Rattle.workbench.proofs.KnownBytesLemmas.{Consumes-more, Consumes-nothing, taken_before_end, taken_before_fault, taken_front}
 use Rattle.wb_streams.specs.Streams.{none}
 use Rattle.wb_streams.proofs.TriesLemmas.{read_ended, read_failed, read_more, read_on}
-use Rattle.workbench.proofs.answer.filled.Goals as goal
+use Rattle.workbench.proofs.answer.fill.Goals as goal
 
 pub loop-filled-init : goal.loop-filled-init
 loop-filled-init g c = record { within = search rules; gave = Consumes-nothing _; tried = none }

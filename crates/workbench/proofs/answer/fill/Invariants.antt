@@ -1,8 +1,8 @@
--- Proof: filled. What stands at the front of the buffer is what the reader gave.
+-- Proof: fill. What stands at the front of the buffer is what the reader gave.
 use Rattle.std.proofs.Common.{length, ◌-◌, ◌≤◌, take}
 use Rattle.std.specs.Io.KnownBytes.{Consumes}
 use Rattle.wb_streams.specs.Streams.{some_bytes, Tries}
-use Rattle.workbench.proofs.answer.filled.Given as goal
+use Rattle.workbench.proofs.answer.fill.Given as goal
 
 abbrev pub invariant-loop-filled : goal.invariant-loop-filled
 invariant-loop-filled g l = record {

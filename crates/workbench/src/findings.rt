@@ -1,0 +1,15 @@
+//! What an answer was made of, for whoever explains it. No contract speaks of it, and no report stands on it.
+
+use wb_model::failures::Failing;
+use wb_size::Rises;
+
+/// What a report was made of.
+#[derive(Debug, Drop)]
+pub struct Findings {
+    /// The bytes of the script that were read.
+    pub bytes: Vec<u8>,
+    /// The failure whose run the report shows, or under which a run was cut; `None` if it names none.
+    pub at: Option<Failing>,
+    /// The attempt that each shorter heap refuses first; `None` if the script wasn't sized.
+    pub rises: Option<Rises>,
+}
