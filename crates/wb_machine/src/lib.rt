@@ -10,6 +10,7 @@ mod cells;
 mod cleanup;
 mod control;
 pub mod fault;
+pub mod finished;
 pub mod laws;
 mod leaves;
 mod locals;
@@ -32,7 +33,9 @@ mod windows;
 mod words;
 
 pub use fault::RunFault;
+pub use finished::Finished;
 pub use machine::{Machine, Turn, run, run_rises};
+pub use wb_debug::Heap;
 pub use wb_model::heap::{Rule, Shape};
 pub use wb_model::memory::NoMemory;
 pub use wb_model::run::{RisesResult, RunResult};

@@ -1,4 +1,4 @@
-//! The machine that callers see, and a whole run. What a turn does stands in `control`.
+//! The machine that callers see, and a whole run. What a turn does stands in `control`, and what a run leaves in `finished`.
 
 ghost use Rattle.std.specs.Prelude.{◌≡◌, ◌+◌, ◌≤◌, ◌↔◌, true, false, length, min, is_err, IsTrue, IfOk, IsOk, OnOk, OnErr};
 ghost use Rattle.wb_model.specs.Sound.{is_script};
@@ -7,13 +7,11 @@ ghost use Rattle.wb_model.specs.Space.{is_shape};
 ghost use Rattle.wb_model.specs.Debug.{keeps_rises};
 ghost use Rattle.wb_model.specs.Run.{rises_told, run};
 ghost use Rattle.wb_model.specs.declared.heap.Rule.TheVariants.{Unlimited};
-ghost use Rattle.wb_model.specs.declared.run.Outcome.TheVariants.{Cut};
-ghost use Rattle.wb_model.specs.declared.run.Why.TheVariants.{Ceiling};
 ghost use Rattle.wb_machine.specs.declared.machine.Turn.TheVariants.{GoesOn, Ended};
 ghost use Rattle.wb_machine.specs.declared.fault.RunFault.TheVariants.{BadShape};
 ghost use Rattle.wb_machine.specs.Flow.{is_stop};
 ghost use Rattle.wb_machine.specs.RunState.{first_state};
-ghost use Rattle.wb_machine.specs.Seen.{line_after, seen_at_start, whole_run_of};
+ghost use Rattle.wb_machine.specs.Seen.{line_after, seen_at_start};
 ghost use Rattle.wb_machine.specs.Told.{leaks_at_end};
 
 use crate::control::Control;
@@ -22,6 +20,7 @@ use crate::pieces::Ending;
 use crate::state::State;
 use std::alloc::Global;
 use std::marker::Model;
+use wb_debug::Heap;
 use wb_model::heap::{Rule, Shape};
 use wb_model::items::Items;
 use wb_model::limits::LARGEST_BUDGET;
@@ -41,13 +40,13 @@ pub enum Turn {
 /// A run under way.
 #[derive(Drop)]
 pub struct Machine<'a> {
-    script: &'a Script,
-    budget: u32,
-    begun: bool,
-    control: Control<'a>,
-    state: State,
-    leaks: Leaks,
-    failed: bool,
+    pub(crate) script: &'a Script,
+    pub(crate) budget: u32,
+    pub(crate) begun: bool,
+    pub(crate) control: Control<'a>,
+    pub(crate) state: State,
+    pub(crate) leaks: Leaks,
+    pub(crate) failed: bool,
 }
 
 impl<'a> Model for Machine<'a> {
@@ -163,12 +162,19 @@ impl<'a> Machine<'a> {
     pub fn try_copy(&self) -> Result<Machine<'a>, NoMemory>
         ensures { IfOk result (λ copy. copy ≡ self.now) }
     {
+        self.try_copy_over(None)
+    }
+
+    /// The same, its cells over the memory of `spare`, whose own are lost, where there is one and it has room.
+    pub fn try_copy_over(&self, spare: Option<Heap>) -> Result<Machine<'a>, NoMemory>
+        ensures { IfOk result (λ copy. copy ≡ self.now) }
+    {
         Ok(Machine {
             script: self.script,
             budget: self.budget,
             begun: self.begun,
             control: self.control.try_copy()?,
-            state: self.state.try_copy()?,
+            state: self.state.try_copy_over(spare)?,
             leaks: self.leaks.try_copy()?,
             failed: self.failed,
         })
@@ -241,7 +247,7 @@ impl<'a> Machine<'a> {
     }
 
     /// Takes all turns that are left, unless memory has run out.
-    fn take_all_turns(&mut self) -> Result<(), NoMemory>
+    pub(crate) fn take_all_turns(&mut self) -> Result<(), NoMemory>
         ensures script { self.new.script ≡ self.old.script }
         ensures rule { self.new.rule ≡ self.old.rule }
         ensures budget { self.new.budget ≡ self.old.budget }
@@ -254,70 +260,6 @@ impl<'a> Machine<'a> {
             Turn::GoesOn => self.take_other_turns(),
             Turn::Ended => Ok(()),
         }
-    }
-
-    /// Takes all turns that are left. An Ok is what the run comes to under the machine's rule: exactly what the definitions
-    /// say of a whole run, but without a trace where the machine keeps the rises.
-    pub fn run_to_end(mut self) -> Result<RunResult, NoMemory>
-        ensures { IfOk result (λ told. told
-            ≡ (whole_run_of self.entry).result) }
-    {
-        self.take_all_turns()?;
-        Ok(self.into_result())
-    }
-
-    /// What the run tells, once it is over: exactly what the definitions say of the script, the rule, the
-    /// budget and the shape. Its trace has a line for each attempt. The machine is one made by `new`.
-    pub fn result(self) -> RunResult
-        requires over { self.over ≡ true }
-        requires well { self.failed ≡ false }
-        requires lines { self.keeps_rises ≡ false }
-        ensures told { result ≡ run self.entry.script self.entry.rule self.entry.budget self.entry.shape }
-        ensures attempts { length result.trace ≡ self.entry.attempts }
-        ensures ceiling { (self.entry.met_ceiling ≡ true) ↔ (result.outcome ≡ Cut Ceiling) }
-    {
-        self.into_result()
-    }
-
-    /// The same of every machine; the trace is empty where the rises are kept.
-    fn into_result(self) -> RunResult
-        requires over { self.over ≡ true }
-        requires well { self.failed ≡ false }
-        ensures told { result ≡ (whole_run_of self.entry).result }
-        ensures attempts { (whole_run_of self.entry).attempts ≡ self.entry.attempts }
-        ensures ceiling { (self.entry.met_ceiling ≡ true) ↔ (result.outcome ≡ Cut Ceiling) }
-    {
-        let Machine {
-            script: _,
-            budget: _,
-            begun: _,
-            control,
-            state,
-            leaks,
-            failed: _,
-        } = self;
-        state.finish(control.ending(), leaks)
-    }
-
-    /// Returns the outcome, the rises and the steps of a run that is over, of a machine made by `new_rises`: those of what
-    /// the definitions say of a whole run.
-    pub fn rises_result(self) -> RisesResult
-        requires over { self.over ≡ true }
-        requires well { self.failed ≡ false }
-        requires rises { self.keeps_rises ≡ true }
-        ensures { result
-            ≡ rises_told (run self.entry.script self.entry.rule self.entry.budget self.entry.shape) }
-    {
-        let Machine {
-            script: _,
-            budget: _,
-            begun: _,
-            control,
-            state,
-            leaks,
-            failed: _,
-        } = self;
-        state.finish_rises(control.ending(), leaks)
     }
 }
 

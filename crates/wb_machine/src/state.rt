@@ -16,12 +16,14 @@ ghost use Rattle.wb_machine.specs.PointerOperands.{held_in};
 ghost use Rattle.wb_machine.specs.Owed.{IsSameButFrames, KeepsCount};
 
 use crate::arguments::Handed;
+use crate::finished::Finished;
 use crate::locals::{Locals, NULL, Slot};
 use crate::pieces::Ending;
 use crate::pointers::Sight;
 use std::alloc::Global;
 use std::marker::Model;
 use wb_cleanup::Cleanup;
+use wb_debug::Heap;
 use wb_debug::debug_heap::DebugHeap;
 use wb_debug::fault::DebugFault;
 use wb_model::heap::{Ptr, Rule, Shape};
@@ -76,12 +78,13 @@ impl State {
         Ok(over_heap(alloc, DebugHeap::new_rises(alloc, shape)?))
     }
 
-    /// The same state, in memory of its own: what is done to one changes nothing in the other.
-    pub fn try_copy(&self) -> Result<State, NoMemory>
+    /// The same state, in memory of its own, or that of its cells over the memory of `spare`, whose own are lost, where there is
+    /// one and it has room: what is done to one changes nothing in the other.
+    pub fn try_copy_over(&self, spare: Option<Heap>) -> Result<State, NoMemory>
         ensures { IfOk result (λ copy. copy ≡ self.now) }
     {
         Ok(State {
-            heap: self.heap.try_copy()?,
+            heap: self.heap.try_copy_over(spare)?,
             cleanup: self.cleanup,
             this: self.this,
             locals: self.locals.try_copy()?,
@@ -260,9 +263,9 @@ impl State {
         }
     }
 
-    /// What a run tells, by how it ended and by its leaks.
-    pub fn finish(self, ending: Ending, leaks: Leaks) -> RunResult
-        ensures { result ≡ told_by ending leaks self }
+    /// What a run leaves, by how it ended and by its leaks.
+    pub fn finish(self, ending: Ending, leaks: Leaks) -> Finished
+        ensures { result.result ≡ told_by ending leaks self }
     {
         let State {
             heap,
@@ -273,12 +276,16 @@ impl State {
             notes,
             steps,
         } = self;
-        RunResult {
-            outcome: outcome_by(ending, leaks),
-            trace: heap.into_trace(),
-            lines,
-            notes,
-            steps,
+        let (trace, heap) = heap.into_trace_and_heap();
+        Finished {
+            result: RunResult {
+                outcome: outcome_by(ending, leaks),
+                trace,
+                lines,
+                notes,
+                steps,
+            },
+            heap,
         }
     }
 }

@@ -10,7 +10,7 @@ use Rattle.wb_machine.specs.Flow.{has_met_ceiling}
 use Rattle.wb_machine.specs.Seen.{Seen}
 use Rattle.wb_machine.specs.Told.{outcome_by, told_by}
 use Rattle.wb_machine.proofs.OverRuns.{run_over}
-use Rattle.wb_machine.proofs.machine.Machine.into_result.Goals as goal
+use Rattle.wb_machine.proofs.machine.Machine.into_finished.Goals as goal
 
 pub returns-clause-told : goal.returns-clause-told
 returns-clause-told c =
@@ -37,7 +37,7 @@ tells_ceiling NoCleanup leaks = (λ e. cc, λ e. cc)
 pub returns-clause-ceiling : goal.returns-clause-ceiling
 returns-clause-ceiling c =
     let ending = c.self.inside.control.ending in
-    let is : (has_met_ceiling ending ≡ true) ↔ (c.finish.result.outcome ≡ outcomes.Cut Ceiling) =
+    let is : (has_met_ceiling ending ≡ true) ↔ (c.finish.result.result.outcome ≡ outcomes.Cut Ceiling) =
     subst (λ (x : RunResult). (has_met_ceiling ending ≡ true) ↔ (x.outcome ≡ outcomes.Cut Ceiling)) (sym (c.finish.ensures ∙ ap (λ e. told_by e c.self.inside.leaks c.self.inside.state) c.ending.ensures))
     (tells_ceiling ending c.self.inside.leaks) in
-    subst (λ (b : Bool). (b ≡ true) ↔ (c.finish.result.outcome ≡ outcomes.Cut Ceiling)) (ap (λ (s : Seen). s.met_ceiling) c.self.view_is) is
+    subst (λ (b : Bool). (b ≡ true) ↔ (c.finish.result.result.outcome ≡ outcomes.Cut Ceiling)) (ap (λ (s : Seen). s.met_ceiling) c.self.view_is) is

@@ -7,10 +7,10 @@ use Rattle.wb_machine.proofs.machine.Machine.result.Goals as goal
 pub returns-clause-told : goal.returns-clause-told
 returns-clause-told c =
     let s = c.args.self in
-    c.into_result.ensures.told ∙ ap (λ b. (whole_run b s.script s.rule s.budget s.shape).result) c.requires.lines
+    c.into_finished.ensures.told ∙ ap (λ b. (whole_run b s.script s.rule s.budget s.shape).result) c.requires.lines
 
 pub returns-clause-attempts : goal.returns-clause-attempts
 returns-clause-attempts c =
     let s = c.args.self in
     ap (λ (x : RunResult). length x.trace) (returns-clause-told c) ∙ sym (whole-attempts false s.script s.rule s.budget s.shape)
-    ∙ sym (ap (λ b. (whole_run b s.script s.rule s.budget s.shape).attempts) c.requires.lines) ∙ c.into_result.ensures.attempts
+    ∙ sym (ap (λ b. (whole_run b s.script s.rule s.budget s.shape).attempts) c.requires.lines) ∙ c.into_finished.ensures.attempts

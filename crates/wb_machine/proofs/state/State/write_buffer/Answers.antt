@@ -1,4 +1,4 @@
-use Rattle.std.proofs.Common.{◌≡◌, ap, ◌∙◌}
+use Rattle.std.proofs.Common.{ap, ◌∙◌}
 use Rattle.wb_model.specs.declared.text.View.{View}
 use Rattle.wb_model.specs.Reading.{buffer_text, max_in}
 use Rattle.wb_hbuf.specs.Sources.{edit_text, source_units}
