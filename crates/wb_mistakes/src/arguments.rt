@@ -3,10 +3,11 @@
 use crate::lines::{Line, Word};
 use crate::notes::note_local;
 use crate::page::{Page, Piece, Spot};
-use crate::sorts::{described, is_number_sort, is_pointer, sort_in_body};
+use crate::sorts::{described, sort_in_body};
 use crate::spaces::{item_named, key_of};
-use crate::words::{before, behind};
-use wb_model::script_lines::Key;
+use wb_lines::sorts::{is_number_sort, is_pointer_sort};
+use wb_lines::words::{before_first, parameter_taken};
+use wb_model::script_lines::{Key, Taken};
 
 /// The place of the procedure in a call.
 fn callee(line: &Line) -> usize {
@@ -19,10 +20,9 @@ fn callee(line: &Line) -> usize {
 /// Whether a word is what a parameter takes.
 fn is_given(lines: &[Line], index: usize, parameter: Word, word: &[u8]) -> bool {
     let sort = sort_in_body(lines, index, word);
-    if behind(b':', parameter.text) == b"int".as_slice() {
-        is_number_sort(sort)
-    } else {
-        is_pointer(sort)
+    match parameter_taken(parameter.text) {
+        Some(Taken::Number) => is_number_sort(sort),
+        _ => is_pointer_sort(sort),
     }
 }
 
@@ -73,7 +73,7 @@ fn wrong_argument<'x>(
             Piece::Text("`"),
         ],
     );
-    note_local(page, lines, index, before(b'.', spot.word));
+    note_local(page, lines, index, before_first(b'.', spot.word));
 }
 
 /// The first line of the procedure that a line calls.

@@ -2,7 +2,8 @@
 
 use crate::lines::Line;
 use std::alloc::{AllocError, Global};
-use wb_model::script_lines::{Key, Role};
+use wb_lines::keys::role_of;
+use wb_model::script_lines::Role;
 
 /// What may stand next in an open block.
 #[derive(Clone, Copy)]
@@ -47,23 +48,6 @@ pub(crate) struct Blocks {
     pub slanted: Option<Closed>,
 }
 
-/// What lines of a key are to the nesting of blocks.
-pub(crate) fn role_of(key: Key) -> Role {
-    match key {
-        Key::Class => Role::Class,
-        Key::Field | Key::ClassField => Role::Field,
-        Key::Constructor => Role::Construct,
-        Key::Destructor => Role::Destroy,
-        Key::Proc | Key::Op => Role::Procedure,
-        Key::Ptr | Key::ClassPtr | Key::Int | Key::Buf | Key::View => Role::Declaration,
-        Key::IfNull | Key::IfSome | Key::IfEqual | Key::IfLess => Role::If,
-        Key::Else => Role::Else,
-        Key::Repeat | Key::Trap => Role::Loop,
-        Key::End => Role::End,
-        _ => Role::Plain,
-    }
-}
-
 /// Whether a line begins a body, by what it is.
 pub(crate) fn begins_body(role: Role) -> bool {
     matches!(role, Role::Procedure | Role::Construct | Role::Destroy)
@@ -71,8 +55,8 @@ pub(crate) fn begins_body(role: Role) -> bool {
 
 /// What a line is to the nesting of blocks, by its form.
 pub(crate) fn role(line: &Line) -> Role {
-    match line.row {
-        Some(row) => role_of(row.0),
+    match line.key {
+        Some(key) => role_of(key),
         None => Role::Skip,
     }
 }

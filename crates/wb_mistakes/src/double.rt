@@ -5,7 +5,8 @@ use crate::lines::{Line, Word};
 use crate::notes::note_name;
 use crate::page::{Page, Span, Spot};
 use crate::spaces::{line_of_field, line_of_item, line_of_local};
-use crate::words::{before, is_parameter, is_parameter_named};
+use crate::words::{is_parameter, is_parameter_named};
+use wb_lines::words::before_first;
 use wb_model::script_lines::Role;
 
 /// What is said of a name, behind it.
@@ -39,7 +40,7 @@ fn is_before(words: &[Word], place: usize, name: &[u8]) -> bool {
 /// The first parameter of a line whose name an earlier one has.
 fn second_parameter<'a>(line: &Line<'a>) -> Option<Spot<'a>> {
     for (place, word) in line.words.iter().enumerate() {
-        let name = before(b':', word.text);
+        let name = before_first(b':', word.text);
         if is_parameter(word.text) && is_before(&line.words, place, name) {
             let span = Span {
                 column: word.column,

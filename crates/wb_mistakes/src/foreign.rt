@@ -2,6 +2,7 @@
 
 use crate::lines::Line;
 use crate::page::{Page, Piece, Span};
+use wb_lines::bytes::is_foreign;
 
 /// The hexadecimal digits.
 static DIGITS: [&str; 16] = [
@@ -10,10 +11,6 @@ static DIGITS: [&str; 16] = [
 
 fn digit(value: u8) -> &'static str {
     DIGITS.get(value as usize).copied().unwrap_or("?")
-}
-
-fn is_foreign(byte: u8) -> bool {
-    !matches!(byte, b'\t' | b'\r' | b' '..=b'~')
 }
 
 /// The first such byte and its column.

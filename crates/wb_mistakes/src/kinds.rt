@@ -7,23 +7,16 @@ use crate::lines::{Line, Word};
 use crate::misspelled::help_wanted;
 use crate::notes::{note, note_local, note_name};
 use crate::page::{Page, Piece, Span, Spot};
-use crate::sorts::{declared_at, described, is_pointer, sort_in_body, sort_of, takes};
-use crate::spaces::{body_of, class_named, class_of, key_at, key_of, line_of_item};
-use crate::words::{before, behind, is_field, is_parameter, is_plain_kind};
+use crate::sorts::{declared_at, described, sort_in_body, sort_of};
+use crate::spaces::{body_of, class_of, key_at, key_of, line_of_item};
+use crate::words::{is_field, is_parameter};
+use wb_lines::sorts::{is_pointer_sort, takes};
+use wb_lines::words::{before_first, behind_first};
 use wb_model::script_lines::{Key, Letter, Role, Sort};
 
 /// Whether a word may be what it is where a letter stands.
 fn is_right(lines: &[Line], index: usize, letter: Letter, word: &[u8]) -> bool {
-    takes(letter, sort_of(lines, index, letter, word)) && is_right_parameter(lines, letter, word)
-}
-
-/// Whether the class of a parameter is one, where the word is a parameter.
-fn is_right_parameter(lines: &[Line], letter: Letter, word: &[u8]) -> bool {
-    let class = behind(b':', word);
-    match letter {
-        Letter::Parameter if !is_plain_kind(class) => { class_named(lines, class).is_some() }
-        _ => true,
-    }
+    takes(letter, sort_of(lines, index, letter, word))
 }
 
 /// The same where a letter may stand; a word where none does is right.
@@ -59,7 +52,7 @@ fn tell_kind<'x>(page: &mut Page, spot: Spot<'x>, is: &'x str) {
 
 /// What stands before the dot of a field.
 fn spot_of_holder<'a>(line: &Line<'a>, word: Word<'a>) -> Spot<'a> {
-    let holder = before(b'.', word.text);
+    let holder = before_first(b'.', word.text);
     let span = Span {
         column: word.column,
         length: holder.len(),
@@ -69,7 +62,7 @@ fn spot_of_holder<'a>(line: &Line<'a>, word: Word<'a>) -> Spot<'a> {
 
 /// The class of a parameter.
 fn spot_of_class<'a>(line: &Line<'a>, word: Word<'a>) -> Spot<'a> {
-    let class = behind(b':', word.text);
+    let class = behind_first(b':', word.text);
     let end = word.column.saturating_add(word.text.len());
     let span = Span {
         column: end.saturating_sub(class.len()),
@@ -106,7 +99,7 @@ fn wrong_name(page: &mut Page, lines: &[Line], index: usize, letter: Letter, spo
             page,
             lines,
             declared,
-            before(b'.', spot.word),
+            before_first(b'.', spot.word),
             "declared here",
         );
     }
@@ -114,7 +107,7 @@ fn wrong_name(page: &mut Page, lines: &[Line], index: usize, letter: Letter, spo
 
 /// Whether a word is a field whose holder has no class.
 fn is_loose(lines: &[Line], index: usize, word: &[u8]) -> bool {
-    is_field(word) && class_of(lines, index, before(b'.', word)).is_none()
+    is_field(word) && class_of(lines, index, before_first(b'.', word)).is_none()
 }
 
 /// Says what is wrong with the word at a place.
@@ -137,7 +130,7 @@ fn wrong_operand(page: &mut Page, lines: &[Line], index: usize, line: &Line, pla
 fn sides_differ(lines: &[Line], index: usize, line: &Line) -> bool {
     let target = sort_in_body(lines, index, line.text_at(1));
     let source = sort_in_body(lines, index, line.text_at(2));
-    matches!(key_of(line), Some(Key::Set)) && is_pointer(target) != is_pointer(source)
+    matches!(key_of(line), Some(Key::Set)) && is_pointer_sort(target) != is_pointer_sort(source)
 }
 
 fn wrong_sides(page: &mut Page, lines: &[Line], index: usize, line: &Line) {
@@ -156,7 +149,7 @@ fn wrong_sides(page: &mut Page, lines: &[Line], index: usize, line: &Line) {
         ],
     );
     note_local(page, lines, index, target);
-    note_local(page, lines, index, before(b'.', source));
+    note_local(page, lines, index, before_first(b'.', source));
     page.help_text("`set` takes two pointers, or an int and a number");
 }
 

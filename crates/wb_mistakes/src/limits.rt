@@ -4,12 +4,14 @@ use crate::blocks::{Blocks, role, role_at};
 use crate::lines::{Line, Word};
 use crate::page::{Page, Piece, Span};
 use crate::spaces::{body_of, class_before, key_of};
-use crate::words::{before, behind, is_name, is_parameter, value};
+use crate::words::is_parameter;
+use wb_lines::forms::operand_of;
+use wb_lines::words::{before_first, behind_first, is_name};
 use wb_model::limits::{
     DEEPEST_BLOCK, LARGEST_BUFFER, LONGEST_NAME, MOST_CLASSES, MOST_EXTRA, MOST_FIELDS,
     MOST_LOCALS, MOST_PARAMETERS, MOST_PROCEDURES,
 };
-use wb_model::script_lines::{Key, Role};
+use wb_model::script_lines::{Key, Letter, Operand, Role};
 
 /// A limit that is passed: of what, what was counted, how many there may be, and where the word stands that passes it.
 #[derive(Clone, Copy)]
@@ -27,10 +29,10 @@ fn is_long(name: &[u8]) -> bool {
 /// The length of the part of a word that is a name longer than names may be; 0 where there is none.
 fn long_part(word: &[u8]) -> usize {
     let byte = if is_parameter(word) { b':' } else { b'.' };
-    if is_long(before(byte, word)) {
-        before(byte, word).len()
-    } else if is_long(behind(byte, word)) {
-        behind(byte, word).len()
+    if is_long(before_first(byte, word)) {
+        before_first(byte, word).len()
+    } else if is_long(behind_first(byte, word)) {
+        behind_first(byte, word).len()
     } else {
         0
     }
@@ -96,9 +98,17 @@ fn passed_by(what: &'static str, counted: usize, most: u32, span: Span) -> Optio
     }
 }
 
+/// The size that a word spells; 0 where it spells none.
+fn size_of(word: &[u8]) -> usize {
+    match operand_of(Letter::Size, word) {
+        Some(Operand::Size(size)) => size as usize,
+        _ => 0,
+    }
+}
+
 /// The size that a line passes a limit with.
 fn large_size(line: &Line) -> Option<Passed> {
-    let size = value(line.text_at(2)) as usize;
+    let size = size_of(line.text_at(2));
     match key_of(line) {
         Some(Key::Class) => passed_by("extra bytes of a class", size, MOST_EXTRA, line.span_at(2)),
         Some(Key::Buf) => passed_by("units of a buffer", size, LARGEST_BUFFER, line.span_at(2)),

@@ -1,9 +1,12 @@
 //! The lines of a script and their words, with the columns in which the words begin.
 
-use crate::blocks::{begins_body, role_of};
-use crate::forms::{Row, row_of};
+use crate::blocks::begins_body;
 use crate::page::{Span, Spot};
 use std::alloc::{AllocError, Global};
+use wb_lines::forms::{begins_comment, form_of};
+use wb_lines::keys::role_of;
+use wb_lines::pieces::{self, add_words, is_blank};
+use wb_model::script_lines::{Form, Key};
 
 /// A word of a line. Columns count from 0, in the line without the blanks before it.
 #[derive(Clone, Copy)]
@@ -21,7 +24,7 @@ impl<'a> Word<'a> {
     }
 }
 
-/// A line: its number, its text without the blanks around it, how many stand before it, its words, what it says where it is of some form, and
+/// A line: its number, its text without the blanks around it, how many stand before it, its words, the key of its form where it is of some, and
 /// the index of the line that begins the body in which it stands, which may be itself.
 #[derive(Drop)]
 pub(crate) struct Line<'a> {
@@ -29,7 +32,7 @@ pub(crate) struct Line<'a> {
     pub text: &'a [u8],
     pub indent: usize,
     pub words: Vec<Word<'a>>,
-    pub row: Option<&'static Row>,
+    pub key: Option<Key>,
     pub body: usize,
 }
 
@@ -40,10 +43,6 @@ pub(crate) fn part<'a>(bytes: &'a [u8], from: usize, to: usize) -> &'a [u8] {
     } else {
         &[]
     }
-}
-
-fn is_blank(byte: u8) -> bool {
-    matches!(byte, b' ' | b'\t' | b'\r')
 }
 
 /// How many blanks stand before the first byte that is none.
@@ -67,39 +66,34 @@ fn trimmed<'a>(line: &'a [u8]) -> &'a [u8] {
     part(line, 0, end)
 }
 
-fn add_word<'a>(
-    words: &mut Vec<Word<'a>>,
+/// Words of a line, each with the column in which it begins: between two words stand blanks alone.
+fn placed<'a>(
+    alloc: Global,
     line: &'a [u8],
-    from: usize,
-    to: usize,
-) -> Result<(), AllocError> {
-    let text = part(line, from, to);
-    if !text.is_empty() {
-        words.push(Word { text, column: from })?;
+    texts: &[&'a [u8]],
+) -> Result<Vec<Word<'a>>, AllocError> {
+    let mut words = Vec::with_capacity(alloc, texts.len())?;
+    let mut end: usize = 0;
+    for text in texts {
+        let column = end.saturating_add(blanks_before(part(line, end, line.len())));
+        words.push(Word { text, column })?;
+        end = column.saturating_add(text.len());
     }
-    Ok(())
-}
-
-/// The words of a line. A blank between quotes ends no word.
-fn words_of<'a>(alloc: Global, line: &'a [u8]) -> Result<Vec<Word<'a>>, AllocError> {
-    let mut words = Vec::new(alloc);
-    let mut start = 0;
-    let mut is_quoted = false;
-    for (index, byte) in line.iter().enumerate() {
-        if is_blank(*byte) && !is_quoted {
-            add_word(&mut words, line, start, index)?;
-            start = index + 1;
-        }
-        is_quoted = is_quoted != (*byte == b'"');
-    }
-    add_word(&mut words, line, start, line.len())?;
     Ok(words)
 }
 
+/// The key of the form that words have; none where they are of no form, or begin a comment.
+fn key_of_words(alloc: Global, texts: &[&[u8]]) -> Result<Option<Key>, AllocError> {
+    match form_of(alloc, texts)? {
+        Form::Line(key, _) => Ok(Some(key)),
+        Form::Skip | Form::Unknown => Ok(None),
+    }
+}
+
 /// The body in which a line of a form stands, behind these lines.
-fn body_behind(lines: &[Line], row: Option<&'static Row>) -> usize {
-    match (row, lines.last()) {
-        (Some(row), _) if begins_body(role_of(row.0)) => lines.len(),
+fn body_behind(lines: &[Line], key: Option<Key>) -> usize {
+    match (key, lines.last()) {
+        (Some(key), _) if begins_body(role_of(key)) => lines.len(),
         (_, Some(line)) => line.body,
         (_, None) => 0,
     }
@@ -112,15 +106,16 @@ fn line_behind<'a>(
 ) -> Result<Line<'a>, AllocError> {
     let indent = blanks_before(bytes);
     let text = trimmed(part(bytes, indent, bytes.len()));
-    let words = words_of(alloc, text)?;
-    let row = row_of(&words);
+    let mut texts = Vec::new(alloc);
+    add_words(&mut texts, text)?;
+    let key = key_of_words(alloc, &texts)?;
     Ok(Line {
         number: lines.len().saturating_add(1),
         text,
         indent,
-        words,
-        row,
-        body: body_behind(lines, row),
+        words: placed(alloc, text, &texts)?,
+        key,
+        body: body_behind(lines, key),
     })
 }
 
@@ -137,15 +132,8 @@ fn add_line<'a>(
 /// The lines of a script.
 pub(crate) fn lines_of<'a>(alloc: Global, bytes: &'a [u8]) -> Result<Vec<Line<'a>>, AllocError> {
     let mut lines = Vec::new(alloc);
-    let mut start = 0;
-    for (index, byte) in bytes.iter().enumerate() {
-        if *byte == b'\n' {
-            add_line(alloc, &mut lines, part(bytes, start, index))?;
-            start = index + 1;
-        }
-    }
-    if start < bytes.len() {
-        add_line(alloc, &mut lines, part(bytes, start, bytes.len()))?;
+    for line in pieces::lines(alloc, bytes)? {
+        add_line(alloc, &mut lines, line)?;
     }
     Ok(lines)
 }
@@ -167,7 +155,7 @@ impl<'a> Line<'a> {
     /// The first word, where the line has any and is no comment.
     pub(crate) fn first(&self) -> Option<Word<'a>> {
         match self.word(0) {
-            Some(word) if !is_comment(word.text) => Some(word),
+            Some(word) if !begins_comment(word.text) => Some(word),
             _ => None,
         }
     }
@@ -210,9 +198,4 @@ impl<'a> Line<'a> {
             length: self.text.len(),
         }
     }
-}
-
-/// Whether a word begins a comment.
-pub(crate) fn is_comment(word: &[u8]) -> bool {
-    matches!(word, [b'#', ..])
 }

@@ -1,15 +1,18 @@
 //! A line that is of no form: no such statement, too few or too many words, or a word of a wrong form.
 
-use crate::forms::{Row, admits, begins, first_wrong, letter_at, rows, say_form, say_forms};
-use crate::lines::{Line, Word, is_comment};
+use crate::forms::{admits, begins, first_wrong, letter_at, say_form, say_forms};
+use crate::lines::{Line, Word};
 use crate::nearest::{Near, Search};
 use crate::page::{Page, Piece, Span, Spot};
 use crate::words::is_field;
 use crate::wrong_words::{complaint_of, wanted};
-use wb_model::script_lines::Letter;
+use wb_lines::forms::begins_comment;
+use wb_lines::keys::{keys, letters_of, text_of};
+use wb_lines::words::text_of_keyword;
+use wb_model::script_lines::{Key, Keyword, Letter};
 
-/// The words that ask a condition.
-static CONDITIONS: [&str; 4] = ["null", "some", "eq", "less"];
+/// What a condition asks.
+static CONDITIONS: [Keyword; 4] = [Keyword::Null, Keyword::Some, Keyword::Equal, Keyword::Less];
 
 /// From a word on to the end of its line.
 fn spot_from<'a>(line: &Line<'a>, word: Word<'a>) -> Spot<'a> {
@@ -22,7 +25,7 @@ fn spot_from<'a>(line: &Line<'a>, word: Word<'a>) -> Spot<'a> {
 
 fn first_comment<'a>(line: &Line<'a>) -> Option<Word<'a>> {
     for word in &line.words {
-        if is_comment(word.text) {
+        if begins_comment(word.text) {
             return Some(*word);
         }
     }
@@ -49,8 +52,8 @@ fn open_quote<'a>(line: &Line<'a>) -> Option<Word<'a>> {
 /// The word that begins lines and is nearest to this one.
 fn nearest_statement(word: &[u8]) -> Option<Near<'static>> {
     let mut search = Search::of(word);
-    for row in rows() {
-        search.consider(row.1.as_bytes(), 0);
+    for key in keys() {
+        search.consider(text_of(*key), 0);
     }
     search.found
 }
@@ -58,14 +61,14 @@ fn nearest_statement(word: &[u8]) -> Option<Near<'static>> {
 fn nearest_condition(word: &[u8]) -> Option<Near<'static>> {
     let mut search = Search::of(word);
     for condition in &CONDITIONS {
-        search.consider(condition.as_bytes(), 0);
+        search.consider(text_of_keyword(*condition), 0);
     }
     search.found
 }
 
 fn is_statement(word: &[u8]) -> bool {
-    for row in rows() {
-        if begins(row, word) {
+    for key in keys() {
+        if begins(*key, word) {
             return true;
         }
     }
@@ -74,7 +77,7 @@ fn is_statement(word: &[u8]) -> bool {
 
 fn is_condition(word: &[u8]) -> bool {
     for condition in &CONDITIONS {
-        if condition.as_bytes() == word {
+        if text_of_keyword(*condition) == word {
             return true;
         }
     }
@@ -116,22 +119,22 @@ fn asks_nothing(line: &Line) -> bool {
 
 /// Whether a form is the one that the line was to be, where it may have so many words: the word of a condition, and the field
 /// of a `set`, must be right.
-fn is_meant(row: &Row, line: &Line) -> bool {
-    let is_asked = match row.2.first() {
-        Some(Letter::Keyword(_) | Letter::FieldTarget) => first_wrong(row, &line.words) != Some(1),
+fn is_meant(key: Key, line: &Line) -> bool {
+    let is_asked = match letters_of(key).first() {
+        Some(Letter::Keyword(_) | Letter::FieldTarget) => first_wrong(key, &line.words) != Some(1),
         Some(Letter::Target) => !is_field(line.text_at(1)),
         _ => true,
     };
-    begins(row, line.text_at(0)) && is_asked
+    begins(key, line.text_at(0)) && is_asked
 }
 
 /// The form that the line was to be: one that may have so many words, or else the last of those that begin as it does.
-fn meant(line: &Line) -> Option<&'static Row> {
+fn meant(line: &Line) -> Option<Key> {
     let mut found = None;
-    for row in rows() {
-        if is_meant(row, line) {
-            found = Some(row);
-            if admits(row, line.words.len()) {
+    for key in keys() {
+        if is_meant(*key, line) {
+            found = Some(*key);
+            if admits(*key, line.words.len()) {
                 return found;
             }
         }
@@ -144,22 +147,22 @@ fn is_else_if(line: &Line) -> bool {
 }
 
 /// The first word too many, or the whole line where it has too few.
-fn spot_of_count<'a>(line: &Line<'a>, row: &Row, is_more: bool) -> Spot<'a> {
-    match first_wrong(row, &line.words) {
+fn spot_of_count<'a>(line: &Line<'a>, key: Key, is_more: bool) -> Spot<'a> {
+    match first_wrong(key, &line.words) {
         Some(place) if is_more => line.spot_of(line.span_at(place), line.text_at(0)),
         _ => line.spot_of(line.span(), line.text_at(0)),
     }
 }
 
 /// Says that a line has too few words, or too many.
-fn wrong_count(page: &mut Page, line: &Line, row: &Row) {
-    let is_more = line.words.len() > row.2.len();
+fn wrong_count(page: &mut Page, line: &Line, key: Key) {
+    let is_more = line.words.len() > letters_of(key).len();
     let problem = if is_more {
         "too many words for `"
     } else {
         "too few words for `"
     };
-    page.tell_word(spot_of_count(line, row, is_more), problem, "`");
+    page.tell_word(spot_of_count(line, key, is_more), problem, "`");
     if is_else_if(line) {
         page.help_text("the `if` stands in the next line, and has an `end` of its own");
     }
@@ -167,25 +170,25 @@ fn wrong_count(page: &mut Page, line: &Line, row: &Row) {
 }
 
 /// Says what a place takes, and the form of its line.
-fn help_place(page: &mut Page, row: &Row, letter: Letter) {
+fn help_place(page: &mut Page, key: Key, letter: Letter) {
     page.say(&[
         Piece::Text("help: here stands "),
         Piece::Text(wanted(letter)),
         Piece::Text(": "),
     ]);
-    say_form(page, row);
+    say_form(page, key);
     page.end();
 }
 
 /// The same of a line that is of some form.
 pub(crate) fn help_wanted(page: &mut Page, line: &Line, letter: Letter) {
-    if let Some(row) = line.row {
-        help_place(page, row, letter);
+    if let Some(key) = line.key {
+        help_place(page, key, letter);
     }
 }
 
 /// Says what is wrong with the word at a place of a form.
-fn wrong_word(page: &mut Page, row: &Row, letter: Letter, spot: Spot) {
+fn wrong_word(page: &mut Page, key: Key, letter: Letter, spot: Spot) {
     let found = complaint_of(letter, spot.word);
     page.tell(
         spot,
@@ -199,7 +202,7 @@ fn wrong_word(page: &mut Page, row: &Row, letter: Letter, spot: Spot) {
     if !found.hint.is_empty() {
         page.help_text(found.hint);
     }
-    help_place(page, row, letter);
+    help_place(page, key, letter);
 }
 
 fn behind_statement(page: &mut Page, spot: Spot) {
@@ -213,13 +216,13 @@ fn quote_not_closed(page: &mut Page, spot: Spot) {
 }
 
 /// Says what is wrong with the words of a line that begins as some form does.
-fn wrong_words(page: &mut Page, line: &Line, row: &Row) {
-    match first_wrong(row, &line.words) {
-        Some(place) if admits(row, line.words.len()) => {
-            let letter = letter_at(row, place).unwrap_or(Letter::Declared);
-            wrong_word(page, row, letter, line.spot(place));
+fn wrong_words(page: &mut Page, line: &Line, key: Key) {
+    match first_wrong(key, &line.words) {
+        Some(place) if admits(key, line.words.len()) => {
+            let letter = letter_at(key, place).unwrap_or(Letter::Declared);
+            wrong_word(page, key, letter, line.spot(place));
         }
-        _ => wrong_count(page, line, row),
+        _ => wrong_count(page, line, key),
     }
 }
 
@@ -236,7 +239,7 @@ pub(crate) fn explain_misspelled(page: &mut Page, line: &Line) {
         quote_not_closed(page, spot_from(line, word));
     } else if asks_nothing(line) {
         no_such_condition(page, line.spot(1));
-    } else if let Some(row) = meant(line) {
-        wrong_words(page, line, row);
+    } else if let Some(key) = meant(line) {
+        wrong_words(page, line, key);
     }
 }

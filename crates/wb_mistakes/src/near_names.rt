@@ -4,7 +4,8 @@ use crate::blocks::role;
 use crate::lines::{Line, Word};
 use crate::nearest::{Near, Search};
 use crate::spaces::{body_of, item_begun, key_of, kind_declared};
-use crate::words::{before, is_parameter};
+use crate::words::is_parameter;
+use wb_lines::words::before_first;
 use wb_model::script_lines::{ItemKind, Key, Role};
 
 fn is_item(line: &Line, kind: ItemKind) -> bool {
@@ -29,7 +30,7 @@ impl<'w, 'a> Search<'w, 'a> {
     fn consider_parameters(&mut self, words: &[Word<'a>], number: usize) {
         for word in words {
             if is_parameter(word.text) {
-                self.consider(before(b':', word.text), number);
+                self.consider(before_first(b':', word.text), number);
             }
         }
     }

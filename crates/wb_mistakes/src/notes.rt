@@ -3,7 +3,7 @@
 use crate::lines::Line;
 use crate::page::{Page, Span};
 use crate::spaces::line_of_local;
-use crate::words::before;
+use wb_lines::words::before_first;
 
 /// Writes a line about another line of the script, and shows that with its first word marked.
 pub(crate) fn note(page: &mut Page, lines: &[Line], index: usize, text: &str) {
@@ -15,7 +15,7 @@ pub(crate) fn note(page: &mut Page, lines: &[Line], index: usize, text: &str) {
 /// Where a line declares a name: behind its first word, and without the kind of a parameter. The whole line, where it doesn't.
 fn span_of(line: &Line, name: &[u8]) -> Span {
     for word in &line.words {
-        if word.column > 0 && before(b':', word.text) == name {
+        if word.column > 0 && before_first(b':', word.text) == name {
             return Span {
                 column: word.column,
                 length: name.len(),

@@ -20,7 +20,7 @@ fn ungrammatical(page: &mut Page, lines: &[Line], index: usize, blocks: &Blocks)
     let number = index.saturating_add(1);
     match lines.get(index) {
         None => ends_early(page, lines, blocks, number),
-        Some(line) if line.row.is_some() => explain_misplaced(page, lines, blocks, line),
+        Some(line) if line.key.is_some() => explain_misplaced(page, lines, blocks, line),
         Some(line) => explain_misspelled(page, line),
     }
 }

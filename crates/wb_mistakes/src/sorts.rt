@@ -2,10 +2,12 @@
 
 use crate::lines::Line;
 use crate::spaces::{
-    Local, class_of, field_named, has_self, item_named, line_of_item, line_of_local, local_named,
+    Local, class_named, class_of, field_named, has_self, item_named, line_of_item, line_of_local,
+    local_named,
 };
-use crate::words::{before, behind, is_field, is_literal, is_number};
-use wb_model::script_lines::{ItemKind, Kind, Letter, Sort};
+use crate::words::{is_field, is_literal, is_number};
+use wb_lines::words::{before_first, behind_first, parameter_taken};
+use wb_model::script_lines::{ItemKind, Kind, Letter, Sort, Taken};
 
 fn sort_of_item(kind: ItemKind) -> Sort {
     match kind {
@@ -47,9 +49,17 @@ fn sort_of_name(lines: &[Line], index: usize, name: &[u8]) -> Sort {
 
 /// A field whose holder has no class is nothing.
 fn sort_of_field(lines: &[Line], index: usize, word: &[u8]) -> Sort {
-    match class_of(lines, index, before(b'.', word)) {
-        Some(class) if field_named(lines, class, behind(b'.', word)).is_some() => Sort::Field,
+    match class_of(lines, index, before_first(b'.', word)) {
+        Some(class) if field_named(lines, class, behind_first(b'.', word)).is_some() => Sort::Field,
         _ => Sort::Nothing,
+    }
+}
+
+/// A parameter whose class is none is nothing.
+fn sort_of_parameter(lines: &[Line], word: &[u8]) -> Sort {
+    match parameter_taken(word) {
+        Some(Taken::OfClass(class)) if class_named(lines, class).is_none() => Sort::Nothing,
+        _ => Sort::Parameter,
     }
 }
 
@@ -70,41 +80,12 @@ pub(crate) fn sort_in_body(lines: &[Line], index: usize, word: &[u8]) -> Sort {
 pub(crate) fn sort_of(lines: &[Line], index: usize, letter: Letter, word: &[u8]) -> Sort {
     match letter {
         Letter::Class | Letter::Procedure | Letter::Operation => sort_in_items(lines, word),
+        Letter::Declared => Sort::Declared,
+        Letter::Size => Sort::Size,
+        Letter::Keyword(_) => Sort::Keyword,
+        Letter::Parameter => sort_of_parameter(lines, word),
+        Letter::ItsPointer => Sort::Parameter,
         _ => sort_in_body(lines, index, word),
-    }
-}
-
-pub(crate) fn is_pointer(sort: Sort) -> bool {
-    matches!(sort, Sort::Pointer | Sort::This | Sort::Field)
-}
-
-pub(crate) fn is_number_sort(sort: Sort) -> bool {
-    matches!(sort, Sort::Number | Sort::Variable)
-}
-
-fn is_text(sort: Sort) -> bool {
-    matches!(sort, Sort::Buffer | Sort::View | Sort::Literal) || is_pointer(sort)
-}
-
-/// Whether a place takes what stands for this. What a line declares is right by its form.
-pub(crate) fn takes(letter: Letter, sort: Sort) -> bool {
-    match letter {
-        Letter::Pointer => is_pointer(sort),
-        Letter::Written => matches!(sort, Sort::Pointer | Sort::Field),
-        Letter::Receiver => matches!(sort, Sort::Pointer),
-        Letter::FieldTarget => matches!(sort, Sort::Field),
-        Letter::Value => is_number_sort(sort),
-        Letter::Variable => matches!(sort, Sort::Variable),
-        Letter::Target => matches!(sort, Sort::Pointer | Sort::Variable),
-        Letter::Source | Letter::Argument => is_number_sort(sort) || is_pointer(sort),
-        Letter::Writable => matches!(sort, Sort::Buffer) || is_pointer(sort),
-        Letter::Readable => is_text(sort),
-        Letter::ViewName => matches!(sort, Sort::View),
-        Letter::Printed => is_number_sort(sort) || is_text(sort),
-        Letter::Class => matches!(sort, Sort::Class),
-        Letter::Procedure => matches!(sort, Sort::Procedure),
-        Letter::Operation => matches!(sort, Sort::Operation),
-        _ => true,
     }
 }
 
@@ -135,6 +116,6 @@ pub(crate) fn declared_at(
 ) -> Option<usize> {
     match letter {
         Letter::Class | Letter::Procedure | Letter::Operation => { line_of_item(lines, word) }
-        _ => line_of_local(lines, index, before(b'.', word)),
+        _ => line_of_local(lines, index, before_first(b'.', word)),
     }
 }

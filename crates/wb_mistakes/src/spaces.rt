@@ -2,8 +2,9 @@
 
 use crate::blocks::{role, role_at};
 use crate::lines::{Line, Word};
-use crate::words::{behind, is_parameter_named};
-use wb_model::script_lines::{ItemKind, Key, Kind, Role};
+use crate::words::is_parameter_named;
+use wb_lines::words::parameter_taken;
+use wb_model::script_lines::{ItemKind, Key, Kind, Role, Taken};
 
 /// A local: what it holds, and the line that declares it.
 #[derive(Clone, Copy)]
@@ -21,10 +22,7 @@ pub(crate) struct Item {
 
 /// What a line is by its form.
 pub(crate) fn key_of(line: &Line) -> Option<Key> {
-    match line.row {
-        Some(row) => Some(row.0),
-        None => None,
-    }
+    line.key
 }
 
 /// The same of the line with an index.
@@ -99,13 +97,10 @@ pub(crate) fn has_self(lines: &[Line], index: usize) -> bool {
 
 /// What a parameter holds.
 pub(crate) fn kind_of_parameter<'a>(word: &'a [u8]) -> Kind<&'a [u8]> {
-    let taken = behind(b':', word);
-    if taken == b"ptr".as_slice() {
-        Kind::Pointer(None)
-    } else if taken == b"int".as_slice() {
-        Kind::Number
-    } else {
-        Kind::Pointer(Some(taken))
+    match parameter_taken(word) {
+        Some(Taken::Number) => Kind::Number,
+        Some(Taken::OfClass(class)) => Kind::Pointer(Some(class)),
+        Some(Taken::Pointer) | None => Kind::Pointer(None),
     }
 }
 

@@ -9,8 +9,9 @@ use crate::nearest::Near;
 use crate::notes::note;
 use crate::page::{Page, Piece, Span, Spot};
 use crate::spaces::{body_of, class_of, field_named, has_self, item_named, local_named};
-use crate::words::{before, behind, is_field, is_name, is_parameter, is_plain_kind, is_reserved};
-use wb_model::script_lines::{ItemKind, Letter};
+use crate::words::{is_field, is_parameter};
+use wb_lines::words::{before_first, behind_first, is_name, is_reserved, parameter_taken};
+use wb_model::script_lines::{ItemKind, Letter, Taken};
 
 /// Where a name was looked for.
 #[derive(Clone, Copy)]
@@ -69,8 +70,8 @@ fn in_fields<'a>(
     word: &'a [u8],
     column: usize,
 ) -> Option<Unknown<'a>> {
-    let base = before(b'.', word);
-    let name = behind(b'.', word);
+    let base = before_first(b'.', word);
+    let name = behind_first(b'.', word);
     match class_of(lines, index, base) {
         Some(class) if field_named(lines, class, name).is_none() => unknown_at(
             name,
@@ -84,7 +85,7 @@ fn in_fields<'a>(
 /// Of a name or a field that a body uses.
 fn in_body<'a>(lines: &[Line], index: usize, word: &'a [u8], column: usize) -> Option<Unknown<'a>> {
     let base = if is_field(word) {
-        before(b'.', word)
+        before_first(b'.', word)
     } else {
         word
     };
@@ -101,12 +102,14 @@ fn in_body<'a>(lines: &[Line], index: usize, word: &'a [u8], column: usize) -> O
 
 /// Of the class of a parameter.
 fn in_parameter<'a>(lines: &[Line], word: &'a [u8], column: usize) -> Option<Unknown<'a>> {
-    let class = behind(b':', word);
-    if !is_parameter(word) || is_plain_kind(class) {
+    if !is_parameter(word) {
         return None;
     }
+    let Some(Taken::OfClass(class)) = parameter_taken(word) else {
+        return None;
+    };
     let column = column
-        .saturating_add(before(b':', word).len())
+        .saturating_add(before_first(b':', word).len())
         .saturating_add(1);
     in_items(lines, class, column, ItemKind::Class)
 }

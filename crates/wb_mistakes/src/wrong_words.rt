@@ -1,8 +1,7 @@
 //! What is wrong with a word that can't stand where it does, by its bytes alone, and what is wanted there.
 
-use crate::words::{
-    before, behind, digits, has, is_digit, is_field, is_literal, is_name, is_numeral, is_reserved,
-};
+use crate::words::{digits, has, is_field, is_literal, is_numeral};
+use wb_lines::words::{before_first, behind_first, is_digit, is_name, is_reserved};
 use wb_model::script_lines::{Keyword, Letter};
 
 /// What is wrong with a word, and a hint; there may be none.
@@ -88,7 +87,7 @@ fn of_parameter(letter: Letter, word: &[u8]) -> Complaint {
         )
     } else if !matches!(letter, Letter::Parameter) {
         told("a word with a colon can't stand here", "")
-    } else if is_reserved(before(b':', word)) {
+    } else if is_reserved(before_first(b':', word)) {
         of_reserved()
     } else if !has(b':', word) {
         told(
@@ -116,7 +115,7 @@ fn hint_of_end(word: &[u8], other: &'static str) -> &'static str {
 
 /// Whether a word names a field of a field.
 fn is_chain(word: &[u8]) -> bool {
-    is_name(before(b'.', word)) && is_field(behind(b'.', word))
+    is_name(before_first(b'.', word)) && is_field(behind_first(b'.', word))
 }
 
 fn of_reserved() -> Complaint {
