@@ -5,7 +5,7 @@ ghost use Rattle.std.specs.Prelude.{◌≡◌, ◌+◌, ◌^◌, ◌<◌, ◌≤
 ghost use Rattle.wb_model.specs.Debug.{IsSoundDebug, alloc_made};
 ghost use Rattle.wb_model.specs.Row.{cell_at};
 
-use wb_debug::DebugHeap;
+use wb_debug::{DebugHeap, Heap};
 use wb_model::heap::{Gave, Kind, Ptr};
 use wb_model::limits::CEILING;
 use wb_model::memory::NoMemory;
@@ -57,6 +57,16 @@ pub(crate) fn copy(heap: &DebugHeap) -> Result<DebugHeap, NoMemory>
     match heap.try_copy() {
         Ok(copy) => Ok(copy),
         Err(_) => heap.try_copy(),
+    }
+}
+
+/// A copy of a heap over the memory of another; where none was found the first time, that memory is lost.
+pub(crate) fn copy_over(heap: &DebugHeap, spare: Heap) -> Result<DebugHeap, NoMemory>
+    ensures { IfOk result (λ copy. copy ≡ heap.now) }
+{
+    match heap.try_copy_over(Some(spare)) {
+        Ok(copy) => Ok(copy),
+        Err(_) => heap.try_copy_over(None),
     }
 }
 

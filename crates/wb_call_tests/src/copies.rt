@@ -39,7 +39,7 @@ static CHANGES: [Call; 16] = [
     Call::Compress,
 ];
 
-/// Changes a copy while its source stays, and then the source while another copy stays.
+/// Changes a copy while its source stays, and then the source while another copy stays, which takes the memory of the first.
 pub(crate) fn compare_copies(rt: &HostRuntime) -> Result<(), Stop> {
     let mut source = Marked::new(rt.alloc())?;
     change_both(rt, &mut source)
@@ -47,19 +47,20 @@ pub(crate) fn compare_copies(rt: &HostRuntime) -> Result<(), Stop> {
 
 fn change_both(rt: &HostRuntime, source: &mut Marked) -> Result<(), Stop> {
     source.make_calls(rt, &BEFORE)?;
-    change_copy(rt, source)?;
-    change_source(rt, source)
+    let changed = change_copy(rt, source)?;
+    change_source(rt, source, changed)
 }
 
-/// Changes a copy.
-fn change_copy(rt: &HostRuntime, source: &Marked) -> Result<(), Stop> {
+/// Changes a copy, and returns it.
+fn change_copy(rt: &HostRuntime, source: &Marked) -> Result<Marked, Stop> {
     let mut copy = source.copy()?;
-    change_one(rt, ["copy", "source"], &mut copy, source)
+    change_one(rt, ["copy", "source"], &mut copy, source)?;
+    Ok(copy)
 }
 
-/// Changes the source, and then the copy in the same way.
-fn change_source(rt: &HostRuntime, source: &mut Marked) -> Result<(), Stop> {
-    let mut copy = source.copy()?;
+/// Changes the source, and then a copy in the same way, which takes the memory of one that was changed before.
+fn change_source(rt: &HostRuntime, source: &mut Marked, changed: Marked) -> Result<(), Stop> {
+    let mut copy = source.copy_over(changed)?;
     change_in_turn(rt, source, &mut copy)
 }
 

@@ -98,6 +98,15 @@ impl Marked {
         })
     }
 
+    /// A copy over the memory of another.
+    pub(crate) fn copy_over(&self, spare: Marked) -> Result<Marked, NoMemory> {
+        let (_, heap) = spare.heap.into_trace_and_heap();
+        Ok(Marked {
+            heap: calls::copy_over(&self.heap, heap)?,
+            marks: self.marks,
+        })
+    }
+
     /// Tells all that the heap shows.
     pub(crate) fn show(&self, rt: &HostRuntime, name: &str) -> Result<(), Stop> {
         show(rt, name, &self.heap)

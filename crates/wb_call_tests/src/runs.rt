@@ -1,12 +1,12 @@
 //! A run that is taken turn by turn, beside copies of it. Before each turn that asks for an attempt a copy goes on to the end of the run,
-//! and another waits while the run takes its turn: neither changes the other.
+//! over the memory of the copy that did so before, and another waits while the run takes its turn: neither changes the other.
 
 ghost use Rattle.std.specs.Prelude.{IsTrue};
 ghost use Rattle.wb_model.specs.Sound.{is_script};
 
 use crate::stop::Stop;
 use std::alloc::Global;
-use wb_machine::{Machine, Turn};
+use wb_machine::{Finished, Heap, Machine, Turn};
 use wb_model::heap::{Rule, Shape};
 use wb_model::memory::NoMemory;
 use wb_model::run::{Outcome, RunResult};
@@ -52,15 +52,16 @@ fn new_machine<'a>(alloc: Global, script: &'a Script) -> Result<Machine<'a>, NoM
 
 /// Takes all turns of a run.
 fn take_turns(rt: &HostRuntime, lead: &mut Machine) -> Result<(), Stop> {
+    let mut spare = None;
     for _ in 0..MOST_TURNS {
         if lead.will_attempt() {
-            tell_end(rt, lead)?;
+            tell_end(rt, lead, &mut spare)?;
         }
         if take_turn(rt, lead)? == Turn::Ended {
             break;
         }
     }
-    tell_end(rt, lead)
+    tell_end(rt, lead, &mut spare)
 }
 
 /// Takes a turn while a copy waits, and tells both.
@@ -112,24 +113,24 @@ fn tell(rt: &HostRuntime, name: &str, machine: &Machine) -> Result<(), Stop> {
 }
 
 /// Tells what a copy comes to that goes on to the end of the run.
-fn tell_end(rt: &HostRuntime, lead: &Machine) -> Result<(), Stop> {
-    let told = end(lead)?;
+fn tell_end(rt: &HostRuntime, lead: &Machine, spare: &mut Option<Heap>) -> Result<(), Stop> {
+    let told = end(lead, spare)?;
     tell_result(rt, &told)
 }
 
 /// What the run comes to, by a copy, and by another one where memory ran out.
-fn end(lead: &Machine) -> Result<RunResult, NoMemory> {
-    match end_of_copy(lead) {
+fn end(lead: &Machine, spare: &mut Option<Heap>) -> Result<RunResult, NoMemory> {
+    match end_of_copy(lead, spare) {
         Ok(told) => Ok(told),
-        Err(_) => end_of_copy(lead),
+        Err(_) => end_of_copy(lead, spare),
     }
 }
 
-fn end_of_copy(lead: &Machine) -> Result<RunResult, NoMemory> {
-    match lead.try_copy() {
-        Ok(copy) => copy.run_to_end(),
-        Err(_) => Err(NoMemory),
-    }
+fn end_of_copy(lead: &Machine, spare: &mut Option<Heap>) -> Result<RunResult, NoMemory> {
+    let copy = lead.try_copy_over(spare.take())?;
+    let Finished { result, heap } = copy.finish()?;
+    *spare = Some(heap);
+    Ok(result)
 }
 
 /// Tells how a run ended, and how much it told.

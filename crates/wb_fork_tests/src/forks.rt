@@ -7,7 +7,7 @@ ghost use Rattle.wb_model.specs.Sweeps.{rule_of};
 use crate::comparison::Comparison;
 use crate::results::{BUDGET, MOST_TURNS, SHAPE, comes_to_run, is_result};
 use std::alloc::Global;
-use wb_machine::{Machine, RunFault, Turn};
+use wb_machine::{Heap, Machine, RunFault, Turn};
 use wb_model::failures::Failures;
 use wb_model::script::Script;
 use wb_sweep::result_under;
@@ -32,7 +32,7 @@ pub(crate) fn compare_forks(
 }
 
 /// Takes the turns of the run, and compares a fork before each turn that asks for an attempt, up to a fork that comes to
-/// something else.
+/// something else. Each fork takes the memory of the one before.
 fn walk(
     alloc: Global,
     script: &Script,
@@ -46,10 +46,11 @@ fn walk(
     ensures { lead.new.keeps_rises ≡ false }
 {
     let mut forks = 0;
+    let mut spare = None;
     for _ in 0..MOST_TURNS {
         if lead.will_attempt() {
             let number = lead.attempts() + 1;
-            if !is_fork_as_run(alloc, script, failures, lead, number)? {
+            if !is_fork_as_run(alloc, script, failures, lead, number, &mut spare)? {
                 return Ok(Comparison::OtherFork(failures.at(number)));
             }
             forks = number;
@@ -69,6 +70,7 @@ fn is_fork_as_run(
     failures: Failures,
     lead: &Machine,
     number: u32,
+    spare: &mut Option<Heap>,
 ) -> Result<bool, RunFault>
     requires script { IsTrue (is_script script.now) }
     requires rule { lead.now.rule ≡ rule_of failures 0 }
@@ -78,6 +80,6 @@ fn is_fork_as_run(
     requires lines { lead.now.keeps_rises ≡ false }
 {
     let rule = failures.at(number).rule();
-    let told = result_under(lead, rule)?;
+    let told = result_under(lead, rule, spare)?;
     is_result(alloc, script, rule, &told)
 }

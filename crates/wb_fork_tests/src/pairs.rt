@@ -8,7 +8,7 @@ ghost use Rattle.wb_model.specs.declared.heap.Rule.TheVariants as rules;
 use crate::comparison::Comparison;
 use crate::results::{BUDGET, MOST_TURNS, SHAPE, comes_to_run, is_result};
 use std::alloc::Global;
-use wb_machine::{Machine, RunFault, Turn};
+use wb_machine::{Heap, Machine, RunFault, Turn};
 use wb_model::failures::Failing;
 use wb_model::heap::Rule;
 use wb_model::script::Script;
@@ -72,7 +72,7 @@ fn other_with_next(
 }
 
 /// The first pair whose fork comes to something else, of those with this first attempt, which has failed in the run that they
-/// are taken from.
+/// are taken from. Each fork takes the memory of the one before.
 fn other_after(
     alloc: Global,
     script: &Script,
@@ -86,13 +86,14 @@ fn other_after(
     requires few { fork.old.attempts ≤ MOST_TURNS + 1 }
     requires lines { fork.old.keeps_rises ≡ false }
 {
+    let mut spare = None;
     for _ in 0..MOST_TURNS {
         if fork.will_attempt() {
             let second = fork.attempts() + 1;
             if second - first > MOST_AFTER {
                 break;
             }
-            if !is_pair_as_run(alloc, script, fork, first, second)? {
+            if !is_pair_as_run(alloc, script, fork, first, second, &mut spare)? {
                 return Ok(Some(Failing::Pair(first, second)));
             }
             *pairs = pairs.saturating_add(1);
@@ -112,6 +113,7 @@ fn is_pair_as_run(
     fork: &Machine,
     first: u32,
     second: u32,
+    spare: &mut Option<Heap>,
 ) -> Result<bool, RunFault>
     requires script { IsTrue (is_script script.now) }
     requires rule { fork.now.rule ≡ rules.Number first }
@@ -122,6 +124,6 @@ fn is_pair_as_run(
     requires lines { fork.now.keeps_rises ≡ false }
 {
     let rule = Rule::Pair(first, second);
-    let told = result_under(fork, rule)?;
+    let told = result_under(fork, rule, spare)?;
     is_result(alloc, script, rule, &told)
 }

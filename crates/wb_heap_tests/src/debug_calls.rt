@@ -4,7 +4,7 @@ ghost use Rattle.std.specs.Prelude.{◌≡◌};
 
 use crate::heap_calls::{Cell, header, pointer};
 use std::alloc::Global;
-use wb_debug::{DebugFault, DebugHeap};
+use wb_debug::{DebugFault, DebugHeap, Heap};
 use wb_model::heap::{Answer, Attempt, Gave, Kind, Panic, Ptr, Rule, Shape};
 use wb_model::limits::CEILING;
 use wb_model::run::{Leak, Leaks, Note, Trace};
@@ -98,14 +98,15 @@ pub(crate) fn first_other(
 }
 
 /// Whether a copy tells what its source does, stays as it is while the source changes, and then changes as it did; and the same
-/// of the source while a copy changes.
+/// of the source while a copy changes, which takes the memory of the heap that was changed before.
 pub(crate) fn is_apart(alloc: Global, copied: &CopiedDebugHeap) -> Result<bool, DebugFault> {
     let mut source = Marked::new(alloc, &copied.before)?;
     let mut fine = source.all_answer(copied.before.calls);
     let mut copy = source.try_copy()?;
     fine = fine && source.all_answer(copied.told) && copy.all_answer(copied.told);
     fine = fine && source.all_answer(copied.changes) && copy.all_answer(copied.told);
-    let mut second = copy.try_copy()?;
+    let (_, heap) = source.heap.into_trace_and_heap();
+    let mut second = copy.try_copy_over(heap)?;
     fine = fine && second.all_answer(copied.changes) && copy.all_answer(copied.told);
     Ok(fine && copy.all_answer(copied.changes))
 }
@@ -126,6 +127,13 @@ impl Marked {
     fn try_copy(&self) -> Result<Marked, DebugFault> {
         Ok(Marked {
             heap: self.heap.try_copy()?,
+            marks: self.marks,
+        })
+    }
+
+    fn try_copy_over(&self, spare: Heap) -> Result<Marked, DebugFault> {
+        Ok(Marked {
+            heap: self.heap.try_copy_over(Some(spare))?,
             marks: self.marks,
         })
     }

@@ -318,6 +318,7 @@ fn a_trace_is_given_away(rt: HostRuntime) -> Result<(), Fail> {
         place: 0,
         answer: Granted,
     };
-    assert!(rt; heap.into_trace().as_slice() == [line].as_slice());
+    let (trace, _) = heap.into_trace_and_heap();
+    assert!(rt; trace.as_slice() == [line].as_slice());
     Ok(())
 }

@@ -103,14 +103,14 @@ pub(crate) fn first_other(alloc: Global, worked: &WorkedHeap) -> Result<Option<u
 }
 
 /// Whether a copy tells what its source does, stays as it is while the source changes, and then changes as it did; and the same
-/// of the source while a copy changes.
+/// of the source while a copy changes, which takes the memory of the heap that was changed before.
 pub(crate) fn is_apart(alloc: Global, copied: &CopiedHeap) -> Result<bool, HeapFault> {
     let mut source = Numbered::new(alloc, &copied.before)?;
     let mut fine = source.all_answer(copied.before.calls);
     let mut copy = source.try_copy()?;
     fine = fine && source.all_answer(copied.told) && copy.all_answer(copied.told);
     fine = fine && source.all_answer(copied.changes) && copy.all_answer(copied.told);
-    let mut second = copy.try_copy()?;
+    let mut second = copy.try_copy_over(source.heap)?;
     fine = fine && second.all_answer(copied.changes) && copy.all_answer(copied.told);
     Ok(fine && copy.all_answer(copied.changes))
 }
@@ -131,6 +131,16 @@ impl Numbered {
 
     fn try_copy(&self) -> Result<Numbered, HeapFault> {
         match self.heap.try_copy() {
+            Ok(heap) => Ok(Numbered {
+                heap,
+                next: self.next,
+            }),
+            Err(_) => Err(HeapFault::NoMemory),
+        }
+    }
+
+    fn try_copy_over(&self, spare: Heap) -> Result<Numbered, HeapFault> {
+        match self.heap.try_copy_over(Some(spare)) {
             Ok(heap) => Ok(Numbered {
                 heap,
                 next: self.next,

@@ -4,21 +4,29 @@ ghost use Rattle.std.specs.Prelude.{◌≡◌, false, IfOk};
 ghost use Rattle.wb_model.specs.Rest.{SameSoFar};
 ghost use Rattle.wb_model.specs.Run.{run};
 
-use wb_machine::Machine;
+use wb_machine::{Finished, Heap, Machine};
 use wb_model::heap::Rule;
 use wb_model::memory::NoMemory;
 use wb_model::run::RunResult;
 
 /// What a run under way comes to under another rule, which refuses the same of the attempts made so far; neither is a limit. A
 /// copy goes on to its end, and the run itself stays as it is. The machine is one made by `Machine::new`.
-pub fn result_under(lead: &Machine, rule: Rule) -> Result<RunResult, NoMemory>
+///
+/// The copy takes the memory of `spare`, where there is one, and leaves its own there; on `Err` none is left.
+pub fn result_under(
+    lead: &Machine,
+    rule: Rule,
+    spare: &mut Option<Heap>,
+) -> Result<RunResult, NoMemory>
     requires same { SameSoFar rule lead.now.rule lead.now.attempts }
     requires going { lead.now.over ≡ false }
     requires well { lead.now.failed ≡ false }
     requires lines { lead.now.keeps_rises ≡ false }
     ensures { IfOk result (λ told. told ≡ run lead.now.script rule lead.now.budget lead.now.shape) }
 {
-    let mut fork = lead.try_copy()?;
+    let mut fork = lead.try_copy_over(spare.take())?;
     fork.set_rule(rule);
-    fork.run_to_end()
+    let Finished { result, heap } = fork.finish()?;
+    *spare = Some(heap);
+    Ok(result)
 }

@@ -17,23 +17,66 @@ use crate::found::Found;
 use crate::progress::Progress;
 use crate::walk::{attempts_in, find_among};
 use std::alloc::Global;
-use wb_machine::Machine;
+use wb_machine::{Heap, Machine};
 use wb_model::failures::Failing;
 use wb_model::heap::{Rule, Shape};
 use wb_model::limits::LARGEST_BUDGET;
+use wb_model::memory::NoMemory;
 use wb_model::script::Script;
 
+/// How many attempts the run makes in which the attempt that the lead makes next, of this number, fails alone.
+fn attempts_alone(lead: &Machine, number: u32, spare: &mut Option<Heap>) -> Result<u32, NoMemory>
+    requires number { number ≡ lead.now.attempts + 1 }
+    requires rule { lead.now.rule ≡ rules.Number 0 }
+    requires going { lead.now.over ≡ false }
+    requires well { lead.now.failed ≡ false }
+    requires lines { lead.now.keeps_rises ≡ false }
+    ensures { IfOk result (λ made. made
+        ≡ length (runs_of Single lead.now.script lead.now.budget lead.now.shape number).trace) }
+{
+    let alone = result_under(lead, Rule::Number(number), spare)?;
+    Ok(attempts_in(alone.trace.as_slice()))
+}
+
+/// The least pair whose run is bad, of those of which the attempt that the fork makes next, of this number, is the first; `None`
+/// if the run of each is fine. The fork's own run is the one in which that attempt fails alone, and makes `last` attempts.
+fn find_along<P: Progress>(
+    fork: &mut Machine,
+    number: u32,
+    last: u32,
+    spare: &mut Option<Heap>,
+    progress: &mut P,
+) -> Result<Option<Found>, SweepFault>
+    requires number { number ≡ fork.old.attempts + 1 }
+    requires rule { fork.old.rule ≡ rules.Number number }
+    requires lines { fork.old.keeps_rises ≡ false }
+    requires last { last
+        ≡ length (runs_of Single fork.old.script fork.old.budget fork.old.shape number).trace }
+    requires alone { AreAllFine (runs_of Single fork.old.script fork.old.budget fork.old.shape) }
+    ensures fine { IfOk result (λ found. found ≡ None →
+        ArePairsFineWith (pair_run fork.old.script fork.old.budget fork.old.shape) number) }
+    ensures found { IfOk result (λ found. IfSome found (λ bad. IsFoundAmong (failing_with number)
+        fork.old.script fork.old.budget fork.old.shape bad.at bad.result)) }
+    ensures cut { (at : Failing) (why : Why) → result ≡ Err (SweepFault.Cut at why) →
+        IsCutAmong (failing_with number) fork.old.script fork.old.budget fork.old.shape at why }
+    ensures shape { result ≢ Err SweepFault.BadShape }
+{
+    fork.step()?;
+    find_among(fork, Family::With(number), last, spare, progress)
+}
+
 /// The least pair whose run is bad, of those of which the attempt that the lead makes next, of this number, is the first;
-/// `None` if the run of each is fine, and if the next turn makes no attempt.
+/// `None` if the run of each is fine, and if the next turn makes no attempt. Each run under a pair takes the spare memory, and
+/// leaves its own.
 fn find_with_next<P: Progress>(
     lead: &Machine,
     number: u32,
+    spare: &mut Option<Heap>,
     progress: &mut P,
 ) -> Result<Option<Found>, SweepFault>
     requires number { number ≡ lead.now.attempts + 1 }
     requires rule { lead.now.rule ≡ rules.Number 0 }
     requires lines { lead.now.keeps_rises ≡ false }
-    requires within { lead.now.steps ≤ lead.now.budget }
     requires alone { AreAllFine (runs_of Single lead.now.script lead.now.budget lead.now.shape) }
     ensures fine { IfOk result (λ found. found ≡ None → lead.now.asks ≡ true → ArePairsFineWith
         (pair_run lead.now.script lead.now.budget lead.now.shape) number) }
@@ -46,13 +89,10 @@ fn find_with_next<P: Progress>(
     if !lead.will_attempt() {
         return Ok(None);
     }
-    let rule = Rule::Number(number);
-    let alone = result_under(lead, rule)?;
-    let last = attempts_in(alone.trace.as_slice());
+    let last = attempts_alone(lead, number, spare)?;
     let mut fork = lead.try_copy()?;
-    fork.set_rule(rule);
-    fork.step()?;
-    find_among(&mut fork, Family::With(number), last, progress)
+    fork.set_rule(Rule::Number(number));
+    find_along(&mut fork, number, last, spare, progress)
 }
 
 /// The least pair whose run is bad; `None` if the run of each pair is fine. No single failure shows anything, and the run
@@ -77,8 +117,9 @@ fn find_beside<P: Progress>(
         IsCutPair lead.old.script lead.old.budget lead.old.shape at why }
     ensures shape { result ≢ Err SweepFault.BadShape }
 {
+    let mut spare = None;
     while lead.attempts() < last {
-        let found = find_with_next(lead, lead.attempts() + 1, progress)?;
+        let found = find_with_next(lead, lead.attempts() + 1, &mut spare, progress)?;
         if found.is_some() {
             return Ok(found);
         }

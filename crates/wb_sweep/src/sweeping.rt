@@ -46,7 +46,7 @@ fn find_in_order<P: Progress>(
     ensures shape { result ≡ Err SweepFault.BadShape → is_shape shape ≡ false }
 {
     let mut lead = Machine::new(alloc, script, failures.at(0).rule(), budget, shape)?;
-    find_among(&mut lead, Family::Of(failures), last, progress)
+    find_among(&mut lead, Family::Of(failures), last, &mut None, progress)
 }
 
 /// The least failure that makes a run bad; `None` if no failure does. The run without failure is fine, and makes `last`

@@ -12,7 +12,7 @@ use crate::fault::SweepFault;
 use crate::fork::result_under;
 use crate::found::Found;
 use crate::progress::Progress;
-use wb_machine::Machine;
+use wb_machine::{Heap, Machine};
 use wb_model::failures::Failing;
 use wb_model::heap::Attempt;
 use wb_model::run::{Outcome, RunResult};
@@ -46,11 +46,12 @@ pub(crate) fn attempts_in(trace: &[Attempt]) -> u32
 }
 
 /// The run in which the attempt that the lead makes next, of this number, is the first to fail: found where it is bad; `None` if
-/// it is fine, and if the next turn makes no attempt.
+/// it is fine, and if the next turn makes no attempt. Its copy takes the spare memory, and leaves its own.
 fn try_next<P: Progress>(
     lead: &Machine,
     family: Family,
     number: u32,
+    spare: &mut Option<Heap>,
     progress: &mut P,
 ) -> Result<Option<Found>, SweepFault>
     requires number { number ≡ lead.now.attempts + 1 }
@@ -69,16 +70,18 @@ fn try_next<P: Progress>(
     }
     let failing = family.at(number);
     progress.begin_failure(failing);
-    let told = result_under(lead, failing.rule())?;
+    let told = result_under(lead, failing.rule(), spare)?;
     found_at(failing, told)
 }
 
 /// The least failure of a family whose run is bad, among those up to the last attempt of the lead's own run, which is under
-/// the family's failure 0; `None` if they are all fine. Those up to the attempts that the lead has made are.
+/// the family's failure 0; `None` if they are all fine. Those up to the attempts that the lead has made are. Each copy takes the
+/// memory of the one before, the first the spare one.
 pub(crate) fn find_among<P: Progress>(
     lead: &mut Machine,
     family: Family,
     last: u32,
+    spare: &mut Option<Heap>,
     progress: &mut P,
 ) -> Result<Option<Found>, SweepFault>
     requires rule { lead.old.rule ≡ rule_in family 0 }
@@ -97,7 +100,7 @@ pub(crate) fn find_among<P: Progress>(
     ensures shape { result ≢ Err SweepFault.BadShape }
 {
     while lead.attempts() < last {
-        let found = try_next(lead, family, lead.attempts() + 1, progress)?;
+        let found = try_next(lead, family, lead.attempts() + 1, spare, progress)?;
         if found.is_some() {
             return Ok(found);
         }

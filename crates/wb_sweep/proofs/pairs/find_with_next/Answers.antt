@@ -1,68 +1,41 @@
--- Proof: find_with_next. The copy goes along the run in which the first attempt fails alone, as far as that goes.
-use Rattle.std.proofs.Common.{rules, ◌≡◌, ◌+◌, ◌≤◌, ℕ, None, IfOk, IfSome, arith, length, subst, sym, ap, ◌∙◌}
-use Rattle.wb_model.specs.declared.heap.Rule.TheVariants.{Number}
+-- Proof: find_with_next. The fork is of the lead's own script, budget and shape.
+use Rattle.std.proofs.Common.{rules, ◌≡◌, ℕ, None, IfOk, IfSome}
+use Rattle.wb_model.specs.declared.failures.Failures.TheVariants.{Single}
 use Rattle.wb_model.specs.declared.heap.Shape.{Shape}
-use Rattle.wb_model.specs.declared.run.RunResult.{RunResult}
 use Rattle.wb_model.specs.declared.script.Script.{Script}
-use Rattle.wb_model.specs.Pairs.{failing_with}
-use Rattle.wb_model.specs.Sweeps.{is_fine, runs_under, AreFineBelow, IsCutAmong, IsFoundAmong}
-use Rattle.wb_model.proofs.PairLemmas.{alone, pairs-fine, with_none}
-use Rattle.wb_model.proofs.TraceLemmas.{run-numbered}
-use Rattle.wb_sweep.specs.declared.family.Family.TheVariants.{With}
-use Rattle.wb_sweep.specs.Sweeping.{IsNumbered}
+use Rattle.wb_model.specs.Pairs.{failing_with, pair_run, ArePairsFineWith}
+use Rattle.wb_model.specs.Sweeps.{runs_of, AreAllFine, IsCutAmong, IsFoundAmong}
 use Rattle.wb_sweep.proofs.AnswerLemmas.{map_ok}
-use Rattle.wb_sweep.proofs.Further.{IsOfSameRun, of-same, same-runs}
+use Rattle.wb_sweep.proofs.Further.{IsOfSameRun, of-same}
 use Rattle.wb_sweep.proofs.pairs.find_with_next.Goals as goal
 
-pub attempts_in-last-requires : goal.attempts_in-last-requires
-attempts_in-last-requires g c =
+pub find_along-requires-clause-alone : goal.find_along-requires-clause-alone
+find_along-requires-clause-alone g c =
     let lead = c.args.lead.now in
-    let traced = c.as_slice.ensures ∙ ap (λ (r : RunResult). r.trace) c.in_ok-alone.ensures in
-    subst IsNumbered (sym traced) (run-numbered lead.script lead.budget lead.shape (Number c.args.number))
-
--- the copy is of the lead's own run
-pub find_among-requires-clause-last : goal.find_among-requires-clause-last
-find_among-requires-clause-last g c =
-    let lead = c.args.lead.now in
-    let fork = c.step.new.self in
-    let same : IsOfSameRun lead fork = record { script = search rules; budget = search rules; shape = search rules } in
-    let traced = c.as_slice.ensures ∙ ap (λ (r : RunResult). r.trace) c.in_ok-alone.ensures in
-    let ran = same-runs (With c.args.number) lead fork 0 same ∙ with_none lead.script lead.budget lead.shape c.args.number 0 (omega arith) in
-    c.attempts_in-last.ensures ∙ ap length traced ∙ ap (λ (r : RunResult). length r.trace) (sym ran)
-
-pub find_among-requires-clause-fine : goal.find_among-requires-clause-fine
-find_among-requires-clause-fine g c n lt =
-    let lead = c.args.lead.now in
-    let fork = c.step.new.self in
-    let same : IsOfSameRun lead fork = record { script = search rules; budget = search rules; shape = search rules } in
-    let attempts : fork.attempts ≤ lead.attempts + 1 = search rules in
-    ap is_fine (same-runs (With c.args.number) lead fork n same ∙ with_none lead.script lead.budget lead.shape c.args.number n (omega (arith, lt, attempts, c.requires.number)))
-    ∙ c.requires.alone c.args.number
+    let fork = c.set_rule.new.self in
+    let same : IsOfSameRun fork lead = record { script = search rules; budget = search rules; shape = search rules } in
+    of-same fork lead same (λ (s : Script) (b : ℕ) (h : Shape). AreAllFine (runs_of Single s b h)) c.requires.alone
 
 pub returns-clause-fine : goal.returns-clause-fine
 returns-clause-fine g c =
     let lead = c.args.lead.now in
-    let fork = c.step.new.self in
-    let last = c.attempts_in-last.result in
+    let fork = c.set_rule.new.self in
     let same : IsOfSameRun lead fork = record { script = search rules; budget = search rules; shape = search rules } in
-    let traced = c.as_slice.ensures ∙ ap (λ (r : RunResult). r.trace) c.in_ok-alone.ensures in
-    let all : last ≡ length (alone lead.script lead.budget lead.shape c.args.number).trace = c.attempts_in-last.ensures ∙ ap length traced in
-    let below = of-same lead fork same (λ (s : Script) (b : ℕ) (h : Shape).
-    IfOk c.find_among.result (λ found. found ≡ None → AreFineBelow (runs_under (failing_with c.args.number) s b h) (last + 1))) c.find_among.ensures.fine in
-    map_ok c.find_among.result (λ found fine none asks.
-    pairs-fine lead.script lead.budget lead.shape c.args.number (λ n lt. fine none n (omega (arith, lt, all)))) below
+    map_ok c.find_along.result (λ found fine none asks. fine none)
+    (of-same lead fork same (λ (s : Script) (b : ℕ) (h : Shape).
+    IfOk c.find_along.result (λ found. found ≡ None → ArePairsFineWith (pair_run s b h) c.args.number)) c.find_along.ensures.fine)
 
 pub returns-clause-found : goal.returns-clause-found
 returns-clause-found g c =
     let lead = c.args.lead.now in
-    let fork = c.step.new.self in
+    let fork = c.set_rule.new.self in
     let same : IsOfSameRun lead fork = record { script = search rules; budget = search rules; shape = search rules } in
     of-same lead fork same (λ (s : Script) (b : ℕ) (h : Shape).
-    IfOk c.find_among.result (λ found. IfSome found (λ bad. IsFoundAmong (failing_with c.args.number) s b h bad.at bad.result))) c.find_among.ensures.found
+    IfOk c.find_along.result (λ found. IfSome found (λ bad. IsFoundAmong (failing_with c.args.number) s b h bad.at bad.result))) c.find_along.ensures.found
 
 pub returns-clause-cut : goal.returns-clause-cut
 returns-clause-cut g c at why e =
     let lead = c.args.lead.now in
-    let fork = c.step.new.self in
+    let fork = c.set_rule.new.self in
     let same : IsOfSameRun lead fork = record { script = search rules; budget = search rules; shape = search rules } in
-    of-same lead fork same (λ (s : Script) (b : ℕ) (h : Shape). IsCutAmong (failing_with c.args.number) s b h at why) (c.find_among.ensures.cut at why e)
+    of-same lead fork same (λ (s : Script) (b : ℕ) (h : Shape). IsCutAmong (failing_with c.args.number) s b h at why) (c.find_along.ensures.cut at why e)
