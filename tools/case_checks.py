@@ -132,7 +132,7 @@ def case_holds(room: Path, script: str, report: str, words: str, part: str) -> b
     files = {".oom": script, ".args": words.replace(" ", "\n") + "\n", ".stdout": report, ".status": "0\n"}
     for ending, text in files.items():
         stem.with_name("case.run" + ending).write_text(text)
-    told = said("cases_to_theorems.py", MODEL, room / "Cases.antt", stem.with_name("case.run.oom"))
+    told = said("cases_to_theorems.py", MODEL, stem.with_name("case.run.oom"), "--out", room)
     return is_told(told, part, part.endswith("theorems"))
 
 

@@ -21,7 +21,7 @@ HEAD = """\
 # and the checksum of what it followed from. A line whose checksum is another's is no verdict any more.
 """
 LINE = re.compile(r"(\w+) (\d+) (\d{4}-\d\d-\d\d) ([0-9a-f]{64})")
-# theorems that no other file may use: worked cases, which are written anew where a case is new
+# theorems that no other file may use: worked cases, which are written anew where a case is new, and have further files in a folder
 USED_BY_NOTHING = ("proofs", "WorkedCases.antt")
 # where a function begins, by the layout that `rt fmt` gives
 FUNCTION = re.compile(r"( *)(?:pub(?:\([^)]*\))? )?(?:const |unsafe )*fn \w+")
@@ -104,7 +104,7 @@ def text_of(file: Path) -> str:
 
 def seen_from_above(file: Path, crate: Path) -> str | None:
     """What a crate above sees of a file: of code all but the bodies of functions, each definition, and the lemmas right in
-    `proofs/`; None of a proof of one function, and of the worked cases."""
+    `proofs/`; None of a proof of one function, which is in a folder, and of the worked cases."""
     place = file.relative_to(crate).parts
     if place == USED_BY_NOTHING or (place[0] == "proofs" and len(place) > 2):
         return None

@@ -161,6 +161,7 @@ class WhatLinesStand(TinyRepository):
 
     def test_worked_cases_below(self) -> None:
         self.write("crates/low/proofs/WorkedCases.antt", "\n")
+        self.write("crates/low/proofs/WorkedCases/Calls.antt", "\n")
         self.assertEqual(self.standing(), ["high"])
 
     def test_a_definition_with_the_name_of_worked_cases_below(self) -> None:
@@ -185,14 +186,17 @@ class WhatLinesStand(TinyRepository):
 
 
 class WhatNothingUses(unittest.TestCase):
-    """What verdicts leave out of a crate, in this repository: no file may use it."""
+    """What verdicts leave out of a crate, in this repository: no other file may use it."""
 
     def test_worked_cases(self) -> None:
         name = ".".join(USED_BY_NOTHING).removesuffix(".antt")
         crates = Crates()
         files = [it for crate in crates.lines for it in crates.files(crate)]
         self.assertTrue(any(it.parts[-2:] == USED_BY_NOTHING for it in files))
-        self.assertEqual([it for it in files if f".{name}" in it.read_text(encoding="utf-8")], [])
+        folder = USED_BY_NOTHING[1].removesuffix(".antt")
+        others = [it for it in files if folder not in it.parts]
+        self.assertLess(len(others), len(files))
+        self.assertEqual([it for it in others if f".{name}" in it.read_text(encoding="utf-8")], [])
 
 
 @unittest.skipUnless(shutil.which("rt"), "the toolchain is not on the path")

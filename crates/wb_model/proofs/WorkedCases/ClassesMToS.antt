@@ -1,0 +1,394 @@
+-- Worked cases of `classes`, each by computing. Written by tools/cases_to_theorems.py; edit nothing here.
+use Rattle.std.specs.Prelude.{◌≡◌, refl, pos, negsuc, [], ◌∷◌, Some, None}
+use Rattle.wb_model.specs.declared.heap.Rule.TheVariants as R
+use Rattle.wb_model.specs.declared.heap.Panic.TheVariants as P
+use Rattle.wb_model.specs.declared.script.Holder.TheVariants as H
+use Rattle.wb_model.specs.declared.heap.Answer.TheVariants.{Granted, Simulated}
+use Rattle.wb_model.specs.declared.run.Why.TheVariants.{Budget}
+use Rattle.wb_model.specs.declared.run.Outcome.TheVariants.{Ended, Panicked, Cut}
+use Rattle.wb_model.specs.declared.script.Script.{Script}
+use Rattle.wb_model.specs.declared.script.Parameter.TheVariants as Par
+use Rattle.wb_model.specs.declared.script.Local.TheVariants.{OfPointer, OfNumber}
+use Rattle.wb_model.specs.declared.script.Pointer.TheVariants.{Held, Field}
+use Rattle.wb_model.specs.declared.script.Number.TheVariants.{Constant, Variable}
+use Rattle.wb_model.specs.declared.script.Readable.TheVariants.{Quoted}
+use Rattle.wb_model.specs.declared.script.Condition.TheVariants.{IsNull, NotNull}
+use Rattle.wb_model.specs.declared.script.Argument.TheVariants.{Passed}
+use Rattle.wb_model.specs.declared.script.Refusal.TheVariants.{GivesNull, Leaves}
+use Rattle.wb_model.specs.declared.script.Statement.TheOpen.{Statement-F}
+use Rattle.wb_model.specs.Run.{run}
+use Rattle.wb_model.proofs.WorkedCases.Shorthands.{everything, on, shaped, line}
+
+abbrev script_marks_count_objects_run : Script
+script_marks_count_objects_run = record { classes = (record { line = 1; extra = 0; fields = []; construct = None; destroy = None }) ∷ [];
+    procedures = (record { line = 3; parameters = []; body = record { locals = (OfPointer (Some 0)) ∷ []; statements = (on 5
+    Statement-F.Mark) ∷ (on 6 (Statement-F.New (Held (H.Local 0)) 0 Leaves)) ∷ (on 7 (Statement-F.MarkEnd (Constant (pos 0)))) ∷ [] } }) ∷
+    []; operations = []; literals = []; main = 0 }
+
+marks_count_objects_run : run script_marks_count_objects_run R.Unlimited 10000 (shaped 4096 4096) ≡ record { outcome = Panicked (P.Alloc
+    144); trace = (line 1 144 0 Granted) ∷ (line 2 32 144 Granted) ∷ []; lines = []; notes = []; steps = 3 }
+unfolding everything
+marks_count_objects_run = refl
+
+abbrev script_members_are_destroyed_by_their_owner_run : Script
+script_members_are_destroyed_by_their_owner_run = record { classes = (record { line = 1; extra = 0; fields = []; construct = None; destroy =
+    Some (record { locals = []; statements = (on 3 (Statement-F.PrintText (Quoted 0))) ∷ [] }) }) ∷ (record { line = 6; extra = 0; fields =
+    (Some 0) ∷ (Some 0) ∷ []; construct = Some (record { locals = []; statements = (on 10 (Statement-F.New (Field H.This 1 0) 0 Leaves)) ∷
+    (on 11 (Statement-F.New (Field H.This 1 1) 0 Leaves)) ∷ [] }); destroy = Some (record { locals = []; statements = (on 14
+    (Statement-F.PrintText (Quoted 1))) ∷ (on 15 (Statement-F.Delete (Field H.This 1 1))) ∷ (on 16 (Statement-F.Delete (Field H.This 1 0)))
+    ∷ [] }) }) ∷ []; procedures = (record { line = 19; parameters = []; body = record { locals = (OfPointer (Some 1)) ∷ []; statements = (on
+    21 (Statement-F.New (Held (H.Local 0)) 1 Leaves)) ∷ (on 22 (Statement-F.Construct (Held (H.Local 0)))) ∷ (on 23 (Statement-F.Delete
+    (Held (H.Local 0)))) ∷ [] } }) ∷ []; operations = []; literals = (112 ∷ 97 ∷ 114 ∷ 116 ∷ []) ∷ (119 ∷ 104 ∷ 111 ∷ 108 ∷ 101 ∷ []) ∷ [];
+    main = 0 }
+
+members_are_destroyed_by_their_owner_run : run script_members_are_destroyed_by_their_owner_run R.Unlimited 10000 (shaped 4096 4096) ≡ record
+    { outcome = Ended None []; trace = (line 1 144 0 Granted) ∷ (line 2 48 144 Granted) ∷ (line 3 32 192 Granted) ∷ (line 4 32 224 Granted)
+    ∷ []; lines = (119 ∷ 104 ∷ 111 ∷ 108 ∷ 101 ∷ []) ∷ (112 ∷ 97 ∷ 114 ∷ 116 ∷ []) ∷ (112 ∷ 97 ∷ 114 ∷ 116 ∷ []) ∷ []; notes = []; steps =
+    13 }
+unfolding everything
+members_are_destroyed_by_their_owner_run = refl
+
+abbrev script_new_into_a_field_that_is_refused_gives_null_run : Script
+script_new_into_a_field_that_is_refused_gives_null_run = record { classes = (record { line = 1; extra = 0; fields = (Some 0) ∷ []; construct
+    = None; destroy = None }) ∷ []; procedures = (record { line = 4; parameters = []; body = record { locals = (OfPointer (Some 0)) ∷ [];
+    statements = (on 6 (Statement-F.New (Held (H.Local 0)) 0 Leaves)) ∷ (on 7 (Statement-F.Set (Field (H.Local 0) 0 0) (Held (H.Local 0))))
+    ∷ (on 8 (Statement-F.FailNext (Constant (pos 1)))) ∷ (on 9 (Statement-F.New (Field (H.Local 0) 0 0) 0 GivesNull)) ∷ (on 10
+    (Statement-F.If (IsNull (Field (H.Local 0) 0 0)) ((on 11 (Statement-F.PrintText (Quoted 0))) ∷ []))) ∷ (on 13 (Statement-F.Delete (Held
+    (H.Local 0)))) ∷ [] } }) ∷ []; operations = []; literals = (110 ∷ 117 ∷ 108 ∷ 108 ∷ []) ∷ []; main = 0 }
+
+new_into_a_field_that_is_refused_gives_null_run : run script_new_into_a_field_that_is_refused_gives_null_run R.Unlimited 10000 (shaped 4096
+    4096) ≡ record { outcome = Ended None []; trace = (line 1 144 0 Granted) ∷ (line 2 32 144 Granted) ∷ (line 3 32 176 Simulated) ∷ [];
+    lines = (110 ∷ 117 ∷ 108 ∷ 108 ∷ []) ∷ []; notes = []; steps = 8 }
+unfolding everything
+new_into_a_field_that_is_refused_gives_null_run = refl
+
+abbrev script_new_that_is_refused_gives_null_run : Script
+script_new_that_is_refused_gives_null_run = record { classes = (record { line = 1; extra = 0; fields = []; construct = None; destroy = None
+    }) ∷ []; procedures = (record { line = 3; parameters = []; body = record { locals = (OfPointer (Some 0)) ∷ []; statements = (on 5
+    (Statement-F.New (Held (H.Local 0)) 0 GivesNull)) ∷ (on 6 (Statement-F.If (IsNull (Held (H.Local 0))) ((on 7 (Statement-F.PrintText
+    (Quoted 0))) ∷ []))) ∷ [] } }) ∷ []; operations = []; literals = (110 ∷ 111 ∷ 110 ∷ 101 ∷ []) ∷ []; main = 0 }
+
+new_that_is_refused_gives_null_run : run script_new_that_is_refused_gives_null_run (R.Number 2) 10000 (shaped 4096 4096) ≡ record { outcome
+    = Ended None []; trace = (line 1 144 0 Granted) ∷ (line 2 32 144 Simulated) ∷ []; lines = (110 ∷ 111 ∷ 110 ∷ 101 ∷ []) ∷ []; notes = [];
+    steps = 3 }
+unfolding everything
+new_that_is_refused_gives_null_run = refl
+
+abbrev script_newest_object_is_destroyed_first_run : Script
+script_newest_object_is_destroyed_first_run = record { classes = (record { line = 1; extra = 0; fields = []; construct = None; destroy =
+    Some (record { locals = []; statements = (on 3 (Statement-F.PrintText (Quoted 0))) ∷ [] }) }) ∷ (record { line = 6; extra = 0; fields =
+    []; construct = None; destroy = Some (record { locals = []; statements = (on 8 (Statement-F.PrintText (Quoted 1))) ∷ [] }) }) ∷ [];
+    procedures = (record { line = 11; parameters = []; body = record { locals = (OfPointer (Some 0)) ∷ (OfPointer (Some 1)) ∷ []; statements
+    = (on 14 (Statement-F.New (Held (H.Local 0)) 0 Leaves)) ∷ (on 15 (Statement-F.PushObject (Held (H.Local 0)))) ∷ (on 16 (Statement-F.New
+    (Held (H.Local 1)) 1 Leaves)) ∷ (on 17 (Statement-F.PushObject (Held (H.Local 1)))) ∷ (on 18 (Statement-F.Leave (Constant (negsuc 4))))
+    ∷ [] } }) ∷ []; operations = []; literals = (65 ∷ []) ∷ (66 ∷ []) ∷ []; main = 0 }
+
+newest_object_is_destroyed_first_run : run script_newest_object_is_destroyed_first_run R.Unlimited 10000 (shaped 4096 4096) ≡ record {
+    outcome = Ended (Some (negsuc 4)) []; trace = (line 1 144 0 Granted) ∷ (line 2 32 144 Granted) ∷ (line 3 32 176 Granted) ∷ []; lines =
+    (66 ∷ []) ∷ (65 ∷ []) ∷ []; notes = []; steps = 11 }
+unfolding everything
+newest_object_is_destroyed_first_run = refl
+
+abbrev script_newleave_into_a_field_that_is_refused_keeps_it_run : Script
+script_newleave_into_a_field_that_is_refused_keeps_it_run = record { classes = (record { line = 1; extra = 0; fields = (Some 0) ∷ [];
+    construct = None; destroy = None }) ∷ []; procedures = (record { line = 4; parameters = []; body = record { locals = (OfPointer (Some
+    0)) ∷ OfNumber ∷ []; statements = (on 7 (Statement-F.New (Held (H.Local 0)) 0 Leaves)) ∷ (on 8 (Statement-F.Set (Field (H.Local 0) 0 0)
+    (Held (H.Local 0)))) ∷ (on 9 (Statement-F.FailNext (Constant (pos 1)))) ∷ (on 10 (Statement-F.Trap 1 ((on 11 (Statement-F.New (Field
+    (H.Local 0) 0 0) 0 Leaves)) ∷ []))) ∷ (on 13 (Statement-F.If (NotNull (Field (H.Local 0) 0 0)) ((on 14 (Statement-F.PrintNumber
+    (Variable 1))) ∷ []))) ∷ (on 16 (Statement-F.Delete (Held (H.Local 0)))) ∷ [] } }) ∷ []; operations = []; literals = []; main = 0 }
+
+newleave_into_a_field_that_is_refused_keeps_it_run : run script_newleave_into_a_field_that_is_refused_keeps_it_run R.Unlimited 10000 (shaped
+    4096 4096) ≡ record { outcome = Ended None []; trace = (line 1 144 0 Granted) ∷ (line 2 32 144 Granted) ∷ (line 3 32 176 Simulated) ∷
+    []; lines = (45 ∷ 52 ∷ []) ∷ []; notes = []; steps = 9 }
+unfolding everything
+newleave_into_a_field_that_is_refused_keeps_it_run = refl
+
+abbrev script_newleave_that_is_refused_leaves_run : Script
+script_newleave_that_is_refused_leaves_run = record { classes = (record { line = 1; extra = 0; fields = None ∷ []; construct = None; destroy
+    = None }) ∷ []; procedures = (record { line = 4; parameters = []; body = record { locals = (OfPointer (Some 0)) ∷ (OfPointer None) ∷
+    OfNumber ∷ []; statements = (on 8 (Statement-F.New (Held (H.Local 0)) 0 Leaves)) ∷ (on 9 (Statement-F.Alloc (Field (H.Local 0) 0 0)
+    (Constant (pos 4)) GivesNull)) ∷ (on 10 (Statement-F.Set (Held (H.Local 1)) (Field (H.Local 0) 0 0))) ∷ (on 11 (Statement-F.Trap 2 ((on
+    12 (Statement-F.New (Field (H.Local 0) 0 0) 0 Leaves)) ∷ []))) ∷ (on 14 (Statement-F.PrintNumber (Variable 2))) ∷ (on 15
+    (Statement-F.Free (Field (H.Local 0) 0 0))) ∷ (on 16 (Statement-F.Free (Held (H.Local 0)))) ∷ [] } }) ∷ []; operations = []; literals =
+    []; main = 0 }
+
+newleave_that_is_refused_leaves_run : run script_newleave_that_is_refused_leaves_run (R.Number 4) 10000 (shaped 4096 4096) ≡ record {
+    outcome = Ended None []; trace = (line 1 144 0 Granted) ∷ (line 2 32 144 Granted) ∷ (line 3 32 176 Granted) ∷ (line 4 32 208 Simulated)
+    ∷ []; lines = (45 ∷ 52 ∷ []) ∷ []; notes = []; steps = 8 }
+unfolding everything
+newleave_that_is_refused_leaves_run = refl
+
+abbrev script_object_made_and_deleted_run : Script
+script_object_made_and_deleted_run = record { classes = (record { line = 1; extra = 16; fields = None ∷ []; construct = Some (record {
+    locals = []; statements = (on 4 (Statement-F.NewText (Field H.This 0 0) (Constant (pos 4)) Leaves)) ∷ [] }); destroy = Some (record {
+    locals = []; statements = (on 7 (Statement-F.Free (Field H.This 0 0))) ∷ [] }) }) ∷ []; procedures = (record { line = 10; parameters =
+    []; body = record { locals = (OfPointer (Some 0)) ∷ []; statements = (on 12 (Statement-F.New (Held (H.Local 0)) 0 Leaves)) ∷ (on 13
+    (Statement-F.Construct (Held (H.Local 0)))) ∷ (on 14 (Statement-F.Delete (Held (H.Local 0)))) ∷ [] } }) ∷ []; operations = []; literals
+    = []; main = 0 }
+
+object_made_and_deleted_run : run script_object_made_and_deleted_run R.Unlimited 10000 (shaped 4096 4096) ≡ record { outcome = Ended None
+    []; trace = (line 1 144 0 Granted) ∷ (line 2 48 144 Granted) ∷ (line 3 32 192 Granted) ∷ []; lines = []; notes = []; steps = 6 }
+unfolding everything
+object_made_and_deleted_run = refl
+
+abbrev script_object_of_a_class_below_run : Script
+script_object_of_a_class_below_run = record { classes = (record { line = 7; extra = 0; fields = None ∷ []; construct = None; destroy = Some
+    (record { locals = []; statements = (on 10 (Statement-F.Free (Field H.This 0 0))) ∷ [] }) }) ∷ []; procedures = (record { line = 1;
+    parameters = []; body = record { locals = (OfPointer (Some 0)) ∷ []; statements = (on 3 (Statement-F.New (Held (H.Local 0)) 0 Leaves)) ∷
+    (on 4 (Statement-F.Alloc (Field (H.Local 0) 0 0) (Constant (pos 4)) Leaves)) ∷ (on 5 (Statement-F.Delete (Held (H.Local 0)))) ∷ [] } })
+    ∷ []; operations = []; literals = []; main = 0 }
+
+object_of_a_class_below_run : run script_object_of_a_class_below_run R.Unlimited 10000 (shaped 4096 4096) ≡ record { outcome = Ended None
+    []; trace = (line 1 144 0 Granted) ∷ (line 2 32 144 Granted) ∷ (line 3 32 176 Granted) ∷ []; lines = []; notes = []; steps = 5 }
+unfolding everything
+object_of_a_class_below_run = refl
+
+abbrev script_object_that_deletes_itself_while_it_is_made_run : Script
+script_object_that_deletes_itself_while_it_is_made_run = record { classes = (record { line = 1; extra = 0; fields = None ∷ []; construct =
+    Some (record { locals = []; statements = (on 4 (Statement-F.Delete (Held H.This))) ∷ (on 5 (Statement-F.SetNull (Field H.This 0 0))) ∷
+    [] }); destroy = None }) ∷ []; procedures = (record { line = 8; parameters = []; body = record { locals = (OfPointer (Some 0)) ∷ [];
+    statements = (on 10 (Statement-F.New (Held (H.Local 0)) 0 Leaves)) ∷ (on 11 (Statement-F.Construct (Held (H.Local 0)))) ∷ [] } }) ∷ [];
+    operations = []; literals = []; main = 0 }
+
+object_that_deletes_itself_while_it_is_made_run : run script_object_that_deletes_itself_while_it_is_made_run R.Unlimited 10000 (shaped 4096
+    4096) ≡ record { outcome = Panicked (P.Workbench 1); trace = (line 1 144 0 Granted) ∷ (line 2 32 144 Granted) ∷ []; lines = []; notes =
+    []; steps = 5 }
+unfolding everything
+object_that_deletes_itself_while_it_is_made_run = refl
+
+abbrev script_objects_that_construct_each_other_run : Script
+script_objects_that_construct_each_other_run = record { classes = (record { line = 1; extra = 0; fields = (Some 0) ∷ []; construct = Some
+    (record { locals = []; statements = (on 4 (Statement-F.Construct (Field H.This 0 0))) ∷ [] }); destroy = None }) ∷ []; procedures =
+    (record { line = 7; parameters = []; body = record { locals = (OfPointer (Some 0)) ∷ []; statements = (on 9 (Statement-F.New (Held
+    (H.Local 0)) 0 Leaves)) ∷ (on 10 (Statement-F.Set (Field (H.Local 0) 0 0) (Held (H.Local 0)))) ∷ (on 11 (Statement-F.Construct (Held
+    (H.Local 0)))) ∷ [] } }) ∷ []; operations = []; literals = []; main = 0 }
+
+objects_that_construct_each_other_run : run script_objects_that_construct_each_other_run R.Unlimited 10000 (shaped 4096 4096) ≡ record {
+    outcome = Panicked (P.Workbench 7); trace = (line 1 144 0 Granted) ∷ (line 2 32 144 Granted) ∷ []; lines = []; notes = []; steps = 130 }
+unfolding everything
+objects_that_construct_each_other_run = refl
+
+abbrev script_objects_that_delete_each_other_budget_just_enough_run : Script
+script_objects_that_delete_each_other_budget_just_enough_run = record { classes = (record { line = 1; extra = 0; fields = (Some 0) ∷ [];
+    construct = None; destroy = Some (record { locals = []; statements = (on 4 (Statement-F.Delete (Field H.This 0 0))) ∷ [] }) }) ∷ [];
+    procedures = (record { line = 7; parameters = []; body = record { locals = (OfPointer (Some 0)) ∷ (OfPointer (Some 0)) ∷ []; statements
+    = (on 10 (Statement-F.New (Held (H.Local 0)) 0 Leaves)) ∷ (on 11 (Statement-F.New (Held (H.Local 1)) 0 Leaves)) ∷ (on 12
+    (Statement-F.Set (Field (H.Local 0) 0 0) (Held (H.Local 1)))) ∷ (on 13 (Statement-F.Set (Field (H.Local 1) 0 0) (Held (H.Local 0)))) ∷
+    (on 14 (Statement-F.Delete (Held (H.Local 0)))) ∷ [] } }) ∷ []; operations = []; literals = []; main = 0 }
+
+objects_that_delete_each_other_budget_just_enough_run : run script_objects_that_delete_each_other_budget_just_enough_run R.Unlimited 260
+    (shaped 4096 4096) ≡ record { outcome = Panicked (P.Workbench 7); trace = (line 1 144 0 Granted) ∷ (line 2 32 144 Granted) ∷ (line 3 32
+    176 Granted) ∷ []; lines = []; notes = []; steps = 260 }
+unfolding everything
+objects_that_delete_each_other_budget_just_enough_run = refl
+
+abbrev script_objects_that_delete_each_other_one_step_short_run : Script
+script_objects_that_delete_each_other_one_step_short_run = record { classes = (record { line = 1; extra = 0; fields = (Some 0) ∷ [];
+    construct = None; destroy = Some (record { locals = []; statements = (on 4 (Statement-F.Delete (Field H.This 0 0))) ∷ [] }) }) ∷ [];
+    procedures = (record { line = 7; parameters = []; body = record { locals = (OfPointer (Some 0)) ∷ (OfPointer (Some 0)) ∷ []; statements
+    = (on 10 (Statement-F.New (Held (H.Local 0)) 0 Leaves)) ∷ (on 11 (Statement-F.New (Held (H.Local 1)) 0 Leaves)) ∷ (on 12
+    (Statement-F.Set (Field (H.Local 0) 0 0) (Held (H.Local 1)))) ∷ (on 13 (Statement-F.Set (Field (H.Local 1) 0 0) (Held (H.Local 0)))) ∷
+    (on 14 (Statement-F.Delete (Held (H.Local 0)))) ∷ [] } }) ∷ []; operations = []; literals = []; main = 0 }
+
+objects_that_delete_each_other_one_step_short_run : run script_objects_that_delete_each_other_one_step_short_run R.Unlimited 259 (shaped
+    4096 4096) ≡ record { outcome = Cut Budget; trace = (line 1 144 0 Granted) ∷ (line 2 32 144 Granted) ∷ (line 3 32 176 Granted) ∷ [];
+    lines = []; notes = []; steps = 259 }
+unfolding everything
+objects_that_delete_each_other_one_step_short_run = refl
+
+abbrev script_objects_that_delete_each_other_run : Script
+script_objects_that_delete_each_other_run = record { classes = (record { line = 1; extra = 0; fields = (Some 0) ∷ []; construct = None;
+    destroy = Some (record { locals = []; statements = (on 4 (Statement-F.Delete (Field H.This 0 0))) ∷ [] }) }) ∷ []; procedures = (record
+    { line = 7; parameters = []; body = record { locals = (OfPointer (Some 0)) ∷ (OfPointer (Some 0)) ∷ []; statements = (on 10
+    (Statement-F.New (Held (H.Local 0)) 0 Leaves)) ∷ (on 11 (Statement-F.New (Held (H.Local 1)) 0 Leaves)) ∷ (on 12 (Statement-F.Set (Field
+    (H.Local 0) 0 0) (Held (H.Local 1)))) ∷ (on 13 (Statement-F.Set (Field (H.Local 1) 0 0) (Held (H.Local 0)))) ∷ (on 14
+    (Statement-F.Delete (Held (H.Local 0)))) ∷ [] } }) ∷ []; operations = []; literals = []; main = 0 }
+
+objects_that_delete_each_other_run : run script_objects_that_delete_each_other_run R.Unlimited 10000 (shaped 4096 4096) ≡ record { outcome =
+    Panicked (P.Workbench 7); trace = (line 1 144 0 Granted) ∷ (line 2 32 144 Granted) ∷ (line 3 32 176 Granted) ∷ []; lines = []; notes =
+    []; steps = 260 }
+unfolding everything
+objects_that_delete_each_other_run = refl
+
+abbrev script_objects_that_delete_each_other_small_budget_run : Script
+script_objects_that_delete_each_other_small_budget_run = record { classes = (record { line = 1; extra = 0; fields = (Some 0) ∷ []; construct
+    = None; destroy = Some (record { locals = []; statements = (on 4 (Statement-F.Delete (Field H.This 0 0))) ∷ [] }) }) ∷ []; procedures =
+    (record { line = 7; parameters = []; body = record { locals = (OfPointer (Some 0)) ∷ (OfPointer (Some 0)) ∷ []; statements = (on 10
+    (Statement-F.New (Held (H.Local 0)) 0 Leaves)) ∷ (on 11 (Statement-F.New (Held (H.Local 1)) 0 Leaves)) ∷ (on 12 (Statement-F.Set (Field
+    (H.Local 0) 0 0) (Held (H.Local 1)))) ∷ (on 13 (Statement-F.Set (Field (H.Local 1) 0 0) (Held (H.Local 0)))) ∷ (on 14
+    (Statement-F.Delete (Held (H.Local 0)))) ∷ [] } }) ∷ []; operations = []; literals = []; main = 0 }
+
+objects_that_delete_each_other_small_budget_run : run script_objects_that_delete_each_other_small_budget_run R.Unlimited 20 (shaped 4096
+    4096) ≡ record { outcome = Cut Budget; trace = (line 1 144 0 Granted) ∷ (line 2 32 144 Granted) ∷ (line 3 32 176 Granted) ∷ []; lines =
+    []; notes = []; steps = 20 }
+unfolding everything
+objects_that_delete_each_other_small_budget_run = refl
+
+abbrev script_one_field_name_in_two_classes_run : Script
+script_one_field_name_in_two_classes_run = record { classes = (record { line = 1; extra = 0; fields = None ∷ None ∷ []; construct = None;
+    destroy = None }) ∷ (record { line = 5; extra = 0; fields = None ∷ []; construct = None; destroy = None }) ∷ []; procedures = (record {
+    line = 8; parameters = []; body = record { locals = (OfPointer (Some 0)) ∷ (OfPointer (Some 1)) ∷ []; statements = (on 11
+    (Statement-F.New (Held (H.Local 0)) 0 Leaves)) ∷ (on 12 (Statement-F.New (Held (H.Local 1)) 1 Leaves)) ∷ (on 13 (Statement-F.Set (Field
+    (H.Local 0) 0 1) (Held (H.Local 1)))) ∷ (on 14 (Statement-F.Set (Field (H.Local 1) 1 0) (Held (H.Local 0)))) ∷ (on 15
+    (Statement-F.Delete (Field (H.Local 0) 0 1))) ∷ (on 16 (Statement-F.Delete (Field (H.Local 1) 1 0))) ∷ [] } }) ∷ []; operations = [];
+    literals = []; main = 0 }
+
+one_field_name_in_two_classes_run : run script_one_field_name_in_two_classes_run R.Unlimited 10000 (shaped 4096 4096) ≡ record { outcome =
+    Panicked (P.Workbench 1); trace = (line 1 144 0 Granted) ∷ (line 2 48 144 Granted) ∷ (line 3 32 192 Granted) ∷ []; lines = []; notes =
+    []; steps = 7 }
+unfolding everything
+one_field_name_in_two_classes_run = refl
+
+abbrev script_operation_deletes_an_object_run : Script
+script_operation_deletes_an_object_run = record { classes = (record { line = 8; extra = 0; fields = None ∷ []; construct = None; destroy =
+    Some (record { locals = []; statements = (on 11 (Statement-F.PrintText (Quoted 0))) ∷ [] }) }) ∷ []; procedures = (record { line = 14;
+    parameters = []; body = record { locals = (OfPointer (Some 0)) ∷ []; statements = (on 16 (Statement-F.New (Held (H.Local 0)) 0 Leaves))
+    ∷ (on 17 (Statement-F.PushOperation (Held (H.Local 0)) 0)) ∷ (on 18 (Statement-F.Alloc (Field (H.Local 0) 0 0) (Constant (pos 4))
+    GivesNull)) ∷ (on 19 (Statement-F.Leave (Constant (negsuc 0)))) ∷ [] } }) ∷ []; operations = (record { line = 1; body = record { locals
+    = (OfPointer (Some 0)) ∷ []; statements = (on 3 (Statement-F.Set (Held (H.Local 1)) (Held (H.Local 0)))) ∷ (on 4 (Statement-F.Free
+    (Field (H.Local 1) 0 0))) ∷ (on 5 (Statement-F.SetNull (Field (H.Local 1) 0 0))) ∷ (on 6 (Statement-F.Delete (Held (H.Local 1)))) ∷ [] }
+    }) ∷ []; literals = (103 ∷ 111 ∷ 110 ∷ 101 ∷ []) ∷ []; main = 0 }
+
+operation_deletes_an_object_run : run script_operation_deletes_an_object_run R.Unlimited 10000 (shaped 4096 4096) ≡ record { outcome = Ended
+    (Some (negsuc 0)) []; trace = (line 1 144 0 Granted) ∷ (line 2 32 144 Granted) ∷ (line 3 32 176 Granted) ∷ []; lines = (103 ∷ 111 ∷ 110
+    ∷ 101 ∷ []) ∷ []; notes = []; steps = 11 }
+unfolding everything
+operation_deletes_an_object_run = refl
+
+abbrev script_own_class_is_constructed_and_destroyed_run : Script
+script_own_class_is_constructed_and_destroyed_run = record { classes = (record { line = 1; extra = 0; fields = []; construct = Some (record
+    { locals = []; statements = (on 3 (Statement-F.PrintText (Quoted 0))) ∷ [] }); destroy = Some (record { locals = []; statements = (on 6
+    (Statement-F.PrintText (Quoted 1))) ∷ [] }) }) ∷ (record { line = 9; extra = 0; fields = []; construct = Some (record { locals = [];
+    statements = (on 11 (Statement-F.PrintText (Quoted 2))) ∷ [] }); destroy = Some (record { locals = []; statements = (on 14
+    (Statement-F.PrintText (Quoted 3))) ∷ [] }) }) ∷ []; procedures = (record { line = 17; parameters = []; body = record { locals =
+    (OfPointer (Some 0)) ∷ []; statements = (on 19 (Statement-F.New (Held (H.Local 0)) 1 Leaves)) ∷ (on 20 (Statement-F.Construct (Held
+    (H.Local 0)))) ∷ (on 21 (Statement-F.Delete (Held (H.Local 0)))) ∷ [] } }) ∷ []; operations = []; literals = (65 ∷ 32 ∷ 109 ∷ 97 ∷ 100 ∷
+    101 ∷ []) ∷ (65 ∷ 32 ∷ 103 ∷ 111 ∷ 110 ∷ 101 ∷ []) ∷ (66 ∷ 32 ∷ 109 ∷ 97 ∷ 100 ∷ 101 ∷ []) ∷ (66 ∷ 32 ∷ 103 ∷ 111 ∷ 110 ∷ 101 ∷ []) ∷
+    []; main = 0 }
+
+own_class_is_constructed_and_destroyed_run : run script_own_class_is_constructed_and_destroyed_run R.Unlimited 10000 (shaped 4096 4096) ≡
+    record { outcome = Ended None []; trace = (line 1 144 0 Granted) ∷ (line 2 32 144 Granted) ∷ []; lines = (66 ∷ 32 ∷ 109 ∷ 97 ∷ 100 ∷ 101
+    ∷ []) ∷ (66 ∷ 32 ∷ 103 ∷ 111 ∷ 110 ∷ 101 ∷ []) ∷ []; notes = []; steps = 6 }
+unfolding everything
+own_class_is_constructed_and_destroyed_run = refl
+
+abbrev script_popdestroy_destroys_objects_run : Script
+script_popdestroy_destroys_objects_run = record { classes = (record { line = 1; extra = 0; fields = None ∷ []; construct = None; destroy =
+    Some (record { locals = []; statements = (on 4 (Statement-F.Free (Field H.This 0 0))) ∷ (on 5 (Statement-F.PrintText (Quoted 0))) ∷ []
+    }) }) ∷ []; procedures = (record { line = 8; parameters = []; body = record { locals = (OfPointer (Some 0)) ∷ []; statements = (on 10
+    (Statement-F.New (Held (H.Local 0)) 0 Leaves)) ∷ (on 11 (Statement-F.PushObject (Held (H.Local 0)))) ∷ (on 12 (Statement-F.Alloc (Field
+    (H.Local 0) 0 0) (Constant (pos 4)) GivesNull)) ∷ (on 13 (Statement-F.PopDestroy (Constant (pos 1)))) ∷ [] } }) ∷ []; operations = [];
+    literals = (103 ∷ 111 ∷ 110 ∷ 101 ∷ []) ∷ []; main = 0 }
+
+popdestroy_destroys_objects_run : run script_popdestroy_destroys_objects_run R.Unlimited 10000 (shaped 4096 4096) ≡ record { outcome = Ended
+    None []; trace = (line 1 144 0 Granted) ∷ (line 2 32 144 Granted) ∷ (line 3 32 176 Granted) ∷ []; lines = (103 ∷ 111 ∷ 110 ∷ 101 ∷ []) ∷
+    []; notes = []; steps = 8 }
+unfolding everything
+popdestroy_destroys_objects_run = refl
+
+abbrev script_pushed_null_object_is_one_step_run : Script
+script_pushed_null_object_is_one_step_run = record { classes = (record { line = 1; extra = 0; fields = []; construct = None; destroy = None
+    }) ∷ []; procedures = (record { line = 3; parameters = []; body = record { locals = (OfPointer (Some 0)) ∷ []; statements = (on 5
+    (Statement-F.PushObject (Held (H.Local 0)))) ∷ (on 6 (Statement-F.PopDestroy (Constant (pos 1)))) ∷ [] } }) ∷ []; operations = [];
+    literals = []; main = 0 }
+
+pushed_null_object_is_one_step_run : run script_pushed_null_object_is_one_step_run R.Unlimited 10000 (shaped 4096 4096) ≡ record { outcome =
+    Ended None []; trace = (line 1 144 0 Granted) ∷ []; lines = []; notes = []; steps = 3 }
+unfolding everything
+pushed_null_object_is_one_step_run = refl
+
+abbrev script_pushed_object_made_and_deleted_run : Script
+script_pushed_object_made_and_deleted_run = record { classes = (record { line = 1; extra = 16; fields = None ∷ []; construct = Some (record
+    { locals = []; statements = (on 4 (Statement-F.NewText (Field H.This 0 0) (Constant (pos 4)) Leaves)) ∷ [] }); destroy = Some (record {
+    locals = []; statements = (on 7 (Statement-F.Free (Field H.This 0 0))) ∷ [] }) }) ∷ []; procedures = (record { line = 10; parameters =
+    []; body = record { locals = (OfPointer (Some 0)) ∷ []; statements = (on 12 (Statement-F.New (Held (H.Local 0)) 0 Leaves)) ∷ (on 13
+    (Statement-F.PushObject (Held (H.Local 0)))) ∷ (on 14 (Statement-F.Construct (Held (H.Local 0)))) ∷ (on 15 (Statement-F.Pop (Constant
+    (pos 1)))) ∷ (on 16 (Statement-F.Delete (Held (H.Local 0)))) ∷ [] } }) ∷ []; operations = []; literals = []; main = 0 }
+
+pushed_object_made_and_deleted_run : run script_pushed_object_made_and_deleted_run R.Unlimited 10000 (shaped 4096 4096) ≡ record { outcome =
+    Ended None []; trace = (line 1 144 0 Granted) ∷ (line 2 48 144 Granted) ∷ (line 3 32 192 Granted) ∷ []; lines = []; notes = []; steps =
+    8 }
+unfolding everything
+pushed_object_made_and_deleted_run = refl
+
+abbrev script_return_ends_a_construct_body_run : Script
+script_return_ends_a_construct_body_run = record { classes = (record { line = 1; extra = 4; fields = []; construct = Some (record { locals =
+    []; statements = (on 3 (Statement-F.PrintText (Quoted 0))) ∷ (on 4 Statement-F.Return) ∷ (on 5 (Statement-F.PrintText (Quoted 1))) ∷ []
+    }); destroy = None }) ∷ []; procedures = (record { line = 8; parameters = []; body = record { locals = (OfPointer (Some 0)) ∷ [];
+    statements = (on 10 (Statement-F.New (Held (H.Local 0)) 0 Leaves)) ∷ (on 11 (Statement-F.Construct (Held (H.Local 0)))) ∷ (on 12
+    (Statement-F.Delete (Held (H.Local 0)))) ∷ [] } }) ∷ []; operations = []; literals = (111 ∷ 110 ∷ 101 ∷ []) ∷ (116 ∷ 119 ∷ 111 ∷ []) ∷
+    []; main = 0 }
+
+return_ends_a_construct_body_run : run script_return_ends_a_construct_body_run R.Unlimited 10000 (shaped 4096 4096) ≡ record { outcome =
+    Ended None []; trace = (line 1 144 0 Granted) ∷ (line 2 32 144 Granted) ∷ []; lines = (111 ∷ 110 ∷ 101 ∷ []) ∷ []; notes = []; steps = 6
+    }
+unfolding everything
+return_ends_a_construct_body_run = refl
+
+abbrev script_right_field_is_refused_second_run : Script
+script_right_field_is_refused_second_run = record { classes = (record { line = 1; extra = 0; fields = None ∷ []; construct = None; destroy =
+    None }) ∷ []; procedures = (record { line = 4; parameters = []; body = record { locals = (OfPointer (Some 0)) ∷ (OfPointer (Some 0)) ∷
+    []; statements = (on 7 (Statement-F.Alloc (Held (H.Local 1)) (Constant (pos 4)) GivesNull)) ∷ (on 8 (Statement-F.New (Held (H.Local 0))
+    0 Leaves)) ∷ (on 9 (Statement-F.Set (Field (H.Local 0) 0 0) (Field (H.Local 1) 0 0))) ∷ [] } }) ∷ []; operations = []; literals = [];
+    main = 0 }
+
+right_field_is_refused_second_run : run script_right_field_is_refused_second_run R.Unlimited 10000 (shaped 4096 4096) ≡ record { outcome =
+    Panicked (P.Workbench 2); trace = (line 1 144 0 Granted) ∷ (line 2 32 144 Granted) ∷ (line 3 32 176 Granted) ∷ []; lines = []; notes =
+    []; steps = 3 }
+unfolding everything
+right_field_is_refused_second_run = refl
+
+abbrev script_second_object_takes_the_place_of_the_first_run : Script
+script_second_object_takes_the_place_of_the_first_run = record { classes = (record { line = 1; extra = 0; fields = None ∷ []; construct =
+    None; destroy = None }) ∷ []; procedures = (record { line = 4; parameters = []; body = record { locals = (OfPointer (Some 0)) ∷
+    (OfPointer (Some 0)) ∷ []; statements = (on 7 (Statement-F.New (Held (H.Local 0)) 0 Leaves)) ∷ (on 8 (Statement-F.Alloc (Field (H.Local
+    0) 0 0) (Constant (pos 4)) Leaves)) ∷ (on 9 (Statement-F.Free (Field (H.Local 0) 0 0))) ∷ (on 10 (Statement-F.Delete (Held (H.Local
+    0)))) ∷ (on 11 (Statement-F.New (Held (H.Local 1)) 0 Leaves)) ∷ (on 12 (Statement-F.If (IsNull (Field (H.Local 1) 0 0)) ((on 13
+    (Statement-F.PrintText (Quoted 0))) ∷ []))) ∷ (on 15 (Statement-F.Delete (Held (H.Local 0)))) ∷ [] } }) ∷ []; operations = []; literals
+    = (110 ∷ 117 ∷ 108 ∷ 108 ∷ []) ∷ []; main = 0 }
+
+second_object_takes_the_place_of_the_first_run : run script_second_object_takes_the_place_of_the_first_run R.Unlimited 10000 (shaped 4096
+    4096) ≡ record { outcome = Panicked (P.Workbench 1); trace = (line 1 144 0 Granted) ∷ (line 2 32 144 Granted) ∷ (line 3 32 176 Granted)
+    ∷ (line 4 32 144 Granted) ∷ []; lines = (110 ∷ 117 ∷ 108 ∷ 108 ∷ []) ∷ []; notes = []; steps = 10 }
+unfolding everything
+second_object_takes_the_place_of_the_first_run = refl
+
+abbrev script_self_freed_while_it_is_made_run : Script
+script_self_freed_while_it_is_made_run = record { classes = (record { line = 1; extra = 0; fields = None ∷ []; construct = Some (record {
+    locals = []; statements = (on 4 (Statement-F.Free (Held H.This))) ∷ (on 5 (Statement-F.If (IsNull (Field H.This 0 0)) [])) ∷ [] });
+    destroy = None }) ∷ []; procedures = (record { line = 9; parameters = []; body = record { locals = (OfPointer (Some 0)) ∷ []; statements
+    = (on 11 (Statement-F.New (Held (H.Local 0)) 0 Leaves)) ∷ (on 12 (Statement-F.Construct (Held (H.Local 0)))) ∷ [] } }) ∷ []; operations
+    = []; literals = []; main = 0 }
+
+self_freed_while_it_is_made_run : run script_self_freed_while_it_is_made_run R.Unlimited 10000 (shaped 4096 4096) ≡ record { outcome =
+    Panicked (P.Workbench 1); trace = (line 1 144 0 Granted) ∷ (line 2 32 144 Granted) ∷ []; lines = []; notes = []; steps = 4 }
+unfolding everything
+self_freed_while_it_is_made_run = refl
+
+abbrev script_self_is_compared_and_kept_run : Script
+script_self_is_compared_and_kept_run = record { classes = (record { line = 1; extra = 0; fields = (Some 0) ∷ []; construct = Some (record {
+    locals = []; statements = (on 4 (Statement-F.Set (Field H.This 0 0) (Held H.This))) ∷ [] }); destroy = Some (record { locals = [];
+    statements = (on 7 (Statement-F.SetNull (Field H.This 0 0))) ∷ [] }) }) ∷ []; procedures = (record { line = 10; parameters = []; body =
+    record { locals = (OfPointer (Some 0)) ∷ []; statements = (on 12 (Statement-F.New (Held (H.Local 0)) 0 Leaves)) ∷ (on 13
+    (Statement-F.Construct (Held (H.Local 0)))) ∷ (on 14 (Statement-F.PushObject (Field (H.Local 0) 0 0))) ∷ (on 15 (Statement-F.PopCheck
+    (Held (H.Local 0)))) ∷ (on 16 (Statement-F.Delete (Held (H.Local 0)))) ∷ [] } }) ∷ []; operations = []; literals = []; main = 0 }
+
+self_is_compared_and_kept_run : run script_self_is_compared_and_kept_run R.Unlimited 10000 (shaped 4096 4096) ≡ record { outcome = Ended
+    None []; trace = (line 1 144 0 Granted) ∷ (line 2 32 144 Granted) ∷ []; lines = []; notes = []; steps = 8 }
+unfolding everything
+self_is_compared_and_kept_run = refl
+
+abbrev script_self_is_passed_and_a_procedure_has_none_of_its_own_run : Script
+script_self_is_passed_and_a_procedure_has_none_of_its_own_run = record { classes = (record { line = 1; extra = 0; fields = None ∷ [];
+    construct = Some (record { locals = []; statements = (on 4 (Statement-F.Call 0 ((Passed (Held H.This)) ∷ []))) ∷ [] }); destroy = Some
+    (record { locals = []; statements = (on 7 (Statement-F.Free (Field H.This 0 0))) ∷ [] }) }) ∷ []; procedures = (record { line = 10;
+    parameters = (Par.OfPointer (Some 0)) ∷ []; body = record { locals = []; statements = (on 11 (Statement-F.Alloc (Field (H.Local 0) 0 0)
+    (Constant (pos 4)) Leaves)) ∷ [] } }) ∷ (record { line = 13; parameters = []; body = record { locals = (OfPointer (Some 0)) ∷ [];
+    statements = (on 15 (Statement-F.New (Held (H.Local 0)) 0 Leaves)) ∷ (on 16 (Statement-F.Construct (Held (H.Local 0)))) ∷ (on 17
+    (Statement-F.Delete (Held (H.Local 0)))) ∷ [] } }) ∷ []; operations = []; literals = []; main = 1 }
+
+self_is_passed_and_a_procedure_has_none_of_its_own_run : run script_self_is_passed_and_a_procedure_has_none_of_its_own_run R.Unlimited 10000
+    (shaped 4096 4096) ≡ record { outcome = Ended None []; trace = (line 1 144 0 Granted) ∷ (line 2 32 144 Granted) ∷ (line 3 32 176
+    Granted) ∷ []; lines = []; notes = []; steps = 7 }
+unfolding everything
+self_is_passed_and_a_procedure_has_none_of_its_own_run = refl

@@ -1,0 +1,88 @@
+-- What the theorems of worked cases have in common. Written by tools/cases_to_theorems.py; edit nothing here.
+use Rattle.std.specs.Prelude.{ℕ, length}
+use Rattle.std.specs.Fmt.{digits}
+use Rattle.wb_model.specs.declared.heap.Shape.{Shape}
+use Rattle.wb_model.specs.declared.heap.Answer.{Answer}
+use Rattle.wb_model.specs.declared.heap.Attempt.{Attempt}
+use Rattle.wb_model.specs.declared.size.Rise.{Rise}
+use Rattle.wb_model.specs.declared.script.Statement.{Statement}
+use Rattle.wb_model.specs.declared.script.Numbered.{Numbered}
+use Rattle.wb_model.specs.declared.script.Statement.TheOpen.{Statement-F}
+use Rattle.wb_model.specs.declared.script.Statement.TheViews.{out-Statement, roll-Statement}
+use Rattle.wb_model.specs.Run.{run}
+
+-- what a run computes through
+unfoldable pub everything : Unit {0}
+unfolding out-Statement
+    denote.Hole.Carrier.out
+    roll-Statement
+    denote.Hole.Carrier.roll
+    denote.Hole.Carrier.shown
+    denote.Hole.Carrier.hidden
+    Rattle.wb_model.specs.declared.script.Statement.TheBlock.shown-the_row-Numbered-0
+    digits
+    Rattle.wb_model.specs.Attempts.attempt
+    Rattle.wb_model.specs.Attempts.allocate
+    Rattle.wb_model.specs.Attempts.reallocate_longer
+    Rattle.wb_model.specs.Attempts.reallocate
+    Rattle.wb_model.specs.Attempts.after_growth
+    Rattle.wb_model.specs.Attempts.grow_if
+    Rattle.wb_model.specs.Attempts.push
+    Rattle.wb_model.specs.Meaning.begun_if
+    Rattle.wb_model.specs.Meaning.begun
+    Rattle.wb_model.specs.Meaning.piece
+    Rattle.wb_model.specs.Meaning.meaning_within
+    Rattle.wb_model.specs.Meaning.meaning_of
+    Rattle.wb_model.specs.Operands.with_cell
+    Rattle.wb_model.specs.Operands.with_fields
+    Rattle.wb_model.specs.Operands.with_pointer
+    Rattle.wb_model.specs.Reading.with_writable
+    Rattle.wb_model.specs.Reading.with_readable
+    Rattle.wb_model.specs.Reading.with_text_cell
+    Rattle.wb_model.specs.Reading.with_base
+    Rattle.wb_model.specs.Reading.with_units
+    Rattle.wb_model.specs.Reading.with_room
+    Rattle.wb_model.specs.Reading.write
+    Rattle.wb_model.specs.Reading.write_view
+    Rattle.wb_model.specs.Run.main_trapped
+    Rattle.wb_model.specs.Run.in_main
+    Rattle.wb_model.specs.Run.started
+    Rattle.wb_model.specs.Run.process
+    Rattle.wb_model.specs.State.and_then
+    Rattle.wb_model.specs.State.on_plain_end
+    Rattle.wb_model.specs.State.then_do
+    Rattle.wb_model.specs.State.require
+    Rattle.wb_model.specs.State.with_some
+    Rattle.wb_model.specs.State.unless
+    Rattle.wb_model.specs.Statements.given_to
+    Rattle.wb_model.specs.Statements.alloc_raw
+    Rattle.wb_model.specs.Statements.released
+    Rattle.wb_model.specs.Statements.release
+    Rattle.wb_model.specs.Statements.realloc_raw
+    Rattle.wb_model.specs.Statements.realloc_of
+    Rattle.wb_model.specs.Statements.with_words
+    Rattle.wb_model.specs.Statements.in_frame
+    Rattle.wb_model.specs.Statements.plain
+    Rattle.wb_model.specs.Statements.with_arguments
+    Rattle.wb_model.specs.Statements.with_class
+    Rattle.wb_model.specs.Statements.destroyed_object
+    Rattle.wb_model.specs.Statements.destroyed_item
+    Rattle.wb_model.specs.Statements.trapped
+    Rattle.wb_model.specs.Statements.with_condition
+    Rattle.wb_model.specs.Statements.leave_if
+    Rattle.wb_model.specs.Statements.new_object
+    Rattle.wb_model.specs.Statements.realloc_text
+    Rattle.wb_model.specs.Statements.statement
+everything = tt
+
+abbrev pub on : ℕ → Statement-F Statement Numbered → Numbered
+on line layer = record { line = line; statement = roll-Statement layer }
+
+abbrev pub shaped : ℕ → ℕ → Shape
+shaped min step = record { min = min; step = step }
+
+abbrev pub line : ℕ → ℕ → ℕ → Answer → Attempt
+line number length place answer = record { number = number; length = length; place = place; answer = answer }
+
+abbrev pub rise : ℕ → ℕ → Rise
+rise number top = record { number = number; top = top }

@@ -1,0 +1,69 @@
+"""Lines of reports as terms: the values that the definitions must give for them."""
+
+import sys
+from pathlib import Path
+
+# what starts this leaves its folder out of Python's path
+sys.path.insert(0, str(Path(__file__).resolve().parent))
+from terms import among, apply, integer, listed, option, record, text_term  # noqa: E402
+
+
+# The first words of a run's lines, and the words in them that name a value of the definitions.
+RUN_LINES = ("print", "note", "attempt", "ended", "left", "leaks", "leak", "panic", "nocleanup", "cut", "steps")
+PANICS = ("USER", "ALLOC", "WORKBENCH")
+NOTES = ("heap", "available", "compress")
+ANSWERS = ("granted", "simulated", "refused")
+CUTS = ("budget", "ceiling")
+
+
+def value_term(words: tuple[str, ...], word: str, read_as: str, table: str) -> str:
+    """The value of the definitions that a word of a report names."""
+    return among(words, word, read_as, f"add it to {table}, and its value to DECLARED").capitalize()
+
+
+def cut_term(word: str) -> str:
+    """Why a run was cut."""
+    return apply("Cut", value_term(CUTS, word, "why a run is cut", "CUTS"))
+
+
+def attempt_term(words: list[str]) -> str:
+    """A line of the trace."""
+    return apply("line", words[0], words[2], words[4], value_term(ANSWERS, words[5], "the answer of an attempt", "ANSWERS"))
+
+
+def outcome_term(told: dict[str, list[str]]) -> str:
+    """The outcome, from the report's lines by their first words."""
+    if "panic" in told:
+        name, value = told["panic"][0].split(" ")
+        panic = value_term(PANICS, name, "a panic's category", "PANICS")
+        return apply("Panicked", apply("P." + panic, str(int(value, 16 if name == "ALLOC" else 10))))
+    if "cut" in told:
+        return cut_term(told["cut"][0])
+    if "nocleanup" in told:
+        return "NoCleanup"
+    leaks = [record(number=w[0], length=w[2], place=w[4]) for w in map(str.split, told.get("leak", []))]
+    return apply("Ended", option(integer(int(told["left"][0])) if "left" in told else None), listed(leaks))
+
+
+def run_term(lines: list[str]) -> str:
+    """The result that a run text tells."""
+    told: dict[str, list[str]] = {}
+    for key, _, rest in (line.partition(" ") for line in lines):
+        among(RUN_LINES, key, "the first word of a run's line", "read it in `run_term` or `outcome_term`, and add it to RUN_LINES")
+        told.setdefault(key, []).append(rest)
+    return record(
+        outcome=outcome_term(told),
+        trace=listed([attempt_term(w.split()) for w in told.get("attempt", [])]),
+        lines=listed(list(map(text_term, told.get("print", [])))),
+        notes=listed([apply(value_term(NOTES, w[0], "a note", "NOTES"), *w[1:]) for w in map(str.split, told.get("note", []))]),
+        steps=told["steps"][0],
+    )
+
+
+def rises_term(lines: list[str]) -> str:
+    """The rises that a size text tells: each with its number and its top, where the next line begins."""
+    rows = [line.split(" ") for line in lines[1:]]
+    for row in rows:
+        among(("from", "enough"), row[0], "the first word of a row of lengths", "read it in `rises_term`")
+    tops = [row[1] for row in rows[1:-1]] + [rows[-1][2]]
+    return listed([apply("rise", row[3], top) for row, top in zip(rows, tops)])

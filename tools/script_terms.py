@@ -1,0 +1,299 @@
+"""Scripts of cases as terms: the tree of `wb_model/src/script.rt` that each script spells.
+
+They are read by the small reader here, not by the workbench's own, so that the theorems speak of the definitions alone."""
+
+import re
+import sys
+from dataclasses import dataclass, field
+from pathlib import Path
+
+# what starts this leaves its folder out of Python's path
+sys.path.insert(0, str(Path(__file__).resolve().parent))
+from terms import UnknownWord, among, apply, found, integer, listed, option, record, text_term  # noqa: E402
+
+# The lines that are a list of operands of fixed kinds: word, constructor, the
+# operands' letters, and what follows them. The others are in `Reader.statement`.
+# P and Q stand for pointers, V for numbers, X for int locals, D for texts that
+# can be changed, T for texts that can be read, W for views, C for classes, N for
+# procedures and O for operations.
+STATEMENTS: dict[str, list[str]] = {
+    entry.split()[0]: entry.split()[1:]
+    for entry in """
+    alloc Alloc PV GivesNull, allocl Alloc PV Leaves, realloc Realloc PPV GivesNull, reallocl Realloc PPV Leaves,
+    free Free P, alloclen AllocLen XP, store Store PVV, load Load XPV, new New PC GivesNull, newleave New PC Leaves,
+    construct Construct P, delete Delete P, null SetNull P, add Add XV, push Push P, pushobj PushObject P,
+    pushop PushOperation PO, pop Pop V, popdestroy PopDestroy V, popcheck PopCheck P, leave Leave V,
+    leaveiferror LeaveIfError V, leaveifnull LeaveIfNull P, mark Mark, markend MarkEnd V, check Check V,
+    checkall CheckAll V, failnext FailNext V, failevery FailEvery V, failnone FailNone, hnew NewText PV GivesNull,
+    hnewl NewText PV Leaves, hrealloc ReallocText PPV, copy Copy DT, append Append DT, insert Insert DVT,
+    deltext DeleteText DVV, setlength SetLength DV, left Left WTV, right Right WTV, mid Mid WTVV, getlen GetLength XT,
+    getmax GetMaximum XD, heap NoteHeap, available NoteAvailable, compress NoteCompress
+    """.split(",")
+}
+
+CONDITIONS = {"null": ("IsNull", "P"), "some": ("NotNull", "P"), "eq": ("Equal", "VV"), "less": ("Less", "VV")}
+
+# Lines that mean one thing where the first operand is a number, and another where not.
+OVERLOADED = {"set": (("SetNumber", "XV"), ("Set", "PP")), "print": (("PrintNumber", "V"), ("PrintText", "T"))}
+
+# Lines with one operand that open a block.
+BLOCKS = {"repeat": ("Repeat", "V"), "trap": ("Trap", "X")}
+
+DECLARATIONS = ("ptr", "int", "buf", "view")
+
+NUMERAL = re.compile("-?[0-9]+")
+
+
+def words_of(line: str) -> list[str]:
+    """The words of a line; none for a comment or a line of blanks."""
+    words = re.findall(r'"[^"]*"|[^ \t\r]+', line)
+    return [] if words and words[0].startswith("#") else words
+
+
+@dataclass
+class Local:
+    """A local or parameter of a body: `ptr`, `int`, `buf` or `view`, and a pointer's class."""
+
+    sort: str
+    index: int
+    class_name: str | None = None
+
+
+def parameter(word: str, index: int) -> tuple[str, Local]:
+    """The name and the local of a PARAM."""
+    name, mark, of = word.partition(":")
+    if not mark:
+        raise UnknownWord(word, "a parameter", "read its form in `parameter`")
+    return name, Local("int" if of == "int" else "ptr", index, None if of in ("int", "ptr") else of)
+
+
+@dataclass
+class ClassLines:
+    """What a `class` declares: its line, index, extra bytes, fields with their classes, and bodies."""
+
+    line: int
+    index: int
+    extra: int
+    fields: dict[str, str | None] = field(default_factory=dict)
+    bodies: dict[str, str] = field(default_factory=dict)
+
+
+class Reader:
+    """Reads an accepted script; faults were refused before, so none are looked for."""
+
+    def __init__(self, text: str) -> None:
+        # the lines still to read with their numbers, the next one last
+        numbered = enumerate(map(words_of, text.split("\n")), 1)
+        self.lines = [(number, words) for number, words in reversed(list(numbered)) if words]
+        self.line = 0
+        self.classes: dict[str, ClassLines] = {}
+        self.procedures: dict[str, int] = {}
+        self.operations: dict[str, int] = {}
+        self.literals: list[str] = []
+        self.locals: dict[str, Local] = {}
+        self.this: str | None = None
+        self.declare()
+
+    def declare(self) -> None:
+        """Collects the names that bodies may use before their declaration."""
+        # A line's first word tells these from statements: no statement begins with such a word.
+        name = ""
+        for number, words in reversed(self.lines):
+            if words[0] == "class":
+                name = words[1]
+                self.classes[name] = ClassLines(number, len(self.classes), int(words[2]))
+            elif words[0] == "field":
+                self.classes[name].fields[words[1]] = words[2] if len(words) > 2 else None
+            elif words[0] == "proc":
+                self.procedures[words[1]] = len(self.procedures)
+            elif words[0] == "op":
+                self.operations[words[1]] = len(self.operations)
+
+    def next_line(self) -> list[str]:
+        """Takes the next line's words, and keeps its number."""
+        self.line, words = self.lines.pop()
+        return words
+
+    def script(self) -> str:
+        """The whole script."""
+        procedures: list[str] = []
+        operations: list[str] = []
+        while self.lines:
+            words, line = self.next_line(), str(self.line)
+            if words[0] == "class":
+                self.class_body(words[1])
+            elif words[0] == "proc":
+                parameters = dict(map(parameter, words[2:], range(len(words))))
+                terms = listed(list(map(self.parameter_term, parameters.values())))
+                procedures.append(record(line=line, parameters=terms, body=self.body(parameters, None)))
+            else:
+                among(("op",), words[0], "the first word of an item", "read it in `Reader.script`, and its name in `Reader.declare`")
+                operations.append(record(line=line, body=self.body({words[2]: Local("ptr", 0)}, None)))
+        return record(
+            classes=listed([self.class_term(c) for c in self.classes.values()]),
+            procedures=listed(procedures),
+            operations=listed(operations),
+            literals=listed(list(map(text_term, self.literals))),
+            main=self.procedure("main"),
+        )
+
+    def class_body(self, name: str) -> None:
+        """The lines of a class after its first."""
+        while (words := self.next_line())[0] != "end":
+            if words[0] in ("construct", "destroy"):
+                self.classes[name].bodies[words[0]] = self.body({}, name)
+            else:
+                among(("field",), words[0], "a line of a class", "read it in `Reader.class_body`")
+
+    def parameter_term(self, of: Local) -> str:
+        """A parameter."""
+        if of.sort == "int":
+            return "Par.OfNumber"
+        return apply("Par.OfPointer", self.class_option(of.class_name))
+
+    def class_named(self, name: str) -> ClassLines:
+        """C."""
+        return found(self.classes, name, "the name of a class", "read its declaration in `Reader.declare`")
+
+    def class_option(self, name: str | None) -> str:
+        """The class of a pointer, a field or a parameter, where it has one."""
+        return option(None if name is None else str(self.class_named(name).index))
+
+    def procedure(self, name: str) -> str:
+        """A procedure by its name."""
+        return str(found(self.procedures, name, "the name of a procedure", "read its declaration in `Reader.declare`"))
+
+    def class_term(self, c: ClassLines) -> str:
+        """A class."""
+        fields = list(map(self.class_option, c.fields.values()))
+        bodies = {name: option(c.bodies.get(name)) for name in ("construct", "destroy")}
+        return record(line=str(c.line), extra=str(c.extra), fields=listed(fields), **bodies)
+
+    def body(self, given: dict[str, Local], this: str | None) -> str:
+        """A body up to its `end`, with its parameters and the class of `self`."""
+        self.locals, self.this = dict(given), this
+        begun: list[str] = []
+        while self.lines[-1][1][0] in DECLARATIONS:
+            begun.append(self.declaration(self.next_line()))
+        return record(locals=listed(begun), statements=listed(self.block()[0]))
+
+    def declaration(self, words: list[str]) -> str:
+        """A local."""
+        most = {"ptr": 3, "buf": 3}.get(words[0], 2)
+        if len(words) > most:
+            raise UnknownWord(words[most], f"a word of `{words[0]}`", "read it in `Reader.declaration`")
+        of = words[2] if words[0] == "ptr" and len(words) > 2 else None
+        self.locals[words[1]] = Local(words[0], len(self.locals), of)
+        if words[0] == "ptr":
+            return apply("OfPointer", self.class_option(of))
+        if words[0] == "buf":
+            return apply("OfBuffer", str(int(words[2])))
+        return "OfNumber" if words[0] == "int" else "OfView"
+
+    def block(self) -> tuple[list[str], str]:
+        """Statements with their lines up to an `end` or `else`, and which of these it was."""
+        statements: list[str] = []
+        while (words := self.next_line())[0] not in ("end", "else"):
+            line = str(self.line)
+            statements.append(apply("on", line, "Statement-F." + self.statement(words)))
+        return statements, words[0]
+
+    def statement(self, words: list[str]) -> str:
+        """One statement, with what stands inside it."""
+        key, operands = words[0], words[1:]
+        if key in STATEMENTS:
+            name, letters, rest = [*STATEMENTS[key], "", ""][:3]
+            return apply(name, *self.operands(key, letters, operands, "STATEMENTS"), *rest.split())
+        if key in OVERLOADED:
+            name, letters = OVERLOADED[key][self.sort_of("".join(operands[:1])) != "int"]
+            return apply(name, *self.operands(key, letters, operands, "OVERLOADED"))
+        if key == "call":
+            return apply("Call", *self.call(operands))
+        if key == "callto":
+            return apply("CallTo", self.local(operands[0]), *self.call(operands[1:]))
+        if key == "return":
+            return apply("ReturnPointer", *self.operands(key, "P", operands, "`Reader.statement`")) if operands else "Return"
+        if key == "if":
+            return self.choice(operands)
+        name, letter = found(BLOCKS, key, "a statement", "add it to STATEMENTS, OVERLOADED or BLOCKS, or read it in `Reader.statement`")
+        return apply(name, *self.operands(key, letter, operands, "BLOCKS"), listed(self.block()[0]))
+
+    def operands(self, key: str, letters: str, words: list[str], table: str) -> list[str]:
+        """All operands of a line, by their letters."""
+        if len(words) > len(letters):
+            raise UnknownWord(words[len(letters)], f"an operand of `{key}`", f"its letters in {table} are too few")
+        if len(words) < len(letters):
+            raise UnknownWord(key, f"a line with {len(words)} operands", f"its letters in {table} are too many")
+        return list(map(self.operand, letters, words))
+
+    def call(self, words: list[str]) -> tuple[str, str]:
+        """A procedure and its arguments."""
+        arguments = [
+            apply("Given", self.number(w)) if self.sort_of(w) == "int" else apply("Passed", self.pointer(w)) for w in words[1:]
+        ]
+        return self.procedure(words[0]), listed(arguments)
+
+    def choice(self, operands: list[str]) -> str:
+        """`if` with its condition and both parts."""
+        name, letters = found(CONDITIONS, operands[0], "a condition", "add it to CONDITIONS")
+        condition = apply(name, *self.operands(operands[0], letters, operands[1:], "CONDITIONS"))
+        first, closed_by = self.block()
+        if closed_by == "end":
+            return apply("If", condition, listed(first))
+        return apply("IfElse", condition, listed(first), listed(self.block()[0]))
+
+    def operand(self, letter: str, word: str) -> str:
+        """An operand by its letter."""
+        readers = {"P": self.pointer, "V": self.number, "X": self.local, "W": self.local, "D": self.writable, "T": self.readable}
+        if letter in readers:
+            return readers[letter](word)
+        if letter == "C":
+            return str(self.class_named(word).index)
+        return str(found(self.operations, word, "the name of an operation", "read its declaration in `Reader.declare`"))
+
+    def local_named(self, word: str) -> Local:
+        """A local of the body."""
+        return found(self.locals, word, "a local or an operand", "read its form in `Reader.sort_of`, or its declaration in `Reader.declaration`")
+
+    def local(self, word: str) -> str:
+        """X and W, and other locals by their name."""
+        return str(self.local_named(word).index)
+
+    def sort_of(self, word: str) -> str:
+        """What a word stands for: `ptr`, `int`, `buf`, `view` or `literal`."""
+        if word.startswith('"'):
+            return "literal"
+        if NUMERAL.fullmatch(word):
+            return "int"
+        return "ptr" if "." in word or word == "self" else self.local_named(word).sort
+
+    def holder(self, name: str) -> str:
+        """A variable that holds a pointer."""
+        return "H.This" if name == "self" else apply("H.Local", self.local(name))
+
+    def pointer(self, word: str) -> str:
+        """P and Q."""
+        if "." not in word:
+            return apply("Held", self.holder(word))
+        base, _, name = word.partition(".")
+        of = self.class_named((self.this if base == "self" else self.local_named(base).class_name) or "")
+        among(of.fields, name, "a field of its class", "read its form in `Reader.pointer`, or its declaration in `Reader.declare`")
+        return apply("Field", self.holder(base), str(of.index), str(list(of.fields).index(name)))
+
+    def number(self, word: str) -> str:
+        """V."""
+        return apply("Constant", integer(int(word))) if NUMERAL.fullmatch(word) else apply("Variable", self.local(word))
+
+    def writable(self, word: str) -> str:
+        """D."""
+        return apply("OwnBuffer", self.local(word)) if self.sort_of(word) == "buf" else apply("InCell", self.pointer(word))
+
+    def readable(self, word: str) -> str:
+        """T."""
+        sort = self.sort_of(word)
+        if sort == "literal":
+            self.literals.append(word[1:-1])
+            return apply("Quoted", str(len(self.literals) - 1))
+        if sort == "view":
+            return apply("ViewOf", self.local(word))
+        return apply("Of", self.writable(word))

@@ -1,0 +1,64 @@
+"""Terms of antt as text, and words that a reader of cases does not know.
+
+Nothing here knows what a script or a report is."""
+
+from collections.abc import Collection
+from typing import TypeVar
+
+class UnknownWord(Exception):
+    """A word that this tool does not know, what it was read as, and what to add to the tool."""
+
+    def __init__(self, word: str, read_as: str, add: str) -> None:
+        super().__init__(f"`{word}` is not known as {read_as}: {add}")
+
+
+Value = TypeVar("Value")
+
+
+def found(table: dict[str, Value], word: str, read_as: str, add: str) -> Value:
+    """What a table says of a word."""
+    if word not in table:
+        raise UnknownWord(word, read_as, add)
+    return table[word]
+
+
+def among(words: Collection[str], word: str, read_as: str, add: str) -> str:
+    """The word, which is one of these."""
+    if word not in words:
+        raise UnknownWord(word, read_as, add)
+    return word
+
+
+def atom(term: str) -> str:
+    """The term as an argument."""
+    return f"({term})" if " " in term else term
+
+
+def apply(name: str, *arguments: str) -> str:
+    """A constructor or function with its arguments."""
+    return " ".join([name, *map(atom, arguments)])
+
+
+def listed(items: list[str]) -> str:
+    """A list."""
+    return " ∷ ".join([*map(atom, items), "[]"])
+
+
+def record(**fields: str) -> str:
+    """A record."""
+    return "record { " + "; ".join(f"{name} = {term}" for name, term in fields.items()) + " }"
+
+
+def integer(n: int) -> str:
+    """A whole number of either sign."""
+    return f"pos {n}" if n >= 0 else f"negsuc {-n - 1}"
+
+
+def option(term: str | None) -> str:
+    """A value that may be missing."""
+    return "None" if term is None else apply("Some", term)
+
+
+def text_term(text: str) -> str:
+    """A text as the list of its bytes."""
+    return listed([str(ord(c)) for c in text])
