@@ -126,14 +126,22 @@ def table_holds(room: Path, table: str, part: str) -> bool:
     return is_told(said("run_cases.py", room / "program", cases), part, ", 0 failed" in part)
 
 
-def case_holds(room: Path, script: str, report: str, words: str, part: str) -> bool:
-    """Whether `cases_to_theorems.py` says this of a case."""
-    stem = room / "case"
+def case_holds(room: Path, stem: Path, script: str, report: str, words: str, part: str) -> bool:
+    """Whether `cases_to_theorems.py`, which writes into `room`, says this of a case whose files have this stem."""
     files = {".oom": script, ".args": words.replace(" ", "\n") + "\n", ".stdout": report, ".status": "0\n"}
     for ending, text in files.items():
-        stem.with_name("case.run" + ending).write_text(text)
-    told = said("cases_to_theorems.py", MODEL, stem.with_name("case.run.oom"), "--out", room)
+        stem.with_name(stem.name + ending).write_text(text)
+    told = said("cases_to_theorems.py", MODEL, stem.with_name(stem.name + ".oom"), "--out", room)
     return is_told(told, part, part.endswith("theorems"))
+
+
+def folder_holds(room: Path) -> bool:
+    """Whether a case in a folder of its own gives a theorem, and both tools find one case in it."""
+    folder = room / "cases" / "plain"
+    folder.mkdir()
+    held = case_holds(room, folder / "run", SCRIPT, REPORT, "run", "1 theorems")
+    written = (room / "WorkedCases" / "Cases.antt").read_text()
+    return held and "\nplain_run : " in written and is_told(said("run_cases.py", room / "program", room / "cases"), "1 failed", False)
 
 
 def main() -> int:
@@ -144,7 +152,9 @@ def main() -> int:
         (room / "program").write_text(PROGRAM)
         (room / "program").chmod(0o755)
         held = [table_holds(room, table, part) for table, part in TABLES.items()]
-        held += [case_holds(room, *case) for case in CASES]
+        held += [case_holds(room, room / "case.run", *case) for case in CASES]
+        (room / "cases" / "one.table").unlink()
+        held.append(folder_holds(room))
     print(f"{held.count(True)} passed, {held.count(False)} failed")
     return 0 if all(held) else 1
 
