@@ -1,7 +1,9 @@
 //! The calls on the stack.
 
-ghost use Rattle.std.specs.Prelude.{◌≡◌, ◌≢◌, ◌+◌, ◌^◌, ◌<◌, nat_eq, nat_le, true, [], ◌∷◌, ◌++◌, None, Some, false, option_map, IfErr, IfNone, IfOk, IfSome, IsOk, OnErr, OnOk, OnSome};
-ghost use Rattle.wb_cleanup.specs.Pushes.{IsButForWords, cell_by, fills, growth, items_by, push_made, pushed_by, slots_by};
+ghost use Rattle.std.specs.Prelude.{◌≡◌, ◌+◌, ◌^◌, ◌<◌, nat_eq, nat_le, [], ◌∷◌, ◌++◌, None, Some};
+ghost use Rattle.std.specs.Prelude.{option_map, IfErr, IfNone, IfOk, IfSome, IsOk, OnErr, OnOk, OnSome};
+ghost use Rattle.wb_cleanup.specs.Pushes.{growth, GrowthLeaves, IsButForWords, IsFree, IsUnchanged};
+ghost use Rattle.wb_cleanup.specs.Pushes.{KeepsItems, PushLeaves, RoomLeaves};
 ghost use Rattle.wb_cleanup.specs.Stacks.{IsPopped, IsStack, cell_of, count_of, expected_refusal, items_of, newest_above, pop_refusal, slots_of};
 ghost use Rattle.wb_model.specs.Debug.{IsSoundDebug, alloc_made, gave_of};
 
@@ -98,18 +100,10 @@ impl Cleanup {
         requires stands { IsStack self.old heap.old }
         requires room { count_of self.old < slots_of self.old }
         requires number { heap.old.attempts + 1 < 2 ^ 32 }
-        ensures answer { IfOk result (λ pushed. pushed ≡ pushed_by (push_made self.old heap.old).gave) }
-        ensures items { OnOk result (items_of self.new heap.new ≡ items_by (items_of self.old heap.old) item (push_made self.old heap.old).gave) }
-        ensures slots { OnOk result (slots_of self.new ≡ slots_by (fills self.old heap.old) (slots_of self.old) (push_made self.old heap.old).gave) }
-        ensures cell { OnOk result (cell_of self.new ≡ cell_by (cell_of self.old) (push_made self.old heap.old).gave) }
-        ensures heap { OnOk result (IsButForWords (cell_of self.new) (push_made self.old heap.old).debug heap.new) }
-        ensures ceiling_stack { IfOk result (λ pushed. pushed ≡ Pushed.Ceiling → self.new ≡ self.old) }
-        ensures ceiling_heap { IfOk result (λ pushed. pushed ≡ Pushed.Ceiling → heap.new ≡ heap.old) }
-        ensures room { IfOk result (λ pushed. pushed ≢ Pushed.Leave → count_of self.new < slots_of self.new) }
-        ensures cut { (push_made self.old heap.old).gave ≡ Gave.Ceiling → IsOk result }
-        ensures no_growth { fills self.old heap.old ≡ false → IsOk result }
-        ensures err_stack { OnErr result (self.new ≡ self.old) }
-        ensures err_heap { OnErr result (heap.new ≡ heap.old) }
+        ensures pushed { IfOk result (λ pushed.
+            PushLeaves pushed item self.old self.new heap.old heap.new) }
+        ensures free { IsFree self.old heap.old → IsOk result }
+        ensures err { OnErr result (IsUnchanged self.old self.new heap.old heap.new) }
         ensures stands { IsStack self.new heap.new }
         ensures sound { IsSoundDebug heap.new }
     {
@@ -126,20 +120,13 @@ impl Cleanup {
         requires stands { IsStack self.old heap.old }
         requires room { count_of self.old < slots_of self.old }
         requires number { heap.old.attempts + 1 < 2 ^ 32 }
-        ensures answer { IfOk result (λ pushed. pushed ≡ pushed_by (push_made self.old heap.old).gave) }
-        ensures made { OnOk result (heap.new ≡ (push_made self.old heap.old).debug) }
-        ensures items { items_of self.new heap.new ≡ items_of self.old heap.old }
-        ensures count { count_of self.new ≡ count_of self.old }
-        ensures slots { OnOk result (slots_of self.new ≡ slots_by (fills self.old heap.old) (slots_of self.old) (push_made self.old heap.old).gave) }
-        ensures cell { OnOk result (cell_of self.new ≡ cell_by (cell_of self.old) (push_made self.old heap.old).gave) }
-        ensures ceiling { IfOk result (λ pushed. pushed ≡ Pushed.Ceiling → self.new ≡ self.old) }
-        ensures ceiling_sound { IfOk result (λ pushed. pushed ≡ Pushed.Ceiling → IsSoundDebug heap.new) }
+        ensures made { IfOk result (λ pushed.
+            RoomLeaves pushed self.old self.new heap.old heap.new) }
+        ensures items { KeepsItems self.old self.new heap.old heap.new }
         ensures room { count_of self.new < slots_of self.new }
-        ensures more { IfOk result (λ pushed. pushed ≡ Pushed.Fine → count_of self.new + 1 < slots_of self.new) }
-        ensures cut { (push_made self.old heap.old).gave ≡ Gave.Ceiling → IsOk result }
-        ensures no_growth { fills self.old heap.old ≡ false → IsOk result }
-        ensures err_stack { OnErr result (self.new ≡ self.old) }
-        ensures err_heap { OnErr result (heap.new ≡ heap.old) }
+        ensures free { IsFree self.old heap.old → IsOk result }
+        ensures err { OnErr result (IsUnchanged self.old self.new heap.old heap.new) }
+        ensures cut { IfOk result (λ pushed. pushed ≡ Pushed.Ceiling → IsSoundDebug heap.new) }
         ensures err_sound { OnErr result (IsSoundDebug heap.new) }
         ensures stands { IsStack self.new heap.new }
     {
@@ -154,17 +141,11 @@ impl Cleanup {
     fn grow(&mut self, heap: &mut DebugHeap) -> Result<Pushed, NoMemory>
         requires stands { IsStack self.old heap.old }
         requires number { heap.old.attempts + 1 < 2 ^ 32 }
-        ensures answer { IfOk result (λ pushed. pushed ≡ pushed_by (growth self.old heap.old).gave) }
-        ensures made { OnOk result (heap.new ≡ (growth self.old heap.old).debug) }
-        ensures items { items_of self.new heap.new ≡ items_of self.old heap.old }
-        ensures count { count_of self.new ≡ count_of self.old }
-        ensures slots { OnOk result (slots_of self.new ≡ slots_by true (slots_of self.old) (growth self.old heap.old).gave) }
-        ensures cell { OnOk result (cell_of self.new ≡ cell_by (cell_of self.old) (growth self.old heap.old).gave) }
-        ensures fine { IfOk result (λ pushed. pushed ≡ Pushed.Fine → slots_of self.new ≡ slots_of self.old + 4) }
-        ensures ceiling { IfOk result (λ pushed. pushed ≡ Pushed.Ceiling → self.new ≡ self.old) }
+        ensures grown { IfOk result (λ pushed.
+            GrowthLeaves pushed self.old self.new heap.old heap.new) }
+        ensures items { KeepsItems self.old self.new heap.old heap.new }
         ensures cut { (growth self.old heap.old).gave ≡ Gave.Ceiling → IsOk result }
-        ensures err_stack { OnErr result (self.new ≡ self.old) }
-        ensures err_heap { OnErr result (heap.new ≡ heap.old) }
+        ensures err { OnErr result (IsUnchanged self.old self.new heap.old heap.new) }
         ensures stands { IsStack self.new heap.new }
         ensures sound { IsSoundDebug heap.new }
     {

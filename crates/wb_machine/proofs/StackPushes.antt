@@ -1,6 +1,7 @@
 -- A push on the cleanup stack, as the state of a run sees it.
-use Rattle.std.proofs.Common.{◌≡◌, ℕ, ◌+◌, ◌*◌, ◌≤◌, List, Bool, true, false, cond, Some, Result, Ok, Err, OnOk, OnErr, refl, sym, ap, ◌∙◌, subst, arith}
+use Rattle.std.proofs.Common.{◌≡◌, ℕ, ◌+◌, ◌*◌, ◌≤◌, List, Bool, true, false, cond, Some, Result, Ok, Err, IfOk, OnErr, refl, sym, ap, ◌∙◌, subst, arith}
 use Rattle.wb_model.specs.declared.heap.Ptr.{Ptr}
+use Rattle.wb_model.specs.declared.heap.Item.{Item}
 use Rattle.wb_model.specs.declared.heap.Gave.TheVariants as G
 use Rattle.wb_model.specs.declared.heap.Kind.TheVariants.{Text, Cleanup as CleanupKind}
 use Rattle.wb_model.specs.Row.{Cell, cell_at, headers}
@@ -9,7 +10,8 @@ use Rattle.wb_model.specs.Debug.{Debug, keeps_rises, IsSoundDebug, debug_changed
 use Rattle.wb_model.proofs.Reallocations.{at-number, found-from, found-head}
 use Rattle.wb_model.proofs.TextCellsHeap.{found-changed}
 use Rattle.wb_cleanup.specs.declared.cleanup.Cleanup.{Cleanup}
-use Rattle.wb_cleanup.specs.Pushes.{fills, growth, push_made, remade}
+use Rattle.wb_cleanup.specs.declared.cleanup.Pushed.{Pushed}
+use Rattle.wb_cleanup.specs.Pushes.{fills, growth, push_made, remade, IsUnchanged, PushLeaves}
 use Rattle.wb_cleanup.specs.Stacks.{IsStack, cell_of, slots_of}
 use Rattle.wb_cleanup.proofs.Standing.{stack-kept}
 use Rattle.wb_machine.specs.TextInvariant.{AreTexts}
@@ -84,24 +86,24 @@ stays_as h g x is has stays = record {
 }
 
 -- a stack that was pushed on stands in its heap, whose texts are as they were
-pub memory_pushed : {X Y : Type 0} (r : Result X Y) (stack new : Cleanup) (d e : Debug) → IsMemory d (Some stack) → IsStack new e → IsSoundDebug e →
-    OnOk r (e ≡ debug_changed (push_made stack d).debug (cell_of new) (payload_of (cell_of new) e.heap.row)) → OnErr r (e ≡ d) → IsMemory e (Some new)
-memory_pushed {X} {Y} r stack new d e memory now sound ok err = record { sound = sound; texts = by r ok err; stands = standing new e now }
+pub memory_pushed : {Y : Type 0} (r : Result Pushed Y) (item : Item) (stack new : Cleanup) (d e : Debug) → IsMemory d (Some stack) → IsStack new e → IsSoundDebug e →
+    IfOk r (λ pushed. PushLeaves pushed item stack new d e) → OnErr r (IsUnchanged stack new d e) → IsMemory e (Some new)
+memory_pushed {Y} r item stack new d e memory now sound ok err = record { sound = sound; texts = by r ok err; stands = standing new e now }
   where
-    by : (r : Result X Y) → OnOk r (e ≡ debug_changed (push_made stack d).debug (cell_of new) (payload_of (cell_of new) e.heap.row)) → OnErr r (e ≡ d) → AreTexts e.heap.row
-    by (Ok x) ok err = texts_pushed stack new d e (memory.stands d refl) memory.texts now ok
-    by (Err y) ok err = subst (λ (x : Debug). AreTexts x.heap.row) (sym err) memory.texts
+    by : (r : Result Pushed Y) → IfOk r (λ pushed. PushLeaves pushed item stack new d e) → OnErr r (IsUnchanged stack new d e) → AreTexts e.heap.row
+    by (Ok x) ok err = texts_pushed stack new d e (memory.stands d refl) memory.texts now ok.heap
+    by (Err y) ok err = subst (λ (x : Debug). AreTexts x.heap.row) (sym err.heap) memory.texts
 
-pub keeps_pushed : {X Y : Type 0} (r : Result X Y) (stack new : Cleanup) (h g : RunState) → IsStack stack h.debug → IsStack new g.debug → IsSoundDebug g.debug → g.cleanup ≡ cell_of new →
-    g.steps ≡ h.steps → g.callers ≡ h.callers →
-    OnOk r (g.debug ≡ debug_changed (push_made stack h.debug).debug (cell_of new) (payload_of (cell_of new) g.debug.heap.row)) → OnErr r (g.debug ≡ h.debug) → KeepsCount h g
-keeps_pushed {X} {Y} r stack new h g is now sound cell steps callers ok err = record { steps = steps; stays = by r ok err; callers = callers }
+pub keeps_pushed : {Y : Type 0} (r : Result Pushed Y) (item : Item) (stack new : Cleanup) (h g : RunState) → IsStack stack h.debug → IsStack new g.debug → IsSoundDebug g.debug →
+    g.cleanup ≡ cell_of new → g.steps ≡ h.steps → g.callers ≡ h.callers →
+    IfOk r (λ pushed. PushLeaves pushed item stack new h.debug g.debug) → OnErr r (IsUnchanged stack new h.debug g.debug) → KeepsCount h g
+keeps_pushed {Y} r item stack new h g is now sound cell steps callers ok err = record { steps = steps; stays = by r ok err; callers = callers }
   where
     has : HasStack g
     has = subst (λ (p : Ptr). 1 ≤ p.number) (sym cell) (numbered new g.debug sound now)
 
-    by : (r : Result X Y) → OnOk r (g.debug ≡ debug_changed (push_made stack h.debug).debug (cell_of new) (payload_of (cell_of new) g.debug.heap.row)) → OnErr r (g.debug ≡ h.debug) → Stays h g
+    by : (r : Result Pushed Y) → IfOk r (λ pushed. PushLeaves pushed item stack new h.debug g.debug) → OnErr r (IsUnchanged stack new h.debug g.debug) → Stays h g
     by (Ok x) ok err =
-        stays_as h g _ ok has (words_stay h (push_made stack h.debug).debug (cell_of new) (payload_of (cell_of new) g.debug.heap.row) (made_stays stack h is))
+        stays_as h g _ ok.heap has (words_stay h (push_made stack h.debug).debug (cell_of new) (payload_of (cell_of new) g.debug.heap.row) (made_stays stack h is))
     by (Err y) ok err =
-        stays_as h g _ err has (record { rule = refl; shape = refl; fewer = omega arith; more = omega arith; kept = refl; deeper = omega arith; stack = λ has. has })
+        stays_as h g _ err.heap has (record { rule = refl; shape = refl; fewer = omega arith; more = omega arith; kept = refl; deeper = omega arith; stack = λ has. has })

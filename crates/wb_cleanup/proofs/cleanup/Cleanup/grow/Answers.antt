@@ -14,7 +14,7 @@ wider c =
     (sym (ap (slots_by true c.args.self.now.slots) c.in-Granted.is)) refl
 
 pub returns-in-Granted-clause-items : goal.returns-in-Granted-clause-items
-returns-in-Granted-clause-items c = (wider c).items_are
+returns-in-Granted-clause-items c = record { items = (wider c).items_are; count = refl }
 
 pub returns-in-Granted-clause-stands : goal.returns-in-Granted-clause-stands
 returns-in-Granted-clause-stands c = (wider c).is

@@ -1,4 +1,4 @@
-use Rattle.std.proofs.Common.{◌≡◌, ◌≢◌, ◌⊎◌, inl, inr, List, [], ◌∷◌, ◌++◌, refl, sym, ap, ◌∙◌}
+use Rattle.std.proofs.Common.{rules, ◌≡◌, ◌≢◌, ◌⊎◌, inl, inr, List, [], ◌∷◌, ◌++◌, refl, sym, ap, ◌∙◌}
 use Rattle.wb_model.specs.declared.heap.Gave.{Gave}
 use Rattle.wb_model.specs.declared.heap.Gave.TheVariants as gave
 use Rattle.wb_model.specs.declared.heap.Item.{Item}
@@ -20,11 +20,32 @@ one_more items item (gave.Granted p) going = refl
 one_more items item gave.Denied going = refl
 one_more items item gave.Ceiling going = absurd (going refl)
 
-pub returns-in-Fine-clause-items : goal.returns-in-Fine-clause-items
-returns-in-Fine-clause-items c =
-    c.put.ensures.items ∙ ap (λ l. l ++ c.args.item ∷ []) c.make_room.ensures.items
-    ∙ one_more (items_of c.args.self.now c.args.heap.now) c.args.item (push_made c.args.self.now c.args.heap.now).gave
-    (apart _ _ c.in-Fine.is c.in_ok-pushed.ensures.answer)
+pub returns-in-Fine-clause-pushed : goal.returns-in-Fine-clause-pushed
+returns-in-Fine-clause-pushed c =
+    let made = c.in_ok-pushed.ensures.made in
+    let going : c.in_ok-pushed.pushed ≢ Ceiling = apart _ _ c.in-Fine.is refl in
+    record {
+      answer = made.answer;
+      items =
+        c.put.ensures.items ∙ ap (λ l. l ++ c.args.item ∷ []) c.make_room.ensures.items.items
+        ∙ one_more (items_of c.args.self.now c.args.heap.now) c.args.item (push_made c.args.self.now c.args.heap.now).gave
+        (apart _ _ c.in-Fine.is made.answer);
+      slots = c.put.ensures.slots ∙ made.slots;
+      cell = c.put.ensures.cell ∙ made.cell;
+      heap = search rules;
+      room = search rules;
+      ceiling = λ is. absurd (going is);
+    }
 
-pub returns-in-Ceiling-clause-heap : goal.returns-in-Ceiling-clause-heap
-returns-in-Ceiling-clause-heap c = unwritten c.make_room.new.self.cell _ c.make_room.new.heap c.in_ok-pushed.ensures.made
+pub returns-in-Ceiling-clause-pushed : goal.returns-in-Ceiling-clause-pushed
+returns-in-Ceiling-clause-pushed c =
+    let made = c.in_ok-pushed.ensures.made in
+    record {
+      answer = made.answer;
+      items = search rules;
+      slots = made.slots;
+      cell = made.cell;
+      heap = unwritten c.make_room.new.self.cell _ c.make_room.new.heap made.heap;
+      room = λ _. c.make_room.ensures.room;
+      ceiling = search rules;
+    }

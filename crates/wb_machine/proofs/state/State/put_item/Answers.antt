@@ -10,12 +10,13 @@ use Rattle.wb_machine.proofs.state.State.put_item.Goals as goal
 pub invariant_of-self : goal.invariant_of-self
 invariant_of-self c =
     let memory = subst (λ (o : Option Cleanup). IsMemory c.self.inside.heap o) c.in-Some.is c.self.invariant in
-    memory_pushed c.push.result c.in-Some.stack c.push.new.self c.self.inside.heap c.push.new.heap memory c.push.ensures.stands c.push.ensures.sound c.push.ensures.heap c.push.ensures.err_heap
+    memory_pushed c.push.result c.args.item c.in-Some.stack c.push.new.self c.self.inside.heap c.push.new.heap memory c.push.ensures.stands c.push.ensures.sound c.push.ensures.pushed
+    c.push.ensures.err
 
 pub returns-clause-keeps : goal.returns-clause-keeps
 returns-clause-keeps c =
     let memory = subst (λ (o : Option Cleanup). IsMemory c.self.inside.heap o) c.in-Some.is c.self.invariant in
     let g = run_state (record c.self.inside { heap = c.push.new.heap; cleanup = Some c.push.new.self }) in
     subst (λ (x : RunState). KeepsCount x g) c.self.view_is
-    (keeps_pushed c.push.result c.in-Some.stack c.push.new.self (run_state c.self.inside) g (memory.stands c.self.inside.heap refl) c.push.ensures.stands c.push.ensures.sound refl refl refl
-    c.push.ensures.heap c.push.ensures.err_heap)
+    (keeps_pushed c.push.result c.args.item c.in-Some.stack c.push.new.self (run_state c.self.inside) g (memory.stands c.self.inside.heap refl) c.push.ensures.stands c.push.ensures.sound refl refl refl
+    c.push.ensures.pushed c.push.ensures.err)
