@@ -5,7 +5,7 @@ from pathlib import Path
 
 # what starts this leaves its folder out of Python's path
 sys.path.insert(0, str(Path(__file__).resolve().parent))
-from terms import among, apply, integer, listed, option, record, text_term  # noqa: E402
+from terms import among, apply, integer, listed, made, option, text_term  # noqa: E402
 
 
 # The first words of a run's lines, and the words in them that name a value of the definitions.
@@ -41,7 +41,7 @@ def outcome_term(told: dict[str, list[str]]) -> str:
         return cut_term(told["cut"][0])
     if "nocleanup" in told:
         return "NoCleanup"
-    leaks = [record(number=w[0], length=w[2], place=w[4]) for w in map(str.split, told.get("leak", []))]
+    leaks = [made("leak", number=w[0], length=w[2], place=w[4]) for w in map(str.split, told.get("leak", []))]
     return apply("Ended", option(integer(int(told["left"][0])) if "left" in told else None), listed(leaks))
 
 
@@ -51,7 +51,8 @@ def run_term(lines: list[str]) -> str:
     for key, _, rest in (line.partition(" ") for line in lines):
         among(RUN_LINES, key, "the first word of a run's line", "read it in `run_term` or `outcome_term`, and add it to RUN_LINES")
         told.setdefault(key, []).append(rest)
-    return record(
+    return made(
+        "result",
         outcome=outcome_term(told),
         trace=listed([attempt_term(w.split()) for w in told.get("attempt", [])]),
         lines=listed(list(map(text_term, told.get("print", [])))),

@@ -9,7 +9,7 @@ from pathlib import Path
 
 # what starts this leaves its folder out of Python's path
 sys.path.insert(0, str(Path(__file__).resolve().parent))
-from terms import UnknownWord, among, apply, found, integer, listed, option, record, text_term  # noqa: E402
+from terms import UnknownWord, among, apply, found, integer, listed, made, option, text_term  # noqa: E402
 
 # The lines that are a list of operands of fixed kinds: word, constructor, the
 # operands' letters, and what follows them. The others are in `Reader.statement`.
@@ -125,11 +125,12 @@ class Reader:
             elif words[0] == "proc":
                 parameters = dict(map(parameter, words[2:], range(len(words))))
                 terms = listed(list(map(self.parameter_term, parameters.values())))
-                procedures.append(record(line=line, parameters=terms, body=self.body(parameters, None)))
+                procedures.append(made("procedure", line=line, parameters=terms, body=self.body(parameters, None)))
             else:
                 among(("op",), words[0], "the first word of an item", "read it in `Reader.script`, and its name in `Reader.declare`")
-                operations.append(record(line=line, body=self.body({words[2]: Local("ptr", 0)}, None)))
-        return record(
+                operations.append(made("operation", line=line, body=self.body({words[2]: Local("ptr", 0)}, None)))
+        return made(
+            "script",
             classes=listed([self.class_term(c) for c in self.classes.values()]),
             procedures=listed(procedures),
             operations=listed(operations),
@@ -167,7 +168,7 @@ class Reader:
         """A class."""
         fields = list(map(self.class_option, c.fields.values()))
         bodies = {name: option(c.bodies.get(name)) for name in ("construct", "destroy")}
-        return record(line=str(c.line), extra=str(c.extra), fields=listed(fields), **bodies)
+        return made("class_of", line=str(c.line), extra=str(c.extra), fields=listed(fields), **bodies)
 
     def body(self, given: dict[str, Local], this: str | None) -> str:
         """A body up to its `end`, with its parameters and the class of `self`."""
@@ -175,7 +176,7 @@ class Reader:
         begun: list[str] = []
         while self.lines[-1][1][0] in DECLARATIONS:
             begun.append(self.declaration(self.next_line()))
-        return record(locals=listed(begun), statements=listed(self.block()[0]))
+        return made("body", locals=listed(begun), statements=listed(self.block()[0]))
 
     def declaration(self, words: list[str]) -> str:
         """A local."""

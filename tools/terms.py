@@ -44,9 +44,9 @@ def listed(items: list[str]) -> str:
     return " ∷ ".join([*map(atom, items), "[]"])
 
 
-def record(**fields: str) -> str:
-    """A record."""
-    return "record { " + "; ".join(f"{name} = {term}" for name, term in fields.items()) + " }"
+def made(shorthand: str, **fields: str) -> str:
+    """A record by the shorthand that makes it, with all its fields in their order."""
+    return apply(shorthand, *fields.values())
 
 
 def integer(n: int) -> str:

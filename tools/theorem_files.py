@@ -18,9 +18,10 @@ LINES = 380
 DECLARED = """
 failures.Failures.TheVariants.{Single, Every, Pairs}; heap.Rule.TheVariants as R; heap.Panic.TheVariants as P; script.Holder.TheVariants as H;
 heap.Shape.{Shape}; heap.Answer.{Answer}; heap.Answer.TheVariants.{Granted, Simulated, Refused}; heap.Attempt.{Attempt};
-run.Note.TheVariants.{Heap, Available, Compress}; run.Why.TheVariants.{Budget, Ceiling};
+run.Leak.{Leak}; run.Note.{Note}; run.Note.TheVariants.{Heap, Available, Compress}; run.Outcome.{Outcome}; run.RunResult.{RunResult}; run.Why.TheVariants.{Budget, Ceiling};
 run.Outcome.TheVariants.{Ended, Panicked, NoCleanup, Cut}; script.Script.{Script};
-script.Body.{Body}; size.Rise.{Rise}; script.Parameter.TheVariants as Par; script.Local.TheVariants.{OfPointer, OfNumber, OfBuffer, OfView};
+script.Body.{Body}; script.Class.{Class}; script.Operation.{Operation}; script.Procedure.{Procedure}; script.Local.{Local};
+script.Parameter.{Parameter}; size.Rise.{Rise}; script.Parameter.TheVariants as Par; script.Local.TheVariants.{OfPointer, OfNumber, OfBuffer, OfView};
 script.Pointer.TheVariants.{Held, Field}; script.Number.TheVariants.{Constant, Variable}; script.Writable.TheVariants.{OwnBuffer, InCell};
 script.Readable.TheVariants.{Of, ViewOf, Quoted}; script.Condition.TheVariants.{IsNull, NotNull, Equal, Less};
 script.Argument.TheVariants.{Passed, Given}; script.Refusal.TheVariants.{GivesNull, Leaves}; script.Statement.{Statement};
@@ -35,6 +36,28 @@ denote.Hole.Carrier.shown denote.Hole.Carrier.hidden {declared}.script.Statement
 SHORTHANDS = """
 abbrev pub on : ℕ → Statement-F Statement Numbered → Numbered
 on line layer = record { line = line; statement = roll-Statement layer }
+
+abbrev pub script : List Class → List Procedure → List Operation → List (List ℕ) → ℕ → Script
+script classes procedures operations literals main =
+    record { classes = classes; procedures = procedures; operations = operations; literals = literals; main = main }
+
+abbrev pub class_of : ℕ → ℕ → List (Option ℕ) → Option Body → Option Body → Class
+class_of line extra fields construct destroy = record { line = line; extra = extra; fields = fields; construct = construct; destroy = destroy }
+
+abbrev pub procedure : ℕ → List Parameter → Body → Procedure
+procedure line parameters body = record { line = line; parameters = parameters; body = body }
+
+abbrev pub operation : ℕ → Body → Operation
+operation line body = record { line = line; body = body }
+
+abbrev pub body : List Local → List Numbered → Body
+body locals statements = record { locals = locals; statements = statements }
+
+abbrev pub result : Outcome → List Attempt → List (List ℕ) → List Note → ℕ → RunResult
+result outcome trace lines notes steps = record { outcome = outcome; trace = trace; lines = lines; notes = notes; steps = steps }
+
+abbrev pub leak : ℕ → ℕ → ℕ → Leak
+leak number length place = record { number = number; length = length; place = place }
 
 abbrev pub shaped : ℕ → ℕ → Shape
 shaped min step = record { min = min; step = step }
@@ -53,7 +76,7 @@ def uses_of(crate: Path) -> list[str]:
     """The imports that a file may need."""
     specs = f"Rattle.{crate.name}.specs"
     return [
-        "Rattle.std.specs.Prelude.{◌≡◌, refl, ℕ, pos, negsuc, List, [], ◌∷◌, length, Some, None, map}",
+        "Rattle.std.specs.Prelude.{◌≡◌, refl, ℕ, pos, negsuc, List, [], ◌∷◌, length, Option, Some, None, map}",
         "Rattle.std.specs.Fmt.{digits}",
         *(f"{specs}.declared.{use.strip()}" for use in DECLARED.split(";")),
         f"{specs}.Run.{{run, required, rises}}",
@@ -76,7 +99,7 @@ def shorthands(crate: Path) -> str:
 
 def theorem_file(crate: Path, subject: str, theorems: list[str]) -> str:
     """A file of theorems, each line of which has at most so many characters."""
-    common = f"use Rattle.{crate.name}.proofs.{TOP}.{COMMON}.{{everything, on, shaped, line, rise}}"
+    common = f"use Rattle.{crate.name}.proofs.{TOP}.{COMMON}.{{everything, on, script, class_of, procedure, operation, body, result, leak, shaped, line, rise}}"
     head = [f"-- Worked cases of `{subject}`, each by computing. {WRITTEN}", *(f"use {use}" for use in uses_of(crate)), common]
     text = "\n".join(head) + "\n\n" + "\n".join(theorems)
     return "\n".join(map(wrapped, without_unused(text).split("\n")))

@@ -4,7 +4,7 @@ ghost use Rattle.std.specs.Prelude.{◌≡◌};
 
 use crate::heap_calls::{Cell, header, pointer};
 use std::alloc::Global;
-use wb_debug::{DebugFault, DebugHeap, Heap};
+use wb_debug::{DebugFault, DebugHeap};
 use wb_model::heap::{Answer, Attempt, Gave, Kind, Panic, Ptr, Rule, Shape};
 use wb_model::limits::CEILING;
 use wb_model::run::{Leak, Leaks, Note, Trace};
@@ -82,7 +82,7 @@ pub(crate) struct CopiedDebugHeap {
 
 /// A debug heap, and how many marks are open.
 #[derive(Drop)]
-struct Marked {
+pub(crate) struct Marked {
     heap: DebugHeap,
     marks: u32,
     ghost open: { heap.heap.level ≡ marks },
@@ -97,23 +97,9 @@ pub(crate) fn first_other(
     Ok(marked.first_other(worked.calls))
 }
 
-/// Whether a copy tells what its source does, stays as it is while the source changes, and then changes as it did; and the same
-/// of the source while a copy changes, which takes the memory of the heap that was changed before.
-pub(crate) fn is_apart(alloc: Global, copied: &CopiedDebugHeap) -> Result<bool, DebugFault> {
-    let mut source = Marked::new(alloc, &copied.before)?;
-    let mut fine = source.all_answer(copied.before.calls);
-    let mut copy = source.try_copy()?;
-    fine = fine && source.all_answer(copied.told) && copy.all_answer(copied.told);
-    fine = fine && source.all_answer(copied.changes) && copy.all_answer(copied.told);
-    let (_, heap) = source.heap.into_trace_and_heap();
-    let mut second = copy.try_copy_over(heap)?;
-    fine = fine && second.all_answer(copied.changes) && copy.all_answer(copied.told);
-    Ok(fine && copy.all_answer(copied.changes))
-}
-
 impl Marked {
     /// A heap after attempt 1.
-    fn new(alloc: Global, worked: &WorkedDebugHeap) -> Result<Marked, DebugFault> {
+    pub(crate) fn new(alloc: Global, worked: &WorkedDebugHeap) -> Result<Marked, DebugFault> {
         let mut marked = Marked {
             heap: DebugHeap::new(alloc, worked.rule, worked.shape)?,
             marks: 0,
@@ -124,16 +110,18 @@ impl Marked {
         }
     }
 
-    fn try_copy(&self) -> Result<Marked, DebugFault> {
+    pub(crate) fn try_copy(&self) -> Result<Marked, DebugFault> {
         Ok(Marked {
             heap: self.heap.try_copy()?,
             marks: self.marks,
         })
     }
 
-    fn try_copy_over(&self, spare: Heap) -> Result<Marked, DebugFault> {
+    /// A copy over the memory of a heap that is done with.
+    pub(crate) fn try_copy_over(&self, spare: Marked) -> Result<Marked, DebugFault> {
+        let (_, heap) = spare.heap.into_trace_and_heap();
         Ok(Marked {
-            heap: self.heap.try_copy_over(Some(spare))?,
+            heap: self.heap.try_copy_over(Some(heap))?,
             marks: self.marks,
         })
     }
@@ -149,7 +137,7 @@ impl Marked {
     }
 
     /// Whether each call gives its answer.
-    fn all_answer(&mut self, calls: &[Call]) -> bool {
+    pub(crate) fn all_answer(&mut self, calls: &[Call]) -> bool {
         self.first_other(calls).is_none()
     }
 

@@ -89,7 +89,7 @@ pub(crate) struct CopiedHeap {
 
 /// A heap, and the number of its next attempt.
 #[derive(Drop)]
-struct Numbered {
+pub(crate) struct Numbered {
     heap: Heap,
     next: u32,
     ghost numbered: { 1 ≤ next },
@@ -102,22 +102,9 @@ pub(crate) fn first_other(alloc: Global, worked: &WorkedHeap) -> Result<Option<u
     Ok(numbered.first_other(worked.calls))
 }
 
-/// Whether a copy tells what its source does, stays as it is while the source changes, and then changes as it did; and the same
-/// of the source while a copy changes, which takes the memory of the heap that was changed before.
-pub(crate) fn is_apart(alloc: Global, copied: &CopiedHeap) -> Result<bool, HeapFault> {
-    let mut source = Numbered::new(alloc, &copied.before)?;
-    let mut fine = source.all_answer(copied.before.calls);
-    let mut copy = source.try_copy()?;
-    fine = fine && source.all_answer(copied.told) && copy.all_answer(copied.told);
-    fine = fine && source.all_answer(copied.changes) && copy.all_answer(copied.told);
-    let mut second = copy.try_copy_over(source.heap)?;
-    fine = fine && second.all_answer(copied.changes) && copy.all_answer(copied.told);
-    Ok(fine && copy.all_answer(copied.changes))
-}
-
 impl Numbered {
     /// A heap after its first attempt.
-    fn new(alloc: Global, worked: &WorkedHeap) -> Result<Numbered, HeapFault> {
+    pub(crate) fn new(alloc: Global, worked: &WorkedHeap) -> Result<Numbered, HeapFault> {
         if worked.limit > CEILING {
             return Err(HeapFault::TooShort);
         }
@@ -129,7 +116,7 @@ impl Numbered {
         Ok(numbered)
     }
 
-    fn try_copy(&self) -> Result<Numbered, HeapFault> {
+    pub(crate) fn try_copy(&self) -> Result<Numbered, HeapFault> {
         match self.heap.try_copy() {
             Ok(heap) => Ok(Numbered {
                 heap,
@@ -139,8 +126,9 @@ impl Numbered {
         }
     }
 
-    fn try_copy_over(&self, spare: Heap) -> Result<Numbered, HeapFault> {
-        match self.heap.try_copy_over(Some(spare)) {
+    /// A copy over the memory of a heap that is done with.
+    pub(crate) fn try_copy_over(&self, spare: Numbered) -> Result<Numbered, HeapFault> {
+        match self.heap.try_copy_over(Some(spare.heap)) {
             Ok(heap) => Ok(Numbered {
                 heap,
                 next: self.next,
@@ -160,7 +148,7 @@ impl Numbered {
     }
 
     /// Whether each call gives its answer.
-    fn all_answer(&mut self, calls: &[Call]) -> bool {
+    pub(crate) fn all_answer(&mut self, calls: &[Call]) -> bool {
         self.first_other(calls).is_none()
     }
 

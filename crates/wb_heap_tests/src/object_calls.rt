@@ -64,12 +64,16 @@ pub(crate) fn first_other(
     let script = script_of(alloc, classes)?;
     let shape = Shape { min: 0, step: 4096 };
     let mut heap = DebugHeap::new(alloc, Rule::Unlimited, shape)?;
-    for (index, call) in worked.calls.iter().enumerate() {
-        if !answers(&mut heap, &script, *call) {
-            return Ok(Some(index));
+    Ok(first_other_in(&mut heap, &script, worked.calls))
+}
+
+fn first_other_in(heap: &mut DebugHeap, script: &Script, calls: &[Call]) -> Option<usize> {
+    for (index, call) in calls.iter().enumerate() {
+        if !answers(heap, script, *call) {
+            return Some(index);
         }
     }
-    Ok(None)
+    None
 }
 
 /// A script of these classes and nothing else.

@@ -12,30 +12,26 @@ use Rattle.wb_model.specs.declared.script.Number.TheVariants.{Constant}
 use Rattle.wb_model.specs.declared.script.Refusal.TheVariants.{GivesNull}
 use Rattle.wb_model.specs.declared.script.Statement.TheOpen.{Statement-F}
 use Rattle.wb_model.specs.Run.{run}
-use Rattle.wb_model.proofs.WorkedCases.Shorthands.{everything, on, shaped, line}
+use Rattle.wb_model.proofs.WorkedCases.Shorthands.{everything, on, script, procedure, body, result, shaped, line}
 
 abbrev script_budget_exactly_enough_run : Script
-script_budget_exactly_enough_run = record { classes = []; procedures = (record { line = 1; parameters = []; body = record { locals =
-    (OfPointer None) ∷ (OfPointer None) ∷ (OfPointer None) ∷ []; statements = (on 5 (Statement-F.Alloc (Held (H.Local 0)) (Constant (pos
-    10)) GivesNull)) ∷ (on 6 (Statement-F.Alloc (Held (H.Local 1)) (Constant (pos 100)) GivesNull)) ∷ (on 7 (Statement-F.Free (Held (H.Local
-    0)))) ∷ (on 8 (Statement-F.Alloc (Held (H.Local 2)) (Constant (pos 16)) GivesNull)) ∷ (on 9 (Statement-F.Free (Held (H.Local 1)))) ∷ (on
-    10 (Statement-F.Free (Held (H.Local 2)))) ∷ [] } }) ∷ []; operations = []; literals = []; main = 0 }
+script_budget_exactly_enough_run = script [] ((procedure 1 [] (body ((OfPointer None) ∷ (OfPointer None) ∷ (OfPointer None) ∷ []) ((on 5
+    (Statement-F.Alloc (Held (H.Local 0)) (Constant (pos 10)) GivesNull)) ∷ (on 6 (Statement-F.Alloc (Held (H.Local 1)) (Constant (pos 100))
+    GivesNull)) ∷ (on 7 (Statement-F.Free (Held (H.Local 0)))) ∷ (on 8 (Statement-F.Alloc (Held (H.Local 2)) (Constant (pos 16)) GivesNull))
+    ∷ (on 9 (Statement-F.Free (Held (H.Local 1)))) ∷ (on 10 (Statement-F.Free (Held (H.Local 2)))) ∷ []))) ∷ []) [] [] 0
 
-budget_exactly_enough_run : run script_budget_exactly_enough_run R.Unlimited 6 (shaped 4096 4096) ≡ record { outcome = Ended None []; trace
-    = (line 1 144 0 Granted) ∷ (line 2 32 144 Granted) ∷ (line 3 128 176 Granted) ∷ (line 4 32 144 Granted) ∷ []; lines = []; notes = [];
-    steps = 6 }
+budget_exactly_enough_run : run script_budget_exactly_enough_run R.Unlimited 6 (shaped 4096 4096) ≡ result (Ended None []) ((line 1 144 0
+    Granted) ∷ (line 2 32 144 Granted) ∷ (line 3 128 176 Granted) ∷ (line 4 32 144 Granted) ∷ []) [] [] 6
 unfolding everything
 budget_exactly_enough_run = refl
 
 abbrev script_budget_one_step_short_run : Script
-script_budget_one_step_short_run = record { classes = []; procedures = (record { line = 1; parameters = []; body = record { locals =
-    (OfPointer None) ∷ (OfPointer None) ∷ (OfPointer None) ∷ []; statements = (on 5 (Statement-F.Alloc (Held (H.Local 0)) (Constant (pos
-    10)) GivesNull)) ∷ (on 6 (Statement-F.Alloc (Held (H.Local 1)) (Constant (pos 100)) GivesNull)) ∷ (on 7 (Statement-F.Free (Held (H.Local
-    0)))) ∷ (on 8 (Statement-F.Alloc (Held (H.Local 2)) (Constant (pos 16)) GivesNull)) ∷ (on 9 (Statement-F.Free (Held (H.Local 1)))) ∷ (on
-    10 (Statement-F.Free (Held (H.Local 2)))) ∷ [] } }) ∷ []; operations = []; literals = []; main = 0 }
+script_budget_one_step_short_run = script [] ((procedure 1 [] (body ((OfPointer None) ∷ (OfPointer None) ∷ (OfPointer None) ∷ []) ((on 5
+    (Statement-F.Alloc (Held (H.Local 0)) (Constant (pos 10)) GivesNull)) ∷ (on 6 (Statement-F.Alloc (Held (H.Local 1)) (Constant (pos 100))
+    GivesNull)) ∷ (on 7 (Statement-F.Free (Held (H.Local 0)))) ∷ (on 8 (Statement-F.Alloc (Held (H.Local 2)) (Constant (pos 16)) GivesNull))
+    ∷ (on 9 (Statement-F.Free (Held (H.Local 1)))) ∷ (on 10 (Statement-F.Free (Held (H.Local 2)))) ∷ []))) ∷ []) [] [] 0
 
-budget_one_step_short_run : run script_budget_one_step_short_run R.Unlimited 5 (shaped 4096 4096) ≡ record { outcome = Cut Budget; trace =
-    (line 1 144 0 Granted) ∷ (line 2 32 144 Granted) ∷ (line 3 128 176 Granted) ∷ (line 4 32 144 Granted) ∷ []; lines = []; notes = [];
-    steps = 5 }
+budget_one_step_short_run : run script_budget_one_step_short_run R.Unlimited 5 (shaped 4096 4096) ≡ result (Cut Budget) ((line 1 144 0
+    Granted) ∷ (line 2 32 144 Granted) ∷ (line 3 128 176 Granted) ∷ (line 4 32 144 Granted) ∷ []) [] [] 5
 unfolding everything
 budget_one_step_short_run = refl

@@ -12,19 +12,17 @@ use Rattle.wb_model.specs.declared.script.Readable.TheVariants.{Quoted}
 use Rattle.wb_model.specs.declared.script.Refusal.TheVariants.{GivesNull}
 use Rattle.wb_model.specs.declared.script.Statement.TheOpen.{Statement-F}
 use Rattle.wb_model.specs.Run.{run}
-use Rattle.wb_model.proofs.WorkedCases.Shorthands.{everything, on, shaped, line}
+use Rattle.wb_model.proofs.WorkedCases.Shorthands.{everything, on, script, procedure, body, result, leak, shaped, line}
 
 abbrev script_named_file_run : Script
-script_named_file_run = record { classes = []; procedures = (record { line = 2; parameters = []; body = record { locals = (OfPointer None) ∷
-    (OfPointer None) ∷ (OfPointer None) ∷ []; statements = (on 6 (Statement-F.PrintText (Quoted 0))) ∷ (on 7 (Statement-F.Alloc (Held
-    (H.Local 0)) (Constant (pos 10)) GivesNull)) ∷ (on 8 (Statement-F.Alloc (Held (H.Local 1)) (Constant (pos 100)) GivesNull)) ∷ (on 9
-    (Statement-F.Free (Held (H.Local 0)))) ∷ (on 11 (Statement-F.Alloc (Held (H.Local 2)) (Constant (pos 16)) GivesNull)) ∷ (on 12
-    (Statement-F.Free (Held (H.Local 1)))) ∷ [] } }) ∷ []; operations = []; literals = (116 ∷ 104 ∷ 114 ∷ 101 ∷ 101 ∷ 32 ∷ 114 ∷ 101 ∷ 113 ∷
-    117 ∷ 101 ∷ 115 ∷ 116 ∷ 115 ∷ []) ∷ []; main = 0 }
+script_named_file_run = script [] ((procedure 2 [] (body ((OfPointer None) ∷ (OfPointer None) ∷ (OfPointer None) ∷ []) ((on 6
+    (Statement-F.PrintText (Quoted 0))) ∷ (on 7 (Statement-F.Alloc (Held (H.Local 0)) (Constant (pos 10)) GivesNull)) ∷ (on 8
+    (Statement-F.Alloc (Held (H.Local 1)) (Constant (pos 100)) GivesNull)) ∷ (on 9 (Statement-F.Free (Held (H.Local 0)))) ∷ (on 11
+    (Statement-F.Alloc (Held (H.Local 2)) (Constant (pos 16)) GivesNull)) ∷ (on 12 (Statement-F.Free (Held (H.Local 1)))) ∷ []))) ∷ []) []
+    ((116 ∷ 104 ∷ 114 ∷ 101 ∷ 101 ∷ 32 ∷ 114 ∷ 101 ∷ 113 ∷ 117 ∷ 101 ∷ 115 ∷ 116 ∷ 115 ∷ []) ∷ []) 0
 
-named_file_run : run script_named_file_run R.Unlimited 10000 (shaped 4096 4096) ≡ record { outcome = Ended None ((record { number = 4;
-    length = 32; place = 144 }) ∷ []); trace = (line 1 144 0 Granted) ∷ (line 2 32 144 Granted) ∷ (line 3 128 176 Granted) ∷ (line 4 32 144
-    Granted) ∷ []; lines = (116 ∷ 104 ∷ 114 ∷ 101 ∷ 101 ∷ 32 ∷ 114 ∷ 101 ∷ 113 ∷ 117 ∷ 101 ∷ 115 ∷ 116 ∷ 115 ∷ []) ∷ []; notes = []; steps =
-    6 }
+named_file_run : run script_named_file_run R.Unlimited 10000 (shaped 4096 4096) ≡ result (Ended None ((leak 4 32 144) ∷ [])) ((line 1 144 0
+    Granted) ∷ (line 2 32 144 Granted) ∷ (line 3 128 176 Granted) ∷ (line 4 32 144 Granted) ∷ []) ((116 ∷ 104 ∷ 114 ∷ 101 ∷ 101 ∷ 32 ∷ 114 ∷
+    101 ∷ 113 ∷ 117 ∷ 101 ∷ 115 ∷ 116 ∷ 115 ∷ []) ∷ []) [] 6
 unfolding everything
 named_file_run = refl

@@ -18,11 +18,10 @@ use Rattle.wb_model.specs.declared.script.Refusal.TheVariants.{GivesNull, Leaves
 use Rattle.wb_model.specs.declared.script.Statement.TheOpen.{Statement-F}
 use Rattle.wb_model.specs.Run.{run, required, rises}
 use Rattle.wb_model.specs.Sweeps.{runs_of, least_bad_or_cut}
-use Rattle.wb_model.proofs.WorkedCases.Shorthands.{everything, on, shaped, line, rise}
+use Rattle.wb_model.proofs.WorkedCases.Shorthands.{everything, on, script, class_of, procedure, body, result, leak, shaped, line, rise}
 
 abbrev script_empty_main_json_with_kind_check : Script
-script_empty_main_json_with_kind_check = record { classes = []; procedures = (record { line = 1; parameters = []; body = record { locals =
-    []; statements = [] } }) ∷ []; operations = []; literals = []; main = 0 }
+script_empty_main_json_with_kind_check = script [] ((procedure 1 [] (body [] [])) ∷ []) [] [] 0
 
 empty_main_json_with_kind_check : (required script_empty_main_json_with_kind_check 10000 (shaped 4096 4096) ≡ 144) × (rises
     script_empty_main_json_with_kind_check 10000 (shaped 4096 4096) ≡ (rise 1 144) ∷ []) × (length (runs_of Single
@@ -32,17 +31,15 @@ unfolding everything
 empty_main_json_with_kind_check = (refl, refl, refl, refl)
 
 abbrev script_empty_main_json_with_kind_run : Script
-script_empty_main_json_with_kind_run = record { classes = []; procedures = (record { line = 1; parameters = []; body = record { locals = [];
-    statements = [] } }) ∷ []; operations = []; literals = []; main = 0 }
+script_empty_main_json_with_kind_run = script [] ((procedure 1 [] (body [] [])) ∷ []) [] [] 0
 
-empty_main_json_with_kind_run : run script_empty_main_json_with_kind_run R.Unlimited 10000 (shaped 4096 4096) ≡ record { outcome = Ended
-    None []; trace = (line 1 144 0 Granted) ∷ []; lines = []; notes = []; steps = 0 }
+empty_main_json_with_kind_run : run script_empty_main_json_with_kind_run R.Unlimited 10000 (shaped 4096 4096) ≡ result (Ended None [])
+    ((line 1 144 0 Granted) ∷ []) [] [] 0
 unfolding everything
 empty_main_json_with_kind_run = refl
 
 abbrev script_empty_main_json_with_kind_size : Script
-script_empty_main_json_with_kind_size = record { classes = []; procedures = (record { line = 1; parameters = []; body = record { locals =
-    []; statements = [] } }) ∷ []; operations = []; literals = []; main = 0 }
+script_empty_main_json_with_kind_size = script [] ((procedure 1 [] (body [] [])) ∷ []) [] [] 0
 
 empty_main_json_with_kind_size : (required script_empty_main_json_with_kind_size 10000 (shaped 4096 4096) ≡ 144) × (rises
     script_empty_main_json_with_kind_size 10000 (shaped 4096 4096) ≡ (rise 1 144) ∷ [])
@@ -50,10 +47,9 @@ unfolding everything
 empty_main_json_with_kind_size = (refl, refl)
 
 abbrev script_failure_that_outruns_the_budget_json_with_kind_check : Script
-script_failure_that_outruns_the_budget_json_with_kind_check = record { classes = []; procedures = (record { line = 1; parameters = []; body
-    = record { locals = (OfPointer None) ∷ []; statements = (on 3 (Statement-F.Alloc (Held (H.Local 0)) (Constant (pos 16)) GivesNull)) ∷
-    (on 4 (Statement-F.If (IsNull (Held (H.Local 0))) ((on 5 (Statement-F.Repeat (Constant (pos 20000)) [])) ∷ []))) ∷ (on 8
-    (Statement-F.Free (Held (H.Local 0)))) ∷ [] } }) ∷ []; operations = []; literals = []; main = 0 }
+script_failure_that_outruns_the_budget_json_with_kind_check = script [] ((procedure 1 [] (body ((OfPointer None) ∷ []) ((on 3
+    (Statement-F.Alloc (Held (H.Local 0)) (Constant (pos 16)) GivesNull)) ∷ (on 4 (Statement-F.If (IsNull (Held (H.Local 0))) ((on 5
+    (Statement-F.Repeat (Constant (pos 20000)) [])) ∷ []))) ∷ (on 8 (Statement-F.Free (Held (H.Local 0)))) ∷ []))) ∷ []) [] [] 0
 
 failure_that_outruns_the_budget_json_with_kind_check : (required script_failure_that_outruns_the_budget_json_with_kind_check 10000 (shaped
     4096 4096) ≡ 176) × (rises script_failure_that_outruns_the_budget_json_with_kind_check 10000 (shaped 4096 4096) ≡ (rise 1 144) ∷ (rise 2
@@ -63,36 +59,31 @@ unfolding everything
 failure_that_outruns_the_budget_json_with_kind_check = (refl, refl, refl, refl)
 
 abbrev script_leak_without_any_failure_json_with_kind_sweep : Script
-script_leak_without_any_failure_json_with_kind_sweep = record { classes = []; procedures = (record { line = 1; parameters = []; body =
-    record { locals = (OfPointer None) ∷ []; statements = (on 3 (Statement-F.Alloc (Held (H.Local 0)) (Constant (pos 16)) GivesNull)) ∷ [] }
-    }) ∷ []; operations = []; literals = []; main = 0 }
+script_leak_without_any_failure_json_with_kind_sweep = script [] ((procedure 1 [] (body ((OfPointer None) ∷ []) ((on 3 (Statement-F.Alloc
+    (Held (H.Local 0)) (Constant (pos 16)) GivesNull)) ∷ []))) ∷ []) [] [] 0
 
 leak_without_any_failure_json_with_kind_sweep : (length (runs_of Single script_leak_without_any_failure_json_with_kind_sweep 10000 (shaped
     4096 4096) 0).trace ≡ 2) × (least_bad_or_cut Single script_leak_without_any_failure_json_with_kind_sweep 10000 (shaped 4096 4096) ≡ Some
-    0) × (runs_of Single script_leak_without_any_failure_json_with_kind_sweep 10000 (shaped 4096 4096) 0 ≡ record { outcome = Ended None
-    ((record { number = 2; length = 32; place = 144 }) ∷ []); trace = (line 1 144 0 Granted) ∷ (line 2 32 144 Granted) ∷ []; lines = [];
-    notes = []; steps = 1 })
+    0) × (runs_of Single script_leak_without_any_failure_json_with_kind_sweep 10000 (shaped 4096 4096) 0 ≡ result (Ended None ((leak 2 32
+    144) ∷ [])) ((line 1 144 0 Granted) ∷ (line 2 32 144 Granted) ∷ []) [] [] 1)
 unfolding everything
 leak_without_any_failure_json_with_kind_sweep = (refl, refl, refl)
 
 abbrev script_object_deleted_twice_check : Script
-script_object_deleted_twice_check = record { classes = (record { line = 2; extra = 4; fields = []; construct = None; destroy = None }) ∷
-    (record { line = 5; extra = 0; fields = (Some 0) ∷ None ∷ []; construct = None; destroy = Some (record { locals = []; statements = (on 9
-    (Statement-F.Delete (Field H.This 1 0))) ∷ (on 10 (Statement-F.Free (Field H.This 1 1))) ∷ [] }) }) ∷ []; procedures = (record { line =
-    14; parameters = (Par.OfPointer (Some 1)) ∷ (Par.OfPointer (Some 0)) ∷ []; body = record { locals = []; statements = (on 16
-    (Statement-F.Set (Field (H.Local 0) 1 0) (Held (H.Local 1)))) ∷ (on 17 (Statement-F.Alloc (Field (H.Local 0) 1 1) (Constant (pos 40))
-    Leaves)) ∷ [] } }) ∷ (record { line = 20; parameters = []; body = record { locals = (OfPointer (Some 1)) ∷ (OfPointer (Some 0)) ∷
-    OfNumber ∷ []; statements = (on 24 (Statement-F.New (Held (H.Local 0)) 1 Leaves)) ∷ (on 25 (Statement-F.PushObject (Held (H.Local 0))))
-    ∷ (on 26 (Statement-F.New (Held (H.Local 1)) 0 Leaves)) ∷ (on 27 (Statement-F.Trap 2 ((on 28 (Statement-F.Call 0 ((Passed (Held (H.Local
-    0))) ∷ (Passed (Held (H.Local 1))) ∷ []))) ∷ []))) ∷ (on 30 (Statement-F.If (Less (Variable 2) (Constant (pos 0))) ((on 31
-    (Statement-F.Delete (Held (H.Local 1)))) ∷ []))) ∷ (on 33 (Statement-F.PopDestroy (Constant (pos 1)))) ∷ [] } }) ∷ []; operations = [];
-    literals = []; main = 1 }
+script_object_deleted_twice_check = script ((class_of 2 4 [] None None) ∷ (class_of 5 0 ((Some 0) ∷ None ∷ []) None (Some (body [] ((on 9
+    (Statement-F.Delete (Field H.This 1 0))) ∷ (on 10 (Statement-F.Free (Field H.This 1 1))) ∷ [])))) ∷ []) ((procedure 14 ((Par.OfPointer
+    (Some 1)) ∷ (Par.OfPointer (Some 0)) ∷ []) (body [] ((on 16 (Statement-F.Set (Field (H.Local 0) 1 0) (Held (H.Local 1)))) ∷ (on 17
+    (Statement-F.Alloc (Field (H.Local 0) 1 1) (Constant (pos 40)) Leaves)) ∷ []))) ∷ (procedure 20 [] (body ((OfPointer (Some 1)) ∷
+    (OfPointer (Some 0)) ∷ OfNumber ∷ []) ((on 24 (Statement-F.New (Held (H.Local 0)) 1 Leaves)) ∷ (on 25 (Statement-F.PushObject (Held
+    (H.Local 0)))) ∷ (on 26 (Statement-F.New (Held (H.Local 1)) 0 Leaves)) ∷ (on 27 (Statement-F.Trap 2 ((on 28 (Statement-F.Call 0 ((Passed
+    (Held (H.Local 0))) ∷ (Passed (Held (H.Local 1))) ∷ []))) ∷ []))) ∷ (on 30 (Statement-F.If (Less (Variable 2) (Constant (pos 0))) ((on
+    31 (Statement-F.Delete (Held (H.Local 1)))) ∷ []))) ∷ (on 33 (Statement-F.PopDestroy (Constant (pos 1)))) ∷ []))) ∷ []) [] [] 1
 
 object_deleted_twice_check : (required script_object_deleted_twice_check 10000 (shaped 4096 4096) ≡ 288) × (rises
     script_object_deleted_twice_check 10000 (shaped 4096 4096) ≡ (rise 1 144) ∷ (rise 2 192) ∷ (rise 3 224) ∷ (rise 4 288) ∷ []) × (length
     (runs_of Single script_object_deleted_twice_check 10000 (shaped 4096 4096) 0).trace ≡ 4) × (least_bad_or_cut Single
     script_object_deleted_twice_check 10000 (shaped 4096 4096) ≡ Some 4) × (runs_of Single script_object_deleted_twice_check 10000 (shaped
-    4096 4096) 4 ≡ record { outcome = Panicked (P.Workbench 1); trace = (line 1 144 0 Granted) ∷ (line 2 48 144 Granted) ∷ (line 3 32 192
-    Granted) ∷ (line 4 64 224 Simulated) ∷ []; lines = []; notes = []; steps = 15 })
+    4096 4096) 4 ≡ result (Panicked (P.Workbench 1)) ((line 1 144 0 Granted) ∷ (line 2 48 144 Granted) ∷ (line 3 32 192 Granted) ∷ (line 4
+    64 224 Simulated) ∷ []) [] [] 15)
 unfolding everything
 object_deleted_twice_check = (refl, refl, refl, refl, refl)

@@ -1,9 +1,20 @@
 -- What the theorems of worked cases have in common. Written by tools/cases_to_theorems.py; edit nothing here.
-use Rattle.std.specs.Prelude.{ℕ, length}
+use Rattle.std.specs.Prelude.{ℕ, List, length, Option}
 use Rattle.std.specs.Fmt.{digits}
 use Rattle.wb_model.specs.declared.heap.Shape.{Shape}
 use Rattle.wb_model.specs.declared.heap.Answer.{Answer}
 use Rattle.wb_model.specs.declared.heap.Attempt.{Attempt}
+use Rattle.wb_model.specs.declared.run.Leak.{Leak}
+use Rattle.wb_model.specs.declared.run.Note.{Note}
+use Rattle.wb_model.specs.declared.run.Outcome.{Outcome}
+use Rattle.wb_model.specs.declared.run.RunResult.{RunResult}
+use Rattle.wb_model.specs.declared.script.Script.{Script}
+use Rattle.wb_model.specs.declared.script.Body.{Body}
+use Rattle.wb_model.specs.declared.script.Class.{Class}
+use Rattle.wb_model.specs.declared.script.Operation.{Operation}
+use Rattle.wb_model.specs.declared.script.Procedure.{Procedure}
+use Rattle.wb_model.specs.declared.script.Local.{Local}
+use Rattle.wb_model.specs.declared.script.Parameter.{Parameter}
 use Rattle.wb_model.specs.declared.size.Rise.{Rise}
 use Rattle.wb_model.specs.declared.script.Statement.{Statement}
 use Rattle.wb_model.specs.declared.script.Numbered.{Numbered}
@@ -77,6 +88,28 @@ everything = tt
 
 abbrev pub on : ℕ → Statement-F Statement Numbered → Numbered
 on line layer = record { line = line; statement = roll-Statement layer }
+
+abbrev pub script : List Class → List Procedure → List Operation → List (List ℕ) → ℕ → Script
+script classes procedures operations literals main =
+    record { classes = classes; procedures = procedures; operations = operations; literals = literals; main = main }
+
+abbrev pub class_of : ℕ → ℕ → List (Option ℕ) → Option Body → Option Body → Class
+class_of line extra fields construct destroy = record { line = line; extra = extra; fields = fields; construct = construct; destroy = destroy }
+
+abbrev pub procedure : ℕ → List Parameter → Body → Procedure
+procedure line parameters body = record { line = line; parameters = parameters; body = body }
+
+abbrev pub operation : ℕ → Body → Operation
+operation line body = record { line = line; body = body }
+
+abbrev pub body : List Local → List Numbered → Body
+body locals statements = record { locals = locals; statements = statements }
+
+abbrev pub result : Outcome → List Attempt → List (List ℕ) → List Note → ℕ → RunResult
+result outcome trace lines notes steps = record { outcome = outcome; trace = trace; lines = lines; notes = notes; steps = steps }
+
+abbrev pub leak : ℕ → ℕ → ℕ → Leak
+leak number length place = record { number = number; length = length; place = place }
 
 abbrev pub shaped : ℕ → ℕ → Shape
 shaped min step = record { min = min; step = step }

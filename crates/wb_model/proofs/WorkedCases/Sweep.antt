@@ -18,16 +18,15 @@ use Rattle.wb_model.specs.declared.script.Refusal.TheVariants.{GivesNull, Leaves
 use Rattle.wb_model.specs.declared.script.Statement.TheOpen.{Statement-F}
 use Rattle.wb_model.specs.Run.{required, rises}
 use Rattle.wb_model.specs.Sweeps.{runs_of, least_bad_or_cut}
-use Rattle.wb_model.proofs.WorkedCases.Shorthands.{everything, on, shaped, line, rise}
+use Rattle.wb_model.proofs.WorkedCases.Shorthands.{everything, on, script, class_of, procedure, body, result, leak, shaped, line, rise}
 
 abbrev script_budget_is_enough_for_each_item_check : Script
-script_budget_is_enough_for_each_item_check = record { classes = []; procedures = (record { line = 1; parameters = []; body = record {
-    locals = (OfPointer None) ∷ (OfPointer None) ∷ (OfPointer None) ∷ []; statements = (on 5 (Statement-F.Alloc (Held (H.Local 0)) (Constant
-    (pos 16)) Leaves)) ∷ (on 6 (Statement-F.Push (Held (H.Local 0)))) ∷ (on 7 (Statement-F.Alloc (Held (H.Local 1)) (Constant (pos 16))
-    Leaves)) ∷ (on 8 (Statement-F.Push (Held (H.Local 1)))) ∷ (on 9 (Statement-F.Alloc (Held (H.Local 2)) (Constant (pos 16)) Leaves)) ∷ (on
-    10 (Statement-F.Push (Held (H.Local 2)))) ∷ (on 11 (Statement-F.PopDestroy (Constant (pos 3)))) ∷ (on 12 (Statement-F.PrintText (Quoted
-    0))) ∷ [] } }) ∷ []; operations = []; literals = (110 ∷ 111 ∷ 110 ∷ 101 ∷ 32 ∷ 105 ∷ 115 ∷ 32 ∷ 108 ∷ 101 ∷ 102 ∷ 116 ∷ []) ∷ []; main =
-    0 }
+script_budget_is_enough_for_each_item_check = script [] ((procedure 1 [] (body ((OfPointer None) ∷ (OfPointer None) ∷ (OfPointer None) ∷ [])
+    ((on 5 (Statement-F.Alloc (Held (H.Local 0)) (Constant (pos 16)) Leaves)) ∷ (on 6 (Statement-F.Push (Held (H.Local 0)))) ∷ (on 7
+    (Statement-F.Alloc (Held (H.Local 1)) (Constant (pos 16)) Leaves)) ∷ (on 8 (Statement-F.Push (Held (H.Local 1)))) ∷ (on 9
+    (Statement-F.Alloc (Held (H.Local 2)) (Constant (pos 16)) Leaves)) ∷ (on 10 (Statement-F.Push (Held (H.Local 2)))) ∷ (on 11
+    (Statement-F.PopDestroy (Constant (pos 3)))) ∷ (on 12 (Statement-F.PrintText (Quoted 0))) ∷ []))) ∷ []) [] ((110 ∷ 111 ∷ 110 ∷ 101 ∷ 32
+    ∷ 105 ∷ 115 ∷ 32 ∷ 108 ∷ 101 ∷ 102 ∷ 116 ∷ []) ∷ []) 0
 
 budget_is_enough_for_each_item_check : (required script_budget_is_enough_for_each_item_check 10000 (shaped 4096 4096) ≡ 240) × (rises
     script_budget_is_enough_for_each_item_check 10000 (shaped 4096 4096) ≡ (rise 1 144) ∷ (rise 2 176) ∷ (rise 3 208) ∷ (rise 4 240) ∷ []) ×
@@ -37,10 +36,9 @@ unfolding everything
 budget_is_enough_for_each_item_check = (refl, refl, refl, refl)
 
 abbrev script_eighth_push_grows_the_cleanup_cell_check : Script
-script_eighth_push_grows_the_cleanup_cell_check = record { classes = []; procedures = (record { line = 1; parameters = []; body = record {
-    locals = (OfPointer None) ∷ []; statements = (on 3 (Statement-F.Repeat (Constant (pos 8)) ((on 4 (Statement-F.Alloc (Held (H.Local 0))
-    (Constant (pos 16)) Leaves)) ∷ (on 5 (Statement-F.Push (Held (H.Local 0)))) ∷ []))) ∷ (on 7 (Statement-F.PopDestroy (Constant (pos 8))))
-    ∷ [] } }) ∷ []; operations = []; literals = []; main = 0 }
+script_eighth_push_grows_the_cleanup_cell_check = script [] ((procedure 1 [] (body ((OfPointer None) ∷ []) ((on 3 (Statement-F.Repeat
+    (Constant (pos 8)) ((on 4 (Statement-F.Alloc (Held (H.Local 0)) (Constant (pos 16)) Leaves)) ∷ (on 5 (Statement-F.Push (Held (H.Local
+    0)))) ∷ []))) ∷ (on 7 (Statement-F.PopDestroy (Constant (pos 8)))) ∷ []))) ∷ []) [] [] 0
 
 eighth_push_grows_the_cleanup_cell_check : (required script_eighth_push_grows_the_cleanup_cell_check 10000 (shaped 4096 4096) ≡ 608) ×
     (rises script_eighth_push_grows_the_cleanup_cell_check 10000 (shaped 4096 4096) ≡ (rise 1 144) ∷ (rise 2 176) ∷ (rise 3 208) ∷ (rise 4
@@ -51,10 +49,9 @@ unfolding everything
 eighth_push_grows_the_cleanup_cell_check = (refl, refl, refl, refl)
 
 abbrev script_eighth_push_grows_the_cleanup_cell_sweep : Script
-script_eighth_push_grows_the_cleanup_cell_sweep = record { classes = []; procedures = (record { line = 1; parameters = []; body = record {
-    locals = (OfPointer None) ∷ []; statements = (on 3 (Statement-F.Repeat (Constant (pos 8)) ((on 4 (Statement-F.Alloc (Held (H.Local 0))
-    (Constant (pos 16)) Leaves)) ∷ (on 5 (Statement-F.Push (Held (H.Local 0)))) ∷ []))) ∷ (on 7 (Statement-F.PopDestroy (Constant (pos 8))))
-    ∷ [] } }) ∷ []; operations = []; literals = []; main = 0 }
+script_eighth_push_grows_the_cleanup_cell_sweep = script [] ((procedure 1 [] (body ((OfPointer None) ∷ []) ((on 3 (Statement-F.Repeat
+    (Constant (pos 8)) ((on 4 (Statement-F.Alloc (Held (H.Local 0)) (Constant (pos 16)) Leaves)) ∷ (on 5 (Statement-F.Push (Held (H.Local
+    0)))) ∷ []))) ∷ (on 7 (Statement-F.PopDestroy (Constant (pos 8)))) ∷ []))) ∷ []) [] [] 0
 
 eighth_push_grows_the_cleanup_cell_sweep : (length (runs_of Single script_eighth_push_grows_the_cleanup_cell_sweep 10000 (shaped 4096 4096)
     0).trace ≡ 10) × (least_bad_or_cut Single script_eighth_push_grows_the_cleanup_cell_sweep 10000 (shaped 4096 4096) ≡ None)
@@ -62,8 +59,7 @@ unfolding everything
 eighth_push_grows_the_cleanup_cell_sweep = (refl, refl)
 
 abbrev script_empty_main_check : Script
-script_empty_main_check = record { classes = []; procedures = (record { line = 1; parameters = []; body = record { locals = []; statements =
-    [] } }) ∷ []; operations = []; literals = []; main = 0 }
+script_empty_main_check = script [] ((procedure 1 [] (body [] [])) ∷ []) [] [] 0
 
 empty_main_check : (required script_empty_main_check 10000 (shaped 4096 4096) ≡ 144) × (rises script_empty_main_check 10000 (shaped 4096
     4096) ≡ (rise 1 144) ∷ []) × (length (runs_of Single script_empty_main_check 10000 (shaped 4096 4096) 0).trace ≡ 1) × (least_bad_or_cut
@@ -72,10 +68,9 @@ unfolding everything
 empty_main_check = (refl, refl, refl, refl)
 
 abbrev script_failure_that_outruns_the_budget_check : Script
-script_failure_that_outruns_the_budget_check = record { classes = []; procedures = (record { line = 1; parameters = []; body = record {
-    locals = (OfPointer None) ∷ []; statements = (on 3 (Statement-F.Alloc (Held (H.Local 0)) (Constant (pos 16)) GivesNull)) ∷ (on 4
-    (Statement-F.If (IsNull (Held (H.Local 0))) ((on 5 (Statement-F.Repeat (Constant (pos 20000)) [])) ∷ []))) ∷ (on 8 (Statement-F.Free
-    (Held (H.Local 0)))) ∷ [] } }) ∷ []; operations = []; literals = []; main = 0 }
+script_failure_that_outruns_the_budget_check = script [] ((procedure 1 [] (body ((OfPointer None) ∷ []) ((on 3 (Statement-F.Alloc (Held
+    (H.Local 0)) (Constant (pos 16)) GivesNull)) ∷ (on 4 (Statement-F.If (IsNull (Held (H.Local 0))) ((on 5 (Statement-F.Repeat (Constant
+    (pos 20000)) [])) ∷ []))) ∷ (on 8 (Statement-F.Free (Held (H.Local 0)))) ∷ []))) ∷ []) [] [] 0
 
 failure_that_outruns_the_budget_check : (required script_failure_that_outruns_the_budget_check 10000 (shaped 4096 4096) ≡ 176) × (rises
     script_failure_that_outruns_the_budget_check 10000 (shaped 4096 4096) ≡ (rise 1 144) ∷ (rise 2 176) ∷ []) × (least_bad_or_cut Single
@@ -85,10 +80,9 @@ unfolding everything
 failure_that_outruns_the_budget_check = (refl, refl, refl, refl)
 
 abbrev script_failure_that_outruns_the_budget_sweep : Script
-script_failure_that_outruns_the_budget_sweep = record { classes = []; procedures = (record { line = 1; parameters = []; body = record {
-    locals = (OfPointer None) ∷ []; statements = (on 3 (Statement-F.Alloc (Held (H.Local 0)) (Constant (pos 16)) GivesNull)) ∷ (on 4
-    (Statement-F.If (IsNull (Held (H.Local 0))) ((on 5 (Statement-F.Repeat (Constant (pos 20000)) [])) ∷ []))) ∷ (on 8 (Statement-F.Free
-    (Held (H.Local 0)))) ∷ [] } }) ∷ []; operations = []; literals = []; main = 0 }
+script_failure_that_outruns_the_budget_sweep = script [] ((procedure 1 [] (body ((OfPointer None) ∷ []) ((on 3 (Statement-F.Alloc (Held
+    (H.Local 0)) (Constant (pos 16)) GivesNull)) ∷ (on 4 (Statement-F.If (IsNull (Held (H.Local 0))) ((on 5 (Statement-F.Repeat (Constant
+    (pos 20000)) [])) ∷ []))) ∷ (on 8 (Statement-F.Free (Held (H.Local 0)))) ∷ []))) ∷ []) [] [] 0
 
 failure_that_outruns_the_budget_sweep : (least_bad_or_cut Single script_failure_that_outruns_the_budget_sweep 10000 (shaped 4096 4096) ≡
     Some 2) × ((runs_of Single script_failure_that_outruns_the_budget_sweep 10000 (shaped 4096 4096) 2).outcome ≡ Cut Budget)
@@ -96,11 +90,10 @@ unfolding everything
 failure_that_outruns_the_budget_sweep = (refl, refl)
 
 abbrev script_first_fit_reuses_hole_check : Script
-script_first_fit_reuses_hole_check = record { classes = []; procedures = (record { line = 1; parameters = []; body = record { locals =
-    (OfPointer None) ∷ (OfPointer None) ∷ (OfPointer None) ∷ []; statements = (on 5 (Statement-F.Alloc (Held (H.Local 0)) (Constant (pos
-    10)) GivesNull)) ∷ (on 6 (Statement-F.Alloc (Held (H.Local 1)) (Constant (pos 100)) GivesNull)) ∷ (on 7 (Statement-F.Free (Held (H.Local
-    0)))) ∷ (on 8 (Statement-F.Alloc (Held (H.Local 2)) (Constant (pos 16)) GivesNull)) ∷ (on 9 (Statement-F.Free (Held (H.Local 1)))) ∷ (on
-    10 (Statement-F.Free (Held (H.Local 2)))) ∷ [] } }) ∷ []; operations = []; literals = []; main = 0 }
+script_first_fit_reuses_hole_check = script [] ((procedure 1 [] (body ((OfPointer None) ∷ (OfPointer None) ∷ (OfPointer None) ∷ []) ((on 5
+    (Statement-F.Alloc (Held (H.Local 0)) (Constant (pos 10)) GivesNull)) ∷ (on 6 (Statement-F.Alloc (Held (H.Local 1)) (Constant (pos 100))
+    GivesNull)) ∷ (on 7 (Statement-F.Free (Held (H.Local 0)))) ∷ (on 8 (Statement-F.Alloc (Held (H.Local 2)) (Constant (pos 16)) GivesNull))
+    ∷ (on 9 (Statement-F.Free (Held (H.Local 1)))) ∷ (on 10 (Statement-F.Free (Held (H.Local 2)))) ∷ []))) ∷ []) [] [] 0
 
 first_fit_reuses_hole_check : (required script_first_fit_reuses_hole_check 10000 (shaped 4096 4096) ≡ 304) × (rises
     script_first_fit_reuses_hole_check 10000 (shaped 4096 4096) ≡ (rise 1 144) ∷ (rise 2 176) ∷ (rise 3 304) ∷ []) × (length (runs_of Single
@@ -110,29 +103,27 @@ unfolding everything
 first_fit_reuses_hole_check = (refl, refl, refl, refl)
 
 abbrev script_item_that_was_freed_by_hand_check : Script
-script_item_that_was_freed_by_hand_check = record { classes = []; procedures = (record { line = 1; parameters = []; body = record { locals =
-    (OfPointer None) ∷ (OfPointer None) ∷ []; statements = (on 4 (Statement-F.Alloc (Held (H.Local 0)) (Constant (pos 16)) Leaves)) ∷ (on 5
-    (Statement-F.Push (Held (H.Local 0)))) ∷ (on 6 (Statement-F.Free (Held (H.Local 0)))) ∷ (on 7 (Statement-F.Alloc (Held (H.Local 1))
-    (Constant (pos 16)) Leaves)) ∷ (on 8 (Statement-F.Pop (Constant (pos 1)))) ∷ (on 9 (Statement-F.Free (Held (H.Local 1)))) ∷ [] } }) ∷
-    []; operations = []; literals = []; main = 0 }
+script_item_that_was_freed_by_hand_check = script [] ((procedure 1 [] (body ((OfPointer None) ∷ (OfPointer None) ∷ []) ((on 4
+    (Statement-F.Alloc (Held (H.Local 0)) (Constant (pos 16)) Leaves)) ∷ (on 5 (Statement-F.Push (Held (H.Local 0)))) ∷ (on 6
+    (Statement-F.Free (Held (H.Local 0)))) ∷ (on 7 (Statement-F.Alloc (Held (H.Local 1)) (Constant (pos 16)) Leaves)) ∷ (on 8
+    (Statement-F.Pop (Constant (pos 1)))) ∷ (on 9 (Statement-F.Free (Held (H.Local 1)))) ∷ []))) ∷ []) [] [] 0
 
 item_that_was_freed_by_hand_check : (required script_item_that_was_freed_by_hand_check 10000 (shaped 4096 4096) ≡ 176) × (rises
     script_item_that_was_freed_by_hand_check 10000 (shaped 4096 4096) ≡ (rise 1 144) ∷ (rise 2 176) ∷ []) × (length (runs_of Single
     script_item_that_was_freed_by_hand_check 10000 (shaped 4096 4096) 0).trace ≡ 3) × (least_bad_or_cut Single
     script_item_that_was_freed_by_hand_check 10000 (shaped 4096 4096) ≡ Some 3) × (runs_of Single script_item_that_was_freed_by_hand_check
-    10000 (shaped 4096 4096) 3 ≡ record { outcome = Panicked (P.User 42); trace = (line 1 144 0 Granted) ∷ (line 2 32 144 Granted) ∷ (line 3
-    32 144 Simulated) ∷ []; lines = []; notes = []; steps = 5 })
+    10000 (shaped 4096 4096) 3 ≡ result (Panicked (P.User 42)) ((line 1 144 0 Granted) ∷ (line 2 32 144 Granted) ∷ (line 3 32 144 Simulated)
+    ∷ []) [] [] 5)
 unfolding everything
 item_that_was_freed_by_hand_check = (refl, refl, refl, refl, refl)
 
 abbrev script_leak_that_needs_two_failures_sweep : Script
-script_leak_that_needs_two_failures_sweep = record { classes = []; procedures = (record { line = 1; parameters = []; body = record { locals
-    = (OfPointer None) ∷ (OfPointer None) ∷ (OfPointer None) ∷ []; statements = (on 5 (Statement-F.Alloc (Held (H.Local 0)) (Constant (pos
-    16)) GivesNull)) ∷ (on 6 (Statement-F.Alloc (Held (H.Local 1)) (Constant (pos 16)) GivesNull)) ∷ (on 7 (Statement-F.Alloc (Held (H.Local
-    2)) (Constant (pos 16)) GivesNull)) ∷ (on 8 (Statement-F.If (IsNull (Held (H.Local 0))) ((on 9 (Statement-F.If (IsNull (Held (H.Local
-    2))) ((on 10 (Statement-F.Leave (Constant (negsuc 3)))) ∷ []))) ∷ []))) ∷ (on 13 (Statement-F.Free (Held (H.Local 0)))) ∷ (on 14
-    (Statement-F.Free (Held (H.Local 1)))) ∷ (on 15 (Statement-F.Free (Held (H.Local 2)))) ∷ [] } }) ∷ []; operations = []; literals = [];
-    main = 0 }
+script_leak_that_needs_two_failures_sweep = script [] ((procedure 1 [] (body ((OfPointer None) ∷ (OfPointer None) ∷ (OfPointer None) ∷ [])
+    ((on 5 (Statement-F.Alloc (Held (H.Local 0)) (Constant (pos 16)) GivesNull)) ∷ (on 6 (Statement-F.Alloc (Held (H.Local 1)) (Constant
+    (pos 16)) GivesNull)) ∷ (on 7 (Statement-F.Alloc (Held (H.Local 2)) (Constant (pos 16)) GivesNull)) ∷ (on 8 (Statement-F.If (IsNull
+    (Held (H.Local 0))) ((on 9 (Statement-F.If (IsNull (Held (H.Local 2))) ((on 10 (Statement-F.Leave (Constant (negsuc 3)))) ∷ []))) ∷
+    []))) ∷ (on 13 (Statement-F.Free (Held (H.Local 0)))) ∷ (on 14 (Statement-F.Free (Held (H.Local 1)))) ∷ (on 15 (Statement-F.Free (Held
+    (H.Local 2)))) ∷ []))) ∷ []) [] [] 0
 
 leak_that_needs_two_failures_sweep : (length (runs_of Single script_leak_that_needs_two_failures_sweep 10000 (shaped 4096 4096) 0).trace ≡
     4) × (least_bad_or_cut Single script_leak_that_needs_two_failures_sweep 10000 (shaped 4096 4096) ≡ None)
@@ -140,28 +131,25 @@ unfolding everything
 leak_that_needs_two_failures_sweep = (refl, refl)
 
 abbrev script_leak_without_any_failure_sweep : Script
-script_leak_without_any_failure_sweep = record { classes = []; procedures = (record { line = 1; parameters = []; body = record { locals =
-    (OfPointer None) ∷ []; statements = (on 3 (Statement-F.Alloc (Held (H.Local 0)) (Constant (pos 16)) GivesNull)) ∷ [] } }) ∷ [];
-    operations = []; literals = []; main = 0 }
+script_leak_without_any_failure_sweep = script [] ((procedure 1 [] (body ((OfPointer None) ∷ []) ((on 3 (Statement-F.Alloc (Held (H.Local
+    0)) (Constant (pos 16)) GivesNull)) ∷ []))) ∷ []) [] [] 0
 
 leak_without_any_failure_sweep : (length (runs_of Single script_leak_without_any_failure_sweep 10000 (shaped 4096 4096) 0).trace ≡ 2) ×
     (least_bad_or_cut Single script_leak_without_any_failure_sweep 10000 (shaped 4096 4096) ≡ Some 0) × (runs_of Single
-    script_leak_without_any_failure_sweep 10000 (shaped 4096 4096) 0 ≡ record { outcome = Ended None ((record { number = 2; length = 32;
-    place = 144 }) ∷ []); trace = (line 1 144 0 Granted) ∷ (line 2 32 144 Granted) ∷ []; lines = []; notes = []; steps = 1 })
+    script_leak_without_any_failure_sweep 10000 (shaped 4096 4096) 0 ≡ result (Ended None ((leak 2 32 144) ∷ [])) ((line 1 144 0 Granted) ∷
+    (line 2 32 144 Granted) ∷ []) [] [] 1)
 unfolding everything
 leak_without_any_failure_sweep = (refl, refl, refl)
 
 abbrev script_leave_destroys_the_items_of_all_callees_sweep : Script
-script_leave_destroys_the_items_of_all_callees_sweep = record { classes = []; procedures = (record { line = 1; parameters = []; body =
-    record { locals = (OfPointer None) ∷ []; statements = (on 3 (Statement-F.Alloc (Held (H.Local 0)) (Constant (pos 16)) Leaves)) ∷ (on 4
-    (Statement-F.Push (Held (H.Local 0)))) ∷ (on 5 (Statement-F.Leave (Constant (negsuc 6)))) ∷ [] } }) ∷ (record { line = 7; parameters =
-    []; body = record { locals = (OfPointer None) ∷ []; statements = (on 9 (Statement-F.Alloc (Held (H.Local 0)) (Constant (pos 32))
+script_leave_destroys_the_items_of_all_callees_sweep = script [] ((procedure 1 [] (body ((OfPointer None) ∷ []) ((on 3 (Statement-F.Alloc
+    (Held (H.Local 0)) (Constant (pos 16)) Leaves)) ∷ (on 4 (Statement-F.Push (Held (H.Local 0)))) ∷ (on 5 (Statement-F.Leave (Constant
+    (negsuc 6)))) ∷ []))) ∷ (procedure 7 [] (body ((OfPointer None) ∷ []) ((on 9 (Statement-F.Alloc (Held (H.Local 0)) (Constant (pos 32))
     Leaves)) ∷ (on 10 (Statement-F.Push (Held (H.Local 0)))) ∷ (on 11 (Statement-F.Call 0 [])) ∷ (on 12 (Statement-F.PopDestroy (Constant
-    (pos 1)))) ∷ [] } }) ∷ (record { line = 14; parameters = []; body = record { locals = (OfPointer None) ∷ []; statements = (on 16
-    (Statement-F.Alloc (Held (H.Local 0)) (Constant (pos 48)) Leaves)) ∷ (on 17 (Statement-F.Push (Held (H.Local 0)))) ∷ (on 18
-    (Statement-F.Call 1 [])) ∷ (on 19 (Statement-F.PopDestroy (Constant (pos 1)))) ∷ [] } }) ∷ (record { line = 21; parameters = []; body =
-    record { locals = OfNumber ∷ []; statements = (on 23 (Statement-F.Trap 0 ((on 24 (Statement-F.Call 2 [])) ∷ []))) ∷ (on 26
-    (Statement-F.PrintNumber (Variable 0))) ∷ [] } }) ∷ []; operations = []; literals = []; main = 3 }
+    (pos 1)))) ∷ []))) ∷ (procedure 14 [] (body ((OfPointer None) ∷ []) ((on 16 (Statement-F.Alloc (Held (H.Local 0)) (Constant (pos 48))
+    Leaves)) ∷ (on 17 (Statement-F.Push (Held (H.Local 0)))) ∷ (on 18 (Statement-F.Call 1 [])) ∷ (on 19 (Statement-F.PopDestroy (Constant
+    (pos 1)))) ∷ []))) ∷ (procedure 21 [] (body (OfNumber ∷ []) ((on 23 (Statement-F.Trap 0 ((on 24 (Statement-F.Call 2 [])) ∷ []))) ∷ (on
+    26 (Statement-F.PrintNumber (Variable 0))) ∷ []))) ∷ []) [] [] 3
 
 leave_destroys_the_items_of_all_callees_sweep : (length (runs_of Single script_leave_destroys_the_items_of_all_callees_sweep 10000 (shaped
     4096 4096) 0).trace ≡ 4) × (least_bad_or_cut Single script_leave_destroys_the_items_of_all_callees_sweep 10000 (shaped 4096 4096) ≡
@@ -170,10 +158,9 @@ unfolding everything
 leave_destroys_the_items_of_all_callees_sweep = (refl, refl)
 
 abbrev script_marks_never_count_the_cleanup_cell_check : Script
-script_marks_never_count_the_cleanup_cell_check = record { classes = []; procedures = (record { line = 1; parameters = []; body = record {
-    locals = (OfPointer None) ∷ []; statements = (on 3 Statement-F.Mark) ∷ (on 4 (Statement-F.Repeat (Constant (pos 8)) ((on 5
-    (Statement-F.Push (Held (H.Local 0)))) ∷ []))) ∷ (on 7 (Statement-F.Pop (Constant (pos 8)))) ∷ (on 8 (Statement-F.MarkEnd (Constant (pos
-    0)))) ∷ [] } }) ∷ []; operations = []; literals = []; main = 0 }
+script_marks_never_count_the_cleanup_cell_check = script [] ((procedure 1 [] (body ((OfPointer None) ∷ []) ((on 3 Statement-F.Mark) ∷ (on 4
+    (Statement-F.Repeat (Constant (pos 8)) ((on 5 (Statement-F.Push (Held (H.Local 0)))) ∷ []))) ∷ (on 7 (Statement-F.Pop (Constant (pos
+    8)))) ∷ (on 8 (Statement-F.MarkEnd (Constant (pos 0)))) ∷ []))) ∷ []) [] [] 0
 
 marks_never_count_the_cleanup_cell_check : (required script_marks_never_count_the_cleanup_cell_check 10000 (shaped 4096 4096) ≡ 208) ×
     (rises script_marks_never_count_the_cleanup_cell_check 10000 (shaped 4096 4096) ≡ (rise 1 144) ∷ (rise 2 208) ∷ []) × (length (runs_of
@@ -183,13 +170,12 @@ unfolding everything
 marks_never_count_the_cleanup_cell_check = (refl, refl, refl, refl)
 
 abbrev script_next_push_asks_for_the_growth_again_check : Script
-script_next_push_asks_for_the_growth_again_check = record { classes = []; procedures = (record { line = 1; parameters = []; body = record {
-    locals = (OfPointer None) ∷ (OfPointer None) ∷ OfNumber ∷ []; statements = (on 5 (Statement-F.Repeat (Constant (pos 7)) ((on 6
-    (Statement-F.Push (Held (H.Local 1)))) ∷ []))) ∷ (on 8 (Statement-F.Alloc (Held (H.Local 0)) (Constant (pos 16)) GivesNull)) ∷ (on 9
-    (Statement-F.FailNext (Constant (pos 1)))) ∷ (on 10 (Statement-F.Trap 2 ((on 11 (Statement-F.Push (Held (H.Local 0)))) ∷ []))) ∷ (on 13
-    (Statement-F.PrintNumber (Variable 2))) ∷ (on 14 (Statement-F.Alloc (Held (H.Local 0)) (Constant (pos 16)) GivesNull)) ∷ (on 15
-    (Statement-F.Push (Held (H.Local 0)))) ∷ (on 16 (Statement-F.PopDestroy (Constant (pos 1)))) ∷ (on 17 (Statement-F.Pop (Constant (pos
-    7)))) ∷ [] } }) ∷ []; operations = []; literals = []; main = 0 }
+script_next_push_asks_for_the_growth_again_check = script [] ((procedure 1 [] (body ((OfPointer None) ∷ (OfPointer None) ∷ OfNumber ∷ [])
+    ((on 5 (Statement-F.Repeat (Constant (pos 7)) ((on 6 (Statement-F.Push (Held (H.Local 1)))) ∷ []))) ∷ (on 8 (Statement-F.Alloc (Held
+    (H.Local 0)) (Constant (pos 16)) GivesNull)) ∷ (on 9 (Statement-F.FailNext (Constant (pos 1)))) ∷ (on 10 (Statement-F.Trap 2 ((on 11
+    (Statement-F.Push (Held (H.Local 0)))) ∷ []))) ∷ (on 13 (Statement-F.PrintNumber (Variable 2))) ∷ (on 14 (Statement-F.Alloc (Held
+    (H.Local 0)) (Constant (pos 16)) GivesNull)) ∷ (on 15 (Statement-F.Push (Held (H.Local 0)))) ∷ (on 16 (Statement-F.PopDestroy (Constant
+    (pos 1)))) ∷ (on 17 (Statement-F.Pop (Constant (pos 7)))) ∷ []))) ∷ []) [] [] 0
 
 next_push_asks_for_the_growth_again_check : (required script_next_push_asks_for_the_growth_again_check 10000 (shaped 4096 4096) ≡ 384) ×
     (rises script_next_push_asks_for_the_growth_again_check 10000 (shaped 4096 4096) ≡ (rise 1 144) ∷ (rise 2 176) ∷ (rise 5 384) ∷ []) ×
@@ -199,39 +185,36 @@ unfolding everything
 next_push_asks_for_the_growth_again_check = (refl, refl, refl, refl)
 
 abbrev script_panic_without_any_failure_sweep : Script
-script_panic_without_any_failure_sweep = record { classes = []; procedures = (record { line = 1; parameters = []; body = record { locals =
-    (OfPointer None) ∷ (OfPointer None) ∷ []; statements = (on 4 (Statement-F.Alloc (Held (H.Local 0)) (Constant (pos 16)) GivesNull)) ∷ (on
-    5 (Statement-F.Free (Held (H.Local 0)))) ∷ (on 6 (Statement-F.Alloc (Held (H.Local 1)) (Constant (pos 16)) GivesNull)) ∷ (on 7
-    (Statement-F.Free (Held (H.Local 0)))) ∷ [] } }) ∷ []; operations = []; literals = []; main = 0 }
+script_panic_without_any_failure_sweep = script [] ((procedure 1 [] (body ((OfPointer None) ∷ (OfPointer None) ∷ []) ((on 4
+    (Statement-F.Alloc (Held (H.Local 0)) (Constant (pos 16)) GivesNull)) ∷ (on 5 (Statement-F.Free (Held (H.Local 0)))) ∷ (on 6
+    (Statement-F.Alloc (Held (H.Local 1)) (Constant (pos 16)) GivesNull)) ∷ (on 7 (Statement-F.Free (Held (H.Local 0)))) ∷ []))) ∷ []) [] []
+    0
 
 panic_without_any_failure_sweep : (length (runs_of Single script_panic_without_any_failure_sweep 10000 (shaped 4096 4096) 0).trace ≡ 3) ×
     (least_bad_or_cut Single script_panic_without_any_failure_sweep 10000 (shaped 4096 4096) ≡ Some 0) × (runs_of Single
-    script_panic_without_any_failure_sweep 10000 (shaped 4096 4096) 0 ≡ record { outcome = Panicked (P.User 42); trace = (line 1 144 0
-    Granted) ∷ (line 2 32 144 Granted) ∷ (line 3 32 144 Granted) ∷ []; lines = []; notes = []; steps = 4 })
+    script_panic_without_any_failure_sweep 10000 (shaped 4096 4096) 0 ≡ result (Panicked (P.User 42)) ((line 1 144 0 Granted) ∷ (line 2 32
+    144 Granted) ∷ (line 3 32 144 Granted) ∷ []) [] [] 4)
 unfolding everything
 panic_without_any_failure_sweep = (refl, refl, refl)
 
 abbrev script_popped_item_of_a_refused_request_sweep : Script
-script_popped_item_of_a_refused_request_sweep = record { classes = []; procedures = (record { line = 1; parameters = []; body = record {
-    locals = (OfPointer None) ∷ (OfPointer None) ∷ []; statements = (on 4 (Statement-F.Alloc (Held (H.Local 0)) (Constant (pos 16)) Leaves))
-    ∷ (on 5 (Statement-F.Push (Held (H.Local 0)))) ∷ (on 6 (Statement-F.Pop (Constant (pos 1)))) ∷ (on 7 (Statement-F.Alloc (Held (H.Local
-    1)) (Constant (pos 16)) Leaves)) ∷ (on 8 (Statement-F.Free (Held (H.Local 1)))) ∷ (on 9 (Statement-F.Free (Held (H.Local 0)))) ∷ [] } })
-    ∷ []; operations = []; literals = []; main = 0 }
+script_popped_item_of_a_refused_request_sweep = script [] ((procedure 1 [] (body ((OfPointer None) ∷ (OfPointer None) ∷ []) ((on 4
+    (Statement-F.Alloc (Held (H.Local 0)) (Constant (pos 16)) Leaves)) ∷ (on 5 (Statement-F.Push (Held (H.Local 0)))) ∷ (on 6
+    (Statement-F.Pop (Constant (pos 1)))) ∷ (on 7 (Statement-F.Alloc (Held (H.Local 1)) (Constant (pos 16)) Leaves)) ∷ (on 8
+    (Statement-F.Free (Held (H.Local 1)))) ∷ (on 9 (Statement-F.Free (Held (H.Local 0)))) ∷ []))) ∷ []) [] [] 0
 
 popped_item_of_a_refused_request_sweep : (length (runs_of Single script_popped_item_of_a_refused_request_sweep 10000 (shaped 4096 4096)
     0).trace ≡ 3) × (least_bad_or_cut Single script_popped_item_of_a_refused_request_sweep 10000 (shaped 4096 4096) ≡ Some 3) × (runs_of
-    Single script_popped_item_of_a_refused_request_sweep 10000 (shaped 4096 4096) 3 ≡ record { outcome = Ended (Some (negsuc 3)) ((record {
-    number = 2; length = 32; place = 144 }) ∷ []); trace = (line 1 144 0 Granted) ∷ (line 2 32 144 Granted) ∷ (line 3 32 176 Simulated) ∷
-    []; lines = []; notes = []; steps = 4 })
+    Single script_popped_item_of_a_refused_request_sweep 10000 (shaped 4096 4096) 3 ≡ result (Ended (Some (negsuc 3)) ((leak 2 32 144) ∷
+    [])) ((line 1 144 0 Granted) ∷ (line 2 32 144 Granted) ∷ (line 3 32 176 Simulated) ∷ []) [] [] 4)
 unfolding everything
 popped_item_of_a_refused_request_sweep = (refl, refl, refl)
 
 abbrev script_procedure_returns_a_pushed_cell_check : Script
-script_procedure_returns_a_pushed_cell_check = record { classes = []; procedures = (record { line = 1; parameters = Par.OfNumber ∷ []; body
-    = record { locals = (OfPointer None) ∷ []; statements = (on 3 (Statement-F.Alloc (Held (H.Local 1)) (Variable 0) Leaves)) ∷ (on 4
-    (Statement-F.Push (Held (H.Local 1)))) ∷ (on 5 (Statement-F.ReturnPointer (Held (H.Local 1)))) ∷ [] } }) ∷ (record { line = 7;
-    parameters = []; body = record { locals = (OfPointer None) ∷ []; statements = (on 9 (Statement-F.CallTo 0 0 ((Given (Constant (pos 40)))
-    ∷ []))) ∷ (on 10 (Statement-F.PopDestroy (Constant (pos 1)))) ∷ [] } }) ∷ []; operations = []; literals = []; main = 1 }
+script_procedure_returns_a_pushed_cell_check = script [] ((procedure 1 (Par.OfNumber ∷ []) (body ((OfPointer None) ∷ []) ((on 3
+    (Statement-F.Alloc (Held (H.Local 1)) (Variable 0) Leaves)) ∷ (on 4 (Statement-F.Push (Held (H.Local 1)))) ∷ (on 5
+    (Statement-F.ReturnPointer (Held (H.Local 1)))) ∷ []))) ∷ (procedure 7 [] (body ((OfPointer None) ∷ []) ((on 9 (Statement-F.CallTo 0 0
+    ((Given (Constant (pos 40))) ∷ []))) ∷ (on 10 (Statement-F.PopDestroy (Constant (pos 1)))) ∷ []))) ∷ []) [] [] 1
 
 procedure_returns_a_pushed_cell_check : (required script_procedure_returns_a_pushed_cell_check 10000 (shaped 4096 4096) ≡ 208) × (rises
     script_procedure_returns_a_pushed_cell_check 10000 (shaped 4096 4096) ≡ (rise 1 144) ∷ (rise 2 208) ∷ []) × (length (runs_of Single
@@ -241,29 +224,26 @@ unfolding everything
 procedure_returns_a_pushed_cell_check = (refl, refl, refl, refl)
 
 abbrev script_push_that_the_script_refuses_destroys_its_own_item_sweep : Script
-script_push_that_the_script_refuses_destroys_its_own_item_sweep = record { classes = []; procedures = (record { line = 1; parameters = [];
-    body = record { locals = (OfPointer None) ∷ (OfPointer None) ∷ OfNumber ∷ []; statements = (on 5 (Statement-F.Alloc (Held (H.Local 0))
-    (Constant (pos 16)) GivesNull)) ∷ (on 6 (Statement-F.FailNext (Constant (pos 1)))) ∷ (on 7 (Statement-F.Trap 2 ((on 8
-    (Statement-F.Repeat (Constant (pos 7)) ((on 9 (Statement-F.Push (Held (H.Local 1)))) ∷ []))) ∷ (on 11 (Statement-F.Push (Held (H.Local
-    0)))) ∷ []))) ∷ (on 13 (Statement-F.PrintNumber (Variable 2))) ∷ (on 14 (Statement-F.Free (Held (H.Local 0)))) ∷ [] } }) ∷ [];
-    operations = []; literals = []; main = 0 }
+script_push_that_the_script_refuses_destroys_its_own_item_sweep = script [] ((procedure 1 [] (body ((OfPointer None) ∷ (OfPointer None) ∷
+    OfNumber ∷ []) ((on 5 (Statement-F.Alloc (Held (H.Local 0)) (Constant (pos 16)) GivesNull)) ∷ (on 6 (Statement-F.FailNext (Constant (pos
+    1)))) ∷ (on 7 (Statement-F.Trap 2 ((on 8 (Statement-F.Repeat (Constant (pos 7)) ((on 9 (Statement-F.Push (Held (H.Local 1)))) ∷ []))) ∷
+    (on 11 (Statement-F.Push (Held (H.Local 0)))) ∷ []))) ∷ (on 13 (Statement-F.PrintNumber (Variable 2))) ∷ (on 14 (Statement-F.Free (Held
+    (H.Local 0)))) ∷ []))) ∷ []) [] [] 0
 
 push_that_the_script_refuses_destroys_its_own_item_sweep : (length (runs_of Single
     script_push_that_the_script_refuses_destroys_its_own_item_sweep 10000 (shaped 4096 4096) 0).trace ≡ 3) × (least_bad_or_cut Single
     script_push_that_the_script_refuses_destroys_its_own_item_sweep 10000 (shaped 4096 4096) ≡ Some 0) × (runs_of Single
-    script_push_that_the_script_refuses_destroys_its_own_item_sweep 10000 (shaped 4096 4096) 0 ≡ record { outcome = Panicked (P.User 42);
-    trace = (line 1 144 0 Granted) ∷ (line 2 32 144 Granted) ∷ (line 3 208 176 Simulated) ∷ []; lines = (45 ∷ 52 ∷ []) ∷ []; notes = [];
-    steps = 29 })
+    script_push_that_the_script_refuses_destroys_its_own_item_sweep 10000 (shaped 4096 4096) 0 ≡ result (Panicked (P.User 42)) ((line 1 144
+    0 Granted) ∷ (line 2 32 144 Granted) ∷ (line 3 208 176 Simulated) ∷ []) ((45 ∷ 52 ∷ []) ∷ []) [] 29)
 unfolding everything
 push_that_the_script_refuses_destroys_its_own_item_sweep = (refl, refl, refl)
 
 abbrev script_pushed_object_survives_every_failure_sweep : Script
-script_pushed_object_survives_every_failure_sweep = record { classes = (record { line = 1; extra = 16; fields = None ∷ []; construct = Some
-    (record { locals = []; statements = (on 4 (Statement-F.NewText (Field H.This 0 0) (Constant (pos 4)) Leaves)) ∷ [] }); destroy = Some
-    (record { locals = []; statements = (on 7 (Statement-F.Free (Field H.This 0 0))) ∷ [] }) }) ∷ []; procedures = (record { line = 10;
-    parameters = []; body = record { locals = (OfPointer (Some 0)) ∷ []; statements = (on 12 (Statement-F.New (Held (H.Local 0)) 0 Leaves))
-    ∷ (on 13 (Statement-F.PushObject (Held (H.Local 0)))) ∷ (on 14 (Statement-F.Construct (Held (H.Local 0)))) ∷ (on 15 (Statement-F.Pop
-    (Constant (pos 1)))) ∷ (on 16 (Statement-F.Delete (Held (H.Local 0)))) ∷ [] } }) ∷ []; operations = []; literals = []; main = 0 }
+script_pushed_object_survives_every_failure_sweep = script ((class_of 1 16 (None ∷ []) (Some (body [] ((on 4 (Statement-F.NewText (Field
+    H.This 0 0) (Constant (pos 4)) Leaves)) ∷ []))) (Some (body [] ((on 7 (Statement-F.Free (Field H.This 0 0))) ∷ [])))) ∷ []) ((procedure
+    10 [] (body ((OfPointer (Some 0)) ∷ []) ((on 12 (Statement-F.New (Held (H.Local 0)) 0 Leaves)) ∷ (on 13 (Statement-F.PushObject (Held
+    (H.Local 0)))) ∷ (on 14 (Statement-F.Construct (Held (H.Local 0)))) ∷ (on 15 (Statement-F.Pop (Constant (pos 1)))) ∷ (on 16
+    (Statement-F.Delete (Held (H.Local 0)))) ∷ []))) ∷ []) [] [] 0
 
 pushed_object_survives_every_failure_sweep : (length (runs_of Single script_pushed_object_survives_every_failure_sweep 10000 (shaped 4096
     4096) 0).trace ≡ 3) × (least_bad_or_cut Single script_pushed_object_survives_every_failure_sweep 10000 (shaped 4096 4096) ≡ None)
@@ -271,12 +251,11 @@ unfolding everything
 pushed_object_survives_every_failure_sweep = (refl, refl)
 
 abbrev script_retry_that_fails_again_sweep : Script
-script_retry_that_fails_again_sweep = record { classes = []; procedures = (record { line = 1; parameters = []; body = record { locals =
-    (OfPointer None) ∷ (OfPointer None) ∷ []; statements = (on 4 (Statement-F.Alloc (Held (H.Local 1)) (Constant (pos 16)) GivesNull)) ∷ (on
-    5 (Statement-F.Alloc (Held (H.Local 0)) (Constant (pos 16)) GivesNull)) ∷ (on 6 (Statement-F.If (IsNull (Held (H.Local 0))) ((on 7
-    (Statement-F.Alloc (Held (H.Local 0)) (Constant (pos 16)) GivesNull)) ∷ (on 8 (Statement-F.If (IsNull (Held (H.Local 0))) ((on 9
-    (Statement-F.Leave (Constant (negsuc 3)))) ∷ []))) ∷ []))) ∷ (on 12 (Statement-F.Free (Held (H.Local 0)))) ∷ (on 13 (Statement-F.Free
-    (Held (H.Local 1)))) ∷ [] } }) ∷ []; operations = []; literals = []; main = 0 }
+script_retry_that_fails_again_sweep = script [] ((procedure 1 [] (body ((OfPointer None) ∷ (OfPointer None) ∷ []) ((on 4 (Statement-F.Alloc
+    (Held (H.Local 1)) (Constant (pos 16)) GivesNull)) ∷ (on 5 (Statement-F.Alloc (Held (H.Local 0)) (Constant (pos 16)) GivesNull)) ∷ (on 6
+    (Statement-F.If (IsNull (Held (H.Local 0))) ((on 7 (Statement-F.Alloc (Held (H.Local 0)) (Constant (pos 16)) GivesNull)) ∷ (on 8
+    (Statement-F.If (IsNull (Held (H.Local 0))) ((on 9 (Statement-F.Leave (Constant (negsuc 3)))) ∷ []))) ∷ []))) ∷ (on 12 (Statement-F.Free
+    (Held (H.Local 0)))) ∷ (on 13 (Statement-F.Free (Held (H.Local 1)))) ∷ []))) ∷ []) [] [] 0
 
 retry_that_fails_again_sweep : (length (runs_of Single script_retry_that_fails_again_sweep 10000 (shaped 4096 4096) 0).trace ≡ 3) ×
     (least_bad_or_cut Single script_retry_that_fails_again_sweep 10000 (shaped 4096 4096) ≡ None)
@@ -284,30 +263,28 @@ unfolding everything
 retry_that_fails_again_sweep = (refl, refl)
 
 abbrev script_stack_that_moves_check : Script
-script_stack_that_moves_check = record { classes = []; procedures = (record { line = 1; parameters = []; body = record { locals = (OfPointer
-    None) ∷ (OfPointer None) ∷ (OfPointer None) ∷ []; statements = (on 5 (Statement-F.Alloc (Held (H.Local 0)) (Constant (pos 16))
-    GivesNull)) ∷ (on 6 (Statement-F.Repeat (Constant (pos 8)) ((on 7 (Statement-F.Push (Held (H.Local 2)))) ∷ []))) ∷ (on 9
-    Statement-F.NoteHeap) ∷ (on 10 Statement-F.NoteAvailable) ∷ (on 11 (Statement-F.Alloc (Held (H.Local 1)) (Constant (pos 112))
-    GivesNull)) ∷ (on 12 (Statement-F.Repeat (Constant (pos 4)) ((on 13 (Statement-F.Push (Held (H.Local 2)))) ∷ []))) ∷ (on 15
-    Statement-F.NoteHeap) ∷ (on 16 Statement-F.NoteAvailable) ∷ (on 17 (Statement-F.Pop (Constant (pos 12)))) ∷ (on 18 (Statement-F.Free
-    (Held (H.Local 0)))) ∷ (on 19 (Statement-F.Free (Held (H.Local 1)))) ∷ [] } }) ∷ []; operations = []; literals = []; main = 0 }
+script_stack_that_moves_check = script [] ((procedure 1 [] (body ((OfPointer None) ∷ (OfPointer None) ∷ (OfPointer None) ∷ []) ((on 5
+    (Statement-F.Alloc (Held (H.Local 0)) (Constant (pos 16)) GivesNull)) ∷ (on 6 (Statement-F.Repeat (Constant (pos 8)) ((on 7
+    (Statement-F.Push (Held (H.Local 2)))) ∷ []))) ∷ (on 9 Statement-F.NoteHeap) ∷ (on 10 Statement-F.NoteAvailable) ∷ (on 11
+    (Statement-F.Alloc (Held (H.Local 1)) (Constant (pos 112)) GivesNull)) ∷ (on 12 (Statement-F.Repeat (Constant (pos 4)) ((on 13
+    (Statement-F.Push (Held (H.Local 2)))) ∷ []))) ∷ (on 15 Statement-F.NoteHeap) ∷ (on 16 Statement-F.NoteAvailable) ∷ (on 17
+    (Statement-F.Pop (Constant (pos 12)))) ∷ (on 18 (Statement-F.Free (Held (H.Local 0)))) ∷ (on 19 (Statement-F.Free (Held (H.Local 1)))) ∷
+    []))) ∷ []) [] [] 0
 
 stack_that_moves_check : (required script_stack_that_moves_check 10000 (shaped 4096 4096) ≡ 448) × (rises script_stack_that_moves_check
     10000 (shaped 4096 4096) ≡ (rise 1 144) ∷ (rise 2 176) ∷ (rise 3 384) ∷ (rise 5 448) ∷ []) × (length (runs_of Single
     script_stack_that_moves_check 10000 (shaped 4096 4096) 0).trace ≡ 5) × (least_bad_or_cut Single script_stack_that_moves_check 10000
-    (shaped 4096 4096) ≡ Some 3) × (runs_of Single script_stack_that_moves_check 10000 (shaped 4096 4096) 3 ≡ record { outcome = Ended (Some
-    (negsuc 3)) ((record { number = 2; length = 32; place = 144 }) ∷ []); trace = (line 1 144 0 Granted) ∷ (line 2 32 144 Granted) ∷ (line 3
-    208 176 Simulated) ∷ []; lines = []; notes = []; steps = 26 })
+    (shaped 4096 4096) ≡ Some 3) × (runs_of Single script_stack_that_moves_check 10000 (shaped 4096 4096) 3 ≡ result (Ended (Some (negsuc
+    3)) ((leak 2 32 144) ∷ [])) ((line 1 144 0 Granted) ∷ (line 2 32 144 Granted) ∷ (line 3 208 176 Simulated) ∷ []) [] [] 26)
 unfolding everything
 stack_that_moves_check = (refl, refl, refl, refl, refl)
 
 abbrev script_top_cell_grows_in_place_check : Script
-script_top_cell_grows_in_place_check = record { classes = []; procedures = (record { line = 1; parameters = []; body = record { locals =
-    (OfPointer None) ∷ (OfPointer None) ∷ (OfPointer None) ∷ []; statements = (on 5 (Statement-F.Alloc (Held (H.Local 0)) (Constant (pos
-    48)) GivesNull)) ∷ (on 6 (Statement-F.Alloc (Held (H.Local 1)) (Constant (pos 16)) GivesNull)) ∷ (on 7 (Statement-F.Free (Held (H.Local
-    0)))) ∷ (on 8 (Statement-F.Realloc (Held (H.Local 2)) (Held (H.Local 1)) (Constant (pos 48)) GivesNull)) ∷ (on 9 (Statement-F.IfElse
-    (IsNull (Held (H.Local 2))) ((on 10 (Statement-F.Free (Held (H.Local 1)))) ∷ []) ((on 12 (Statement-F.Free (Held (H.Local 2)))) ∷ [])))
-    ∷ [] } }) ∷ []; operations = []; literals = []; main = 0 }
+script_top_cell_grows_in_place_check = script [] ((procedure 1 [] (body ((OfPointer None) ∷ (OfPointer None) ∷ (OfPointer None) ∷ []) ((on 5
+    (Statement-F.Alloc (Held (H.Local 0)) (Constant (pos 48)) GivesNull)) ∷ (on 6 (Statement-F.Alloc (Held (H.Local 1)) (Constant (pos 16))
+    GivesNull)) ∷ (on 7 (Statement-F.Free (Held (H.Local 0)))) ∷ (on 8 (Statement-F.Realloc (Held (H.Local 2)) (Held (H.Local 1)) (Constant
+    (pos 48)) GivesNull)) ∷ (on 9 (Statement-F.IfElse (IsNull (Held (H.Local 2))) ((on 10 (Statement-F.Free (Held (H.Local 1)))) ∷ []) ((on
+    12 (Statement-F.Free (Held (H.Local 2)))) ∷ []))) ∷ []))) ∷ []) [] [] 0
 
 top_cell_grows_in_place_check : (required script_top_cell_grows_in_place_check 10000 (shaped 4096 4096) ≡ 272) × (rises
     script_top_cell_grows_in_place_check 10000 (shaped 4096 4096) ≡ (rise 1 144) ∷ (rise 2 208) ∷ (rise 3 240) ∷ (rise 4 272) ∷ []) ×
@@ -317,35 +294,30 @@ unfolding everything
 top_cell_grows_in_place_check = (refl, refl, refl, refl)
 
 abbrev script_unpushed_object_leaks_when_construction_fails_check : Script
-script_unpushed_object_leaks_when_construction_fails_check = record { classes = (record { line = 1; extra = 16; fields = None ∷ [];
-    construct = Some (record { locals = []; statements = (on 4 (Statement-F.NewText (Field H.This 0 0) (Constant (pos 4)) Leaves)) ∷ [] });
-    destroy = Some (record { locals = []; statements = (on 7 (Statement-F.Free (Field H.This 0 0))) ∷ [] }) }) ∷ []; procedures = (record {
-    line = 10; parameters = []; body = record { locals = (OfPointer (Some 0)) ∷ []; statements = (on 12 (Statement-F.New (Held (H.Local 0))
-    0 Leaves)) ∷ (on 13 (Statement-F.Construct (Held (H.Local 0)))) ∷ (on 14 (Statement-F.Delete (Held (H.Local 0)))) ∷ [] } }) ∷ [];
-    operations = []; literals = []; main = 0 }
+script_unpushed_object_leaks_when_construction_fails_check = script ((class_of 1 16 (None ∷ []) (Some (body [] ((on 4 (Statement-F.NewText
+    (Field H.This 0 0) (Constant (pos 4)) Leaves)) ∷ []))) (Some (body [] ((on 7 (Statement-F.Free (Field H.This 0 0))) ∷ [])))) ∷ [])
+    ((procedure 10 [] (body ((OfPointer (Some 0)) ∷ []) ((on 12 (Statement-F.New (Held (H.Local 0)) 0 Leaves)) ∷ (on 13
+    (Statement-F.Construct (Held (H.Local 0)))) ∷ (on 14 (Statement-F.Delete (Held (H.Local 0)))) ∷ []))) ∷ []) [] [] 0
 
 unpushed_object_leaks_when_construction_fails_check : (required script_unpushed_object_leaks_when_construction_fails_check 10000 (shaped
     4096 4096) ≡ 224) × (rises script_unpushed_object_leaks_when_construction_fails_check 10000 (shaped 4096 4096) ≡ (rise 1 144) ∷ (rise 2
     192) ∷ (rise 3 224) ∷ []) × (length (runs_of Single script_unpushed_object_leaks_when_construction_fails_check 10000 (shaped 4096 4096)
     0).trace ≡ 3) × (least_bad_or_cut Single script_unpushed_object_leaks_when_construction_fails_check 10000 (shaped 4096 4096) ≡ Some 3) ×
-    (runs_of Single script_unpushed_object_leaks_when_construction_fails_check 10000 (shaped 4096 4096) 3 ≡ record { outcome = Ended (Some
-    (negsuc 3)) ((record { number = 2; length = 48; place = 144 }) ∷ []); trace = (line 1 144 0 Granted) ∷ (line 2 48 144 Granted) ∷ (line 3
-    32 192 Simulated) ∷ []; lines = []; notes = []; steps = 3 })
+    (runs_of Single script_unpushed_object_leaks_when_construction_fails_check 10000 (shaped 4096 4096) 3 ≡ result (Ended (Some (negsuc 3))
+    ((leak 2 48 144) ∷ [])) ((line 1 144 0 Granted) ∷ (line 2 48 144 Granted) ∷ (line 3 32 192 Simulated) ∷ []) [] [] 3)
 unfolding everything
 unpushed_object_leaks_when_construction_fails_check = (refl, refl, refl, refl, refl)
 
 abbrev script_unpushed_object_leaks_when_construction_fails_sweep : Script
-script_unpushed_object_leaks_when_construction_fails_sweep = record { classes = (record { line = 1; extra = 16; fields = None ∷ [];
-    construct = Some (record { locals = []; statements = (on 4 (Statement-F.NewText (Field H.This 0 0) (Constant (pos 4)) Leaves)) ∷ [] });
-    destroy = Some (record { locals = []; statements = (on 7 (Statement-F.Free (Field H.This 0 0))) ∷ [] }) }) ∷ []; procedures = (record {
-    line = 10; parameters = []; body = record { locals = (OfPointer (Some 0)) ∷ []; statements = (on 12 (Statement-F.New (Held (H.Local 0))
-    0 Leaves)) ∷ (on 13 (Statement-F.Construct (Held (H.Local 0)))) ∷ (on 14 (Statement-F.Delete (Held (H.Local 0)))) ∷ [] } }) ∷ [];
-    operations = []; literals = []; main = 0 }
+script_unpushed_object_leaks_when_construction_fails_sweep = script ((class_of 1 16 (None ∷ []) (Some (body [] ((on 4 (Statement-F.NewText
+    (Field H.This 0 0) (Constant (pos 4)) Leaves)) ∷ []))) (Some (body [] ((on 7 (Statement-F.Free (Field H.This 0 0))) ∷ [])))) ∷ [])
+    ((procedure 10 [] (body ((OfPointer (Some 0)) ∷ []) ((on 12 (Statement-F.New (Held (H.Local 0)) 0 Leaves)) ∷ (on 13
+    (Statement-F.Construct (Held (H.Local 0)))) ∷ (on 14 (Statement-F.Delete (Held (H.Local 0)))) ∷ []))) ∷ []) [] [] 0
 
 unpushed_object_leaks_when_construction_fails_sweep : (length (runs_of Single script_unpushed_object_leaks_when_construction_fails_sweep
     10000 (shaped 4096 4096) 0).trace ≡ 3) × (least_bad_or_cut Single script_unpushed_object_leaks_when_construction_fails_sweep 10000
     (shaped 4096 4096) ≡ Some 3) × (runs_of Single script_unpushed_object_leaks_when_construction_fails_sweep 10000 (shaped 4096 4096) 3 ≡
-    record { outcome = Ended (Some (negsuc 3)) ((record { number = 2; length = 48; place = 144 }) ∷ []); trace = (line 1 144 0 Granted) ∷
-    (line 2 48 144 Granted) ∷ (line 3 32 192 Simulated) ∷ []; lines = []; notes = []; steps = 3 })
+    result (Ended (Some (negsuc 3)) ((leak 2 48 144) ∷ [])) ((line 1 144 0 Granted) ∷ (line 2 48 144 Granted) ∷ (line 3 32 192 Simulated) ∷
+    []) [] [] 3)
 unfolding everything
 unpushed_object_leaks_when_construction_fails_sweep = (refl, refl, refl)
