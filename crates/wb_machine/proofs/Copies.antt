@@ -1,5 +1,5 @@
 -- A machine with another list of the same pieces keeps what it did.
-use Rattle.std.proofs.Common.{◌≡◌, ◌⊎◌, true, false, ◌&&◌, List, sym, subst}
+use Rattle.std.proofs.Common.{◌≡◌, true, false, ◌&&◌, List, sym, subst}
 use Rattle.wb_model.specs.declared.heap.Rule.{Rule}
 use Rattle.wb_model.specs.Debug.{keeps_rises}
 use Rattle.wb_model.specs.Rest.{Fits}
@@ -8,9 +8,8 @@ use Rattle.wb_machine.specs.declared.control.Control.{Control}
 use Rattle.wb_machine.specs.declared.machine.Machine.TheInside.{Inside}
 use Rattle.wb_machine.specs.declared.pieces.Ending.{Ending}
 use Rattle.wb_machine.specs.declared.pieces.Piece.{Piece}
-use Rattle.wb_machine.specs.Flow.{is_stop, is_over, AreSound, IsReady, IsFirst, rest_at}
-use Rattle.wb_machine.specs.Owed.{HasStack}
-use Rattle.wb_machine.specs.SlotInvariant.{HasRoom}
+use Rattle.wb_machine.specs.BetweenTurns.{IsBetweenTurns}
+use Rattle.wb_machine.specs.Flow.{is_stop, is_over, rest_at}
 use Rattle.wb_machine.specs.Told.{leaks_at_end}
 use Rattle.wb_machine.specs.Whole.{IsMachine}
 
@@ -25,15 +24,7 @@ module _ (m : Inside) (x : Control) (items : x.pieces.items ≡ m.control.pieces
         record {
           script = s.script;
           small = s.small;
-          within = s.within;
-          counted = s.counted;
-          level = s.level;
-          first = moved (λ e ps. m.begun ≡ false → IsFirst e ps m.state) s.first;
-          settled = moved (λ e ps. m.begun ≡ true → (is_over e ps ≡ true) ⊎ IsReady e ps) s.settled;
-          stack = moved (λ e ps. m.begun ≡ true → is_stop e ≡ false → HasStack m.state) s.stack;
-          pieces = moved (λ e ps. AreSound m.script.now ps) s.pieces;
-          room = moved (λ e ps. m.begun ≡ true → HasRoom e ps m.state) s.room;
-          whole = s.whole;
+          between = moved (λ e ps. IsBetweenTurns m.script.now m.budget m.begun e ps m.state) s.between;
           no_line = λ begun. subst (λ n. n ≡ 0) (sym line) (s.no_line begun);
           leaks = moved (λ e ps. (m.begun && is_over e ps) ≡ true → is_stop e ≡ false → m.leaks ≡ leaks_at_end m.state) s.leaks;
         };

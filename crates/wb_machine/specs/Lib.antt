@@ -1,4 +1,5 @@
 pub mod Asks
+pub mod BetweenTurns
 pub mod Bodies
 pub mod BufferEdits
 pub mod Carried
@@ -21,4 +22,5 @@ pub mod TextOperands
 pub mod TextInvariant
 pub mod TextStatements
 pub mod Told
+pub mod Turns
 pub mod Whole

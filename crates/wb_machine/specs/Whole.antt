@@ -1,5 +1,5 @@
 -- A whole machine: what callers see of it, and what it keeps.
-use Rattle.std.specs.Prelude.{◌≡◌, ◌⊎◌, ◌+◌, ◌≤◌, Bool, true, false, not, ◌&&◌}
+use Rattle.std.specs.Prelude.{◌≡◌, ◌≤◌, Bool, true, false, not, ◌&&◌}
 use Rattle.wb_model.specs.declared.limits.TheConstants.{LARGEST_BUDGET}
 use Rattle.wb_model.specs.declared.heap.Rule.{Rule}
 use Rattle.wb_model.specs.Sound.{is_script}
@@ -9,11 +9,9 @@ use Rattle.wb_model.specs.Rest.{Fits, Progress, next_line}
 use Rattle.wb_machine.specs.declared.machine.Machine.TheInside.{Inside}
 use Rattle.wb_machine.specs.RunState.{state_of}
 use Rattle.wb_machine.specs.Asks.{asks_next}
-use Rattle.wb_machine.specs.ObjectInvariant.{AreWhole}
-use Rattle.wb_machine.specs.Owed.{HasStack}
+use Rattle.wb_machine.specs.BetweenTurns.{IsBetweenTurns}
 use Rattle.wb_machine.specs.Seen.{Seen}
-use Rattle.wb_machine.specs.SlotInvariant.{HasRoom}
-use Rattle.wb_machine.specs.Flow.{is_stop, is_over, has_met_ceiling, AreSound, IsReady, IsFirst, pending_in, progress_of, rest_at}
+use Rattle.wb_machine.specs.Flow.{is_stop, is_over, has_met_ceiling, pending_in, progress_of, rest_at}
 use Rattle.wb_machine.specs.Told.{leaks_at_end}
 
 -- the run has ended
@@ -49,20 +47,7 @@ rest_in r m = rest_at m.script.now m.budget r m.begun m.control.ending m.control
 pub record IsSound (m : Inside) : Type 0 where
   pub script : is_script m.script.now ≡ true
   pub small : m.budget ≤ LARGEST_BUDGET
-  pub within : m.state.steps ≤ m.budget
-  pub counted : m.state.debug.attempts ≤ m.state.steps + 1
-  -- each mark took a step
-  pub level : m.state.debug.heap.level ≤ m.state.steps
-  pub first : m.begun ≡ false → IsFirst m.control.ending m.control.pieces.items m.state
-  -- a step is to come, or the run is over
-  pub settled : m.begun ≡ true → (is_over m.control.ending m.control.pieces.items ≡ true) ⊎ IsReady m.control.ending m.control.pieces.items
-  -- a run that isn't stopped has its cleanup stack
-  pub stack : m.begun ≡ true → is_stop m.control.ending ≡ false → HasStack m.state
-  pub pieces : AreSound m.script.now m.control.pieces.items
-  -- a slot of the stack is free, or items come off before anything is pushed
-  pub room : m.begun ≡ true → HasRoom m.control.ending m.control.pieces.items m.state
-  -- an object has a pointer for each field of its class
-  pub whole : AreWhole m.script.now m.state.debug.heap.row
+  pub between : IsBetweenTurns m.script.now m.budget m.begun m.control.ending m.control.pieces.items m.state
   -- no statement was begun yet
   pub no_line : m.begun ≡ false → m.control.line ≡ 0
   pub leaks : has_ended m ≡ true → is_stop m.control.ending ≡ false → m.leaks ≡ leaks_at_end m.state

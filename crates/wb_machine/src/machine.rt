@@ -1,18 +1,19 @@
 //! The machine that callers see, and a whole run. What a turn does stands in `control`, and what a run leaves in `finished`.
 
-ghost use Rattle.std.specs.Prelude.{◌≡◌, ◌+◌, ◌≤◌, ◌↔◌, true, false, length, min, is_err, IsTrue, IfOk, IsOk, OnOk, OnErr};
+ghost use Rattle.std.specs.Prelude.{◌≡◌, ◌+◌, ◌≤◌, ◌↔◌, true, false, length, is_err, IsTrue};
+ghost use Rattle.std.specs.Prelude.{IfOk, IsOk, OnOk, OnErr};
 ghost use Rattle.wb_model.specs.Sound.{is_script};
 ghost use Rattle.wb_model.specs.Rest.{SameSoFar};
 ghost use Rattle.wb_model.specs.Space.{is_shape};
 ghost use Rattle.wb_model.specs.Debug.{keeps_rises};
 ghost use Rattle.wb_model.specs.Run.{rises_told, run};
 ghost use Rattle.wb_model.specs.declared.heap.Rule.TheVariants.{Unlimited};
-ghost use Rattle.wb_machine.specs.declared.machine.Turn.TheVariants.{GoesOn, Ended};
 ghost use Rattle.wb_machine.specs.declared.fault.RunFault.TheVariants.{BadShape};
 ghost use Rattle.wb_machine.specs.Flow.{is_stop};
 ghost use Rattle.wb_machine.specs.RunState.{first_state};
-ghost use Rattle.wb_machine.specs.Seen.{line_after, seen_at_start};
+ghost use Rattle.wb_machine.specs.Seen.{seen_at_start};
 ghost use Rattle.wb_machine.specs.Told.{leaks_at_end};
+ghost use Rattle.wb_machine.specs.Turns.{IsSameRun, TurnLeaves};
 
 use crate::control::Control;
 use crate::fault::RunFault;
@@ -115,26 +116,12 @@ impl<'a> Machine<'a> {
     /// answers `NoMemory` for good. The turn after which a run has ended plainly lists the leaks; no other asks
     /// for memory for them.
     pub fn step(&mut self) -> Result<Turn, NoMemory>
-        ensures script { self.new.script ≡ self.old.script }
-        ensures rule { self.new.rule ≡ self.old.rule }
-        ensures budget { self.new.budget ≡ self.old.budget }
-        ensures kept { self.new.keeps_rises ≡ self.old.keeps_rises }
-        ensures shape { self.new.shape ≡ self.old.shape }
-        ensures begun { OnOk result (self.new.begun ≡ true) }
-        ensures first { OnOk result (self.old.begun ≡ false → self.new.steps ≡ 0) }
-        ensures one { OnOk result (self.old.begun ≡ false → self.new.attempts ≡ 1) }
-        ensures later { OnOk result (self.old.begun ≡ true → self.old.over ≡ false → self.new.steps ≡ min (self.old.steps + 1) self.old.budget) }
-        ensures counted { IfOk result (λ turn. self.old.begun ≡ true → turn ≡ Turn.GoesOn → self.new.steps ≡ self.old.steps + 1) }
-        ensures within { OnOk result (self.new.steps ≤ self.new.budget) }
-        ensures ceiling { OnOk result (self.new.met_ceiling ≡ true → self.new.over ≡ true) }
-        ensures ended { IfOk result (λ turn. (turn ≡ Turn.Ended) ↔ (self.new.over ≡ true)) }
-        ensures over { self.old.failed ≡ false → self.old.over ≡ true → (result ≡ Ok Turn.Ended) × (self.new ≡ self.old) }
-        ensures line { OnOk result (self.new.line ≡ line_after self.old) }
+        ensures same { IsSameRun self.old self.new }
+        ensures turned { IfOk result (λ turn. TurnLeaves turn self.old self.new) }
+        ensures over { self.old.failed ≡ false → self.old.over ≡ true →
+            (result ≡ Ok Turn.Ended) × (self.new ≡ self.old) }
         ensures fewer { self.old.attempts ≤ self.new.attempts }
         ensures more { self.new.attempts ≤ self.old.attempts + 1 }
-        ensures unasked { OnOk result (self.old.asks ≡ false → self.new.attempts ≡ self.old.attempts) }
-        ensures asked { OnOk result (self.old.asks ≡ true → self.new.met_ceiling ≡ false → self.new.attempts ≡ self.old.attempts + 1) }
-        ensures well { OnOk result (self.new.failed ≡ false) }
         ensures failed { OnErr result (self.new.failed ≡ true) }
         ensures for_good { self.old.failed ≡ true → (is_err result ≡ true) × (self.new ≡ self.old) }
     {
@@ -230,11 +217,7 @@ impl<'a> Machine<'a> {
         requires begun { self.old.begun ≡ true }
         requires going { self.old.over ≡ false }
         requires well { self.old.failed ≡ false }
-        ensures script { self.new.script ≡ self.old.script }
-        ensures rule { self.new.rule ≡ self.old.rule }
-        ensures budget { self.new.budget ≡ self.old.budget }
-        ensures shape { self.new.shape ≡ self.old.shape }
-        ensures kept { self.new.keeps_rises ≡ self.old.keeps_rises }
+        ensures same { IsSameRun self.old self.new }
         ensures over { OnOk result (self.new.over ≡ true) }
         ensures well { OnOk result (self.new.failed ≡ false) }
     {
@@ -248,11 +231,7 @@ impl<'a> Machine<'a> {
 
     /// Takes all turns that are left, unless memory has run out.
     pub(crate) fn take_all_turns(&mut self) -> Result<(), NoMemory>
-        ensures script { self.new.script ≡ self.old.script }
-        ensures rule { self.new.rule ≡ self.old.rule }
-        ensures budget { self.new.budget ≡ self.old.budget }
-        ensures shape { self.new.shape ≡ self.old.shape }
-        ensures kept { self.new.keeps_rises ≡ self.old.keeps_rises }
+        ensures same { IsSameRun self.old self.new }
         ensures over { OnOk result (self.new.over ≡ true) }
         ensures well { OnOk result (self.new.failed ≡ false) }
     {

@@ -1,19 +1,19 @@
 //! The turns of a run: one, and all that are left.
 
-ghost use Rattle.std.specs.Prelude.{◌≡◌, ◌+◌, ◌<◌, ◌≤◌, ◌⊎◌, ◌&&◌, ℕ, true, false, if◌then◌else◌, nat_lt, unwrap_or, min, IsTrue, OnOk};
+ghost use Rattle.std.specs.Prelude.{◌≡◌, ◌+◌, ◌<◌, ◌≤◌, ◌&&◌, ℕ, true, false, if◌then◌else◌};
+ghost use Rattle.std.specs.Prelude.{nat_lt, unwrap_or, min, IsTrue, OnOk};
 ghost use Rattle.wb_model.specs.Sound.{is_script};
 ghost use Rattle.wb_model.specs.Rest.{first_line, Fits};
-ghost use Rattle.wb_model.specs.Debug.{keeps_rises};
 ghost use Rattle.wb_model.specs.declared.heap.Rule.{Rule};
 ghost use Rattle.wb_model.specs.declared.run.Why.TheVariants.{Budget};
 ghost use Rattle.wb_model.specs.declared.script.Script.{Script};
 ghost use Rattle.wb_machine.specs.declared.pieces.Ending.TheVariants.{Cut};
+ghost use Rattle.wb_machine.specs.BetweenTurns.{IsBetweenTurns, KeepsSetting};
 ghost use Rattle.wb_machine.specs.RunState.{RunState, state_of};
-ghost use Rattle.wb_machine.specs.Flow.{pending_in, is_stop, is_over, has_met_ceiling, progress_of, AreSound, IsReady, IsFirst, rest_from, rest_at};
+ghost use Rattle.wb_machine.specs.Flow.{pending_in, is_over, has_met_ceiling, progress_of};
+ghost use Rattle.wb_machine.specs.Flow.{IsReady, rest_from, rest_at};
 ghost use Rattle.wb_machine.specs.Asks.{asks_next, MakesAsked};
-ghost use Rattle.wb_machine.specs.ObjectInvariant.{AreWhole};
-ghost use Rattle.wb_machine.specs.Owed.{HasStack, Stays};
-ghost use Rattle.wb_machine.specs.SlotInvariant.{HasRoom};
+ghost use Rattle.wb_machine.specs.Owed.{Stays};
 
 use crate::control::Control;
 use crate::pieces::Ending;
@@ -48,30 +48,18 @@ impl<'a> Control<'a> {
         state: &mut State,
     ) -> Result<(), NoMemory>
         requires script { IsTrue (is_script script.now) }
-        requires first { begun ≡ false → IsFirst self.old.ending self.old.pieces.items state.old }
-        requires later { begun ≡ true → IsReady self.old.ending self.old.pieces.items }
-        requires stack { begun ≡ true → HasStack state.old }
-        requires room { begun ≡ true → HasRoom self.old.ending self.old.pieces.items state.old }
-        requires sound { AreSound script.now self.old.pieces.items }
         requires small { budget ≤ LARGEST_BUDGET }
-        requires within { state.old.steps ≤ budget }
-        requires counted { state.old.debug.attempts ≤ state.old.steps + 1 }
-        requires level { state.old.debug.heap.level ≤ state.old.steps }
-        requires whole { AreWhole script.now state.old.debug.heap.row }
+        requires later { begun ≡ true → IsReady self.old.ending self.old.pieces.items }
+        requires between { IsBetweenTurns script.now budget begun self.old.ending
+            self.old.pieces.items state.old }
         ensures kept { OnOk result ((r : Rule) → Fits r state.old.debug.rule (is_over self.new.ending self.new.pieces.items) state.new.debug.attempts →
             rest_from script.now budget r self.new.ending self.new.pieces.items state.new
             ≡ rest_at script.now budget r begun self.old.ending self.old.pieces.items state.old) }
-        ensures settled { OnOk result ((is_over self.new.ending self.new.pieces.items ≡ true) ⊎ IsReady self.new.ending self.new.pieces.items) }
-        ensures room { OnOk result (HasRoom self.new.ending self.new.pieces.items state.new) }
-        ensures stack { OnOk result (is_stop self.new.ending ≡ false → HasStack state.new) }
-        ensures sound { OnOk result (AreSound script.now self.new.pieces.items) }
+        ensures between { OnOk result (IsBetweenTurns script.now budget true self.new.ending
+            self.new.pieces.items state.new) }
         ensures stays { Stays state.old state.new }
-        ensures within { OnOk result (state.new.steps ≤ budget) }
-        ensures counted { OnOk result (state.new.debug.attempts ≤ state.new.steps + 1) }
-        ensures level { OnOk result (state.new.debug.heap.level ≤ state.new.steps) }
-        ensures whole { OnOk result (AreWhole script.now state.new.debug.heap.row) }
-        ensures first { OnOk result (begun ≡ false → state.new.steps ≡ 0) }
-        ensures one { OnOk result (begun ≡ false → state.new.debug.attempts ≡ 1) }
+        ensures first { OnOk result (begun ≡ false →
+            (state.new.steps ≡ 0) × (state.new.debug.attempts ≡ 1)) }
         ensures asked { OnOk result (MakesAsked
             (asks_next script.now budget (progress_of begun self.old.ending (pending_in state.old.callers self.old.pieces.items) (state_of script.now state.old)))
             (has_met_ceiling self.new.ending) state.old.debug.attempts state.new.debug.attempts) }
@@ -98,30 +86,16 @@ impl<'a> Control<'a> {
         state: &mut State,
     ) -> Result<(), NoMemory>
         requires script { IsTrue (is_script script.now) }
-        requires settled { (is_over self.old.ending self.old.pieces.items ≡ true) ⊎ IsReady self.old.ending self.old.pieces.items }
-        requires stack { is_stop self.old.ending ≡ false → HasStack state.old }
-        requires room { HasRoom self.old.ending self.old.pieces.items state.old }
-        requires sound { AreSound script.now self.old.pieces.items }
         requires small { budget ≤ LARGEST_BUDGET }
-        requires within { state.old.steps ≤ budget }
-        requires counted { state.old.debug.attempts ≤ state.old.steps + 1 }
-        requires level { state.old.debug.heap.level ≤ state.old.steps }
-        requires whole { AreWhole script.now state.old.debug.heap.row }
+        requires between { IsBetweenTurns script.now budget true self.old.ending
+            self.old.pieces.items state.old }
         ensures kept { OnOk result ((r : Rule) → Fits r state.old.debug.rule true state.new.debug.attempts →
             rest_from script.now budget r self.new.ending self.new.pieces.items state.new
             ≡ rest_from script.now budget r self.old.ending self.old.pieces.items state.old) }
         ensures over { OnOk result (is_over self.new.ending self.new.pieces.items ≡ true) }
-        ensures room { OnOk result (HasRoom self.new.ending self.new.pieces.items state.new) }
-        ensures stack { OnOk result (is_stop self.new.ending ≡ false → HasStack state.new) }
-        ensures sound { OnOk result (AreSound script.now self.new.pieces.items) }
-        ensures rule { state.new.debug.rule ≡ state.old.debug.rule }
-        ensures shape { state.new.debug.shape ≡ state.old.debug.shape }
-        ensures keeps_rises { keeps_rises state.new.debug ≡ keeps_rises state.old.debug }
-        ensures fewer { state.old.debug.attempts ≤ state.new.debug.attempts }
-        ensures within { OnOk result (state.new.steps ≤ budget) }
-        ensures counted { OnOk result (state.new.debug.attempts ≤ state.new.steps + 1) }
-        ensures level { OnOk result (state.new.debug.heap.level ≤ state.new.steps) }
-        ensures whole { OnOk result (AreWhole script.now state.new.debug.heap.row) }
+        ensures between { OnOk result (IsBetweenTurns script.now budget true self.new.ending
+            self.new.pieces.items state.new) }
+        ensures setting { KeepsSetting state.old state.new }
     {
         while !self.is_over() {
             self.turn(script, budget, true, state)?;

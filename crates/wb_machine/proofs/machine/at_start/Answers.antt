@@ -17,15 +17,17 @@ invariant_of-result c =
       sound = λ well. record {
         script = c.requires.script;
         small = c.requires.greatest;
-        within = omega (arith, ap (λ x. x.steps) start);
-        counted = omega (arith, ap (λ x. x.debug.attempts) start);
-        level = omega (arith, ap (λ x. x.debug.heap.level) start);
-        first = λ e. is_first;
-        settled = λ e. cc;
-        stack = λ e going. cc;
-        room = λ e. cc;
-        pieces = subst (AreSound script) (sym c.new.ensures.pieces) tt;
-        whole = subst (λ (x : RunState). AreWhole script x.debug.heap.row) (sym start) (All-nil _);
+        between = record {
+          within = omega (arith, ap (λ x. x.steps) start);
+          counted = omega (arith, ap (λ x. x.debug.attempts) start);
+          level = omega (arith, ap (λ x. x.debug.heap.level) start);
+          first = λ e. is_first;
+          settled = λ e. cc;
+          stack = λ e going. cc;
+          room = λ e. cc;
+          pieces_are = subst (AreSound script) (sym c.new.ensures.pieces) tt;
+          whole = subst (λ (x : RunState). AreWhole script x.debug.heap.row) (sym start) (All-nil _);
+        };
         no_line = λ e. c.new.ensures.line;
         leaks = λ e goes. cc;
       };

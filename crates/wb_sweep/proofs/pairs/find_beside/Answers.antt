@@ -48,15 +48,15 @@ loop-lead-preserved g c =
     let same : IsOfSameRun old lead = record { script = before.script; budget = before.budget; shape = before.shape } in
     let none = nothing c.in_ok-found.found (sym c.is_some.ensures ∙ c.if-is_some.false) in
     record {
-      script = after.script ∙ before.script;
-      rule = after.rule ∙ before.rule;
-      budget = after.budget ∙ before.budget;
-      shape = after.shape ∙ before.shape;
-      within = omega (arith, after.within, after.budget, before.budget);
-      first = λ e. let begun = after.begun in cc;
-      well = after.well;
-      lines = after.kept ∙ before.lines;
-      fine = pairs-further (pair_run old.script old.budget old.shape) lead c.step.new.self before.fine after.more after.unasked (λ asked.
+      script = after.same.script ∙ before.script;
+      rule = after.same.rule ∙ before.rule;
+      budget = after.same.budget ∙ before.budget;
+      shape = after.same.shape ∙ before.shape;
+      within = omega (arith, after.turned.within, after.same.budget, before.budget);
+      first = λ e. let begun = after.turned.begun in cc;
+      well = after.turned.well;
+      lines = after.same.keeps_rises ∙ before.lines;
+      fine = pairs-further (pair_run old.script old.budget old.shape) lead c.step.new.self before.fine after.more after.turned.made.unasked (λ asked.
           subst (λ n. ArePairsFineWith (pair_run old.script old.budget old.shape) (n + 1)) made
           (of-same old lead same (λ (s : Script) (b : ℕ) (h : Shape). ArePairsFineWith (pair_run s b h) first) (c.in_ok-found.ensures.fine none asked)));
     }

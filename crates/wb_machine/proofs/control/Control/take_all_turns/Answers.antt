@@ -21,21 +21,16 @@ loop-self-preserved c =
     record {
       kept = λ r f.
           let f' : Fits r c.loop-self.state.debug.rule (is_over now.ending now.pieces.items) c.turn.new.state.debug.attempts =
-          subst (λ own. Fits r own (is_over now.ending now.pieces.items) c.turn.new.state.debug.attempts) (sym kept.rule) f in
+          subst (λ own. Fits r own (is_over now.ending now.pieces.items) c.turn.new.state.debug.attempts) (sym kept.setting.rule) f in
           turn.kept r f'
           ∙ kept.kept r (fits-before r c.args.state.now.debug.rule (is_over was.ending was.pieces.items) _ c.loop-self.state.debug.attempts c.turn.new.state.debug.attempts (λ e. going) turn.stays.fewer f);
-      settled = turn.settled;
-      stack = turn.stack;
-      room = turn.room;
-      sound = turn.sound;
-      rule = turn.stays.rule ∙ kept.rule;
-      shape = turn.stays.shape ∙ kept.shape;
-      keeps_rises = turn.stays.kept ∙ kept.keeps_rises;
-      fewer = omega (arith, turn.stays.fewer, kept.fewer);
-      within = turn.within;
-      counted = turn.counted;
-      level = turn.level;
-      whole = turn.whole;
+      between = turn.between;
+      setting = record {
+        rule = turn.stays.rule ∙ kept.setting.rule;
+        shape = turn.stays.shape ∙ kept.setting.shape;
+        kept = turn.stays.kept ∙ kept.setting.kept;
+        fewer = omega (arith, turn.stays.fewer, kept.setting.fewer);
+      };
     }
 
 pub loop-self-smaller : goal.loop-self-smaller
@@ -45,4 +40,4 @@ loop-self-smaller c =
     let turn = c.in_ok-turn.ensures in
     let going : is_over was.ending was.pieces.items ≡ false = sym c.is_over.ensures ∙ c.loop-self-test.true in
     fewer (is_over was.ending was.pieces.items) (is_over now.ending now.pieces.items) c.args.budget c.loop-self.state.steps c.turn.new.state.steps going
-    (omega (arith, turn.later refl, c.loop-self.invariant.within)) turn.within (λ e. turn.steps refl e)
+    (omega (arith, turn.later refl, c.loop-self.invariant.between.within)) turn.between.within (λ e. turn.steps refl e)

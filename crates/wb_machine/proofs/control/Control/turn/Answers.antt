@@ -1,4 +1,4 @@
-use Rattle.std.proofs.Common.{◌≡◌, ℕ, ◌+◌, ◌<◌, ◌≤◌, inl, inr, refl, ap, ◌∙◌, sym, subst, arith, Bool, true, false}
+use Rattle.std.proofs.Common.{rules, ◌≡◌, ℕ, ◌+◌, ◌<◌, ◌≤◌, inl, inr, refl, ap, ◌∙◌, sym, subst, arith, Bool, true, false}
 use Rattle.wb_model.specs.declared.heap.Rule.{Rule}
 use Rattle.wb_model.specs.declared.script.Script.{Script}
 use Rattle.wb_model.specs.Rest.{Fits}
@@ -13,28 +13,9 @@ use Rattle.wb_machine.proofs.Begins.{rest_first}
 use Rattle.wb_machine.proofs.Counted.{made_as_asked}
 use Rattle.wb_machine.proofs.Fitting.{fits-limit, fits-before, going_on}
 use Rattle.wb_machine.proofs.control.Control.turn.Goals.{then-not-begun+in_ok-begin, else-not-begun+then-steps-budget+in_ok-step, else-not-begun+else-steps-budget}
+use Rattle.wb_machine.specs.SlotInvariant.{HasRoom}
 use Rattle.wb_machine.proofs.SlotsKept.{moved_room, stop_room}
 use Rattle.wb_machine.proofs.control.Control.turn.Goals as goal
-
-pub returns-clause-sound : goal.returns-clause-sound
-returns-clause-sound c =
-    let script = c.args.script.now in
-    let P : Control → Type 0 = λ x. AreSound script x.pieces.items in
-    c.in_ok-settle.ensures.sound script (elim c.if-not-begun.branch [
-      | then-not-begun+in_ok-begin w ↦ subst P (sym w.self-is) w.in_ok-begin.ensures.sound
-      | else-not-begun+then-steps-budget+in_ok-step w ↦ subst P (sym w.self-is) w.in_ok-step.ensures.sound
-      | else-not-begun+else-steps-budget w ↦ subst P (sym w.self-is) (subst (AreSound script) (sym w.cut.ensures.pieces) c.requires.sound)
-    ])
-
-pub returns-clause-whole : goal.returns-clause-whole
-returns-clause-whole c =
-    let script = c.args.script.now in
-    let P : RunState → Type 0 = λ x. AreWhole script x.debug.heap.row in
-    c.in_ok-settle.ensures.quiet.whole script (elim c.if-not-begun.branch [
-      | then-not-begun+in_ok-begin w ↦ subst P (sym w.state-is) w.in_ok-begin.ensures.whole
-      | else-not-begun+then-steps-budget+in_ok-step w ↦ subst P (sym w.state-is) (w.in_ok-step.ensures.whole c.requires.whole)
-      | else-not-begun+else-steps-budget w ↦ subst P (sym w.state-is) c.requires.whole
-    ])
 
 -- a fact of what one of the branches made
 moved_on : (script : Script) (budget : ℕ) (r own : Rule) (made mid : Control) (st g : RunState) (told : WholeRun) → mid ≡ made → g ≡ st →
@@ -70,7 +51,7 @@ returns-clause-kept c r f =
     let steps : g.steps ≤ budget = elim c.if-not-begun.branch [
       | then-not-begun+in_ok-begin w ↦ steps_are g w.begin.new.state budget w.state-is (omega (arith, w.in_ok-begin.ensures.steps))
       | else-not-begun+then-steps-budget+in_ok-step w ↦ steps_are g w.step.new.state budget w.state-is (omega (arith, w.in_ok-step.ensures.steps, w.if-steps-budget.true, w.steps.ensures))
-      | else-not-begun+else-steps-budget w ↦ steps_are g h budget w.state-is c.requires.within
+      | else-not-begun+else-steps-budget w ↦ steps_are g h budget w.state-is c.requires.between.within
     ] in
     let same : rest_from script budget r mid.ending mid.pieces.items g ≡ rest_at script budget r c.args.begun old.ending old.pieces.items h =
     elim c.if-not-begun.branch [
@@ -78,14 +59,14 @@ returns-clause-kept c r f =
           moved_on script budget r own w.begin.new.self mid w.begin.new.state g _ w.self-is w.state-is fits (λ f'.
           w.in_ok-begin.ensures.kept r budget f'
           ∙ sym (ap (λ b. rest_at script budget r b old.ending old.pieces.items h) w.if-not-begun.true
-          ∙ rest_first r script budget old.ending old.pieces.items h (c.requires.first w.if-not-begun.true).start (fits-limit r own _ _ f)))
+          ∙ rest_first r script budget old.ending old.pieces.items h (c.requires.between.first w.if-not-begun.true).start (fits-limit r own _ _ f)))
       | else-not-begun+then-steps-budget+in_ok-step w ↦
           moved_on script budget r own w.step.new.self mid w.step.new.state g _ w.self-is w.state-is fits (λ f'.
           w.in_ok-step.ensures.kept r budget (omega (arith, w.if-steps-budget.true, w.steps.ensures)) f'
           ∙ sym (ap (λ b. rest_at script budget r b old.ending old.pieces.items h) w.if-not-begun.false))
       | else-not-begun+else-steps-budget w ↦
           moved_on script budget r own w.cut.new.self mid h g _ w.self-is w.state-is fits (λ f'.
-          w.cut.ensures.kept script r budget h (omega (arith, w.if-steps-budget.false, w.steps.ensures, c.requires.within))
+          w.cut.ensures.kept script r budget h (omega (arith, w.if-steps-budget.false, w.steps.ensures, c.requires.between.within))
           ∙ sym (ap (λ b. rest_at script budget r b old.ending old.pieces.items h) w.if-not-begun.false))
     ] in
     c.in_ok-settle.ensures.kept script r budget steps ∙ same
@@ -112,7 +93,7 @@ returns-clause-asked c =
               quiet.attempts,
               ap (λ (x : RunState). x.debug.attempts) w.state-is,
               w.in_ok-begin.ensures.one,
-              ap (λ (x : RunState). x.debug.attempts) (c.requires.first w.if-not-begun.true).start,
+              ap (λ (x : RunState). x.debug.attempts) (c.requires.between.first w.if-not-begun.true).start,
             );
           })
       | else-not-begun+then-steps-budget+in_ok-step w ↦
@@ -124,10 +105,10 @@ returns-clause-asked c =
           let same = c.in_ok-settle.ensures.kept script own (h.steps + 1) steps
           ∙ moved_on script (h.steps + 1) own own w.step.new.self mid w.step.new.state g _ w.self-is w.state-is (inl refl) (λ f'. w.in_ok-step.ensures.kept own (h.steps + 1) (omega arith) f') in
           subst (λ b. MakesAsked (asks b) (has_met_ceiling next) h.debug.attempts after.debug.attempts) (sym w.if-not-begun.false)
-          (made_as_asked script budget own old.ending next old.pieces.items c.settle.new.self.pieces.items h after (c.requires.later w.if-not-begun.false) c.requires.sound c.in_ok-settle.ensures.settled
+          (made_as_asked script budget own old.ending next old.pieces.items c.settle.new.self.pieces.items h after (c.requires.later w.if-not-begun.false) c.requires.between.pieces_are c.in_ok-settle.ensures.settled
           less (omega (arith, quiet.steps, taken, w.in_ok-step.ensures.steps)) (omega (arith, quiet.attempts, made, stays.more)) same)
       | else-not-begun+else-steps-budget w ↦
-          let at : h.steps ≡ budget = omega (arith, w.if-steps-budget.false, w.steps.ensures, c.requires.within) in
+          let at : h.steps ≡ budget = omega (arith, w.if-steps-budget.false, w.steps.ensures, c.requires.between.within) in
           let none : asks true ≡ false = settled_cut script budget old.ending old.pieces.items h (inr (c.requires.later w.if-not-begun.false)) at in
           subst (λ b. MakesAsked (asks b) (has_met_ceiling next) h.debug.attempts after.debug.attempts) (sym w.if-not-begun.false) (record {
             unasked = λ silent. omega (arith, quiet.attempts, ap (λ (x : RunState). x.debug.attempts) w.state-is);
@@ -135,8 +116,29 @@ returns-clause-asked c =
           })
     ]
 
-pub returns-clause-room : goal.returns-clause-room
-returns-clause-room c =
+-- the pieces are sound, the cells whole and the stack has room, in each of the ways
+pieces_are : (c : goal.Returns) → AreSound c.args.script.now c.settle.new.self.pieces.items
+pieces_are c =
+    let script = c.args.script.now in
+    let P : Control → Type 0 = λ x. AreSound script x.pieces.items in
+    c.in_ok-settle.ensures.sound script (elim c.if-not-begun.branch [
+      | then-not-begun+in_ok-begin w ↦ subst P (sym w.self-is) w.in_ok-begin.ensures.sound
+      | else-not-begun+then-steps-budget+in_ok-step w ↦ subst P (sym w.self-is) w.in_ok-step.ensures.sound
+      | else-not-begun+else-steps-budget w ↦ subst P (sym w.self-is) (subst (AreSound script) (sym w.cut.ensures.pieces) c.requires.between.pieces_are)
+    ])
+
+whole : (c : goal.Returns) → AreWhole c.args.script.now c.settle.new.state.debug.heap.row
+whole c =
+    let script = c.args.script.now in
+    let P : RunState → Type 0 = λ x. AreWhole script x.debug.heap.row in
+    c.in_ok-settle.ensures.quiet.whole script (elim c.if-not-begun.branch [
+      | then-not-begun+in_ok-begin w ↦ subst P (sym w.state-is) w.in_ok-begin.ensures.whole
+      | else-not-begun+then-steps-budget+in_ok-step w ↦ subst P (sym w.state-is) (w.in_ok-step.ensures.whole c.requires.between.whole)
+      | else-not-begun+else-steps-budget w ↦ subst P (sym w.state-is) c.requires.between.whole
+    ])
+
+room : (c : goal.Returns) → HasRoom c.settle.new.self.ending c.settle.new.self.pieces.items c.settle.new.state
+room c =
     let mid = c.if-not-begun.self in
     let g = c.if-not-begun.state in
     c.in_ok-settle.ensures.room (elim c.if-not-begun.branch [
@@ -145,3 +147,16 @@ returns-clause-room c =
       | else-not-begun+else-steps-budget w ↦
           moved_room w.cut.new.self mid c.args.state.now g w.self-is w.state-is (stop_room w.cut.new.self.ending w.cut.new.self.pieces.items c.args.state.now (ap is_stop w.cut.ensures.ending))
     ])
+
+pub returns-clause-between : goal.returns-clause-between
+returns-clause-between c = record {
+  within = search rules;
+  counted = search rules;
+  level = search rules;
+  first = λ e. cc;
+  settled = λ e. c.in_ok-settle.ensures.settled;
+  stack = λ e. search rules;
+  pieces_are = pieces_are c;
+  room = λ e. room c;
+  whole = whole c;
+}

@@ -27,15 +27,7 @@ invariant_of-self-2 c =
       sound = λ well. record {
         script = old.script;
         small = old.small;
-        within = turn.within;
-        counted = turn.counted;
-        level = turn.level;
-        first = λ e. cc;
-        settled = λ e. turn.settled;
-        stack = λ e going. turn.stack going;
-        room = λ e. turn.room;
-        pieces = turn.sound;
-        whole = turn.whole;
+        between = turn.between;
         no_line = λ e. cc;
         leaks = λ e goes. c.in_ok-list_leaks.ensures.told (ap is_stop c.ending.ensures ∙ goes);
       };

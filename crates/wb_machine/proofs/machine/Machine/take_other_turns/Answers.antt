@@ -1,28 +1,21 @@
-use Rattle.std.proofs.Common.{◌≡◌, inl, ap, ◌∙◌, sym, subst, false, true}
+use Rattle.std.proofs.Common.{◌≡◌, ap, ◌∙◌, sym, subst, false, true}
 use Rattle.std.specs.Prelude.{◌&&◌}
 use Rattle.wb_model.specs.Debug.{keeps_rises}
 use Rattle.wb_model.specs.Rest.{Fits}
 use Rattle.wb_model.specs.Run.{whole_run}
+use Rattle.wb_machine.specs.BetweenTurns.{IsBetweenTurns}
 use Rattle.wb_machine.specs.Flow.{is_stop, is_over, rest_at}
 use Rattle.wb_machine.specs.Seen.{Seen}
 use Rattle.wb_machine.specs.Whole.{has_ended}
 use Rattle.wb_machine.proofs.Fitting.{fits-before}
 use Rattle.wb_machine.proofs.machine.Machine.take_other_turns.Goals as goal
 
-pub take_all_turns-requires-clause-settled : goal.take_all_turns-requires-clause-settled
-take_all_turns-requires-clause-settled c =
+pub take_all_turns-requires-clause-between : goal.take_all_turns-requires-clause-between
+take_all_turns-requires-clause-between c =
+    let m = c.self.inside in
     let begun = ap (λ (s : Seen). s.begun) c.self.view_is ∙ c.requires.begun in
-    (c.self.invariant.sound (ap (λ (s : Seen). s.failed) c.self.view_is ∙ c.requires.well)).settled begun
-
-pub take_all_turns-requires-clause-stack : goal.take_all_turns-requires-clause-stack
-take_all_turns-requires-clause-stack c =
-    let begun = ap (λ (s : Seen). s.begun) c.self.view_is ∙ c.requires.begun in
-    (c.self.invariant.sound (ap (λ (s : Seen). s.failed) c.self.view_is ∙ c.requires.well)).stack begun
-
-pub take_all_turns-requires-clause-room : goal.take_all_turns-requires-clause-room
-take_all_turns-requires-clause-room c =
-    let begun = ap (λ (s : Seen). s.begun) c.self.view_is ∙ c.requires.begun in
-    (c.self.invariant.sound (ap (λ (s : Seen). s.failed) c.self.view_is ∙ c.requires.well)).room begun
+    subst (λ b. IsBetweenTurns m.script.now m.budget b m.control.ending m.control.pieces.items m.state) begun
+    (c.self.invariant.sound (ap (λ (s : Seen). s.failed) c.self.view_is ∙ c.requires.well)).between
 
 pub invariant_of-self-2 : goal.invariant_of-self-2
 invariant_of-self-2 c =
@@ -38,26 +31,18 @@ invariant_of-self-2 c =
       sound = λ w. record {
         script = old.script;
         small = old.small;
-        within = turns.within;
-        counted = turns.counted;
-        level = turns.level;
-        first = λ e. cc;
-        settled = λ e. inl turns.over;
-        stack = λ e goes. turns.stack goes;
-        room = λ e. turns.room;
-        pieces = turns.sound;
-        whole = turns.whole;
+        between = subst (λ b. IsBetweenTurns m.script.now m.budget b control.ending control.pieces.items state) (sym begun) turns.between;
         no_line = λ e. cc;
         leaks = λ e goes. c.in_ok-list_leaks.ensures.told (ap is_stop c.ending.ensures ∙ goes);
       };
       keeps = λ w r f.
           let f' : Fits r m.state.debug.rule true state.debug.attempts =
           subst (λ b. Fits r m.state.debug.rule b state.debug.attempts) (ap (λ b. b && is_over control.ending control.pieces.items) begun ∙ turns.over)
-          (subst (λ own. Fits r own (m.begun && is_over control.ending control.pieces.items) state.debug.attempts) turns.rule f) in
+          (subst (λ own. Fits r own (m.begun && is_over control.ending control.pieces.items) state.debug.attempts) turns.setting.rule f) in
           ap (λ b. rest_at m.script.now m.budget r b control.ending control.pieces.items state) begun
           ∙ turns.kept r f'
           ∙ sym (ap (λ b. rest_at m.script.now m.budget r b m.control.ending m.control.pieces.items m.state) begun)
-          ∙ c.self.invariant.keeps well r (fits-before r m.state.debug.rule (has_ended m) true m.state.debug.attempts state.debug.attempts (λ e. going) turns.fewer f')
-          ∙ ap (λ b. whole_run b m.script.now r m.budget m.state.debug.shape) (sym turns.keeps_rises)
-          ∙ ap (whole_run (keeps_rises state.debug) m.script.now r m.budget) (sym turns.shape);
+          ∙ c.self.invariant.keeps well r (fits-before r m.state.debug.rule (has_ended m) true m.state.debug.attempts state.debug.attempts (λ e. going) turns.setting.fewer f')
+          ∙ ap (λ b. whole_run b m.script.now r m.budget m.state.debug.shape) (sym turns.setting.kept)
+          ∙ ap (whole_run (keeps_rises state.debug) m.script.now r m.budget) (sym turns.setting.shape);
     }

@@ -15,11 +15,11 @@ returns-else-steps-self-clause-asks c =
     let script = m.script.now in
     let sound = c.self.invariant.sound c.if-self.false in
     let begun : m.begun ≡ true = c.if-not-self.false in
-    let at : m.state.steps ≡ m.budget = omega (arith, sound.within, c.steps.ensures, c.if-steps-self.false) in
+    let at : m.state.steps ≡ m.budget = omega (arith, sound.between.within, c.steps.ensures, c.if-steps-self.false) in
     le-ltb c.steps.result m.budget (omega (arith, at, c.steps.ensures))
     ∙ sym (ap (λ b. b && asks_next script m.budget (progress_of m.begun m.control.ending (pending_in m.state.callers m.control.pieces.items) (state_of script m.state))) (ap not c.if-self.false)
     ∙ ap (λ b. asks_next script m.budget (progress_of b m.control.ending (pending_in m.state.callers m.control.pieces.items) (state_of script m.state))) begun
-    ∙ settled_cut script m.budget m.control.ending m.control.pieces.items m.state (sound.settled begun) at)
+    ∙ settled_cut script m.budget m.control.ending m.control.pieces.items m.state (sound.between.settled begun) at)
     ∙ ap (λ (s : Seen). s.asks) c.self.view_is
 
 -- a run that is over asks for nothing
@@ -27,7 +27,7 @@ pub returns-then-steps-self-clause-going : goal.returns-then-steps-self-clause-g
 returns-then-steps-self-clause-going c will =
     let begun : m.begun ≡ true = c.if-not-self.false in
     let sound = c.self.invariant.sound c.if-self.false in
-    let asks = sym (c.asks.ensures m.budget sound.pieces (omega (arith, c.if-steps-self.true, c.steps.ensures))) ∙ will in (
+    let asks = sym (c.asks.ensures m.budget sound.between.pieces_are (omega (arith, c.if-steps-self.true, c.steps.ensures))) ∙ will in (
       sym (ap (λ (s : Seen). s.over) c.self.view_is) ∙ ap (λ b. b && is_over m.control.ending m.control.pieces.items) begun ∙ by _ refl asks,
       sym (ap (λ (s : Seen). s.failed) c.self.view_is) ∙ c.if-self.false,
     )
