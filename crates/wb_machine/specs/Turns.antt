@@ -1,5 +1,5 @@
 -- What callers see of a turn.
-use Rattle.std.specs.Prelude.{◌≡◌, ◌↔◌, ℕ, ◌+◌, ◌≤◌, Bool, true, false, min}
+use Rattle.std.specs.Prelude.{◌≡◌, ◌↔◌, ◌+◌, ◌≤◌, true, false, min}
 use Rattle.wb_machine.specs.declared.machine.Turn.{Turn}
 use Rattle.wb_machine.specs.declared.machine.Turn.TheVariants.{GoesOn, Ended}
 use Rattle.wb_machine.specs.Asks.{MakesAsked}

@@ -30,17 +30,24 @@ mod running;
 mod unwinding;
 
 use crate::pieces::{Ending, IN_MAIN, Piece, Standing, first_statement};
+use crate::raiser::{Raised, Raiser};
 use crate::state::State;
 use std::alloc::{AllocError, Global};
 use wb_model::memory::NoMemory;
-use wb_model::script::{Body, Numbered, Script};
+use wb_model::script::{Body, Numbered, Script, Statement};
 
-/// The pending pieces, the last of them on top, how the piece above them ended, and the line of the statement begun last.
+/// The pending pieces, the last of them on top, how the piece above them ended, and the statement begun last.
 #[derive(Drop)]
 pub struct Control<'a> {
     pieces: Vec<Piece<'a>>,
     ending: Ending,
+    /// The line of the statement begun last.
     line: u32,
+    /// That statement, and how many bodies ran when it began.
+    statement: Option<&'a Statement>,
+    depth: u32,
+    /// What raises a panic that comes next.
+    raiser: Raiser,
 }
 
 /// The body of a procedure.
@@ -51,6 +58,18 @@ fn procedure_at(script: &Script, index: u16) -> &Body
     match script.procedures.get(index as usize) {
         Some(procedure) => &procedure.body,
         None => unreachable!(),
+    }
+}
+
+/// How many bodies run where this piece is on top; 0 where there is none. What ends a body is never on top in a panic.
+fn depth_of(top: Option<&Piece>) -> u32 {
+    match top {
+        Some(Piece::Code(at, _))
+        | Some(Piece::Turns(at, ..))
+        | Some(Piece::Items(at, _))
+        | Some(Piece::Object(at, _))
+        | Some(Piece::Trap(at, ..)) => at.depth,
+        _ => 0,
     }
 }
 
@@ -65,6 +84,9 @@ impl<'a> Control<'a> {
             pieces: Vec::new(alloc),
             ending: Ending::GoesOn,
             line: 0,
+            statement: None,
+            depth: 0,
+            raiser: Raiser::Statement,
         }
     }
 
@@ -80,6 +102,9 @@ impl<'a> Control<'a> {
             pieces,
             ending: self.ending,
             line: self.line,
+            statement: self.statement,
+            depth: self.depth,
+            raiser: self.raiser,
         })
     }
 
@@ -95,6 +120,28 @@ impl<'a> Control<'a> {
         ensures { result ≡ self.now.line }
     {
         self.line
+    }
+
+    /// The statement begun last; `None` before the first.
+    pub fn statement(&self) -> Option<&'a Statement> {
+        self.statement
+    }
+
+    /// How many bodies ran when that statement began; 0 before the first.
+    pub fn depth(&self) -> u32 {
+        self.depth
+    }
+
+    /// The panic that ended the run; `None` if none did.
+    pub fn raised(&self) -> Option<Raised> {
+        let Ending::Panics(panic) = self.ending else {
+            return None;
+        };
+        Some(Raised {
+            panic,
+            raiser: self.raiser,
+            depth: depth_of(self.pieces.last()),
+        })
     }
 
     /// Whether nothing more is to do.
@@ -219,6 +266,9 @@ impl<'a> Control<'a> {
     {
         state.tick();
         self.line = first.line;
+        self.statement = Some(&first.statement);
+        self.depth = at.depth;
+        self.raiser = Raiser::Statement;
         self.begin_unless_refused(script, at, &first.statement, state)
     }
 

@@ -130,7 +130,7 @@ impl State {
     }
 
     /// How many units a text may have.
-    fn max_of(&self, base: Base) -> u32
+    pub fn max_of(&self, base: Base) -> u32
         requires { base_refusal self.now base ≡ None }
         ensures max { result ≡ base_max self.now base }
         ensures most { result < 2 ^ 31 }

@@ -23,6 +23,7 @@ use crate::bodies::{destroy_at, operation_at};
 use crate::control::Control;
 use crate::locals::NULL;
 use crate::pieces::{After, Ending, Piece, Standing};
+use crate::raiser::Raiser;
 use crate::state::State;
 use wb_model::heap::{Item, Panic, Ptr};
 use wb_model::memory::NoMemory;
@@ -111,6 +112,7 @@ impl<'a> Control<'a> {
         ensures line { self.new.line ≡ self.old.line }
     {
         state.tick();
+        self.raiser = Raiser::Item;
         self.push(Piece::Items(at, left - 1))?;
         match state.take_newest() {
             Some(item) => self.begin_item(script, at, item, state),

@@ -22,6 +22,7 @@ use crate::bodies::{Lines, construct_at};
 use crate::control::Control;
 use crate::operands::{not_negative, number_within};
 use crate::pieces::{After, Ending, Piece, Standing};
+use crate::raiser::Raiser;
 use crate::state::State;
 use wb_model::heap::{Panic, Ptr};
 use wb_model::limits::{MOST_FRAMES, MOST_TURNS};
@@ -332,6 +333,7 @@ impl<'a> Control<'a> {
     {
         match state.operands_refused(statement) {
             Some(panic) => {
+                self.raiser = Raiser::Holder;
                 self.ending = Ending::Panics(panic);
                 Ok(())
             }

@@ -16,6 +16,7 @@ ghost use Rattle.wb_machine.specs.SlotInvariant.{slots_for, slots_for_all, to_de
 use crate::control::Control;
 use crate::locals::{NULL, Slot};
 use crate::pieces::{After, Ending, IN_MAIN, Piece, Standing, needs_step};
+use crate::raiser::Raiser;
 use crate::state::State;
 use std::alloc::AllocError;
 use wb_model::heap::{Panic, Ptr};
@@ -86,7 +87,10 @@ impl<'a> Control<'a> {
     {
         match self.ending {
             Ending::GoesOn if state.items() == entry => state.set(local, Slot::Number(0)),
-            Ending::GoesOn => self.ending = Ending::Panics(Panic::ITEMS_LEFT),
+            Ending::GoesOn => {
+                self.raiser = Raiser::TrapEnd;
+                self.ending = Ending::Panics(Panic::ITEMS_LEFT);
+            }
             Ending::Leaves(code) => {
                 self.ending = Ending::GoesOn;
                 self.destroy_to(at, entry, Piece::Caught(local, code), state)?;
@@ -134,7 +138,10 @@ impl<'a> Control<'a> {
                 self.destroy_to(IN_MAIN, 0, Piece::MainCaught(code), state)?;
             }
             _ if state.items() == 0 => self.ending = Ending::GoesOn,
-            _ => self.ending = Ending::Panics(Panic::ITEMS_LEFT),
+            _ => {
+                self.raiser = Raiser::MainEnd;
+                self.ending = Ending::Panics(Panic::ITEMS_LEFT);
+            }
         }
         Ok(())
     }
@@ -175,6 +182,7 @@ impl<'a> Control<'a> {
             Ending::Leaves(_) => return,
             Ending::Panics(_) | Ending::Cut(_) | Ending::NoCleanup => unreachable!(),
         };
+        self.raiser = Raiser::Release;
         self.ending = follow(after, result, state);
     }
 

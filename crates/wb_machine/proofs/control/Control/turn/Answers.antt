@@ -117,7 +117,7 @@ returns-clause-asked c =
     ]
 
 -- the pieces are sound, the cells whole and the stack has room, in each of the ways
-pieces_are : (c : goal.Returns) → AreSound c.args.script.now c.settle.new.self.pieces.items
+pieces_are : (c : goal.In_ok-settle) → AreSound c.args.script.now c.settle.new.self.pieces.items
 pieces_are c =
     let script = c.args.script.now in
     let P : Control → Type 0 = λ x. AreSound script x.pieces.items in
@@ -127,7 +127,7 @@ pieces_are c =
       | else-not-begun+else-steps-budget w ↦ subst P (sym w.self-is) (subst (AreSound script) (sym w.cut.ensures.pieces) c.requires.between.pieces_are)
     ])
 
-whole : (c : goal.Returns) → AreWhole c.args.script.now c.settle.new.state.debug.heap.row
+whole : (c : goal.In_ok-settle) → AreWhole c.args.script.now c.settle.new.state.debug.heap.row
 whole c =
     let script = c.args.script.now in
     let P : RunState → Type 0 = λ x. AreWhole script x.debug.heap.row in
@@ -137,7 +137,7 @@ whole c =
       | else-not-begun+else-steps-budget w ↦ subst P (sym w.state-is) c.requires.between.whole
     ])
 
-room : (c : goal.Returns) → HasRoom c.settle.new.self.ending c.settle.new.self.pieces.items c.settle.new.state
+room : (c : goal.In_ok-settle) → HasRoom c.settle.new.self.ending c.settle.new.self.pieces.items c.settle.new.state
 room c =
     let mid = c.if-not-begun.self in
     let g = c.if-not-begun.state in

@@ -1,4 +1,4 @@
-use Rattle.std.proofs.Common.{◌≡◌, ap, ◌∙◌, sym, subst, Bool, true, false}
+use Rattle.std.proofs.Common.{rules, ◌≡◌, ap, ◌∙◌, sym, subst, Bool, true, false}
 use Rattle.wb_model.specs.Rest.{Fits}
 use Rattle.std.specs.Prelude.{not, ◌&&◌}
 use Rattle.wb_model.specs.Debug.{keeps_rises}
@@ -40,12 +40,27 @@ invariant_of-self-2 c =
     }
 
 -- a run that is over asks for nothing
-pub returns-then-is_over-clause-asked : goal.returns-then-is_over-clause-asked
-returns-then-is_over-clause-asked c at_once whole =
-    let m = c.self.inside in
-    let script = m.script.now in
-    let asks : Bool → Bool = λ b. asks_next script m.budget (progress_of b m.control.ending (pending_in m.state.callers m.control.pieces.items) (state_of script m.state)) in
-    let never : (not m.failed && asks m.begun) ≡ false =
-    ap (λ b. b && asks m.begun) (ap not c.if-self.false) ∙ ap asks c.if-self-2.true
-    ∙ over_asks script m.budget m.control.ending m.control.pieces.items m.state (sym c.is_over.ensures ∙ c.if-is_over.true) in
-    let clash : false ≡ true = sym never ∙ ap (λ (s : Seen). s.asks) c.self.view_is ∙ at_once in cc
+pub returns-then-is_over-clause-turned : goal.returns-then-is_over-clause-turned
+returns-then-is_over-clause-turned c = record {
+  begun = search rules;
+  well = search rules;
+  first = search rules;
+  one = search rules;
+  later = search rules;
+  counted = search rules;
+  within = search rules;
+  made = record {
+    unasked = search rules;
+    asked = λ at_once whole.
+        let m = c.self.inside in
+        let script = m.script.now in
+        let asks : Bool → Bool = λ b. asks_next script m.budget (progress_of b m.control.ending (pending_in m.state.callers m.control.pieces.items) (state_of script m.state)) in
+        let never : (not m.failed && asks m.begun) ≡ false =
+        ap (λ b. b && asks m.begun) (ap not c.if-self.false) ∙ ap asks c.if-self-2.true
+        ∙ over_asks script m.budget m.control.ending m.control.pieces.items m.state (sym c.is_over.ensures ∙ c.if-is_over.true) in
+        let clash : false ≡ true = sym never ∙ ap (λ (s : Seen). s.asks) c.self.view_is ∙ at_once in cc;
+  };
+  ceiling = search rules;
+  ended = search rules;
+  line = search rules;
+}

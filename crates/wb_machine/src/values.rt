@@ -1,0 +1,57 @@
+//! What a machine shows to those who explain a run: the statement begun last, what its operands hold, and the panic that ended
+//! the run. A statement that panics changes nothing before it does, so that its operands hold what they held when it began.
+
+use crate::machine::Machine;
+use crate::raiser::Raised;
+use wb_model::script::{Number, Pointer, Readable, Statement, Writable};
+
+impl<'a> Machine<'a> {
+    /// The statement begun last; `None` before the first.
+    pub fn statement(&self) -> Option<&'a Statement> {
+        self.control.statement()
+    }
+
+    /// How many bodies ran when that statement began, 1 in `main`; 0 before the first.
+    pub fn depth(&self) -> u32 {
+        self.control.depth()
+    }
+
+    /// The panic that ended the run; `None` if none did.
+    pub fn raised(&self) -> Option<Raised> {
+        self.control.raised()
+    }
+
+    /// The number of an operand, in the innermost body.
+    pub fn number(&self, operand: Number) -> i32 {
+        self.state.number(operand)
+    }
+
+    /// How many units a text has; `None` if it can't be read.
+    pub fn length(&self, text: Readable) -> Option<u32> {
+        if self.failed {
+            return None;
+        }
+        match self.state.window(self.script, text) {
+            Ok(window) => Some(window.view().length),
+            Err(_) => None,
+        }
+    }
+
+    /// How many units a text may have; `None` if it can't be read.
+    pub fn maximum(&self, text: Writable) -> Option<u32> {
+        let base = self.state.base(self.script, text);
+        match self.state.refusal(base) {
+            None => Some(self.state.max_of(base)),
+            Some(_) => None,
+        }
+    }
+
+    /// How many bytes of a cell can be used; `None` if the pointer names none.
+    pub fn bytes(&self, pointer: Pointer) -> Option<u32> {
+        let ptr = self.state.pointer(self.script, pointer);
+        match self.state.heap.header(ptr) {
+            Some(header) => Some(header.length - 16),
+            None => None,
+        }
+    }
+}
