@@ -1,13 +1,13 @@
 //! A call whose arguments aren't what the procedure takes.
 
-use crate::lines::{Line, Word};
+use crate::lines::Line;
 use crate::notes::note_local;
-use crate::page::{Page, Piece, Spot};
 use crate::sorts::{described, sort_in_body};
 use crate::spaces::{item_named, key_of};
 use wb_lines::sorts::{is_number_sort, is_pointer_sort};
 use wb_lines::words::{before_first, parameter_taken};
 use wb_model::script_lines::{Key, Taken};
+use wb_pages::{Fragment, Page, Spot, Word};
 
 /// The place of the procedure in a call.
 fn callee(line: &Line) -> usize {
@@ -41,15 +41,15 @@ fn first_wrong(lines: &[Line], index: usize, line: &Line, procedure: &Line) -> O
 
 fn wrong_number(page: &mut Page, line: &Line, procedure: &Line) {
     let place = callee(line);
-    page.tell(
+    page.mark(
         line.spot(place),
         &[
-            Piece::Text("wrong number of arguments: `"),
-            Piece::Word(line.text_at(place)),
-            Piece::Text("` takes "),
-            Piece::Number(procedure.words.len().saturating_sub(2)),
-            Piece::Text(", and is given "),
-            Piece::Number(line.words.len().saturating_sub(place).saturating_sub(1)),
+            Fragment::Text("wrong number of arguments: `"),
+            Fragment::Word(line.text_at(place)),
+            Fragment::Text("` takes "),
+            Fragment::Number(procedure.words.len().saturating_sub(2)),
+            Fragment::Text(", and is given "),
+            Fragment::Number(line.words.len().saturating_sub(place).saturating_sub(1)),
         ],
     );
 }
@@ -61,16 +61,16 @@ fn wrong_argument<'x>(
     spot: Spot<'x>,
     parameter: &'x [u8],
 ) {
-    page.tell(
+    page.mark(
         spot,
         &[
-            Piece::Text("wrong kind: `"),
-            Piece::Word(spot.word),
-            Piece::Text("` is "),
-            Piece::Text(described(sort_in_body(lines, index, spot.word))),
-            Piece::Text(", and the parameter is `"),
-            Piece::Word(parameter),
-            Piece::Text("`"),
+            Fragment::Text("wrong kind: `"),
+            Fragment::Word(spot.word),
+            Fragment::Text("` is "),
+            Fragment::Text(described(sort_in_body(lines, index, spot.word))),
+            Fragment::Text(", and the parameter is `"),
+            Fragment::Word(parameter),
+            Fragment::Text("`"),
         ],
     );
     note_local(page, lines, index, before_first(b'.', spot.word));
@@ -111,6 +111,6 @@ pub(crate) fn wrong_arguments<'x>(
 ) {
     if let Some(procedure) = procedure_of(lines, line) {
         wrong_call(page, lines, index, line, procedure);
-        page.tell_text(procedure.spot(0), "the procedure begins here");
+        page.mark_text(procedure.spot(0), "the procedure begins here");
     }
 }

@@ -1,13 +1,13 @@
 //! A name that is declared twice: where it was declared first.
 
 use crate::blocks::role;
-use crate::lines::{Line, Word};
+use crate::lines::Line;
 use crate::notes::note_name;
-use crate::page::{Page, Span, Spot};
 use crate::spaces::{line_of_field, line_of_item, line_of_local};
 use crate::words::{is_parameter, is_parameter_named};
 use wb_lines::words::before_first;
 use wb_model::script_lines::Role;
+use wb_pages::{Page, Span, Spot, Word};
 
 /// What is said of a name, behind it.
 const SECOND: &str = "` is declared a second time";
@@ -69,14 +69,14 @@ pub(crate) fn double_name(page: &mut Page, lines: &[Line], index: usize) {
     };
     match first_line(lines, index, line) {
         Some(first) => {
-            page.tell_word(line.spot(1), "`", SECOND);
+            page.mark_word(line.spot(1), "`", SECOND);
             note_name(page, lines, first, line.text_at(1), "first declared here");
-            page.help_text(space_help(role(line)));
+            page.write_help_text(space_help(role(line)));
         }
         None => {
             if let Some(spot) = second_parameter(line) {
-                page.tell_word(spot, "`", SECOND);
-                page.help_text(space_help(Role::Declaration));
+                page.mark_word(spot, "`", SECOND);
+                page.write_help_text(space_help(Role::Declaration));
             }
         }
     }

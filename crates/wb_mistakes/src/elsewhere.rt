@@ -2,9 +2,9 @@
 
 use crate::lines::Line;
 use crate::notes::note_name;
-use crate::page::Page;
 use crate::spaces::{has_self, item_named, line_of_field, local_anywhere, local_named};
 use wb_model::script_lines::{ItemKind, Kind};
+use wb_pages::Page;
 
 /// What a name is elsewhere, and the line that declares it.
 #[derive(Clone, Copy)]
@@ -76,7 +76,7 @@ pub(crate) fn note_elsewhere(page: &mut Page, lines: &[Line], name: &[u8], found
                 name,
                 "the class has a field of this name",
             );
-            page.help_word("a field is named through its object: `self.", name, "`");
+            page.write_help_word("a field is named through its object: `self.", name, "`");
         }
         Elsewhere::Other(what, line) => note_name(page, lines, line, name, what),
         Elsewhere::Foreign(line) => note_name(

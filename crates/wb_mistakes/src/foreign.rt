@@ -1,8 +1,8 @@
 //! A byte outside of ASCII.
 
 use crate::lines::Line;
-use crate::page::{Page, Piece, Span};
 use wb_lines::bytes::is_foreign;
+use wb_pages::{Fragment, Page, Span};
 
 /// The hexadecimal digits.
 static DIGITS: [&str; 16] = [
@@ -31,17 +31,17 @@ pub(crate) fn not_ascii(page: &mut Page, lines: &[Line], index: usize) {
     let Some((column, byte)) = first_foreign(line.text) else {
         return;
     };
-    page.tell(
+    page.mark(
         line.spot_of(Span { column, length: 1 }, &[]),
         &[
-            Piece::Text("a byte outside of printable ASCII: 0x"),
-            Piece::Text(digit(byte / 16)),
-            Piece::Text(digit(byte % 16)),
-            Piece::Text(" in column "),
-            Piece::Number(line.indent.saturating_add(column).saturating_add(1)),
+            Fragment::Text("a byte outside of printable ASCII: 0x"),
+            Fragment::Text(digit(byte / 16)),
+            Fragment::Text(digit(byte % 16)),
+            Fragment::Text(" in column "),
+            Fragment::Number(line.indent.saturating_add(column).saturating_add(1)),
         ],
     );
-    page.help_text(
+    page.write_help_text(
         "a script is ASCII, in comments and texts too: letters without accents, and straight quotes",
     );
 }

@@ -1,11 +1,11 @@
 //! The forms of the language's lines, as they are told: the word that begins each, and what stands behind it.
 
-use crate::lines::{Line, Word};
-use crate::page::{Page, Piece};
+use crate::lines::Line;
 use wb_lines::forms::operand_of;
 use wb_lines::keys::{Letters, keys, letters_of, rest_of, text_of};
 use wb_lines::words::text_of_keyword;
 use wb_model::script_lines::{Key, Letter};
+use wb_pages::{Fragment, Page, Word};
 
 /// What stands at a place behind the first word, counted from 1; nothing at place 0.
 pub(crate) fn letter_at(key: Key, place: usize) -> Option<Letter> {
@@ -71,19 +71,19 @@ fn called(letter: Letter) -> &'static [u8] {
 }
 
 fn say_letter(page: &mut Page, letter: Letter) {
-    page.say(&[Piece::Text(" "), Piece::Word(called(letter))]);
+    page.write(&[Fragment::Text(" "), Fragment::Word(called(letter))]);
 }
 
 /// Writes a form: `alloc POINTER NUMBER`.
 pub(crate) fn say_form(page: &mut Page, key: Key) {
-    page.say(&[Piece::Text("`"), Piece::Word(text_of(key))]);
+    page.write(&[Fragment::Text("`"), Fragment::Word(text_of(key))]);
     for letter in letters_of(key) {
         say_letter(page, *letter);
     }
     if let Some(letter) = rest_of(key) {
         say_letter(page, letter);
     }
-    page.say(&[Piece::Text("`")]);
+    page.write(&[Fragment::Text("`")]);
 }
 
 /// Writes all forms that begin with a word, with `or` between them.
@@ -92,7 +92,7 @@ pub(crate) fn say_forms(page: &mut Page, word: &[u8]) {
     for key in keys() {
         if begins(*key, word) {
             if !is_first {
-                page.say(&[Piece::Text(" or ")]);
+                page.write(&[Fragment::Text(" or ")]);
             }
             say_form(page, *key);
             is_first = false;

@@ -3,16 +3,16 @@
 use crate::arguments::wrong_arguments;
 use crate::blocks::{Blocks, role, role_at};
 use crate::forms::letter_of;
-use crate::lines::{Line, Word};
+use crate::lines::Line;
 use crate::misspelled::help_wanted;
 use crate::notes::{note, note_local, note_name};
-use crate::page::{Page, Piece, Span, Spot};
 use crate::sorts::{declared_at, described, sort_in_body, sort_of};
 use crate::spaces::{body_of, class_of, key_at, key_of, line_of_item};
 use crate::words::{is_field, is_parameter};
 use wb_lines::sorts::{is_pointer_sort, takes};
 use wb_lines::words::{before_first, behind_first};
 use wb_model::script_lines::{Key, Letter, Role, Sort};
+use wb_pages::{Fragment, Page, Span, Spot, Word};
 
 /// Whether a word may be what it is where a letter stands.
 fn is_right(lines: &[Line], index: usize, letter: Letter, word: &[u8]) -> bool {
@@ -39,13 +39,13 @@ fn first_wrong(lines: &[Line], index: usize, line: &Line) -> Option<usize> {
 
 /// Says what a word is, where it stands.
 fn tell_kind<'x>(page: &mut Page, spot: Spot<'x>, is: &'x str) {
-    page.tell(
+    page.mark(
         spot,
         &[
-            Piece::Text("wrong kind: `"),
-            Piece::Word(spot.word),
-            Piece::Text("` is "),
-            Piece::Text(is),
+            Fragment::Text("wrong kind: `"),
+            Fragment::Word(spot.word),
+            Fragment::Text("` is "),
+            Fragment::Text(is),
         ],
     );
 }
@@ -79,7 +79,9 @@ fn wrong_holder(page: &mut Page, lines: &[Line], index: usize, spot: Spot) {
     };
     tell_kind(page, spot, is);
     note_local(page, lines, index, spot.word);
-    page.help_text("only a pointer that is declared with its class has fields: `ptr NAME CLASS`");
+    page.write_help_text(
+        "only a pointer that is declared with its class has fields: `ptr NAME CLASS`",
+    );
 }
 
 /// Says that the class of a parameter is none.
@@ -88,7 +90,7 @@ fn wrong_parameter(page: &mut Page, lines: &[Line], spot: Spot) {
     if let Some(item) = line_of_item(lines, spot.word) {
         note_name(page, lines, item, spot.word, "declared here");
     }
-    page.help_text("a parameter is `NAME:ptr`, `NAME:int` or `NAME:CLASS`");
+    page.write_help_text("a parameter is `NAME:ptr`, `NAME:int` or `NAME:CLASS`");
 }
 
 fn wrong_name(page: &mut Page, lines: &[Line], index: usize, letter: Letter, spot: Spot) {
@@ -135,22 +137,22 @@ fn sides_differ(lines: &[Line], index: usize, line: &Line) -> bool {
 
 fn wrong_sides(page: &mut Page, lines: &[Line], index: usize, line: &Line) {
     let (target, source) = (line.text_at(1), line.text_at(2));
-    page.tell(
+    page.mark(
         line.spot(2),
         &[
-            Piece::Text("wrong kind: `"),
-            Piece::Word(target),
-            Piece::Text("` is "),
-            Piece::Text(described(sort_in_body(lines, index, target))),
-            Piece::Text(", and `"),
-            Piece::Word(source),
-            Piece::Text("` is "),
-            Piece::Text(described(sort_in_body(lines, index, source))),
+            Fragment::Text("wrong kind: `"),
+            Fragment::Word(target),
+            Fragment::Text("` is "),
+            Fragment::Text(described(sort_in_body(lines, index, target))),
+            Fragment::Text(", and `"),
+            Fragment::Word(source),
+            Fragment::Text("` is "),
+            Fragment::Text(described(sort_in_body(lines, index, source))),
         ],
     );
     note_local(page, lines, index, target);
     note_local(page, lines, index, before_first(b'.', source));
-    page.help_text("`set` takes two pointers, or an int and a number");
+    page.write_help_text("`set` takes two pointers, or an int and a number");
 }
 
 /// Whether a line gives `main` parameters, or makes a class or an operation of it.
@@ -161,8 +163,8 @@ fn misuses_main(line: &Line) -> bool {
 }
 
 fn wrong_main(page: &mut Page, line: &Line) {
-    page.tell_text(line.whole(), "`main` is a procedure without parameters");
-    page.help_text(match key_of(line) {
+    page.mark_text(line.whole(), "`main` is a procedure without parameters");
+    page.write_help_text(match key_of(line) {
         Some(Key::Proc) =>
             "write `proc main` alone: nothing gives it arguments where the run begins",
         _ => "the run begins with `proc main`; give this another name",
@@ -184,15 +186,15 @@ fn open_trap(lines: &[Line], blocks: &Blocks) -> Option<usize> {
 fn wrong_return(page: &mut Page, lines: &[Line], index: usize, line: &Line, blocks: &Blocks) {
     match open_trap(lines, blocks) {
         Some(trap) => {
-            page.tell_text(line.whole(), "`return` can't stand inside of a `trap`");
+            page.mark_text(line.whole(), "`return` can't stand inside of a `trap`");
             note(page, lines, trap, "the block begins here");
-            page.help_text("end the `trap` first, and return behind it");
+            page.write_help_text("end the `trap` first, and return behind it");
         }
         None => {
             let body = body_of(lines, index);
-            page.tell_text(line.whole(), "only a procedure returns a pointer");
+            page.mark_text(line.whole(), "only a procedure returns a pointer");
             note(page, lines, body, "the body begins here");
-            page.help_text(help_of_return(role_at(lines, body)));
+            page.write_help_text(help_of_return(role_at(lines, body)));
         }
     }
 }

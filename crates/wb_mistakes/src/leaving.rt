@@ -2,15 +2,15 @@
 
 use crate::lines::Line;
 use crate::notes::note;
-use crate::page::Page;
 use crate::spaces::body_of;
+use wb_pages::Page;
 
 /// Says which line may leave, and in what body it stands.
 pub(crate) fn may_leave(page: &mut Page, lines: &[Line], index: usize) {
     let Some(line) = lines.get(index) else {
         return;
     };
-    page.tell_word(
+    page.mark_word(
         line.spot(0),
         "`",
         "` can't stand in a body that must not leave",
@@ -21,7 +21,7 @@ pub(crate) fn may_leave(page: &mut Page, lines: &[Line], index: usize) {
         body_of(lines, index),
         "the body begins here: destructors and operations don't leave",
     );
-    page.help_text(
+    page.write_help_text(
         "here may stand `ptr`, `int`, `free`, `delete`, `set`, `null`, `add`, `alloclen`, `load`, `store`, `if`, `repeat`, `print`, \
          `heap`, `available` and `compress`",
     );

@@ -19,7 +19,6 @@ mod misspelled;
 mod near_names;
 mod nearest;
 mod notes;
-mod page;
 pub mod refused;
 mod sorts;
 mod spaces;

@@ -1,8 +1,7 @@
 //! A limit that a line passes: which one, and what was counted.
 
 use crate::blocks::{Blocks, role, role_at};
-use crate::lines::{Line, Word};
-use crate::page::{Page, Piece, Span};
+use crate::lines::Line;
 use crate::spaces::{body_of, class_before, key_of};
 use crate::words::is_parameter;
 use wb_lines::forms::operand_of;
@@ -12,6 +11,7 @@ use wb_model::limits::{
     MOST_LOCALS, MOST_PARAMETERS, MOST_PROCEDURES,
 };
 use wb_model::script_lines::{Key, Letter, Operand, Role};
+use wb_pages::{Fragment, Page, Span, Word};
 
 /// A limit that is passed: of what, what was counted, how many there may be, and where the word stands that passes it.
 #[derive(Clone, Copy)]
@@ -200,15 +200,15 @@ pub(crate) fn too_many(page: &mut Page, lines: &[Line], index: usize, blocks: &B
     let Some(found) = limit_passed(lines, index, line, blocks) else {
         return;
     };
-    page.tell(
+    page.mark(
         line.spot_of(found.span, &[]),
         &[
-            Piece::Text("too many "),
-            Piece::Text(found.what),
-            Piece::Text(": "),
-            Piece::Number(found.counted),
-            Piece::Text(", and there may be "),
-            Piece::Number(found.most as usize),
+            Fragment::Text("too many "),
+            Fragment::Text(found.what),
+            Fragment::Text(": "),
+            Fragment::Number(found.counted),
+            Fragment::Text(", and there may be "),
+            Fragment::Number(found.most as usize),
         ],
     );
 }

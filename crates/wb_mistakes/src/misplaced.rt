@@ -3,9 +3,9 @@
 use crate::blocks::{Block, Blocks, Closed, Place, role, role_at};
 use crate::lines::Line;
 use crate::notes::note;
-use crate::page::{Page, Piece};
 use crate::spaces::is_statement;
 use wb_model::script_lines::Role;
+use wb_pages::{Fragment, Page};
 
 fn indent(lines: &[Line], index: usize) -> usize {
     match lines.get(index) {
@@ -56,13 +56,13 @@ fn note_closed(page: &mut Page, lines: &[Line], blocks: &Blocks) {
 /// Writes what can't stand where, and shows the line.
 fn refuse<'x>(page: &mut Page, line: &Line<'x>, where_not: &'x str) {
     let spot = line.spot(0);
-    page.tell(
+    page.mark(
         spot,
         &[
-            Piece::Text("`"),
-            Piece::Word(spot.word),
-            Piece::Text("` "),
-            Piece::Text(where_not),
+            Fragment::Text("`"),
+            Fragment::Word(spot.word),
+            Fragment::Text("` "),
+            Fragment::Text(where_not),
         ],
     );
 }
@@ -91,7 +91,7 @@ fn outside(page: &mut Page, lines: &[Line], blocks: &Blocks, line: &Line) {
     };
     refuse(page, line, where_not);
     note_closed(page, lines, blocks);
-    page.help_text(help);
+    page.write_help_text(help);
 }
 
 /// Of a line right in a class.
@@ -107,7 +107,9 @@ fn in_class(page: &mut Page, lines: &[Line], blocks: &Blocks, block: Block, line
     if !matches!(block.place, Place::Fields) {
         note_closed(page, lines, blocks);
     }
-    page.help_text("in a class stand its fields, then `construct`, then `destroy`, then `end`");
+    page.write_help_text(
+        "in a class stand its fields, then `construct`, then `destroy`, then `end`",
+    );
 }
 
 /// The first statement of the innermost body.
@@ -141,7 +143,7 @@ fn late_declaration(page: &mut Page, lines: &[Line], blocks: &Blocks, line: &Lin
     if let Some(statement) = first_statement(lines, blocks) {
         note(page, lines, statement, "the first statement of the body");
     }
-    page.help_text("all declarations of a body come before its first statement");
+    page.write_help_text("all declarations of a body come before its first statement");
 }
 
 /// Whether what ended is an `if` that stands as far to the right as a line.
@@ -164,7 +166,7 @@ fn ended_else(page: &mut Page, lines: &[Line], closed: Closed, line: &Line) {
     refuse(page, line, "comes too late: its `if` has ended");
     note(page, lines, closed.first, "the `if` begins here");
     note(page, lines, closed.end, "and ends here");
-    page.help_text("an `if` with an `else` has one `end`, behind both parts");
+    page.write_help_text("an `if` with an `else` has one `end`, behind both parts");
 }
 
 /// Of an `else` that stands in no `if`, or in one that has an `else`.
@@ -175,7 +177,7 @@ fn loose_else(page: &mut Page, lines: &[Line], block: Block, line: &Line) {
     };
     refuse(page, line, where_not);
     note(page, lines, block.line, "this block is open");
-    page.help_text("an `if` has one `else`, and each block inside of it ends before that");
+    page.write_help_text("an `if` has one `else`, and each block inside of it ends before that");
 }
 
 fn late_else(page: &mut Page, lines: &[Line], blocks: &Blocks, block: Block, line: &Line) {
@@ -206,9 +208,9 @@ fn is_in_class(lines: &[Line], blocks: &Blocks) -> bool {
 fn in_class_body(page: &mut Page, lines: &[Line], blocks: &Blocks, line: &Line) {
     refuse(page, line, "can't stand in a body");
     note_unclosed(page, lines, blocks);
-    page.help_text("an `end` seems to be missing above");
+    page.write_help_text("an `end` seems to be missing above");
     if let Role::Construct = role(line) {
-        page.help_text(meant_in_body(line));
+        page.write_help_text(meant_in_body(line));
     }
 }
 
@@ -221,7 +223,7 @@ fn in_procedure(page: &mut Page, lines: &[Line], blocks: &Blocks, line: &Line) {
     };
     refuse(page, line, where_not);
     note_open(page, lines, blocks.open.first());
-    page.help_text(meant_in_body(line));
+    page.write_help_text(meant_in_body(line));
 }
 
 fn is_class_place(place: Place) -> bool {
@@ -232,7 +234,7 @@ fn is_class_place(place: Place) -> bool {
 fn item_in_class(page: &mut Page, lines: &[Line], block: Block, line: &Line) {
     refuse(page, line, "can't stand in a class");
     note(page, lines, block.line, "this class is open");
-    page.help_text(match role(line) {
+    page.write_help_text(match role(line) {
         Role::Class => "end this class first",
         _ => "end the class first; a procedure takes an object as a parameter, `NAME:CLASS`",
     });
@@ -246,7 +248,7 @@ fn inside(page: &mut Page, lines: &[Line], blocks: &Blocks, line: &Line) {
         "can't stand inside of a block: an `end` is missing above",
     );
     note_unclosed(page, lines, blocks);
-    page.help_text(
+    page.write_help_text(
         "each `class`, `proc`, `op`, `construct`, `destroy`, `if`, `repeat` and `trap` has an `end`",
     );
 }
@@ -277,9 +279,9 @@ pub(crate) fn explain_misplaced(page: &mut Page, lines: &[Line], blocks: &Blocks
 
 /// Says that the file ends before its blocks do.
 pub(crate) fn ends_early(page: &mut Page, lines: &[Line], blocks: &Blocks, number: usize) {
-    page.at(number, "the file ends, and an `end` is missing");
+    page.write_message(number, "the file ends, and an `end` is missing");
     note_unclosed(page, lines, blocks);
-    page.help_text(
+    page.write_help_text(
         "each `class`, `proc`, `op`, `construct`, `destroy`, `if`, `repeat` and `trap` has an `end`",
     );
 }

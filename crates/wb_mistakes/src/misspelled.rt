@@ -1,15 +1,15 @@
 //! A line that is of no form: no such statement, too few or too many words, or a word of a wrong form.
 
 use crate::forms::{admits, begins, first_wrong, letter_at, say_form, say_forms};
-use crate::lines::{Line, Word};
+use crate::lines::Line;
 use crate::nearest::{Near, Search};
-use crate::page::{Page, Piece, Span, Spot};
 use crate::words::is_field;
 use crate::wrong_words::{complaint_of, wanted};
 use wb_lines::forms::begins_comment;
 use wb_lines::keys::{keys, letters_of, text_of};
 use wb_lines::words::text_of_keyword;
 use wb_model::script_lines::{Key, Keyword, Letter};
+use wb_pages::{Fragment, Page, Span, Spot, Word};
 
 /// What a condition asks.
 static CONDITIONS: [Keyword; 4] = [Keyword::Null, Keyword::Some, Keyword::Equal, Keyword::Less];
@@ -86,27 +86,31 @@ fn is_condition(word: &[u8]) -> bool {
 
 /// Writes the help that names the forms of a word.
 fn help_forms(page: &mut Page, word: &[u8]) {
-    page.say_text("help: its form is ");
+    page.begin_help();
+    page.write_text("its form is ");
     say_forms(page, word);
-    page.end();
+    page.end_line();
 }
 
 fn no_such_statement(page: &mut Page, spot: Spot) {
-    page.tell_word(spot, "no such statement: `", "`");
+    page.mark_word(spot, "no such statement: `", "`");
     match nearest_statement(spot.word) {
         Some(near) => {
-            page.say_word("help: did you mean `", near.word, "`? its form is ");
+            page.begin_help();
+            page.write_word("did you mean `", near.word, "`? its form is ");
             say_forms(page, near.word);
-            page.end();
+            page.end_line();
         }
-        None => page.help_text("docs/LANGUAGE.md has the statements; a comment begins with `#`"),
+        None => page.write_help_text(
+            "docs/LANGUAGE.md has the statements; a comment begins with `#`",
+        ),
     }
 }
 
 fn no_such_condition(page: &mut Page, spot: Spot) {
-    page.tell_word(spot, "no such condition: `", "`");
+    page.mark_word(spot, "no such condition: `", "`");
     if let Some(near) = nearest_condition(spot.word) {
-        page.help_word("did you mean `", near.word, "`?");
+        page.write_help_word("did you mean `", near.word, "`?");
     }
     help_forms(page, b"if");
 }
@@ -162,22 +166,23 @@ fn wrong_count(page: &mut Page, line: &Line, key: Key) {
     } else {
         "too few words for `"
     };
-    page.tell_word(spot_of_count(line, key, is_more), problem, "`");
+    page.mark_word(spot_of_count(line, key, is_more), problem, "`");
     if is_else_if(line) {
-        page.help_text("the `if` stands in the next line, and has an `end` of its own");
+        page.write_help_text("the `if` stands in the next line, and has an `end` of its own");
     }
     help_forms(page, line.text_at(0));
 }
 
 /// Says what a place takes, and the form of its line.
 fn help_place(page: &mut Page, key: Key, letter: Letter) {
-    page.say(&[
-        Piece::Text("help: here stands "),
-        Piece::Text(wanted(letter)),
-        Piece::Text(": "),
+    page.begin_help();
+    page.write(&[
+        Fragment::Text("here stands "),
+        Fragment::Text(wanted(letter)),
+        Fragment::Text(": "),
     ]);
     say_form(page, key);
-    page.end();
+    page.end_line();
 }
 
 /// The same of a line that is of some form.
@@ -190,29 +195,31 @@ pub(crate) fn help_wanted(page: &mut Page, line: &Line, letter: Letter) {
 /// Says what is wrong with the word at a place of a form.
 fn wrong_word(page: &mut Page, key: Key, letter: Letter, spot: Spot) {
     let found = complaint_of(letter, spot.word);
-    page.tell(
+    page.mark(
         spot,
         &[
-            Piece::Text(found.problem),
-            Piece::Text(": `"),
-            Piece::Word(spot.word),
-            Piece::Text("`"),
+            Fragment::Text(found.problem),
+            Fragment::Text(": `"),
+            Fragment::Word(spot.word),
+            Fragment::Text("`"),
         ],
     );
     if !found.hint.is_empty() {
-        page.help_text(found.hint);
+        page.write_help_text(found.hint);
     }
     help_place(page, key, letter);
 }
 
 fn behind_statement(page: &mut Page, spot: Spot) {
-    page.tell_text(spot, "a comment can't stand behind a statement");
-    page.help_text("give the comment a line of its own");
+    page.mark_text(spot, "a comment can't stand behind a statement");
+    page.write_help_text("give the comment a line of its own");
 }
 
 fn quote_not_closed(page: &mut Page, spot: Spot) {
-    page.tell_word(spot, "the quote is not closed: `", "`");
-    page.help_text("a text ends with `\"` in the line in which it begins, and can't hold one");
+    page.mark_word(spot, "the quote is not closed: `", "`");
+    page.write_help_text(
+        "a text ends with `\"` in the line in which it begins, and can't hold one",
+    );
 }
 
 /// Says what is wrong with the words of a line that begins as some form does.

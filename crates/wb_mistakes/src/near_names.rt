@@ -1,12 +1,13 @@
 //! The declared names that are nearest to an unknown one.
 
 use crate::blocks::role;
-use crate::lines::{Line, Word};
+use crate::lines::Line;
 use crate::nearest::{Near, Search};
 use crate::spaces::{body_of, item_begun, key_of, kind_declared};
 use crate::words::is_parameter;
 use wb_lines::words::before_first;
 use wb_model::script_lines::{ItemKind, Key, Role};
+use wb_pages::Word;
 
 fn is_item(line: &Line, kind: ItemKind) -> bool {
     match item_begun(line) {

@@ -1,14 +1,14 @@
 //! What an explanation tells of further lines of the script.
 
 use crate::lines::Line;
-use crate::page::{Page, Span};
 use crate::spaces::line_of_local;
 use wb_lines::words::before_first;
+use wb_pages::{Page, Span};
 
 /// Writes a line about another line of the script, and shows that with its first word marked.
 pub(crate) fn note(page: &mut Page, lines: &[Line], index: usize, text: &str) {
     if let Some(line) = lines.get(index) {
-        page.tell_text(line.spot(0), text);
+        page.mark_text(line.spot(0), text);
     }
 }
 
@@ -28,7 +28,7 @@ fn span_of(line: &Line, name: &[u8]) -> Span {
 /// The same with a name marked that the line declares.
 pub(crate) fn note_name(page: &mut Page, lines: &[Line], index: usize, name: &[u8], text: &str) {
     if let Some(line) = lines.get(index) {
-        page.tell_text(line.spot_of(span_of(line, name), &[]), text);
+        page.mark_text(line.spot_of(span_of(line, name), &[]), text);
     }
 }
 

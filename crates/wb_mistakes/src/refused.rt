@@ -10,10 +10,10 @@ use crate::lines::{Line, lines_of};
 use crate::main_missing::no_main;
 use crate::misplaced::{ends_early, explain_misplaced};
 use crate::misspelled::explain_misspelled;
-use crate::page::Page;
 use crate::unknown::unknown_name;
 use std::alloc::{AllocError, Global};
 use wb_model::fault::ScriptFault;
+use wb_pages::Page;
 
 /// Says why a line can't stand where it does, or is of no form; or that the file ends too early.
 fn ungrammatical(page: &mut Page, lines: &[Line], index: usize, blocks: &Blocks) {
@@ -73,8 +73,8 @@ fn explain(
 }
 
 fn too_long(page: &mut Page) {
-    page.whole("the script is longer than 65,536 bytes");
-    page.help_text("split it into scripts that are run by themselves");
+    page.write_file_text("the script is longer than 65,536 bytes");
+    page.write_help_text("split it into scripts that are run by themselves");
 }
 
 /// Why a script was refused: the whole text for a person, lines that end with a line feed; empty where there is nothing to say.

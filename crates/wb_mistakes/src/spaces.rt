@@ -1,10 +1,11 @@
 //! What the names of a script stand for, and in which line each is declared. Lines are told by their indexes.
 
 use crate::blocks::{role, role_at};
-use crate::lines::{Line, Word};
+use crate::lines::Line;
 use crate::words::is_parameter_named;
 use wb_lines::words::parameter_taken;
 use wb_model::script_lines::{ItemKind, Key, Kind, Role, Taken};
+use wb_pages::Word;
 
 /// A local: what it holds, and the line that declares it.
 #[derive(Clone, Copy)]

@@ -7,11 +7,11 @@ use crate::misspelled::help_wanted;
 use crate::near_names::{near_field, near_item, near_local};
 use crate::nearest::Near;
 use crate::notes::note;
-use crate::page::{Page, Piece, Span, Spot};
 use crate::spaces::{body_of, class_of, field_named, has_self, item_named, local_named};
 use crate::words::{is_field, is_parameter};
 use wb_lines::words::{before_first, behind_first, is_name, is_reserved, parameter_taken};
 use wb_model::script_lines::{ItemKind, Letter, Taken};
+use wb_pages::{Fragment, Page, Span, Spot};
 
 /// Where a name was looked for.
 #[derive(Clone, Copy)]
@@ -167,16 +167,16 @@ fn help_of_item(kind: ItemKind) -> &'static str {
 /// Says what is unknown, and where it was looked for.
 fn say_problem<'x>(page: &mut Page, lines: &[Line<'x>], spot: Spot<'x>, space: Space) {
     match space {
-        Space::Items(kind) => page.tell_word(spot, no_item(kind), "`"),
-        Space::Locals => page.tell_word(spot, "unknown name: this body declares no `", "`"),
-        Space::Fields(class) => page.tell(
+        Space::Items(kind) => page.mark_word(spot, no_item(kind), "`"),
+        Space::Locals => page.mark_word(spot, "unknown name: this body declares no `", "`"),
+        Space::Fields(class) => page.mark(
             spot,
             &[
-                Piece::Text("unknown name: class `"),
-                Piece::Word(class_name(lines, class)),
-                Piece::Text("` has no field `"),
-                Piece::Word(spot.word),
-                Piece::Text("`"),
+                Fragment::Text("unknown name: class `"),
+                Fragment::Word(class_name(lines, class)),
+                Fragment::Text("` has no field `"),
+                Fragment::Word(spot.word),
+                Fragment::Text("`"),
             ],
         ),
     }
@@ -246,12 +246,12 @@ fn help_of(found: Unknown) -> &'static str {
 
 /// Says which declared name may have been meant.
 fn say_near(page: &mut Page, near: Near) {
-    page.help(&[
-        Piece::Text("did you mean `"),
-        Piece::Word(near.word),
-        Piece::Text("`, declared in line "),
-        Piece::Number(near.line),
-        Piece::Text("?"),
+    page.write_help(&[
+        Fragment::Text("did you mean `"),
+        Fragment::Word(near.word),
+        Fragment::Text("`, declared in line "),
+        Fragment::Number(near.line),
+        Fragment::Text("?"),
     ]);
 }
 
@@ -284,6 +284,6 @@ fn say_unknown<'x>(
         (_, Some(Elsewhere::Member(_))) => {}
         (Some(near), _) => say_near(page, near),
         (None, Some(Elsewhere::Other(..))) => help_wanted(page, line, letter),
-        (None, _) => page.help_text(help_of(found)),
+        (None, _) => page.write_help_text(help_of(found)),
     }
 }
