@@ -9,8 +9,8 @@ use wb_model::script_lines::{Form, Key};
 use wb_pages::words::{count_blanks, place_words, trim};
 use wb_pages::{Span, Spot, Word};
 
-/// A line: its number, its text without the blanks around it, how many stand before it, its words, the key of its form where it is of some, and
-/// the index of the line that begins the body in which it stands, which may be itself.
+/// A line: its number, its text without the blanks around it, the number of blanks before it, its words, the key of its form if it has
+/// one, and the index of the line that begins its body, which may be itself.
 #[derive(Drop)]
 pub(crate) struct Line<'a> {
     pub number: usize,
@@ -21,7 +21,8 @@ pub(crate) struct Line<'a> {
     pub body: usize,
 }
 
-/// The key of the form that words have; none where they are of no form, or begin a comment.
+/// Returns the key of the form that words have; `None` if they are of no form, or begin a comment. The only error is that memory ran
+/// out.
 fn key_of_words(alloc: Global, texts: &[&[u8]]) -> Result<Option<Key>, AllocError> {
     match form_of(alloc, texts)? {
         Form::Line(key, _) => Ok(Some(key)),
@@ -29,8 +30,8 @@ fn key_of_words(alloc: Global, texts: &[&[u8]]) -> Result<Option<Key>, AllocErro
     }
 }
 
-/// The body in which a line of a form stands, behind these lines.
-fn body_behind(lines: &[Line], key: Option<Key>) -> usize {
+/// The index of the line that begins the body of a line with this key, after these lines.
+fn body_after(lines: &[Line], key: Option<Key>) -> usize {
     match (key, lines.last()) {
         (Some(key), _) if begins_body(role_of(key)) => lines.len(),
         (_, Some(line)) => line.body,
@@ -38,7 +39,7 @@ fn body_behind(lines: &[Line], key: Option<Key>) -> usize {
     }
 }
 
-fn line_behind<'a>(
+fn read_line<'a>(
     alloc: Global,
     lines: &[Line<'a>],
     bytes: &'a [u8],
@@ -53,7 +54,7 @@ fn line_behind<'a>(
         indent: count_blanks(bytes),
         words: place_words(alloc, text, &texts)?,
         key,
-        body: body_behind(lines, key),
+        body: body_after(lines, key),
     })
 }
 
@@ -62,12 +63,12 @@ fn add_line<'a>(
     lines: &mut Vec<Line<'a>>,
     bytes: &'a [u8],
 ) -> Result<(), AllocError> {
-    let line = line_behind(alloc, lines, bytes)?;
+    let line = read_line(alloc, lines, bytes)?;
     lines.push(line)?;
     Ok(())
 }
 
-/// The lines of a script.
+/// Returns the lines of a script. The only error is that memory ran out.
 pub(crate) fn lines_of<'a>(alloc: Global, bytes: &'a [u8]) -> Result<Vec<Line<'a>>, AllocError> {
     let mut lines = Vec::new(alloc);
     for line in pieces::lines(alloc, bytes)? {
@@ -77,12 +78,12 @@ pub(crate) fn lines_of<'a>(alloc: Global, bytes: &'a [u8]) -> Result<Vec<Line<'a
 }
 
 impl<'a> Line<'a> {
-    /// The word with an index.
+    /// The word with an index; `None` if there is none.
     pub(crate) fn word(&self, index: usize) -> Option<Word<'a>> {
         self.words.get(index).copied()
     }
 
-    /// The text of the word with an index; nothing where there is none.
+    /// The text of the word with an index; empty if there is none.
     pub(crate) fn text_at(&self, index: usize) -> &'a [u8] {
         match self.word(index) {
             Some(word) => word.text,
@@ -90,7 +91,7 @@ impl<'a> Line<'a> {
         }
     }
 
-    /// The first word, where the line has any and is no comment.
+    /// The first word; `None` if the line has none or is a comment.
     pub(crate) fn first(&self) -> Option<Word<'a>> {
         match self.word(0) {
             Some(word) if !begins_comment(word.text) => Some(word),
@@ -98,7 +99,7 @@ impl<'a> Line<'a> {
         }
     }
 
-    /// Where a word stands; the whole line where there is none.
+    /// The part of the line that is the word with an index; the whole line if there is none.
     pub(crate) fn span_at(&self, index: usize) -> Span {
         match self.word(index) {
             Some(word) => word.span(),
@@ -106,12 +107,12 @@ impl<'a> Line<'a> {
         }
     }
 
-    /// The word with an index, and where it stands; the whole line where there is none.
+    /// The word with an index, to be shown; the whole line if there is none.
     pub(crate) fn spot(&self, index: usize) -> Spot<'a> {
         Spot::of_word(self.number, self.text, &self.words, index)
     }
 
-    /// A part of the line, and a word that stands there.
+    /// A part of the line, to be shown, and the word that is meant.
     pub(crate) fn spot_of(&self, span: Span, word: &'a [u8]) -> Spot<'a> {
         Spot {
             number: self.number,
@@ -121,12 +122,12 @@ impl<'a> Line<'a> {
         }
     }
 
-    /// The whole line, and no word of it.
+    /// The whole line, to be shown, and no word of it.
     pub(crate) fn whole(&self) -> Spot<'a> {
         Spot::of_line(self.number, self.text)
     }
 
-    /// Where the whole line stands.
+    /// The whole line as a part of it.
     pub(crate) fn span(&self) -> Span {
         Span {
             column: 0,
