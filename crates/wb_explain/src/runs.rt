@@ -1,6 +1,6 @@
 //! What runs found: panics, leaks, what a failed attempt led to, which attempts a shorter heap refuses, and cuts.
 //!
-//! The script is run once more for this, and watched turn by turn, so that lines can be told.
+//! The script is run once more for this, and watched turn by turn, so that lines can be named.
 
 ghost use Rattle.std.specs.Prelude.{◌≤◌, IsTrue};
 ghost use Rattle.wb_model.specs.Sound.{is_script};
@@ -14,16 +14,14 @@ mod destroyed;
 mod ends;
 mod failures;
 mod lengths;
+mod makers;
 mod pairs;
 mod panics;
-mod probe;
-mod questions;
 mod rates;
 mod script_file;
 mod sentences;
 mod values;
 mod watch;
-mod words;
 
 use crate::runs::ends::put_findings;
 use crate::runs::lengths::put_lengths;
@@ -57,7 +55,7 @@ pub fn run_found(
 {
     let mut text = String::new(alloc);
     if let Some(seen) = watch_run(alloc, script, setting)? {
-        put_findings(&mut text, file, setting, &seen)?;
+        put_findings(&mut text, file, script, setting, &seen)?;
     }
     Ok(text)
 }

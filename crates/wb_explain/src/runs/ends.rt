@@ -2,20 +2,19 @@
 
 use crate::runs::Setting;
 use crate::runs::attempts::put_refused;
-use crate::runs::blame::{Blame, Cause, blame_of};
+use crate::runs::blame::{class_of, line_of};
 use crate::runs::cuts::put_cut;
-use crate::runs::destroyed::{OF_ANYTHING, OF_MAIN, OF_OBJECT, of_item};
+use crate::runs::destroyed::{OF_MAIN, OF_OBJECT, of_item};
 use crate::runs::failures::put_place;
 use crate::runs::panics::{meaning_of, symbian_of};
-use crate::runs::questions::question_of;
 use crate::runs::script_file::ScriptFile;
-use crate::runs::sentences::put_sentence;
-use crate::runs::values::values_at;
+use crate::runs::sentences::put_values;
 use crate::runs::watch::Seen;
 use std::alloc::AllocError;
+use wb_machine::{Raised, Raiser};
 use wb_model::heap::{Panic, Rule};
-use wb_model::memory::NoMemory;
 use wb_model::run::{Leak, Outcome};
+use wb_model::script::Script;
 
 /// The most leaks that are told one by one.
 const MOST_LEAKS: usize = 20;
@@ -24,10 +23,12 @@ const MOST_LEAKS: usize = 20;
 pub fn put_findings(
     text: &mut String,
     file: ScriptFile<'_>,
+    script: &Script,
     setting: Setting,
     seen: &Seen,
-) -> Result<(), NoMemory> {
-    let blame = put_failure(text, file, setting, seen)?;
+) -> Result<(), AllocError> {
+    let panicked_at = seen.raised.map(|raised| line_of(raised, seen));
+    put_refused(text, file, setting.rule, panicked_at, seen)?;
     match &seen.result.outcome {
         Outcome::Ended { left, leaks } => {
             if let Some(code) = *left
@@ -35,32 +36,15 @@ pub fn put_findings(
             {
                 put_left(text, file, code, seen)?;
             }
-            Ok(put_leaks(text, file, leaks.as_slice(), seen)?)
+            put_leaks(text, file, leaks.as_slice(), seen)
         }
-        Outcome::Panicked(panic) => put_panic(text, file, *panic, blame, setting, seen),
+        Outcome::Panicked(_) => match seen.raised {
+            Some(raised) => put_panic(text, file, script, raised, seen),
+            None => Ok(()),
+        },
         Outcome::NoCleanup => Ok(()),
-        Outcome::Cut(why) => Ok(put_cut(text, file, *why, setting.budget, seen)?),
+        Outcome::Cut(why) => put_cut(text, file, *why, setting.budget, seen),
     }
-}
-
-/// Says which attempts failed, if any were to, and tells what raised the panic, if the run ended with one.
-fn put_failure(
-    text: &mut String,
-    file: ScriptFile<'_>,
-    setting: Setting,
-    seen: &Seen,
-) -> Result<Blame, NoMemory> {
-    let alloc = *text.allocator();
-    let Outcome::Panicked(panic) = &seen.result.outcome else {
-        put_refused(text, file, setting.rule, None, seen)?;
-        return Ok(Blame {
-            line: seen.last(),
-            cause: Cause::Line,
-        });
-    };
-    let blame = blame_of(alloc, file, setting, *panic, seen)?;
-    put_refused(text, file, setting.rule, Some(blame.line), seen)?;
-    Ok(blame)
 }
 
 /// Whether a rule may refuse anything. A leave of a run under another is what the script means to do.
@@ -78,7 +62,7 @@ fn put_left(
     code: i32,
     seen: &Seen,
 ) -> Result<(), AllocError> {
-    let line = seen.last_of_main();
+    let line = seen.last_at(1);
     put_place(text, file, line)?;
     write!(
         text,
@@ -110,68 +94,38 @@ fn name_of(code: i32) -> &'static str {
 fn put_panic(
     text: &mut String,
     file: ScriptFile<'_>,
-    panic: Panic,
-    blame: Blame,
-    setting: Setting,
+    script: &Script,
+    raised: Raised,
     seen: &Seen,
-) -> Result<(), NoMemory> {
-    let line = blame.line;
+) -> Result<(), AllocError> {
+    let line = line_of(raised, seen);
+    let word = file.first_word(line);
+    let (says, help) = said_of(raised, word);
     put_place(text, file, line)?;
-    put_name(text, panic)?;
-    write!(text, "{}: ", file.first_word(line))?;
-    let (says, help) = said_of(panic, blame, file);
-    if !put_values(text, file, panic, setting, line)? {
-        text.push_str(says)?;
+    put_name(text, raised.panic)?;
+    write!(text, "{word}: ")?;
+    match seen.values {
+        Some(values) => put_values(text, values)?,
+        None => text.push_str(says)?,
     }
     file.put_below(text, line)?;
-    put_class(text, file, blame.cause)?;
-    put_lowest(text, file, panic, seen)?;
-    put_if(text, "note", symbian_of(panic))?;
-    Ok(put_if(text, "help", help)?)
-}
-
-/// What a panic means and what to look for, by what raised it.
-fn said_of(panic: Panic, blame: Blame, file: ScriptFile<'_>) -> (&'static str, &'static str) {
-    match blame.cause {
-        // what holds a field may be what the line refuses
-        Cause::Line if panic == Panic::WRONG_KIND && file.line(blame.line).contains('.') => {
-            meaning_of(panic, "")
-        }
-        Cause::Line => meaning_of(panic, file.first_word(blame.line)),
-        Cause::Holder => meaning_of(panic, ""),
-        Cause::Main => OF_MAIN,
-        Cause::Item => of_item(panic),
-        Cause::Object(_) => OF_OBJECT,
-        Cause::Unknown => OF_ANYTHING,
+    // the destructor that ended is of the object's own class
+    if let Some(class) = class_of(raised, script, seen) {
+        file.put(text, class, "the object is of this class")?;
     }
+    put_lowest(text, file, raised.panic, seen)?;
+    put_if(text, "note", symbian_of(raised.panic))?;
+    put_if(text, "help", help)
 }
 
-/// Says of which class an object was that couldn't be released: the last that begins before its destructor's end.
-fn put_class(text: &mut String, file: ScriptFile<'_>, cause: Cause) -> Result<(), AllocError> {
-    let Cause::Object(end) = cause else {
-        return Ok(());
-    };
-    match file.class_before(end) {
-        Some(line) => file.put(text, line, "the object is of this class"),
-        None => Ok(()),
-    }
-}
-
-/// Says with which values the line panicked, and tells whether anything is said.
-fn put_values(
-    text: &mut String,
-    file: ScriptFile<'_>,
-    panic: Panic,
-    setting: Setting,
-    line: u32,
-) -> Result<bool, NoMemory> {
-    let alloc = *text.allocator();
-    let Some(question) = question_of(panic, file.first_word(line)) else {
-        return Ok(false);
-    };
-    match values_at(alloc, file, setting, line, panic, question.asks)? {
-        Some(values) => Ok(put_sentence(text, question.sentence, values.as_slice())?),
-        None => Ok(false),
+/// What a panic means and what to look for, by what raised it, and by the first word of the line that is named for it.
+fn said_of(raised: Raised, word: &str) -> (&'static str, &'static str) {
+    match raised.raiser {
+        Raiser::Statement | Raiser::TrapEnd => meaning_of(raised.panic, word),
+        Raiser::Holder => meaning_of(raised.panic, ""),
+        Raiser::MainEnd => OF_MAIN,
+        Raiser::Item => of_item(raised.panic),
+        Raiser::Release => OF_OBJECT,
     }
 }
 
@@ -190,7 +144,7 @@ fn put_lowest(
         return Ok(());
     }
     match seen.maker_at(place) {
-        Some(maker) if reallocates(file, maker.line) => file.put(
+        Some(maker) if maker.deed.reallocates => file.put(
             text,
             maker.line,
             "the lowest cell that was counted was made, moved or grown here",
@@ -202,11 +156,6 @@ fn put_lowest(
         ),
         None => Ok(()),
     }
-}
-
-/// Whether a line reallocates: then its attempt may have made a cell, moved it, or made it longer where it was.
-fn reallocates(file: ScriptFile<'_>, line: u32) -> bool {
-    matches!(file.first_word(line), "realloc" | "reallocl" | "hrealloc")
 }
 
 /// Writes a line of its own, unless there is nothing to say.
@@ -262,7 +211,7 @@ fn put_leak(
     let Some((_, maker)) = seen.attempt(number) else {
         return Ok(());
     };
-    let made = if reallocates(file, maker.line) {
+    let made = if maker.deed.reallocates {
         "made or moved"
     } else {
         "made"

@@ -1,7 +1,8 @@
 //! What is said of an attempt that failed: the line that made it, and where the run went on.
 
+use crate::runs::makers::Maker;
 use crate::runs::script_file::ScriptFile;
-use crate::runs::watch::{Maker, Seen};
+use crate::runs::watch::Seen;
 use std::alloc::AllocError;
 use wb_model::heap::Attempt;
 use wb_model::run::Outcome;
@@ -47,7 +48,7 @@ pub fn put_failed(
         );
     }
     put_failed_here(text, file, attempt, maker.line, "")?;
-    put_next(text, file, next_after(file, maker, panicked_at, seen))
+    put_next(text, file, next_after(maker, panicked_at, seen))
 }
 
 /// Says that an attempt failed in this line; `also` is what follows the word `here`, with a blank before it, or nothing.
@@ -73,13 +74,8 @@ pub fn put_place(text: &mut String, file: ScriptFile<'_>, line: u32) -> Result<(
 }
 
 /// Where the run went on after an attempt that failed, which a line of the script made.
-pub fn next_after(
-    file: ScriptFile<'_>,
-    maker: Maker,
-    panicked_at: Option<u32>,
-    seen: &Seen,
-) -> Next {
-    let again = maker.idle >= 2 && gives_null(file.first_word(maker.line));
+pub fn next_after(maker: Maker, panicked_at: Option<u32>, seen: &Seen) -> Next {
+    let again = maker.idle >= 2 && maker.deed.gives_null;
     let line = if again { maker.line } else { maker.after };
     if panicked_at == Some(line) {
         return Next::Unsaid;
@@ -94,11 +90,6 @@ pub fn next_after(
         Outcome::Ended { left: None, .. } => Next::End,
         _ => Next::Unsaid,
     }
-}
-
-/// Whether lines with this first word give null where their attempt fails, and go on.
-fn gives_null(word: &str) -> bool {
-    matches!(word, "alloc" | "realloc" | "new" | "hnew" | "hrealloc")
 }
 
 /// Says where the run went on. Of a line that went on with itself the place alone is shown.

@@ -1,8 +1,9 @@
 //! What is said of two attempts of which both were to fail.
 
 use crate::runs::failures::{Next, next_after, put_failed, put_failed_here, put_next};
+use crate::runs::makers::Maker;
 use crate::runs::script_file::ScriptFile;
-use crate::runs::watch::{Maker, Seen};
+use crate::runs::watch::Seen;
 use std::alloc::AllocError;
 use wb_model::heap::Attempt;
 
@@ -39,8 +40,8 @@ fn put_both(
 ) -> Result<(), AllocError> {
     let (attempt, maker) = first;
     let (later, later_maker) = second;
-    let next = next_after(file, maker, panicked_at, seen);
-    let later_next = next_after(file, later_maker, panicked_at, seen);
+    let next = next_after(maker, panicked_at, seen);
+    let later_next = next_after(later_maker, panicked_at, seen);
     put_failed_here(text, file, attempt, maker.line, "")?;
     if names_new_line(next, later_maker.line, later_next) {
         put_next(text, file, next)?;

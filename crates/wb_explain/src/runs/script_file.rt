@@ -30,17 +30,6 @@ impl<'a> ScriptFile<'a> {
         }
     }
 
-    /// The number of the last line up to one that begins a class.
-    pub fn class_before(self, number: u32) -> Option<u32> {
-        let mut class = None;
-        for (at, line) in (1..=number).zip(self.text.lines()) {
-            if line.split_whitespace().next() == Some("class") {
-                class = Some(at);
-            }
-        }
-        class
-    }
-
     /// Writes the place of a line, what is to be said of it, and the line itself.
     pub fn put(self, text: &mut String, number: u32, said: &str) -> Result<(), AllocError> {
         let name = self.name;
