@@ -1,24 +1,24 @@
-//! A call whose arguments aren't what the procedure takes.
+//! A call whose arguments aren't those that the procedure takes.
 
-use crate::lines::{Line, Word};
-use crate::notes::note_local;
-use crate::page::{Page, Piece, Spot};
-use crate::sorts::{described, sort_in_body};
-use crate::spaces::{item_named, key_of};
+use crate::further_lines::mark_declaration;
+use crate::lines::Line;
+use crate::sorts::{description_of, sort_in_body};
+use crate::spaces::{find_item, key_of};
 use wb_lines::sorts::{is_number_sort, is_pointer_sort};
 use wb_lines::words::{before_first, parameter_taken};
 use wb_model::script_lines::{Key, Taken};
+use wb_pages::{Fragment, Page, Spot, Word};
 
-/// The place of the procedure in a call.
-fn callee(line: &Line) -> usize {
+/// The place of the procedure's name among the words of a call.
+fn procedure_place(line: &Line) -> usize {
     match key_of(line) {
         Some(Key::CallTo) => 2,
         _ => 1,
     }
 }
 
-/// Whether a word is what a parameter takes.
-fn is_given(lines: &[Line], index: usize, parameter: Word, word: &[u8]) -> bool {
+/// Whether a parameter takes what a word refers to.
+fn fits_parameter(lines: &[Line], index: usize, parameter: Word, word: &[u8]) -> bool {
     let sort = sort_in_body(lines, index, word);
     match parameter_taken(parameter.text) {
         Some(Taken::Number) => is_number_sort(sort),
@@ -26,91 +26,95 @@ fn is_given(lines: &[Line], index: usize, parameter: Word, word: &[u8]) -> bool 
     }
 }
 
-/// The place in the procedure's line of the first parameter that is given something else, where that begins behind a place of the
-/// call.
-fn first_wrong(lines: &[Line], index: usize, line: &Line, procedure: &Line) -> Option<usize> {
-    let behind = callee(line).saturating_sub(1);
+/// The place, in the procedure's first line, of the first parameter that is given something else; `None` if there is none.
+fn first_wrong_argument(
+    lines: &[Line],
+    index: usize,
+    line: &Line,
+    procedure: &Line,
+) -> Option<usize> {
+    let offset = procedure_place(line).saturating_sub(1);
     for (place, parameter) in procedure.words.iter().enumerate() {
-        let word = line.text_at(place.saturating_add(behind));
-        if place > 1 && !is_given(lines, index, *parameter, word) {
+        let word = line.text_at(place.saturating_add(offset));
+        if place > 1 && !fits_parameter(lines, index, *parameter, word) {
             return Some(place);
         }
     }
     None
 }
 
-fn wrong_number(page: &mut Page, line: &Line, procedure: &Line) {
-    let place = callee(line);
-    page.tell(
+fn explain_count(page: &mut Page, line: &Line, procedure: &Line) {
+    let place = procedure_place(line);
+    page.mark(
         line.spot(place),
         &[
-            Piece::Text("wrong number of arguments: `"),
-            Piece::Word(line.text_at(place)),
-            Piece::Text("` takes "),
-            Piece::Number(procedure.words.len().saturating_sub(2)),
-            Piece::Text(", and is given "),
-            Piece::Number(line.words.len().saturating_sub(place).saturating_sub(1)),
+            Fragment::Text("wrong number of arguments: `"),
+            Fragment::Word(line.text_at(place)),
+            Fragment::Text("` takes "),
+            Fragment::Number(procedure.words.len().saturating_sub(2)),
+            Fragment::Text(", but is given "),
+            Fragment::Number(line.words.len().saturating_sub(place).saturating_sub(1)),
         ],
     );
 }
 
-fn wrong_argument<'x>(
+fn explain_argument<'x>(
     page: &mut Page,
     lines: &[Line],
     index: usize,
     spot: Spot<'x>,
     parameter: &'x [u8],
 ) {
-    page.tell(
+    page.mark(
         spot,
         &[
-            Piece::Text("wrong kind: `"),
-            Piece::Word(spot.word),
-            Piece::Text("` is "),
-            Piece::Text(described(sort_in_body(lines, index, spot.word))),
-            Piece::Text(", and the parameter is `"),
-            Piece::Word(parameter),
-            Piece::Text("`"),
+            Fragment::Text("wrong kind: `"),
+            Fragment::Word(spot.word),
+            Fragment::Text("` is "),
+            Fragment::Text(description_of(sort_in_body(lines, index, spot.word))),
+            Fragment::Text(", but the parameter is `"),
+            Fragment::Word(parameter),
+            Fragment::Text("`"),
         ],
     );
-    note_local(page, lines, index, before_first(b'.', spot.word));
+    mark_declaration(page, lines, index, before_first(b'.', spot.word));
 }
 
-/// The first line of the procedure that a line calls.
+/// The first line of the procedure that a line calls; `None` if no procedure has the name.
 fn procedure_of<'l, 'a>(lines: &'l [Line<'a>], line: &Line) -> Option<&'l Line<'a>> {
-    match item_named(lines, line.text_at(callee(line))) {
+    match find_item(lines, line.text_at(procedure_place(line))) {
         Some(item) => lines.get(item.line),
         None => None,
     }
 }
 
-fn wrong_call<'x>(
+fn explain_call<'x>(
     page: &mut Page,
     lines: &[Line<'x>],
     index: usize,
     line: &Line<'x>,
     procedure: &Line<'x>,
 ) {
-    let more = callee(line).saturating_sub(1);
-    let is_other_count = line.words.len() != procedure.words.len().saturating_add(more);
-    match first_wrong(lines, index, line, procedure) {
+    let offset = procedure_place(line).saturating_sub(1);
+    let is_other_count = line.words.len() != procedure.words.len().saturating_add(offset);
+    match first_wrong_argument(lines, index, line, procedure) {
         Some(place) if !is_other_count => {
-            let spot = line.spot(place.saturating_add(more));
-            wrong_argument(page, lines, index, spot, procedure.text_at(place));
+            let spot = line.spot(place.saturating_add(offset));
+            explain_argument(page, lines, index, spot, procedure.text_at(place));
         }
-        _ => wrong_number(page, line, procedure),
+        _ => explain_count(page, line, procedure),
     }
 }
 
 /// Says how the arguments of a call differ from what the procedure takes.
-pub(crate) fn wrong_arguments<'x>(
+pub(crate) fn explain_arguments<'x>(
     page: &mut Page,
     lines: &[Line<'x>],
     index: usize,
     line: &Line<'x>,
 ) {
     if let Some(procedure) = procedure_of(lines, line) {
-        wrong_call(page, lines, index, line, procedure);
-        page.tell_text(procedure.spot(0), "the procedure begins here");
+        explain_call(page, lines, index, line, procedure);
+        page.mark_text(procedure.spot(0), "the procedure begins here");
     }
 }

@@ -5,55 +5,55 @@ use std::alloc::{AllocError, Global};
 use wb_lines::keys::role_of;
 use wb_model::script_lines::Role;
 
-/// What may stand next in an open block.
+/// How far an open block is, and so what may come next in it.
 #[derive(Clone, Copy)]
-pub(crate) enum Place {
+pub(crate) enum BlockState {
     /// A class: fields, bodies or the end.
     Fields,
     /// A class after its `construct`.
-    Made,
+    AfterConstruct,
     /// A class after its `destroy`.
-    Destroyed,
+    AfterDestroy,
     /// A body before its first statement.
     Declarations,
     Statements,
-    /// The first part of an `if`.
-    Branch,
-    /// The second part of an `if`.
-    Otherwise,
-    /// A `repeat` or a `trap`.
-    Turns,
+    /// The first part of an `if`, before an `else`.
+    FirstPart,
+    /// The second part of an `if`, after its `else`.
+    ElsePart,
+    /// The lines of a `repeat` or a `trap`.
+    LoopBody,
 }
 
-/// An open block: what may stand next in it, and the index of its first line.
+/// An open block: how far it is, and the index of its first line.
 #[derive(Clone, Copy)]
 pub(crate) struct Block {
-    pub place: Place,
+    pub state: BlockState,
     pub line: usize,
 }
 
 /// An `end` and the first line of the block that it closes, by their indexes.
 #[derive(Clone, Copy)]
-pub(crate) struct Closed {
+pub(crate) struct ClosedBlock {
     pub first: usize,
     pub end: usize,
 }
 
-/// The blocks that are open, the innermost last; which `end` closed a block last, and which one first stood more or less to the right
-/// than the line that it closed.
+/// The blocks that are open, the innermost last; the block that was closed last; and the first one whose `end` is indented more or
+/// less than its first line, of those that a mistake may come from.
 #[derive(Drop)]
 pub(crate) struct Blocks {
     pub open: Vec<Block>,
-    pub closed: Option<Closed>,
-    pub slanted: Option<Closed>,
+    pub last_closed: Option<ClosedBlock>,
+    pub misaligned: Option<ClosedBlock>,
 }
 
-/// Whether a line begins a body, by what it is.
+/// Whether a line with this role begins a body.
 pub(crate) fn begins_body(role: Role) -> bool {
     matches!(role, Role::Procedure | Role::Construct | Role::Destroy)
 }
 
-/// What a line is to the nesting of blocks, by its form.
+/// The role of a line in the nesting of blocks, by its form.
 pub(crate) fn role(line: &Line) -> Role {
     match line.key {
         Some(key) => role_of(key),
@@ -61,7 +61,7 @@ pub(crate) fn role(line: &Line) -> Role {
     }
 }
 
-/// The same of the line with an index.
+/// The role of the line with an index; that of a comment if there is no such line.
 pub(crate) fn role_at(lines: &[Line], index: usize) -> Role {
     match lines.get(index) {
         Some(line) => role(line),
@@ -69,37 +69,38 @@ pub(crate) fn role_at(lines: &[Line], index: usize) -> Role {
     }
 }
 
-/// What stands open in a block after a statement in it.
-fn after_statement(place: Place) -> Place {
-    match place {
-        Place::Declarations => Place::Statements,
-        _ => place,
+/// How far a block is after a statement in it.
+fn state_after_statement(state: BlockState) -> BlockState {
+    match state {
+        BlockState::Declarations => BlockState::Statements,
+        _ => state,
     }
 }
 
-/// The block that a line opens, by what it is.
-fn opened(role: Role) -> Option<Place> {
+/// How far a block is after its first line; `None` if a line with this role opens none.
+fn initial_state(role: Role) -> Option<BlockState> {
     match role {
-        Role::Class => Some(Place::Fields),
-        Role::Construct | Role::Destroy | Role::Procedure => Some(Place::Declarations),
-        Role::Loop => Some(Place::Turns),
-        Role::If => Some(Place::Branch),
+        Role::Class => Some(BlockState::Fields),
+        Role::Construct | Role::Destroy | Role::Procedure => Some(BlockState::Declarations),
+        Role::Loop => Some(BlockState::LoopBody),
+        Role::If => Some(BlockState::FirstPart),
         _ => None,
     }
 }
 
-/// What a block is after a line inside it that isn't its end.
-fn after(place: Place, role: Role) -> Place {
+/// How far a block is after a line inside it that isn't its end.
+fn state_after(state: BlockState, role: Role) -> BlockState {
     match role {
-        Role::Construct => Place::Made,
-        Role::Destroy => Place::Destroyed,
-        Role::Else => Place::Otherwise,
-        Role::Plain | Role::Loop | Role::If => after_statement(place),
-        _ => place,
+        Role::Construct => BlockState::AfterConstruct,
+        Role::Destroy => BlockState::AfterDestroy,
+        Role::Else => BlockState::ElsePart,
+        Role::Plain | Role::Loop | Role::If => state_after_statement(state),
+        _ => state,
     }
 }
 
-fn indent_at(lines: &[Line], index: usize) -> usize {
+/// The number of blanks before the line with an index; 0 if there is no such line.
+pub(crate) fn indent_at(lines: &[Line], index: usize) -> usize {
     match lines.get(index) {
         Some(line) => line.indent,
         None => 0,
@@ -111,48 +112,49 @@ impl Blocks {
         let Some(block) = self.open.pop() else {
             return;
         };
-        let closed = Closed {
+        let closed = ClosedBlock {
             first: block.line,
             end,
         };
-        self.closed = Some(closed);
-        if self.slanted.is_none() && indent_at(lines, end) != indent_at(lines, block.line) {
-            self.slanted = Some(closed);
+        self.last_closed = Some(closed);
+        if self.misaligned.is_none() && indent_at(lines, end) != indent_at(lines, block.line) {
+            self.misaligned = Some(closed);
         }
     }
 
-    /// What a line makes of the innermost block.
-    fn pass(&mut self, role: Role) {
+    /// Takes the innermost block past a line with this role.
+    fn advance(&mut self, role: Role) {
         if let Some(block) = self.open.last_mut() {
-            block.place = after(block.place, role);
+            block.state = state_after(block.state, role);
         }
     }
 
-    fn enter(&mut self, index: usize, role: Role) -> Result<(), AllocError> {
-        self.pass(role);
+    fn pass_line(&mut self, index: usize, role: Role) -> Result<(), AllocError> {
+        self.advance(role);
         if self.open.is_empty() {
-            // All that stands above is finished, so none of it lacks an `end`.
-            self.slanted = None;
+            // all that is above is finished, so none of it lacks an `end`
+            self.misaligned = None;
         }
-        if let Some(place) = opened(role) {
-            self.open.push(Block { place, line: index })?;
+        if let Some(state) = initial_state(role) {
+            self.open.push(Block { state, line: index })?;
         }
         Ok(())
     }
 
-    fn take(&mut self, lines: &[Line], index: usize, role: Role) -> Result<(), AllocError> {
+    fn read_line(&mut self, lines: &[Line], index: usize, role: Role) -> Result<(), AllocError> {
         match role {
             Role::Skip => Ok(()),
             Role::End => {
                 self.close(lines, index);
                 Ok(())
             }
-            _ => self.enter(index, role),
+            _ => self.pass_line(index, role),
         }
     }
 }
 
-/// The blocks that are open before the line with an index, where all lines before it stand right.
+/// Returns the blocks that are open before the line with an index, if all lines before it are where they belong. The only error is
+/// that memory ran out.
 pub(crate) fn blocks_before(
     alloc: Global,
     lines: &[Line],
@@ -160,14 +162,14 @@ pub(crate) fn blocks_before(
 ) -> Result<Blocks, AllocError> {
     let mut blocks = Blocks {
         open: Vec::new(alloc),
-        closed: None,
-        slanted: None,
+        last_closed: None,
+        misaligned: None,
     };
     for (at, line) in lines.iter().enumerate() {
         if at >= index {
             return Ok(blocks);
         }
-        blocks.take(lines, at, role(line))?;
+        blocks.read_line(lines, at, role(line))?;
     }
     Ok(blocks)
 }

@@ -1,19 +1,19 @@
 //! A name that is declared twice: where it was declared first.
 
 use crate::blocks::role;
-use crate::lines::{Line, Word};
-use crate::notes::note_name;
-use crate::page::{Page, Span, Spot};
+use crate::further_lines::mark_name;
+use crate::lines::Line;
 use crate::spaces::{line_of_field, line_of_item, line_of_local};
 use crate::words::{is_parameter, is_parameter_named};
 use wb_lines::words::before_first;
 use wb_model::script_lines::Role;
+use wb_pages::{Page, Span, Spot, Word};
 
-/// What is said of a name, behind it.
-const SECOND: &str = "` is declared a second time";
+/// What is said of a name, after it.
+const DECLARED_AGAIN: &str = "` is declared a second time";
 
-/// The line of the first declaration of what a line declares, in its space.
-fn first_line(lines: &[Line], index: usize, line: &Line) -> Option<usize> {
+/// The index of an earlier line that declares what a line declares, in the same space; `None` if there is none.
+fn first_declaration(lines: &[Line], index: usize, line: &Line) -> Option<usize> {
     let name = line.text_at(1);
     let first = match role(line) {
         Role::Class | Role::Procedure => line_of_item(lines, name),
@@ -28,7 +28,7 @@ fn first_line(lines: &[Line], index: usize, line: &Line) -> Option<usize> {
 }
 
 /// Whether one of the words before a place declares a parameter with this name.
-fn is_before(words: &[Word], place: usize, name: &[u8]) -> bool {
+fn has_parameter_before(words: &[Word], place: usize, name: &[u8]) -> bool {
     for (at, word) in words.iter().enumerate() {
         if at < place && is_parameter_named(word.text, name) {
             return true;
@@ -37,11 +37,11 @@ fn is_before(words: &[Word], place: usize, name: &[u8]) -> bool {
     false
 }
 
-/// The first parameter of a line whose name an earlier one has.
-fn second_parameter<'a>(line: &Line<'a>) -> Option<Spot<'a>> {
+/// The first parameter of a line whose name an earlier parameter has; `None` if there is none.
+fn repeated_parameter<'a>(line: &Line<'a>) -> Option<Spot<'a>> {
     for (place, word) in line.words.iter().enumerate() {
         let name = before_first(b':', word.text);
-        if is_parameter(word.text) && is_before(&line.words, place, name) {
+        if is_parameter(word.text) && has_parameter_before(&line.words, place, name) {
             let span = Span {
                 column: word.column,
                 length: name.len(),
@@ -52,31 +52,31 @@ fn second_parameter<'a>(line: &Line<'a>) -> Option<Spot<'a>> {
     None
 }
 
-fn space_help(role: Role) -> &'static str {
+fn help_for_role(role: Role) -> &'static str {
     match role {
         Role::Class | Role::Procedure => {
-            "classes, procedures and operations of a script have names of their own, all different"
+            "the classes, procedures and operations of a script all have different names"
         }
-        Role::Field => "the fields of a class have different names",
-        _ => "the parameters and declarations of one body have different names",
+        Role::Field => "the fields of a class all have different names",
+        _ => "the parameters and declarations of a body all have different names",
     }
 }
 
-/// Says which name a line declares a second time, and where the first declaration stands.
-pub(crate) fn double_name(page: &mut Page, lines: &[Line], index: usize) {
+/// Says which name a line declares a second time, and where it is declared first.
+pub(crate) fn explain_double_name(page: &mut Page, lines: &[Line], index: usize) {
     let Some(line) = lines.get(index) else {
         return;
     };
-    match first_line(lines, index, line) {
+    match first_declaration(lines, index, line) {
         Some(first) => {
-            page.tell_word(line.spot(1), "`", SECOND);
-            note_name(page, lines, first, line.text_at(1), "first declared here");
-            page.help_text(space_help(role(line)));
+            page.mark_word(line.spot(1), "`", DECLARED_AGAIN);
+            mark_name(page, lines, first, line.text_at(1), "first declared here");
+            page.write_help_text(help_for_role(role(line)));
         }
         None => {
-            if let Some(spot) = second_parameter(line) {
-                page.tell_word(spot, "`", SECOND);
-                page.help_text(space_help(Role::Declaration));
+            if let Some(spot) = repeated_parameter(line) {
+                page.mark_word(spot, "`", DECLARED_AGAIN);
+                page.write_help_text(help_for_role(Role::Declaration));
             }
         }
     }

@@ -1,23 +1,23 @@
-//! What a name that isn't known where it stands is elsewhere in the script.
+//! What a name that isn't known where it is used is elsewhere in the script.
 
+use crate::further_lines::mark_name;
 use crate::lines::Line;
-use crate::notes::note_name;
-use crate::page::Page;
-use crate::spaces::{has_self, item_named, line_of_field, local_anywhere, local_named};
+use crate::spaces::{find_item, find_local, find_local_anywhere, has_self, line_of_field};
 use wb_model::script_lines::{ItemKind, Kind};
+use wb_pages::Page;
 
 /// What a name is elsewhere, and the line that declares it.
 #[derive(Clone, Copy)]
 pub(crate) enum Elsewhere {
-    /// A field of the class whose body the name stands in.
-    Member(usize),
-    /// Something else than what is wanted where the name stands.
-    Other(&'static str, usize),
+    /// A field of the class in whose body the name is used.
+    FieldOfClass(usize),
+    /// Something other than what is expected where the name is used, and what that is.
+    OtherKind(&'static str, usize),
     /// A local of another body.
-    Foreign(usize),
+    OtherBody(usize),
 }
 
-fn of_item(kind: ItemKind) -> &'static str {
+fn item_problem(kind: ItemKind) -> &'static str {
     match kind {
         ItemKind::Class => "a class has this name",
         ItemKind::Procedure => "a procedure has this name",
@@ -25,7 +25,7 @@ fn of_item(kind: ItemKind) -> &'static str {
     }
 }
 
-fn of_local(kind: Kind<&[u8]>) -> &'static str {
+fn local_problem(kind: Kind<&[u8]>) -> &'static str {
     match kind {
         Kind::Pointer(_) => "a pointer of the body has this name",
         Kind::Number => "an int of the body has this name",
@@ -34,8 +34,8 @@ fn of_local(kind: Kind<&[u8]>) -> &'static str {
     }
 }
 
-/// The line of the field with a name, where the line stands in a body of a class.
-fn member(lines: &[Line], index: usize, name: &[u8]) -> Option<usize> {
+/// The index of the line that declares the field with a name, if a line is in a body of its class; else `None`.
+fn field_of_class(lines: &[Line], index: usize, name: &[u8]) -> Option<usize> {
     if has_self(lines, index) {
         line_of_field(lines, index, name)
     } else {
@@ -43,48 +43,48 @@ fn member(lines: &[Line], index: usize, name: &[u8]) -> Option<usize> {
     }
 }
 
-/// What a name is that no local of the body has.
-pub(crate) fn instead_of_local(lines: &[Line], index: usize, name: &[u8]) -> Option<Elsewhere> {
-    if let Some(field) = member(lines, index, name) {
-        return Some(Elsewhere::Member(field));
+/// What a name is that no local of the body has; `None` if it is nothing elsewhere either.
+pub(crate) fn elsewhere_of_local(lines: &[Line], index: usize, name: &[u8]) -> Option<Elsewhere> {
+    if let Some(field) = field_of_class(lines, index, name) {
+        return Some(Elsewhere::FieldOfClass(field));
     }
-    if let Some(item) = item_named(lines, name) {
-        return Some(Elsewhere::Other(of_item(item.kind), item.line));
+    if let Some(item) = find_item(lines, name) {
+        return Some(Elsewhere::OtherKind(item_problem(item.kind), item.line));
     }
-    match local_anywhere(lines, name) {
-        Some(local) => Some(Elsewhere::Foreign(local.line)),
+    match find_local_anywhere(lines, name) {
+        Some(local) => Some(Elsewhere::OtherBody(local.line)),
         None => None,
     }
 }
 
-/// What a name is that no class, procedure or operation has.
-pub(crate) fn instead_of_item(lines: &[Line], index: usize, name: &[u8]) -> Option<Elsewhere> {
-    match local_named(lines, index, name) {
-        Some(local) => Some(Elsewhere::Other(of_local(local.kind), local.line)),
+/// What a name is that no class, procedure or operation has; `None` if it is nothing elsewhere either.
+pub(crate) fn elsewhere_of_item(lines: &[Line], index: usize, name: &[u8]) -> Option<Elsewhere> {
+    match find_local(lines, index, name) {
+        Some(local) => Some(Elsewhere::OtherKind(local_problem(local.kind), local.line)),
         None => None,
     }
 }
 
 /// Says what a name is elsewhere.
-pub(crate) fn note_elsewhere(page: &mut Page, lines: &[Line], name: &[u8], found: Elsewhere) {
+pub(crate) fn explain_elsewhere(page: &mut Page, lines: &[Line], name: &[u8], found: Elsewhere) {
     match found {
-        Elsewhere::Member(line) => {
-            note_name(
+        Elsewhere::FieldOfClass(line) => {
+            mark_name(
                 page,
                 lines,
                 line,
                 name,
                 "the class has a field of this name",
             );
-            page.help_word("a field is named through its object: `self.", name, "`");
+            page.write_help_word("a field is named through its object: `self.", name, "`");
         }
-        Elsewhere::Other(what, line) => note_name(page, lines, line, name, what),
-        Elsewhere::Foreign(line) => note_name(
+        Elsewhere::OtherKind(what, line) => mark_name(page, lines, line, name, what),
+        Elsewhere::OtherBody(line) => mark_name(
             page,
             lines,
             line,
             name,
-            "another body declares it here, and names belong to one body",
+            "another body declares it here, but a name belongs to one body",
         ),
     }
 }

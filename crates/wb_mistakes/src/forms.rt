@@ -1,13 +1,13 @@
-//! The forms of the language's lines, as they are told: the word that begins each, and what stands behind it.
+//! The forms of the language's lines, as messages write them: the word that begins each, and placeholders for its operands.
 
-use crate::lines::{Line, Word};
-use crate::page::{Page, Piece};
+use crate::lines::Line;
 use wb_lines::forms::operand_of;
 use wb_lines::keys::{Letters, keys, letters_of, rest_of, text_of};
 use wb_lines::words::text_of_keyword;
 use wb_model::script_lines::{Key, Letter};
+use wb_pages::{Fragment, Page, Word};
 
-/// What stands at a place behind the first word, counted from 1; nothing at place 0.
+/// The operand that a form has at a place after its first word, counted from 1; `None` at place 0 and where it has none.
 pub(crate) fn letter_at(key: Key, place: usize) -> Option<Letter> {
     if place == 0 {
         return None;
@@ -15,7 +15,7 @@ pub(crate) fn letter_at(key: Key, place: usize) -> Option<Letter> {
     Letters::of(key).at(place - 1)
 }
 
-/// What stands at a place of a line, by the line's form.
+/// The operand at a place of a line, by the line's form; `None` if it has none there.
 pub(crate) fn letter_of(line: &Line, place: usize) -> Option<Letter> {
     match line.key {
         Some(key) => letter_at(key, place),
@@ -23,12 +23,12 @@ pub(crate) fn letter_of(line: &Line, place: usize) -> Option<Letter> {
     }
 }
 
-/// Whether a line of a key may have so many words, the first one among them.
-pub(crate) fn admits(key: Key, words: usize) -> bool {
+/// Whether a line of this form may have this number of words, its first one included.
+pub(crate) fn admits_count(key: Key, words: usize) -> bool {
     Letters::of(key).admit(words.saturating_sub(1))
 }
 
-pub(crate) fn begins(key: Key, word: &[u8]) -> bool {
+pub(crate) fn begins_with(key: Key, word: &[u8]) -> bool {
     text_of(key) == word
 }
 
@@ -39,8 +39,8 @@ fn fits_at(key: Key, place: usize, word: &[u8]) -> bool {
     }
 }
 
-/// The place of the first word that the form of a key doesn't take; there is none where all fit.
-pub(crate) fn first_wrong(key: Key, words: &[Word]) -> Option<usize> {
+/// The place of the first word that doesn't fit the form; `None` if all fit.
+pub(crate) fn first_wrong_word(key: Key, words: &[Word]) -> Option<usize> {
     for (place, word) in words.iter().enumerate() {
         if !fits_at(key, place, word.text) {
             return Some(place);
@@ -49,8 +49,8 @@ pub(crate) fn first_wrong(key: Key, words: &[Word]) -> Option<usize> {
     None
 }
 
-/// How a form calls what stands at a letter.
-fn called(letter: Letter) -> &'static [u8] {
+/// The placeholder for an operand, in a form as it is written.
+fn placeholder_of(letter: Letter) -> &'static [u8] {
     match letter {
         Letter::Declared => b"NAME",
         Letter::Pointer | Letter::Written | Letter::Receiver => b"POINTER",
@@ -70,31 +70,31 @@ fn called(letter: Letter) -> &'static [u8] {
     }
 }
 
-fn say_letter(page: &mut Page, letter: Letter) {
-    page.say(&[Piece::Text(" "), Piece::Word(called(letter))]);
+fn write_placeholder(page: &mut Page, letter: Letter) {
+    page.write(&[Fragment::Text(" "), Fragment::Word(placeholder_of(letter))]);
 }
 
-/// Writes a form: `alloc POINTER NUMBER`.
-pub(crate) fn say_form(page: &mut Page, key: Key) {
-    page.say(&[Piece::Text("`"), Piece::Word(text_of(key))]);
+/// Writes a form between backquotes, as `alloc POINTER NUMBER`.
+pub(crate) fn write_form(page: &mut Page, key: Key) {
+    page.write(&[Fragment::Text("`"), Fragment::Word(text_of(key))]);
     for letter in letters_of(key) {
-        say_letter(page, *letter);
+        write_placeholder(page, *letter);
     }
     if let Some(letter) = rest_of(key) {
-        say_letter(page, letter);
+        write_placeholder(page, letter);
     }
-    page.say(&[Piece::Text("`")]);
+    page.write(&[Fragment::Text("`")]);
 }
 
 /// Writes all forms that begin with a word, with `or` between them.
-pub(crate) fn say_forms(page: &mut Page, word: &[u8]) {
+pub(crate) fn write_forms(page: &mut Page, word: &[u8]) {
     let mut is_first = true;
     for key in keys() {
-        if begins(*key, word) {
+        if begins_with(*key, word) {
             if !is_first {
-                page.say(&[Piece::Text(" or ")]);
+                page.write(&[Fragment::Text(" or ")]);
             }
-            say_form(page, *key);
+            write_form(page, *key);
             is_first = false;
         }
     }

@@ -1,56 +1,56 @@
-//! An operand of a wrong kind: what its place takes, what it is, and where it is declared.
+//! An operand of a wrong kind: what is expected in its place, what it is, and where it is declared.
 
-use crate::arguments::wrong_arguments;
+use crate::arguments::explain_arguments;
 use crate::blocks::{Blocks, role, role_at};
 use crate::forms::letter_of;
-use crate::lines::{Line, Word};
-use crate::misspelled::help_wanted;
-use crate::notes::{note, note_local, note_name};
-use crate::page::{Page, Piece, Span, Spot};
-use crate::sorts::{declared_at, described, sort_in_body, sort_of};
-use crate::spaces::{body_of, class_of, key_at, key_of, line_of_item};
+use crate::further_lines::{mark_declaration, mark_line, mark_name};
+use crate::lines::Line;
+use crate::misspelled::help_with_operand;
+use crate::sorts::{description_of, line_of_declaration, sort_in_body, sort_of};
+use crate::spaces::{body_of, class_of_holder, key_at, key_of, line_of_item};
 use crate::words::{is_field, is_parameter};
 use wb_lines::sorts::{is_pointer_sort, takes};
 use wb_lines::words::{before_first, behind_first};
 use wb_model::script_lines::{Key, Letter, Role, Sort};
+use wb_pages::{Fragment, Page, Span, Spot, Word};
 
-/// Whether a word may be what it is where a letter stands.
-fn is_right(lines: &[Line], index: usize, letter: Letter, word: &[u8]) -> bool {
+/// Whether what a word refers to is right for an operand.
+fn fits_letter(lines: &[Line], index: usize, letter: Letter, word: &[u8]) -> bool {
     takes(letter, sort_of(lines, index, letter, word))
 }
 
-/// The same where a letter may stand; a word where none does is right.
-fn is_right_at(lines: &[Line], index: usize, letter: Option<Letter>, word: &[u8]) -> bool {
+/// The same of a word that may be no operand; such a word is right.
+fn fits_place(lines: &[Line], index: usize, letter: Option<Letter>, word: &[u8]) -> bool {
     match letter {
-        Some(letter) => is_right(lines, index, letter, word),
+        Some(letter) => fits_letter(lines, index, letter, word),
         None => true,
     }
 }
 
-/// The place of the first word of a wrong kind.
-fn first_wrong(lines: &[Line], index: usize, line: &Line) -> Option<usize> {
+/// The place of the first word of a wrong kind; `None` if there is none.
+fn first_wrong_operand(lines: &[Line], index: usize, line: &Line) -> Option<usize> {
     for (place, word) in line.words.iter().enumerate() {
-        if !is_right_at(lines, index, letter_of(line, place), word.text) {
+        if !fits_place(lines, index, letter_of(line, place), word.text) {
             return Some(place);
         }
     }
     None
 }
 
-/// Says what a word is, where it stands.
-fn tell_kind<'x>(page: &mut Page, spot: Spot<'x>, is: &'x str) {
-    page.tell(
+/// Says what a word is, and shows it.
+fn mark_kind<'x>(page: &mut Page, spot: Spot<'x>, is: &'x str) {
+    page.mark(
         spot,
         &[
-            Piece::Text("wrong kind: `"),
-            Piece::Word(spot.word),
-            Piece::Text("` is "),
-            Piece::Text(is),
+            Fragment::Text("wrong kind: `"),
+            Fragment::Word(spot.word),
+            Fragment::Text("` is "),
+            Fragment::Text(is),
         ],
     );
 }
 
-/// What stands before the dot of a field.
+/// The part before the dot of a field.
 fn spot_of_holder<'a>(line: &Line<'a>, word: Word<'a>) -> Spot<'a> {
     let holder = before_first(b'.', word.text);
     let span = Span {
@@ -60,7 +60,7 @@ fn spot_of_holder<'a>(line: &Line<'a>, word: Word<'a>) -> Spot<'a> {
     line.spot_of(span, holder)
 }
 
-/// The class of a parameter.
+/// The class in the word of a parameter.
 fn spot_of_class<'a>(line: &Line<'a>, word: Word<'a>) -> Spot<'a> {
     let class = behind_first(b':', word.text);
     let end = word.column.saturating_add(word.text.len());
@@ -71,31 +71,33 @@ fn spot_of_class<'a>(line: &Line<'a>, word: Word<'a>) -> Spot<'a> {
     line.spot_of(span, class)
 }
 
-/// Says why what stands before a dot has no fields.
-fn wrong_holder(page: &mut Page, lines: &[Line], index: usize, spot: Spot) {
+/// Says why the name before a dot has no fields.
+fn explain_holder(page: &mut Page, lines: &[Line], index: usize, spot: Spot) {
     let is = match sort_in_body(lines, index, spot.word) {
         Sort::Pointer => "a pointer without a class, so it has no fields",
-        sort => described(sort),
+        sort => description_of(sort),
     };
-    tell_kind(page, spot, is);
-    note_local(page, lines, index, spot.word);
-    page.help_text("only a pointer that is declared with its class has fields: `ptr NAME CLASS`");
+    mark_kind(page, spot, is);
+    mark_declaration(page, lines, index, spot.word);
+    page.write_help_text(
+        "only a pointer that is declared with its class has fields: `ptr NAME CLASS`",
+    );
 }
 
-/// Says that the class of a parameter is none.
-fn wrong_parameter(page: &mut Page, lines: &[Line], spot: Spot) {
-    tell_kind(page, spot, "no class");
+/// Says that the class of a parameter is not a class.
+fn explain_parameter(page: &mut Page, lines: &[Line], spot: Spot) {
+    mark_kind(page, spot, "not a class");
     if let Some(item) = line_of_item(lines, spot.word) {
-        note_name(page, lines, item, spot.word, "declared here");
+        mark_name(page, lines, item, spot.word, "declared here");
     }
-    page.help_text("a parameter is `NAME:ptr`, `NAME:int` or `NAME:CLASS`");
+    page.write_help_text("a parameter is `NAME:ptr`, `NAME:int` or `NAME:CLASS`");
 }
 
-fn wrong_name(page: &mut Page, lines: &[Line], index: usize, letter: Letter, spot: Spot) {
+fn explain_name(page: &mut Page, lines: &[Line], index: usize, letter: Letter, spot: Spot) {
     let sort = sort_of(lines, index, letter, spot.word);
-    tell_kind(page, spot, described(sort));
-    if let Some(declared) = declared_at(lines, index, letter, spot.word) {
-        note_name(
+    mark_kind(page, spot, description_of(sort));
+    if let Some(declared) = line_of_declaration(lines, index, letter, spot.word) {
+        mark_name(
             page,
             lines,
             declared,
@@ -105,24 +107,24 @@ fn wrong_name(page: &mut Page, lines: &[Line], index: usize, letter: Letter, spo
     }
 }
 
-/// Whether a word is a field whose holder has no class.
-fn is_loose(lines: &[Line], index: usize, word: &[u8]) -> bool {
-    is_field(word) && class_of(lines, index, before_first(b'.', word)).is_none()
+/// Whether a word is a field, and the name before its dot has no class.
+fn is_field_without_class(lines: &[Line], index: usize, word: &[u8]) -> bool {
+    is_field(word) && class_of_holder(lines, index, before_first(b'.', word)).is_none()
 }
 
 /// Says what is wrong with the word at a place.
-fn wrong_operand(page: &mut Page, lines: &[Line], index: usize, line: &Line, place: usize) {
+fn explain_operand(page: &mut Page, lines: &[Line], index: usize, line: &Line, place: usize) {
     let Some(word) = line.word(place) else {
         return;
     };
     if is_parameter(word.text) {
-        wrong_parameter(page, lines, spot_of_class(line, word));
-    } else if is_loose(lines, index, word.text) {
-        wrong_holder(page, lines, index, spot_of_holder(line, word));
+        explain_parameter(page, lines, spot_of_class(line, word));
+    } else if is_field_without_class(lines, index, word.text) {
+        explain_holder(page, lines, index, spot_of_holder(line, word));
     } else {
         let letter = letter_of(line, place).unwrap_or(Letter::Argument);
-        wrong_name(page, lines, index, letter, line.spot(place));
-        help_wanted(page, line, letter);
+        explain_name(page, lines, index, letter, line.spot(place));
+        help_with_operand(page, line, letter);
     }
 }
 
@@ -133,43 +135,45 @@ fn sides_differ(lines: &[Line], index: usize, line: &Line) -> bool {
     matches!(key_of(line), Some(Key::Set)) && is_pointer_sort(target) != is_pointer_sort(source)
 }
 
-fn wrong_sides(page: &mut Page, lines: &[Line], index: usize, line: &Line) {
+fn explain_sides(page: &mut Page, lines: &[Line], index: usize, line: &Line) {
     let (target, source) = (line.text_at(1), line.text_at(2));
-    page.tell(
+    page.mark(
         line.spot(2),
         &[
-            Piece::Text("wrong kind: `"),
-            Piece::Word(target),
-            Piece::Text("` is "),
-            Piece::Text(described(sort_in_body(lines, index, target))),
-            Piece::Text(", and `"),
-            Piece::Word(source),
-            Piece::Text("` is "),
-            Piece::Text(described(sort_in_body(lines, index, source))),
+            Fragment::Text("wrong kind: `"),
+            Fragment::Word(target),
+            Fragment::Text("` is "),
+            Fragment::Text(description_of(sort_in_body(lines, index, target))),
+            Fragment::Text(", but `"),
+            Fragment::Word(source),
+            Fragment::Text("` is "),
+            Fragment::Text(description_of(sort_in_body(lines, index, source))),
         ],
     );
-    note_local(page, lines, index, target);
-    note_local(page, lines, index, before_first(b'.', source));
-    page.help_text("`set` takes two pointers, or an int and a number");
+    mark_declaration(page, lines, index, target);
+    mark_declaration(page, lines, index, before_first(b'.', source));
+    page.write_help_text("`set` takes two pointers, or an int and a number");
 }
 
-/// Whether a line gives `main` parameters, or makes a class or an operation of it.
+/// Whether a line gives `main` parameters, or makes it a class or an operation.
 fn misuses_main(line: &Line) -> bool {
-    let is_begun = matches!(role(line), Role::Class | Role::Procedure);
+    let begins_item = matches!(role(line), Role::Class | Role::Procedure);
     let is_plain = matches!(key_of(line), Some(Key::Proc)) && line.words.len() == 2;
-    is_begun && line.text_at(1) == b"main".as_slice() && !is_plain
+    begins_item && line.text_at(1) == b"main".as_slice() && !is_plain
 }
 
-fn wrong_main(page: &mut Page, line: &Line) {
-    page.tell_text(line.whole(), "`main` is a procedure without parameters");
-    page.help_text(match key_of(line) {
-        Some(Key::Proc) =>
-            "write `proc main` alone: nothing gives it arguments where the run begins",
+fn explain_main(page: &mut Page, line: &Line) {
+    page.mark_text(
+        line.whole(),
+        "`main` must be a procedure without parameters",
+    );
+    page.write_help_text(match key_of(line) {
+        Some(Key::Proc) => "write only `proc main`: it gets no arguments when the run begins",
         _ => "the run begins with `proc main`; give this another name",
     });
 }
 
-/// The innermost `trap` that is open.
+/// The index of the first line of the innermost `trap` that is open; `None` if none is.
 fn open_trap(lines: &[Line], blocks: &Blocks) -> Option<usize> {
     let mut trap = None;
     for block in &blocks.open {
@@ -180,29 +184,29 @@ fn open_trap(lines: &[Line], blocks: &Blocks) -> Option<usize> {
     trap
 }
 
-/// Says why a `return` can't stand where it does.
-fn wrong_return(page: &mut Page, lines: &[Line], index: usize, line: &Line, blocks: &Blocks) {
+/// Says why a `return` is not allowed where it is.
+fn explain_return(page: &mut Page, lines: &[Line], index: usize, line: &Line, blocks: &Blocks) {
     match open_trap(lines, blocks) {
         Some(trap) => {
-            page.tell_text(line.whole(), "`return` can't stand inside of a `trap`");
-            note(page, lines, trap, "the block begins here");
-            page.help_text("end the `trap` first, and return behind it");
+            page.mark_text(line.whole(), "`return` is not allowed inside a `trap`");
+            mark_line(page, lines, trap, "the block begins here");
+            page.write_help_text("end the `trap` first, and return after it");
         }
         None => {
             let body = body_of(lines, index);
-            page.tell_text(line.whole(), "only a procedure returns a pointer");
-            note(page, lines, body, "the body begins here");
-            page.help_text(help_of_return(role_at(lines, body)));
+            page.mark_text(line.whole(), "only a procedure can return a pointer");
+            mark_line(page, lines, body, "the body begins here");
+            page.write_help_text(help_of_return(role_at(lines, body)));
         }
     }
 }
 
-/// How a body ends that is no procedure's. In a body that must not leave, `return` can't stand either.
+/// How a body ends that isn't a procedure's. A body that must not leave has no `return` at all.
 fn help_of_return(body: Role) -> &'static str {
     match body {
-        Role::Construct => "`return` alone ends the body",
+        Role::Construct => "`return` without a pointer ends the body",
         _ => {
-            "an operation and a `destroy` body have no `return` and run to their `end`; `if` can pass over lines"
+            "an operation and a `destroy` body have no `return` and run to their `end`; `if` can skip lines"
         }
     }
 }
@@ -211,20 +215,20 @@ fn ends_body(line: &Line) -> bool {
     matches!(key_of(line), Some(Key::Return | Key::ReturnPointer))
 }
 
-/// Says which operand of a line is of a wrong kind, or why the line can't stand where it does.
-pub(crate) fn wrong_kind(page: &mut Page, lines: &[Line], index: usize, blocks: &Blocks) {
+/// Says which operand of a line is of a wrong kind, or why the line is not allowed where it is.
+pub(crate) fn explain_wrong_kind(page: &mut Page, lines: &[Line], index: usize, blocks: &Blocks) {
     let Some(line) = lines.get(index) else {
         return;
     };
-    if let Some(place) = first_wrong(lines, index, line) {
-        wrong_operand(page, lines, index, line, place);
+    if let Some(place) = first_wrong_operand(lines, index, line) {
+        explain_operand(page, lines, index, line, place);
     } else if sides_differ(lines, index, line) {
-        wrong_sides(page, lines, index, line);
+        explain_sides(page, lines, index, line);
     } else if misuses_main(line) {
-        wrong_main(page, line);
+        explain_main(page, line);
     } else if ends_body(line) {
-        wrong_return(page, lines, index, line, blocks);
+        explain_return(page, lines, index, line, blocks);
     } else {
-        wrong_arguments(page, lines, index, line);
+        explain_arguments(page, lines, index, line);
     }
 }

@@ -1,14 +1,14 @@
 //! Why a script was refused: which line and word, what is wrong with it, and what to write instead, as text for standard error.
 //!
-//! Plain functions from values to text. No report stands on them.
+//! Plain functions from values to text. No report rests on them.
 #![tactic(auto)]
 
 mod arguments;
 mod blocks;
 mod double;
 mod elsewhere;
-mod foreign;
 mod forms;
+mod further_lines;
 mod kinds;
 mod leaving;
 mod limits;
@@ -18,8 +18,7 @@ mod misplaced;
 mod misspelled;
 mod near_names;
 mod nearest;
-mod notes;
-mod page;
+mod not_ascii;
 pub mod refused;
 mod sorts;
 mod spaces;

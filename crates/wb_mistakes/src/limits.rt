@@ -1,8 +1,7 @@
-//! A limit that a line passes: which one, and what was counted.
+//! A limit that a line exceeds: which one, and what was counted.
 
 use crate::blocks::{Blocks, role, role_at};
-use crate::lines::{Line, Word};
-use crate::page::{Page, Piece, Span};
+use crate::lines::Line;
 use crate::spaces::{body_of, class_before, key_of};
 use crate::words::is_parameter;
 use wb_lines::forms::operand_of;
@@ -12,10 +11,11 @@ use wb_model::limits::{
     MOST_LOCALS, MOST_PARAMETERS, MOST_PROCEDURES,
 };
 use wb_model::script_lines::{Key, Letter, Operand, Role};
+use wb_pages::{Fragment, Page, Span, Word};
 
-/// A limit that is passed: of what, what was counted, how many there may be, and where the word stands that passes it.
+/// More than a limit allows: of what, the count, the limit, and the part of the line that exceeds it.
 #[derive(Clone, Copy)]
-struct Passed {
+struct Excess {
     what: &'static str,
     counted: usize,
     most: u32,
@@ -26,8 +26,8 @@ fn is_long(name: &[u8]) -> bool {
     name.len() > LONGEST_NAME as usize && is_name(name)
 }
 
-/// The length of the part of a word that is a name longer than names may be; 0 where there is none.
-fn long_part(word: &[u8]) -> usize {
+/// The length in bytes of the part of a word that is a name longer than names may be; 0 if there is none.
+fn long_name_length(word: &[u8]) -> usize {
     let byte = if is_parameter(word) { b':' } else { b'.' };
     if is_long(before_first(byte, word)) {
         before_first(byte, word).len()
@@ -38,12 +38,12 @@ fn long_part(word: &[u8]) -> usize {
     }
 }
 
-fn long_name(line: &Line) -> Option<Passed> {
+fn name_excess(line: &Line) -> Option<Excess> {
     for word in &line.words {
-        let counted = long_part(word.text);
+        let counted = long_name_length(word.text);
         if counted > 0 {
-            return Some(Passed {
-                what: "bytes of a name",
+            return Some(Excess {
+                what: "bytes in a name",
                 counted,
                 most: LONGEST_NAME,
                 span: word.span(),
@@ -63,7 +63,7 @@ fn parameter_count(words: &[Word]) -> usize {
     count
 }
 
-/// How many lines of a role stand between two, both among them.
+/// The number of lines of a role from one index to another, both included.
 fn count_between(lines: &[Line], from: usize, to: usize, wanted: Role) -> usize {
     let mut count: usize = 0;
     for (index, line) in lines.iter().enumerate() {
@@ -74,7 +74,7 @@ fn count_between(lines: &[Line], from: usize, to: usize, wanted: Role) -> usize 
     count
 }
 
-/// How many locals a body has up to a line, its parameters among them.
+/// The number of locals that a body has up to a line, its parameters included.
 fn local_count(lines: &[Line], index: usize) -> usize {
     let body = body_of(lines, index);
     let declared = count_between(lines, body, index, Role::Declaration);
@@ -85,9 +85,9 @@ fn local_count(lines: &[Line], index: usize) -> usize {
     }
 }
 
-fn passed_by(what: &'static str, counted: usize, most: u32, span: Span) -> Option<Passed> {
+fn excess_over(what: &'static str, counted: usize, most: u32, span: Span) -> Option<Excess> {
     if counted > most as usize {
-        Some(Passed {
+        Some(Excess {
             what,
             counted,
             most,
@@ -98,7 +98,7 @@ fn passed_by(what: &'static str, counted: usize, most: u32, span: Span) -> Optio
     }
 }
 
-/// The size that a word spells; 0 where it spells none.
+/// The size that a word spells; 0 if it spells none.
 fn size_of(word: &[u8]) -> usize {
     match operand_of(Letter::Size, word) {
         Some(Operand::Size(size)) => size as usize,
@@ -106,21 +106,26 @@ fn size_of(word: &[u8]) -> usize {
     }
 }
 
-/// The size that a line passes a limit with.
-fn large_size(line: &Line) -> Option<Passed> {
+/// The size in a line that is larger than its limit; `None` if there is none.
+fn size_excess(line: &Line) -> Option<Excess> {
     let size = size_of(line.text_at(2));
     match key_of(line) {
-        Some(Key::Class) => passed_by("extra bytes of a class", size, MOST_EXTRA, line.span_at(2)),
-        Some(Key::Buf) => passed_by("units of a buffer", size, LARGEST_BUFFER, line.span_at(2)),
+        Some(Key::Class) => excess_over(
+            "extra bytes in a class",
+            size,
+            MOST_EXTRA,
+            line.span_at(2),
+        ),
+        Some(Key::Buf) => excess_over("units in a buffer", size, LARGEST_BUFFER, line.span_at(2)),
         _ => None,
     }
 }
 
-/// What there is one more of than there may be.
-fn one_more(lines: &[Line], index: usize, line: &Line, blocks: &Blocks) -> Option<Passed> {
+/// What a line adds one too many of; `None` if there is nothing.
+fn count_excess(lines: &[Line], index: usize, line: &Line, blocks: &Blocks) -> Option<Excess> {
     let span = line.span_at(1);
     match role(line) {
-        Role::Class => passed_by(
+        Role::Class => excess_over(
             "classes",
             count_between(lines, 0, index, Role::Class),
             MOST_CLASSES,
@@ -128,27 +133,27 @@ fn one_more(lines: &[Line], index: usize, line: &Line, blocks: &Blocks) -> Optio
         ),
         Role::Field => {
             let class = class_before(lines, index).unwrap_or(0);
-            passed_by(
-                "fields of a class",
+            excess_over(
+                "fields in a class",
                 count_between(lines, class, index, Role::Field),
                 MOST_FIELDS,
                 span,
             )
         }
-        Role::Procedure => passed_by(
+        Role::Procedure => excess_over(
             "procedures and operations",
             count_between(lines, 0, index, Role::Procedure),
             MOST_PROCEDURES,
             span,
         ),
-        Role::Declaration => passed_by(
-            "locals of a body",
+        Role::Declaration => excess_over(
+            "locals in a body",
             local_count(lines, index),
             MOST_LOCALS,
             span,
         ),
         Role::Loop | Role::If => {
-            passed_by(
+            excess_over(
                 "blocks inside one another",
                 block_count(lines, blocks),
                 DEEPEST_BLOCK,
@@ -159,7 +164,7 @@ fn one_more(lines: &[Line], index: usize, line: &Line, blocks: &Blocks) -> Optio
     }
 }
 
-/// How many blocks stand inside one another with one more.
+/// The number of blocks inside one another, with one more inside those that are open.
 fn block_count(lines: &[Line], blocks: &Blocks) -> usize {
     let mut count: usize = 1;
     for block in &blocks.open {
@@ -170,45 +175,45 @@ fn block_count(lines: &[Line], blocks: &Blocks) -> usize {
     count
 }
 
-fn more_parameters(line: &Line) -> Option<Passed> {
-    passed_by(
-        "parameters of a procedure",
+fn parameter_excess(line: &Line) -> Option<Excess> {
+    excess_over(
+        "parameters in a procedure",
         parameter_count(&line.words),
         MOST_PARAMETERS,
         line.span_at(MOST_PARAMETERS as usize + 2),
     )
 }
 
-/// Which limit a line passes.
-fn limit_passed(lines: &[Line], index: usize, line: &Line, blocks: &Blocks) -> Option<Passed> {
-    if let Some(found) = long_name(line) {
+/// The first limit that a line exceeds; `None` if there is none.
+fn find_excess(lines: &[Line], index: usize, line: &Line, blocks: &Blocks) -> Option<Excess> {
+    if let Some(found) = name_excess(line) {
         Some(found)
-    } else if let Some(found) = more_parameters(line) {
+    } else if let Some(found) = parameter_excess(line) {
         Some(found)
-    } else if let Some(found) = one_more(lines, index, line, blocks) {
+    } else if let Some(found) = count_excess(lines, index, line, blocks) {
         Some(found)
     } else {
-        large_size(line)
+        size_excess(line)
     }
 }
 
-/// Says which limit a line passes.
-pub(crate) fn too_many(page: &mut Page, lines: &[Line], index: usize, blocks: &Blocks) {
+/// Says which limit a line exceeds.
+pub(crate) fn explain_too_many(page: &mut Page, lines: &[Line], index: usize, blocks: &Blocks) {
     let Some(line) = lines.get(index) else {
         return;
     };
-    let Some(found) = limit_passed(lines, index, line, blocks) else {
+    let Some(found) = find_excess(lines, index, line, blocks) else {
         return;
     };
-    page.tell(
+    page.mark(
         line.spot_of(found.span, &[]),
         &[
-            Piece::Text("too many "),
-            Piece::Text(found.what),
-            Piece::Text(": "),
-            Piece::Number(found.counted),
-            Piece::Text(", and there may be "),
-            Piece::Number(found.most as usize),
+            Fragment::Text("too many "),
+            Fragment::Text(found.what),
+            Fragment::Text(": "),
+            Fragment::Number(found.counted),
+            Fragment::Text(", but the limit is "),
+            Fragment::Number(found.most as usize),
         ],
     );
 }

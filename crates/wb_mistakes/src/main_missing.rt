@@ -1,20 +1,20 @@
 //! A script without the procedure that its run begins with.
 
+use crate::further_lines::mark_line;
 use crate::lines::Line;
-use crate::near_names::near_item;
-use crate::notes::note;
-use crate::page::Page;
-use crate::spaces::item_named;
+use crate::near_names::nearest_item;
+use crate::spaces::find_item;
 use wb_model::script_lines::ItemKind;
+use wb_pages::Page;
 
-/// Says that there is no `main`, and which procedure may have been meant.
-pub(crate) fn no_main(page: &mut Page, lines: &[Line]) {
-    page.whole("the script has no procedure `main`");
-    let near = near_item(lines, ItemKind::Procedure, b"main");
-    match (item_named(lines, b"main"), near) {
-        (Some(item), _) => note(page, lines, item.line, "`main` is no procedure"),
+/// Says that there is no `main`, and which procedure may be meant to be it.
+pub(crate) fn explain_no_main(page: &mut Page, lines: &[Line]) {
+    page.write_file_text("the script has no procedure `main`");
+    let near = nearest_item(lines, ItemKind::Procedure, b"main");
+    match (find_item(lines, b"main"), near) {
+        (Some(item), _) => mark_line(page, lines, item.line, "`main` is not a procedure"),
         (None, Some(near)) => {
-            note(
+            mark_line(
                 page,
                 lines,
                 near.line.saturating_sub(1),
@@ -23,5 +23,5 @@ pub(crate) fn no_main(page: &mut Page, lines: &[Line]) {
         }
         (None, None) => {}
     }
-    page.help_text("the run begins with `proc main`");
+    page.write_help_text("the run begins with `proc main`");
 }

@@ -1,116 +1,109 @@
-//! A line that can't stand where it does, and a file that ends too early.
+//! A line that is not allowed where it is, and a file that ends too early.
 
-use crate::blocks::{Block, Blocks, Closed, Place, role, role_at};
+use crate::blocks::{Block, BlockState, Blocks, ClosedBlock, indent_at, role, role_at};
+use crate::further_lines::mark_line;
 use crate::lines::Line;
-use crate::notes::note;
-use crate::page::{Page, Piece};
 use crate::spaces::is_statement;
 use wb_model::script_lines::Role;
+use wb_pages::{Fragment, Page};
 
-fn indent(lines: &[Line], index: usize) -> usize {
-    match lines.get(index) {
-        Some(line) => line.indent,
-        None => 0,
-    }
+fn is_further_left(lines: &[Line], closed: ClosedBlock) -> bool {
+    indent_at(lines, closed.end) < indent_at(lines, closed.first)
 }
 
-fn is_further_left(lines: &[Line], closed: Closed) -> bool {
-    indent(lines, closed.end) < indent(lines, closed.first)
-}
-
-/// Says which block lacks its `end`: the one whose `end` stands further left than it does, or else the innermost.
-fn note_unclosed(page: &mut Page, lines: &[Line], blocks: &Blocks) {
-    match blocks.slanted {
+/// Says which block lacks its `end`: the one whose `end` is further left than its first line, or else the innermost.
+fn mark_unclosed(page: &mut Page, lines: &[Line], blocks: &Blocks) {
+    match blocks.misaligned {
         Some(closed) if is_further_left(lines, closed) => {
-            note(
+            mark_line(
                 page,
                 lines,
                 closed.first,
                 "this block seems to lack its `end`",
             );
-            note(
+            mark_line(
                 page,
                 lines,
                 closed.end,
-                "since the next `end` stands further left",
+                "because the next `end` is further left",
             );
         }
-        _ => note_open(page, lines, blocks.open.last()),
+        _ => mark_open(page, lines, blocks.open.last()),
     }
 }
 
-fn note_open(page: &mut Page, lines: &[Line], block: Option<&Block>) {
+fn mark_open(page: &mut Page, lines: &[Line], block: Option<&Block>) {
     if let Some(block) = block {
-        note(page, lines, block.line, "this block is open");
+        mark_line(page, lines, block.line, "this block is still open");
     }
 }
 
 /// Says which `end` closed the last block, or one too early.
-fn note_closed(page: &mut Page, lines: &[Line], blocks: &Blocks) {
-    if let Some(closed) = blocks.slanted.or(blocks.closed) {
-        note(page, lines, closed.end, "this `end` closes");
-        note(page, lines, closed.first, "what begins here");
+fn mark_closed(page: &mut Page, lines: &[Line], blocks: &Blocks) {
+    if let Some(closed) = blocks.misaligned.or(blocks.last_closed) {
+        mark_line(page, lines, closed.end, "this `end` closes");
+        mark_line(page, lines, closed.first, "the block that begins here");
     }
 }
 
-/// Writes what can't stand where, and shows the line.
-fn refuse<'x>(page: &mut Page, line: &Line<'x>, where_not: &'x str) {
+/// Says what is wrong with the first word of a line, and shows it.
+fn refuse<'x>(page: &mut Page, line: &Line<'x>, problem: &'x str) {
     let spot = line.spot(0);
-    page.tell(
+    page.mark(
         spot,
         &[
-            Piece::Text("`"),
-            Piece::Word(spot.word),
-            Piece::Text("` "),
-            Piece::Text(where_not),
+            Fragment::Text("`"),
+            Fragment::Word(spot.word),
+            Fragment::Text("` "),
+            Fragment::Text(problem),
         ],
     );
 }
 
-/// Of a line outside of any class, procedure or operation.
-fn outside(page: &mut Page, lines: &[Line], blocks: &Blocks, line: &Line) {
-    let (where_not, help) = match role(line) {
+/// Explains a line outside any class, procedure and operation.
+fn explain_outside(page: &mut Page, lines: &[Line], blocks: &Blocks, line: &Line) {
+    let (problem, help) = match role(line) {
         Role::End => (
             "closes nothing: no block is open",
-            "take it out, or look for an `end` too many above",
+            "remove it, or look for an extra `end` above",
         ),
         Role::Else => (
-            "stands in no `if`",
-            "an `else` stands between an `if` and its `end`",
+            "is not inside an `if`",
+            "an `else` belongs between an `if` and its `end`",
         ),
         Role::Field | Role::Construct | Role::Destroy => {
             (
-                "stands outside of any class",
-                "it stands between `class NAME NUMBER` and its `end`",
+                "is outside any class",
+                "it belongs between `class NAME NUMBER` and its `end`",
             )
         }
         _ => (
-            "stands outside of any procedure",
-            "it stands in a body: between `proc main`, say, and its `end`",
+            "is outside any procedure",
+            "it belongs in a body, for example between `proc main` and its `end`",
         ),
     };
-    refuse(page, line, where_not);
-    note_closed(page, lines, blocks);
-    page.help_text(help);
+    refuse(page, line, problem);
+    mark_closed(page, lines, blocks);
+    page.write_help_text(help);
 }
 
-/// Of a line right in a class.
-fn in_class(page: &mut Page, lines: &[Line], blocks: &Blocks, block: Block, line: &Line) {
-    let where_not = match role(line) {
-        Role::Field => "stands behind a body of its class",
-        Role::Construct => "comes too late: a class has one, before `destroy`",
-        Role::Destroy => "comes too late: a class has one",
-        _ => "can't stand in a class, outside of its bodies",
+/// Explains a line directly in a class.
+fn explain_in_class(page: &mut Page, lines: &[Line], blocks: &Blocks, block: Block, line: &Line) {
+    let problem = match role(line) {
+        Role::Field => "comes after a body of its class",
+        Role::Construct => "comes too late: a class has at most one, before `destroy`",
+        Role::Destroy => "comes too late: a class has at most one",
+        _ => "is not allowed in a class outside its bodies",
     };
-    refuse(page, line, where_not);
-    note(page, lines, block.line, "this class is open");
-    if !matches!(block.place, Place::Fields) {
-        note_closed(page, lines, blocks);
+    refuse(page, line, problem);
+    mark_line(page, lines, block.line, "this class is still open");
+    if !matches!(block.state, BlockState::Fields) {
+        mark_closed(page, lines, blocks);
     }
-    page.help_text("in a class stand its fields, then `construct`, then `destroy`, then `end`");
+    page.write_help_text("a class has its fields, then `construct`, then `destroy`, then `end`");
 }
 
-/// The first statement of the innermost body.
+/// The index of the first statement of the innermost body; `None` if it has none.
 fn first_statement(lines: &[Line], blocks: &Blocks) -> Option<usize> {
     let body = open_body(blocks);
     for (index, line) in lines.iter().enumerate() {
@@ -121,37 +114,42 @@ fn first_statement(lines: &[Line], blocks: &Blocks) -> Option<usize> {
     None
 }
 
-/// The line that begins the innermost body; 0 where none is open.
+/// The index of the line that begins the innermost body; 0 if none is open.
 fn open_body(blocks: &Blocks) -> usize {
     let mut body = 0;
     for block in &blocks.open {
-        if matches!(block.place, Place::Declarations | Place::Statements) {
+        if matches!(
+            block.state,
+            BlockState::Declarations | BlockState::Statements
+        ) {
             body = block.line;
         }
     }
     body
 }
 
-fn late_declaration(page: &mut Page, lines: &[Line], blocks: &Blocks, line: &Line) {
-    refuse(
-        page,
-        line,
-        "is a declaration, and stands behind a statement",
-    );
+fn explain_late_declaration(page: &mut Page, lines: &[Line], blocks: &Blocks, line: &Line) {
+    refuse(page, line, "is a declaration, but comes after a statement");
     if let Some(statement) = first_statement(lines, blocks) {
-        note(page, lines, statement, "the first statement of the body");
+        mark_line(page, lines, statement, "the body's first statement is here");
     }
-    page.help_text("all declarations of a body come before its first statement");
+    page.write_help_text("all declarations of a body come before its first statement");
 }
 
-/// Whether what ended is an `if` that stands as far to the right as a line.
-fn is_if_above(lines: &[Line], closed: Closed, line: &Line) -> bool {
-    matches!(role_at(lines, closed.first), Role::If) && line.indent == indent(lines, closed.first)
+/// Whether a closed block is an `if` that is indented as a line is.
+fn is_if_above(lines: &[Line], closed: ClosedBlock, line: &Line) -> bool {
+    matches!(role_at(lines, closed.first), Role::If)
+        && line.indent == indent_at(lines, closed.first)
 }
 
-/// The `if` in an open block that ended last, where an `else` stands right below it and so seems to be meant for it.
-fn ended_if(lines: &[Line], blocks: &Blocks, block: Block, line: &Line) -> Option<Closed> {
-    match blocks.closed {
+/// The `if` in an open block that was closed last, if an `else` is indented as it is and so seems to be meant for it.
+fn find_ended_if(
+    lines: &[Line],
+    blocks: &Blocks,
+    block: Block,
+    line: &Line,
+) -> Option<ClosedBlock> {
+    match blocks.last_closed {
         Some(closed) if is_if_above(lines, closed, line) && closed.first > block.line => {
             Some(closed)
         }
@@ -159,42 +157,44 @@ fn ended_if(lines: &[Line], blocks: &Blocks, block: Block, line: &Line) -> Optio
     }
 }
 
-/// Of an `else` whose `if` has ended.
-fn ended_else(page: &mut Page, lines: &[Line], closed: Closed, line: &Line) {
+/// Explains an `else` whose `if` has ended.
+fn explain_else_after_if(page: &mut Page, lines: &[Line], closed: ClosedBlock, line: &Line) {
     refuse(page, line, "comes too late: its `if` has ended");
-    note(page, lines, closed.first, "the `if` begins here");
-    note(page, lines, closed.end, "and ends here");
-    page.help_text("an `if` with an `else` has one `end`, behind both parts");
+    mark_line(page, lines, closed.first, "the `if` begins here");
+    mark_line(page, lines, closed.end, "and ends here");
+    page.write_help_text("an `if` with an `else` has one `end`, after both parts");
 }
 
-/// Of an `else` that stands in no `if`, or in one that has an `else`.
-fn loose_else(page: &mut Page, lines: &[Line], block: Block, line: &Line) {
-    let where_not = match block.place {
-        Place::Otherwise => "is the second one of its `if`",
-        _ => "stands in no `if`",
+/// Explains an `else` that is not inside an `if`, or inside one that has an `else`.
+fn explain_loose_else(page: &mut Page, lines: &[Line], block: Block, line: &Line) {
+    let problem = match block.state {
+        BlockState::ElsePart => "is the second one in its `if`",
+        _ => "is not inside an `if`",
     };
-    refuse(page, line, where_not);
-    note(page, lines, block.line, "this block is open");
-    page.help_text("an `if` has one `else`, and each block inside of it ends before that");
+    refuse(page, line, problem);
+    mark_line(page, lines, block.line, "this block is still open");
+    page.write_help_text(
+        "an `if` has at most one `else`, and each block inside its first part ends before that",
+    );
 }
 
-fn late_else(page: &mut Page, lines: &[Line], blocks: &Blocks, block: Block, line: &Line) {
-    match ended_if(lines, blocks, block, line) {
-        Some(closed) => ended_else(page, lines, closed, line),
-        None => loose_else(page, lines, block, line),
+fn explain_late_else(page: &mut Page, lines: &[Line], blocks: &Blocks, block: Block, line: &Line) {
+    match find_ended_if(lines, blocks, block, line) {
+        Some(closed) => explain_else_after_if(page, lines, closed, line),
+        None => explain_loose_else(page, lines, block, line),
     }
 }
 
-/// What may have been meant by a line of a class that stands in a body.
-fn meant_in_body(line: &Line) -> &'static str {
+/// What to write in a body in the place of a line of a class.
+fn help_in_body(line: &Line) -> &'static str {
     match role(line) {
         Role::Construct => "`construct POINTER` completes an object",
         Role::Destroy => "`delete POINTER` destroys an object",
-        _ => "`ptr NAME` declares a pointer of a body",
+        _ => "`ptr NAME` declares a pointer in a body",
     }
 }
 
-/// Whether what is open is a class with its bodies.
+/// Whether the outermost open block is a class.
 fn is_in_class(lines: &[Line], blocks: &Blocks) -> bool {
     match blocks.open.first() {
         Some(block) => matches!(role_at(lines, block.line), Role::Class),
@@ -202,84 +202,87 @@ fn is_in_class(lines: &[Line], blocks: &Blocks) -> bool {
     }
 }
 
-/// Of a line of a class that stands in a body of one.
-fn in_class_body(page: &mut Page, lines: &[Line], blocks: &Blocks, line: &Line) {
-    refuse(page, line, "can't stand in a body");
-    note_unclosed(page, lines, blocks);
-    page.help_text("an `end` seems to be missing above");
+/// Explains a line of a class that is in one of its bodies.
+fn explain_in_class_body(page: &mut Page, lines: &[Line], blocks: &Blocks, line: &Line) {
+    refuse(page, line, "is not allowed in a body");
+    mark_unclosed(page, lines, blocks);
+    page.write_help_text("an `end` seems to be missing above");
     if let Role::Construct = role(line) {
-        page.help_text(meant_in_body(line));
+        page.write_help_text(help_in_body(line));
     }
 }
 
-/// Of a line of a class that stands in a procedure or an operation.
-fn in_procedure(page: &mut Page, lines: &[Line], blocks: &Blocks, line: &Line) {
-    let where_not = match role(line) {
-        Role::Construct => "alone begins a body of a class, and no class is open",
-        Role::Destroy => "begins a body of a class, and no class is open",
-        _ => "declares a field of a class, and no class is open",
+/// Explains a line of a class that is in a procedure or an operation.
+fn explain_in_procedure(page: &mut Page, lines: &[Line], blocks: &Blocks, line: &Line) {
+    let problem = match role(line) {
+        Role::Construct => "without a pointer begins a body of a class, but no class is open",
+        Role::Destroy => "begins a body of a class, but no class is open",
+        _ => "declares a field of a class, but no class is open",
     };
-    refuse(page, line, where_not);
-    note_open(page, lines, blocks.open.first());
-    page.help_text(meant_in_body(line));
+    refuse(page, line, problem);
+    mark_open(page, lines, blocks.open.first());
+    page.write_help_text(help_in_body(line));
 }
 
-fn is_class_place(place: Place) -> bool {
-    matches!(place, Place::Fields | Place::Made | Place::Destroyed)
+fn is_class_state(state: BlockState) -> bool {
+    matches!(
+        state,
+        BlockState::Fields | BlockState::AfterConstruct | BlockState::AfterDestroy
+    )
 }
 
-/// Of a line that begins something of the script's own right in a class, where no `end` of a body seems to be missing.
-fn item_in_class(page: &mut Page, lines: &[Line], block: Block, line: &Line) {
-    refuse(page, line, "can't stand in a class");
-    note(page, lines, block.line, "this class is open");
-    page.help_text(match role(line) {
+/// Explains a line that begins a class, a procedure or an operation directly in a class, if no `end` of a body seems to be missing.
+fn explain_item_in_class(page: &mut Page, lines: &[Line], block: Block, line: &Line) {
+    refuse(page, line, "is not allowed in a class");
+    mark_line(page, lines, block.line, "this class is still open");
+    page.write_help_text(match role(line) {
         Role::Class => "end this class first",
         _ => "end the class first; a procedure takes an object as a parameter, `NAME:CLASS`",
     });
 }
 
-/// Of a line that begins something of the script's own inside of something else.
-fn inside(page: &mut Page, lines: &[Line], blocks: &Blocks, line: &Line) {
+/// Explains a line that begins a class, a procedure or an operation inside a block.
+fn explain_missing_end(page: &mut Page, lines: &[Line], blocks: &Blocks, line: &Line) {
     refuse(
         page,
         line,
-        "can't stand inside of a block: an `end` is missing above",
+        "is not allowed inside a block: an `end` is missing above",
     );
-    note_unclosed(page, lines, blocks);
-    page.help_text(
+    mark_unclosed(page, lines, blocks);
+    page.write_help_text(
         "each `class`, `proc`, `op`, `construct`, `destroy`, `if`, `repeat` and `trap` has an `end`",
     );
 }
 
-/// Of a line in a block, the innermost one that is open.
-fn within(page: &mut Page, lines: &[Line], blocks: &Blocks, block: Block, line: &Line) {
-    let is_complete = is_class_place(block.place) && blocks.slanted.is_none();
+/// Explains a line in a block, the innermost one that is open.
+fn explain_in_block(page: &mut Page, lines: &[Line], blocks: &Blocks, block: Block, line: &Line) {
+    let is_complete = is_class_state(block.state) && blocks.misaligned.is_none();
     match role(line) {
         Role::Class | Role::Procedure if is_complete => {
-            item_in_class(page, lines, block, line);
+            explain_item_in_class(page, lines, block, line);
         }
-        Role::Class | Role::Procedure => inside(page, lines, blocks, line),
-        _ if is_class_place(block.place) => in_class(page, lines, blocks, block, line),
-        Role::Declaration => late_declaration(page, lines, blocks, line),
-        Role::Else => late_else(page, lines, blocks, block, line),
-        _ if is_in_class(lines, blocks) => in_class_body(page, lines, blocks, line),
-        _ => in_procedure(page, lines, blocks, line),
+        Role::Class | Role::Procedure => explain_missing_end(page, lines, blocks, line),
+        _ if is_class_state(block.state) => explain_in_class(page, lines, blocks, block, line),
+        Role::Declaration => explain_late_declaration(page, lines, blocks, line),
+        Role::Else => explain_late_else(page, lines, blocks, block, line),
+        _ if is_in_class(lines, blocks) => explain_in_class_body(page, lines, blocks, line),
+        _ => explain_in_procedure(page, lines, blocks, line),
     }
 }
 
-/// Says why a line can't stand where it does.
+/// Says why a line is not allowed where it is.
 pub(crate) fn explain_misplaced(page: &mut Page, lines: &[Line], blocks: &Blocks, line: &Line) {
     match blocks.open.last() {
-        None => outside(page, lines, blocks, line),
-        Some(block) => within(page, lines, blocks, *block, line),
+        None => explain_outside(page, lines, blocks, line),
+        Some(block) => explain_in_block(page, lines, blocks, *block, line),
     }
 }
 
 /// Says that the file ends before its blocks do.
-pub(crate) fn ends_early(page: &mut Page, lines: &[Line], blocks: &Blocks, number: usize) {
-    page.at(number, "the file ends, and an `end` is missing");
-    note_unclosed(page, lines, blocks);
-    page.help_text(
+pub(crate) fn explain_early_end(page: &mut Page, lines: &[Line], blocks: &Blocks, number: usize) {
+    page.write_message(number, "the file ends, but an `end` is missing");
+    mark_unclosed(page, lines, blocks);
+    page.write_help_text(
         "each `class`, `proc`, `op`, `construct`, `destroy`, `if`, `repeat` and `trap` has an `end`",
     );
 }

@@ -1,22 +1,27 @@
 //! The declared names that are nearest to an unknown one.
 
 use crate::blocks::role;
-use crate::lines::{Line, Word};
-use crate::nearest::{Near, Search};
-use crate::spaces::{body_of, item_begun, key_of, kind_declared};
+use crate::lines::Line;
+use crate::nearest::{Candidate, Search};
+use crate::spaces::{body_of, declared_kind, item_kind_of, key_of};
 use crate::words::is_parameter;
 use wb_lines::words::before_first;
 use wb_model::script_lines::{ItemKind, Key, Role};
+use wb_pages::Word;
 
 fn is_item(line: &Line, kind: ItemKind) -> bool {
-    match item_begun(line) {
-        Some(begun) => begun as u8 == kind as u8,
+    match item_kind_of(line) {
+        Some(found) => found as u8 == kind as u8,
         None => false,
     }
 }
 
-/// The item of a kind with the nearest name.
-pub(crate) fn near_item<'a>(lines: &[Line<'a>], kind: ItemKind, name: &[u8]) -> Option<Near<'a>> {
+/// The class, procedure or operation with the nearest name; `None` if none is near.
+pub(crate) fn nearest_item<'a>(
+    lines: &[Line<'a>],
+    kind: ItemKind,
+    name: &[u8],
+) -> Option<Candidate<'a>> {
     let mut search = Search::of(name);
     for (index, line) in lines.iter().enumerate() {
         if is_item(line, kind) {
@@ -41,14 +46,18 @@ impl<'w, 'a> Search<'w, 'a> {
             Some(Key::Proc) => self.consider_parameters(&line.words, number),
             Some(Key::Op) => self.consider(line.text_at(2), number),
             Some(Key::Constructor | Key::Destructor) => self.consider(b"self", number),
-            _ if kind_declared(line).is_some() => self.consider(line.text_at(1), number),
+            _ if declared_kind(line).is_some() => self.consider(line.text_at(1), number),
             _ => {}
         }
     }
 }
 
-/// The local of a line's body with the nearest name.
-pub(crate) fn near_local<'a>(lines: &[Line<'a>], index: usize, name: &[u8]) -> Option<Near<'a>> {
+/// The local of a line's body with the nearest name, declared before that line; `None` if none is near.
+pub(crate) fn nearest_local<'a>(
+    lines: &[Line<'a>],
+    index: usize,
+    name: &[u8],
+) -> Option<Candidate<'a>> {
     let body = body_of(lines, index);
     let mut search = Search::of(name);
     for (at, line) in lines.iter().enumerate() {
@@ -59,8 +68,12 @@ pub(crate) fn near_local<'a>(lines: &[Line<'a>], index: usize, name: &[u8]) -> O
     search.found
 }
 
-/// The field with the nearest name, of the class that a line begins.
-pub(crate) fn near_field<'a>(lines: &[Line<'a>], class: usize, name: &[u8]) -> Option<Near<'a>> {
+/// The field with the nearest name, of the class that begins at an index; `None` if none is near.
+pub(crate) fn nearest_field<'a>(
+    lines: &[Line<'a>],
+    class: usize,
+    name: &[u8],
+) -> Option<Candidate<'a>> {
     let mut search = Search::of(name);
     for (index, line) in lines.iter().enumerate() {
         if index > class {

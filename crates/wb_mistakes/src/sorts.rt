@@ -1,9 +1,9 @@
-//! What a word of a line stands for, as far as its place asks: a pointer, an int, a class and so on.
+//! What a word of a line refers to, as far as its place asks: a pointer, an int, a class and so on.
 
 use crate::lines::Line;
 use crate::spaces::{
-    Local, class_named, class_of, field_named, has_self, item_named, line_of_item, line_of_local,
-    local_named,
+    Local, class_of_holder, find_class, find_field, find_item, find_local, has_self, line_of_item,
+    line_of_local,
 };
 use crate::words::{is_field, is_literal, is_number};
 use wb_lines::words::{before_first, behind_first, parameter_taken};
@@ -27,7 +27,7 @@ fn sort_of_local(local: Local) -> Sort {
 }
 
 fn sort_in_items(lines: &[Line], name: &[u8]) -> Sort {
-    match item_named(lines, name) {
+    match find_item(lines, name) {
         Some(item) => sort_of_item(item.kind),
         None => Sort::Nothing,
     }
@@ -41,29 +41,29 @@ fn sort_of_name(lines: &[Line], index: usize, name: &[u8]) -> Sort {
             Sort::Nothing
         };
     }
-    match local_named(lines, index, name) {
+    match find_local(lines, index, name) {
         Some(local) => sort_of_local(local),
         None => Sort::Nothing,
     }
 }
 
-/// A field whose holder has no class is nothing.
+/// What a field is; nothing if the name before its dot has no class.
 fn sort_of_field(lines: &[Line], index: usize, word: &[u8]) -> Sort {
-    match class_of(lines, index, before_first(b'.', word)) {
-        Some(class) if field_named(lines, class, behind_first(b'.', word)).is_some() => Sort::Field,
+    match class_of_holder(lines, index, before_first(b'.', word)) {
+        Some(class) if find_field(lines, class, behind_first(b'.', word)).is_some() => Sort::Field,
         _ => Sort::Nothing,
     }
 }
 
-/// A parameter whose class is none is nothing.
+/// What a parameter is; nothing if its class is not a class.
 fn sort_of_parameter(lines: &[Line], word: &[u8]) -> Sort {
     match parameter_taken(word) {
-        Some(Taken::OfClass(class)) if class_named(lines, class).is_none() => Sort::Nothing,
+        Some(Taken::OfClass(class)) if find_class(lines, class).is_none() => Sort::Nothing,
         _ => Sort::Parameter,
     }
 }
 
-/// What a word of a body stands for.
+/// What a word of a body refers to.
 pub(crate) fn sort_in_body(lines: &[Line], index: usize, word: &[u8]) -> Sort {
     if is_literal(word) {
         Sort::Literal
@@ -76,7 +76,7 @@ pub(crate) fn sort_in_body(lines: &[Line], index: usize, word: &[u8]) -> Sort {
     }
 }
 
-/// What a word stands for where a letter does.
+/// What a word refers to as this operand.
 pub(crate) fn sort_of(lines: &[Line], index: usize, letter: Letter, word: &[u8]) -> Sort {
     match letter {
         Letter::Class | Letter::Procedure | Letter::Operation => sort_in_items(lines, word),
@@ -89,11 +89,11 @@ pub(crate) fn sort_of(lines: &[Line], index: usize, letter: Letter, word: &[u8])
     }
 }
 
-/// What something is, in words.
-pub(crate) fn described(sort: Sort) -> &'static str {
+/// What a word refers to, in words.
+pub(crate) fn description_of(sort: Sort) -> &'static str {
     match sort {
         Sort::Pointer => "a pointer",
-        Sort::This => "the object that the body is of, which no line writes",
+        Sort::This => "the object of this body, which no line can set",
         Sort::Field => "a field",
         Sort::Variable => "an int",
         Sort::Buffer => "a buffer",
@@ -103,12 +103,12 @@ pub(crate) fn described(sort: Sort) -> &'static str {
         Sort::Class => "a class",
         Sort::Procedure => "a procedure",
         Sort::Operation => "an operation",
-        _ => "nothing that can stand here",
+        _ => "nothing that is allowed here",
     }
 }
 
-/// The line that declares what a word stands for where a letter does.
-pub(crate) fn declared_at(
+/// The index of the line that declares what a word refers to as this operand; `None` if no line does.
+pub(crate) fn line_of_declaration(
     lines: &[Line],
     index: usize,
     letter: Letter,

@@ -1,26 +1,27 @@
-//! What the names of a script stand for, and in which line each is declared. Lines are told by their indexes.
+//! What the names of a script refer to, and the line that declares each. Lines are named by their indexes.
 
 use crate::blocks::{role, role_at};
-use crate::lines::{Line, Word};
+use crate::lines::Line;
 use crate::words::is_parameter_named;
 use wb_lines::words::parameter_taken;
 use wb_model::script_lines::{ItemKind, Key, Kind, Role, Taken};
+use wb_pages::Word;
 
-/// A local: what it holds, and the line that declares it.
+/// A local: what it holds, and the index of the line that declares it.
 #[derive(Clone, Copy)]
 pub(crate) struct Local<'a> {
     pub kind: Kind<&'a [u8]>,
     pub line: usize,
 }
 
-/// Something of the script's own space: what it is, and the line that begins it.
+/// A class, a procedure or an operation: which of these, and the index of the line that begins it.
 #[derive(Clone, Copy)]
 pub(crate) struct Item {
     pub kind: ItemKind,
     pub line: usize,
 }
 
-/// What a line is by its form.
+/// The key of a line's form; `None` if it has none.
 pub(crate) fn key_of(line: &Line) -> Option<Key> {
     line.key
 }
@@ -33,8 +34,8 @@ pub(crate) fn key_at(lines: &[Line], index: usize) -> Option<Key> {
     }
 }
 
-/// What a line begins in the script's own space.
-pub(crate) fn item_begun(line: &Line) -> Option<ItemKind> {
+/// Which of a class, a procedure and an operation a line begins; `None` if it begins none of these.
+pub(crate) fn item_kind_of(line: &Line) -> Option<ItemKind> {
     match key_of(line) {
         Some(Key::Class) => Some(ItemKind::Class),
         Some(Key::Proc) => Some(ItemKind::Procedure),
@@ -43,10 +44,10 @@ pub(crate) fn item_begun(line: &Line) -> Option<ItemKind> {
     }
 }
 
-/// The first class, procedure or operation of a name.
-pub(crate) fn item_named(lines: &[Line], name: &[u8]) -> Option<Item> {
+/// Returns the first class, procedure or operation with a name; `None` if there is none.
+pub(crate) fn find_item(lines: &[Line], name: &[u8]) -> Option<Item> {
     for (index, line) in lines.iter().enumerate() {
-        if let Some(kind) = item_begun(line) {
+        if let Some(kind) = item_kind_of(line) {
             if line.text_at(1) == name {
                 return Some(Item { kind, line: index });
             }
@@ -55,9 +56,9 @@ pub(crate) fn item_named(lines: &[Line], name: &[u8]) -> Option<Item> {
     None
 }
 
-/// The line of the class with a name, where the name is one's.
-pub(crate) fn class_named(lines: &[Line], name: &[u8]) -> Option<usize> {
-    match item_named(lines, name) {
+/// Returns the index of the line of the class with a name; `None` if the name is not that of a class.
+pub(crate) fn find_class(lines: &[Line], name: &[u8]) -> Option<usize> {
+    match find_item(lines, name) {
         Some(
             Item {
                 kind: ItemKind::Class,
@@ -68,7 +69,7 @@ pub(crate) fn class_named(lines: &[Line], name: &[u8]) -> Option<usize> {
     }
 }
 
-/// The line that begins the body in which a line stands, which may be that line.
+/// The index of the line that begins the body of a line, which may be that line.
 pub(crate) fn body_of(lines: &[Line], index: usize) -> usize {
     match lines.get(index) {
         Some(line) => line.body,
@@ -76,7 +77,7 @@ pub(crate) fn body_of(lines: &[Line], index: usize) -> usize {
     }
 }
 
-/// The class that begins last, up to a line.
+/// The index of the last line, up to a line, that begins a class; `None` if there is none.
 pub(crate) fn class_before(lines: &[Line], index: usize) -> Option<usize> {
     let mut class = None;
     for (at, line) in lines.iter().enumerate() {
@@ -87,7 +88,7 @@ pub(crate) fn class_before(lines: &[Line], index: usize) -> Option<usize> {
     class
 }
 
-/// Whether `self` stands for an object in the body of a line.
+/// Whether `self` is an object in the body of a line.
 pub(crate) fn has_self(lines: &[Line], index: usize) -> bool {
     matches!(
         role_at(lines, body_of(lines, index)),
@@ -104,8 +105,8 @@ pub(crate) fn kind_of_parameter<'a>(word: &'a [u8]) -> Kind<&'a [u8]> {
     }
 }
 
-/// What the parameter with a name holds, among words.
-fn parameter_among<'a>(words: &[Word<'a>], name: &[u8]) -> Option<Kind<&'a [u8]>> {
+/// What the parameter with a name holds, among words; `None` if there is none.
+fn parameter_kind<'a>(words: &[Word<'a>], name: &[u8]) -> Option<Kind<&'a [u8]>> {
     for word in words {
         if is_parameter_named(word.text, name) {
             return Some(kind_of_parameter(word.text));
@@ -114,8 +115,8 @@ fn parameter_among<'a>(words: &[Word<'a>], name: &[u8]) -> Option<Kind<&'a [u8]>
     None
 }
 
-/// What the local holds that a line declares.
-pub(crate) fn kind_declared<'a>(line: &Line<'a>) -> Option<Kind<&'a [u8]>> {
+/// What the local holds that a line declares; `None` if it declares none.
+pub(crate) fn declared_kind<'a>(line: &Line<'a>) -> Option<Kind<&'a [u8]>> {
     match key_of(line) {
         Some(Key::Ptr) => Some(Kind::Pointer(None)),
         Some(Key::ClassPtr) => Some(Kind::Pointer(Some(line.text_at(2)))),
@@ -126,26 +127,26 @@ pub(crate) fn kind_declared<'a>(line: &Line<'a>) -> Option<Kind<&'a [u8]>> {
     }
 }
 
-/// What a name holds by one line: a declaration, or the first line of a body with its parameters.
-fn kind_in<'a>(line: &Line<'a>, name: &[u8]) -> Option<Kind<&'a [u8]>> {
+/// What a name holds by one line, a declaration or the first line of a body with its parameters; `None` if the line doesn't declare it.
+fn kind_by_line<'a>(line: &Line<'a>, name: &[u8]) -> Option<Kind<&'a [u8]>> {
     match key_of(line) {
-        Some(Key::Proc) => parameter_among(&line.words, name),
+        Some(Key::Proc) => parameter_kind(&line.words, name),
         Some(Key::Op) if line.text_at(2) == name => Some(Kind::Pointer(None)),
-        _ if line.text_at(1) == name => kind_declared(line),
+        _ if line.text_at(1) == name => declared_kind(line),
         _ => None,
     }
 }
 
-/// Whether a line is a statement, behind which its body declares nothing.
+/// Whether a line is a statement, after which its body declares nothing.
 pub(crate) fn is_statement(line: &Line) -> bool {
     matches!(role(line), Role::Plain | Role::Loop | Role::If)
 }
 
-/// The local with a name in the body of a line, declared before that line.
-pub(crate) fn local_named<'a>(lines: &[Line<'a>], index: usize, name: &[u8]) -> Option<Local<'a>> {
+/// Returns the local with a name in the body of a line, declared before that line; `None` if there is none.
+pub(crate) fn find_local<'a>(lines: &[Line<'a>], index: usize, name: &[u8]) -> Option<Local<'a>> {
     for at in body_of(lines, index)..index {
         let line = lines.get(at)?;
-        if let Some(kind) = kind_in(line, name) {
+        if let Some(kind) = kind_by_line(line, name) {
             return Some(Local { kind, line: at });
         }
         if is_statement(line) {
@@ -155,18 +156,18 @@ pub(crate) fn local_named<'a>(lines: &[Line<'a>], index: usize, name: &[u8]) -> 
     None
 }
 
-/// The first local with a name in any body.
-pub(crate) fn local_anywhere<'a>(lines: &[Line<'a>], name: &[u8]) -> Option<Local<'a>> {
+/// Returns the first local with a name in any body; `None` if there is none.
+pub(crate) fn find_local_anywhere<'a>(lines: &[Line<'a>], name: &[u8]) -> Option<Local<'a>> {
     for (index, line) in lines.iter().enumerate() {
-        if let Some(kind) = kind_in(line, name) {
+        if let Some(kind) = kind_by_line(line, name) {
             return Some(Local { kind, line: index });
         }
     }
     None
 }
 
-/// The line of the class that what stands before a dot is declared with.
-pub(crate) fn class_of(lines: &[Line], index: usize, base: &[u8]) -> Option<usize> {
+/// The index of the line of the class with which the name before a dot is declared; `None` if it has no class.
+pub(crate) fn class_of_holder(lines: &[Line], index: usize, base: &[u8]) -> Option<usize> {
     if base == b"self".as_slice() {
         return if has_self(lines, index) {
             class_before(lines, index)
@@ -174,19 +175,19 @@ pub(crate) fn class_of(lines: &[Line], index: usize, base: &[u8]) -> Option<usiz
             None
         };
     }
-    match local_named(lines, index, base) {
+    match find_local(lines, index, base) {
         Some(
             Local {
                 kind: Kind::Pointer(Some(class)),
                 line: _,
             },
-        ) => class_named(lines, class),
+        ) => find_class(lines, class),
         _ => None,
     }
 }
 
-/// The line of a class that declares a field with a name.
-pub(crate) fn field_named(lines: &[Line], class: usize, name: &[u8]) -> Option<usize> {
+/// Returns the index of the line that declares a field with a name, of the class that begins at an index; `None` if there is none.
+pub(crate) fn find_field(lines: &[Line], class: usize, name: &[u8]) -> Option<usize> {
     for (index, line) in lines.iter().enumerate() {
         if index > class {
             match role(line) {
@@ -200,26 +201,26 @@ pub(crate) fn field_named(lines: &[Line], class: usize, name: &[u8]) -> Option<u
     None
 }
 
-/// The line that begins the first class, procedure or operation of a name.
+/// The index of the line that begins the first class, procedure or operation with a name; `None` if there is none.
 pub(crate) fn line_of_item(lines: &[Line], name: &[u8]) -> Option<usize> {
-    match item_named(lines, name) {
+    match find_item(lines, name) {
         Some(item) => Some(item.line),
         None => None,
     }
 }
 
-/// The line that declares the local with a name, in the body of a line and before that.
+/// The index of the line that declares the local with a name, in the body of a line and before that line; `None` if there is none.
 pub(crate) fn line_of_local(lines: &[Line], index: usize, name: &[u8]) -> Option<usize> {
-    match local_named(lines, index, name) {
+    match find_local(lines, index, name) {
         Some(local) => Some(local.line),
         None => None,
     }
 }
 
-/// The line that declares the field with a name, of the class that begins last up to a line.
+/// The index of the line that declares the field with a name, of the class that begins last up to a line; `None` if there is none.
 pub(crate) fn line_of_field(lines: &[Line], index: usize, name: &[u8]) -> Option<usize> {
     match class_before(lines, index) {
-        Some(class) => field_named(lines, class, name),
+        Some(class) => find_field(lines, class, name),
         None => None,
     }
 }

@@ -1,17 +1,17 @@
 //! A name that is declared nowhere: in which space it was looked for, and what is nearest there.
 
-use crate::elsewhere::{Elsewhere, instead_of_item, instead_of_local, note_elsewhere};
+use crate::elsewhere::{Elsewhere, elsewhere_of_item, elsewhere_of_local, explain_elsewhere};
 use crate::forms::letter_of;
+use crate::further_lines::mark_line;
 use crate::lines::Line;
-use crate::misspelled::help_wanted;
-use crate::near_names::{near_field, near_item, near_local};
-use crate::nearest::Near;
-use crate::notes::note;
-use crate::page::{Page, Piece, Span, Spot};
-use crate::spaces::{body_of, class_of, field_named, has_self, item_named, local_named};
+use crate::misspelled::help_with_operand;
+use crate::near_names::{nearest_field, nearest_item, nearest_local};
+use crate::nearest::Candidate;
+use crate::spaces::{body_of, class_of_holder, find_field, find_item, find_local, has_self};
 use crate::words::{is_field, is_parameter};
 use wb_lines::words::{before_first, behind_first, is_name, is_reserved, parameter_taken};
 use wb_model::script_lines::{ItemKind, Letter, Taken};
+use wb_pages::{Fragment, Page, Span, Spot};
 
 /// Where a name was looked for.
 #[derive(Clone, Copy)]
@@ -23,7 +23,7 @@ enum Space {
     Fields(usize),
 }
 
-/// An unknown name: its letters, where they stand, and where it was looked for.
+/// An unknown name: its bytes, the part of the line where it is, and where it was looked for.
 #[derive(Clone, Copy)]
 struct Unknown<'a> {
     name: &'a [u8],
@@ -46,25 +46,25 @@ fn is_local(lines: &[Line], index: usize, name: &[u8]) -> bool {
     if name == b"self".as_slice() {
         has_self(lines, index)
     } else {
-        local_named(lines, index, name).is_some()
+        find_local(lines, index, name).is_some()
     }
 }
 
-/// Of a name of the script's own space.
-fn in_items<'a>(
+/// A name of a class, a procedure or an operation, if it is unknown.
+fn unknown_item<'a>(
     lines: &[Line],
     name: &'a [u8],
     column: usize,
     kind: ItemKind,
 ) -> Option<Unknown<'a>> {
-    match item_named(lines, name) {
+    match find_item(lines, name) {
         Some(_) => None,
         None => unknown_at(name, column, Space::Items(kind)),
     }
 }
 
-/// Of a field, what holds it being known.
-fn in_fields<'a>(
+/// The name of a field, if it is unknown; the name before the dot is known.
+fn unknown_field<'a>(
     lines: &[Line],
     index: usize,
     word: &'a [u8],
@@ -72,8 +72,8 @@ fn in_fields<'a>(
 ) -> Option<Unknown<'a>> {
     let base = before_first(b'.', word);
     let name = behind_first(b'.', word);
-    match class_of(lines, index, base) {
-        Some(class) if field_named(lines, class, name).is_none() => unknown_at(
+    match class_of_holder(lines, index, base) {
+        Some(class) if find_field(lines, class, name).is_none() => unknown_at(
             name,
             column.saturating_add(base.len()).saturating_add(1),
             Space::Fields(class),
@@ -82,8 +82,13 @@ fn in_fields<'a>(
     }
 }
 
-/// Of a name or a field that a body uses.
-fn in_body<'a>(lines: &[Line], index: usize, word: &'a [u8], column: usize) -> Option<Unknown<'a>> {
+/// The unknown name in a word that a body uses, a name or a field; `None` if there is none.
+fn unknown_in_body<'a>(
+    lines: &[Line],
+    index: usize,
+    word: &'a [u8],
+    column: usize,
+) -> Option<Unknown<'a>> {
     let base = if is_field(word) {
         before_first(b'.', word)
     } else {
@@ -94,14 +99,14 @@ fn in_body<'a>(lines: &[Line], index: usize, word: &'a [u8], column: usize) -> O
     } else if !is_local(lines, index, base) {
         unknown_at(base, column, Space::Locals)
     } else if is_field(word) {
-        in_fields(lines, index, word, column)
+        unknown_field(lines, index, word, column)
     } else {
         None
     }
 }
 
-/// Of the class of a parameter.
-fn in_parameter<'a>(lines: &[Line], word: &'a [u8], column: usize) -> Option<Unknown<'a>> {
+/// The class of a parameter, if it is unknown.
+fn unknown_class<'a>(lines: &[Line], word: &'a [u8], column: usize) -> Option<Unknown<'a>> {
     if !is_parameter(word) {
         return None;
     }
@@ -111,11 +116,11 @@ fn in_parameter<'a>(lines: &[Line], word: &'a [u8], column: usize) -> Option<Unk
     let column = column
         .saturating_add(before_first(b':', word).len())
         .saturating_add(1);
-    in_items(lines, class, column, ItemKind::Class)
+    unknown_item(lines, class, column, ItemKind::Class)
 }
 
-/// Of a word where a letter stands.
-fn of_word<'a>(
+/// The unknown name in a word that is this operand; `None` if there is none.
+fn unknown_in_word<'a>(
     lines: &[Line],
     index: usize,
     letter: Letter,
@@ -124,15 +129,15 @@ fn of_word<'a>(
 ) -> Option<Unknown<'a>> {
     match letter {
         Letter::Declared | Letter::ItsPointer | Letter::Size | Letter::Keyword(_) => None,
-        Letter::Parameter => in_parameter(lines, word, column),
-        Letter::Class => in_items(lines, word, column, ItemKind::Class),
-        Letter::Procedure => in_items(lines, word, column, ItemKind::Procedure),
-        Letter::Operation => in_items(lines, word, column, ItemKind::Operation),
-        _ => in_body(lines, index, word, column),
+        Letter::Parameter => unknown_class(lines, word, column),
+        Letter::Class => unknown_item(lines, word, column, ItemKind::Class),
+        Letter::Procedure => unknown_item(lines, word, column, ItemKind::Procedure),
+        Letter::Operation => unknown_item(lines, word, column, ItemKind::Operation),
+        _ => unknown_in_body(lines, index, word, column),
     }
 }
 
-/// The first unknown name of a line, and what it stands for.
+/// The first unknown name of a line, and the operand that it is in; `None` if there is none.
 fn first_unknown<'a>(
     lines: &[Line<'a>],
     index: usize,
@@ -140,7 +145,7 @@ fn first_unknown<'a>(
 ) -> Option<(Unknown<'a>, Letter)> {
     for (place, word) in line.words.iter().enumerate() {
         if let Some(letter) = letter_of(line, place) {
-            if let Some(found) = of_word(lines, index, letter, word.text, word.column) {
+            if let Some(found) = unknown_in_word(lines, index, letter, word.text, word.column) {
                 return Some((found, letter));
             }
         }
@@ -148,7 +153,7 @@ fn first_unknown<'a>(
     None
 }
 
-fn no_item(kind: ItemKind) -> &'static str {
+fn item_problem(kind: ItemKind) -> &'static str {
     match kind {
         ItemKind::Class => "unknown name: the script has no class `",
         ItemKind::Procedure => "unknown name: the script has no procedure `",
@@ -158,25 +163,27 @@ fn no_item(kind: ItemKind) -> &'static str {
 
 fn help_of_item(kind: ItemKind) -> &'static str {
     match kind {
-        ItemKind::Class => "the script may have its class above or below",
-        ItemKind::Procedure => "the script may have its procedure above or below",
-        ItemKind::Operation => "the script may have its operation above or below",
+        ItemKind::Class => "define the class anywhere in the script, above or below this line",
+        ItemKind::Procedure =>
+            "define the procedure anywhere in the script, above or below this line",
+        ItemKind::Operation =>
+            "define the operation anywhere in the script, above or below this line",
     }
 }
 
 /// Says what is unknown, and where it was looked for.
-fn say_problem<'x>(page: &mut Page, lines: &[Line<'x>], spot: Spot<'x>, space: Space) {
+fn explain_problem<'x>(page: &mut Page, lines: &[Line<'x>], spot: Spot<'x>, space: Space) {
     match space {
-        Space::Items(kind) => page.tell_word(spot, no_item(kind), "`"),
-        Space::Locals => page.tell_word(spot, "unknown name: this body declares no `", "`"),
-        Space::Fields(class) => page.tell(
+        Space::Items(kind) => page.mark_word(spot, item_problem(kind), "`"),
+        Space::Locals => page.mark_word(spot, "unknown name: this body declares no `", "`"),
+        Space::Fields(class) => page.mark(
             spot,
             &[
-                Piece::Text("unknown name: class `"),
-                Piece::Word(class_name(lines, class)),
-                Piece::Text("` has no field `"),
-                Piece::Word(spot.word),
-                Piece::Text("`"),
+                Fragment::Text("unknown name: class `"),
+                Fragment::Word(class_name(lines, class)),
+                Fragment::Text("` has no field `"),
+                Fragment::Word(spot.word),
+                Fragment::Text("`"),
             ],
         ),
     }
@@ -190,28 +197,32 @@ pub(crate) fn class_name<'a>(lines: &[Line<'a>], class: usize) -> &'a [u8] {
     }
 }
 
-fn nearest<'a>(lines: &[Line<'a>], index: usize, found: Unknown) -> Option<Near<'a>> {
+fn nearest_candidate<'a>(
+    lines: &[Line<'a>],
+    index: usize,
+    found: Unknown,
+) -> Option<Candidate<'a>> {
     match found.space {
-        Space::Items(kind) => near_item(lines, kind, found.name),
-        Space::Locals => near_local(lines, index, found.name),
-        Space::Fields(class) => near_field(lines, class, found.name),
+        Space::Items(kind) => nearest_item(lines, kind, found.name),
+        Space::Locals => nearest_local(lines, index, found.name),
+        Space::Fields(class) => nearest_field(lines, class, found.name),
     }
 }
 
-/// Says what space was searched.
-fn say_space(page: &mut Page, lines: &[Line], index: usize, space: Space) {
+/// Shows the line that begins the space that was searched.
+fn mark_space(page: &mut Page, lines: &[Line], index: usize, space: Space) {
     match space {
         Space::Items(_) => {}
-        Space::Locals => note(page, lines, body_of(lines, index), "the body begins here"),
-        Space::Fields(class) => note(page, lines, class, "the class begins here"),
+        Space::Locals => mark_line(page, lines, body_of(lines, index), "the body begins here"),
+        Space::Fields(class) => mark_line(page, lines, class, "the class begins here"),
     }
 }
 
-/// What an unknown name is elsewhere in the script.
-fn elsewhere(lines: &[Line], index: usize, found: Unknown) -> Option<Elsewhere> {
+/// Returns what an unknown name is elsewhere in the script; `None` if it is nothing.
+fn find_elsewhere(lines: &[Line], index: usize, found: Unknown) -> Option<Elsewhere> {
     match found.space {
-        Space::Items(_) => instead_of_item(lines, index, found.name),
-        Space::Locals => instead_of_local(lines, index, found.name),
+        Space::Items(_) => elsewhere_of_item(lines, index, found.name),
+        Space::Locals => elsewhere_of_local(lines, index, found.name),
         Space::Fields(_) => None,
     }
 }
@@ -219,53 +230,53 @@ fn elsewhere(lines: &[Line], index: usize, found: Unknown) -> Option<Elsewhere> 
 /// What to do about a local that isn't declared.
 fn help_of_local(name: &[u8]) -> &'static str {
     if name == b"self".as_slice() {
-        "`self` is known in `construct` and `destroy` alone"
+        "`self` is known only in `construct` and `destroy`"
     } else if name == b"null".as_slice() {
-        "`null POINTER` makes a pointer null; nothing else names it"
+        "`null POINTER` makes a pointer null; `null` can't be an operand"
     } else if name.starts_with(b"KErr") {
         "a code is written as its number: `KErrNoMemory` is -4"
     } else if is_reserved(name) {
-        "the name is reserved, and nothing can be declared with it"
+        "the name is reserved and can't be declared"
     } else {
         "declare it above the first statement, with `ptr`, `int`, `buf` or `view`"
     }
 }
 
-/// What to do where nothing is near.
+/// What to do if no name is near.
 fn help_of(found: Unknown) -> &'static str {
     match found.space {
         Space::Locals => help_of_local(found.name),
         Space::Items(ItemKind::Class) if is_reserved(found.name) => {
-            "no class can have this name; `ptr NAME` and `field NAME` declare pointers without one"
+            "no class can have this name; `ptr NAME` and `field NAME` declare pointers without a class"
         }
-        _ if is_reserved(found.name) => "the name is reserved, and nothing can be declared with it",
+        _ if is_reserved(found.name) => "the name is reserved and can't be declared",
         Space::Items(kind) => help_of_item(kind),
         Space::Fields(_) => "declare it in the class, with `field NAME`",
     }
 }
 
-/// Says which declared name may have been meant.
-fn say_near(page: &mut Page, near: Near) {
-    page.help(&[
-        Piece::Text("did you mean `"),
-        Piece::Word(near.word),
-        Piece::Text("`, declared in line "),
-        Piece::Number(near.line),
-        Piece::Text("?"),
+/// Says which declared name may be meant.
+fn help_with_candidate(page: &mut Page, near: Candidate) {
+    page.write_help(&[
+        Fragment::Text("did you mean `"),
+        Fragment::Word(near.word),
+        Fragment::Text("`, declared on line "),
+        Fragment::Number(near.line),
+        Fragment::Text("?"),
     ]);
 }
 
 /// Says which name of a line is declared nowhere.
-pub(crate) fn unknown_name(page: &mut Page, lines: &[Line], index: usize) {
+pub(crate) fn explain_unknown_name(page: &mut Page, lines: &[Line], index: usize) {
     if let Some(line) = lines.get(index)
         && let Some((found, letter)) = first_unknown(lines, index, line)
     {
-        say_unknown(page, lines, index, line, found, letter);
+        explain_unknown(page, lines, index, line, found, letter);
     }
 }
 
-/// Says what is known of an unknown name where a letter stands.
-fn say_unknown<'x>(
+/// Says what is known of an unknown name, in this operand.
+fn explain_unknown<'x>(
     page: &mut Page,
     lines: &[Line<'x>],
     index: usize,
@@ -274,16 +285,16 @@ fn say_unknown<'x>(
     letter: Letter,
 ) {
     let spot = line.spot_of(found.span, found.name);
-    say_problem(page, lines, spot, found.space);
-    say_space(page, lines, index, found.space);
-    let elsewhere = elsewhere(lines, index, found);
+    explain_problem(page, lines, spot, found.space);
+    mark_space(page, lines, index, found.space);
+    let elsewhere = find_elsewhere(lines, index, found);
     if let Some(elsewhere) = elsewhere {
-        note_elsewhere(page, lines, found.name, elsewhere);
+        explain_elsewhere(page, lines, found.name, elsewhere);
     }
-    match (nearest(lines, index, found), elsewhere) {
-        (_, Some(Elsewhere::Member(_))) => {}
-        (Some(near), _) => say_near(page, near),
-        (None, Some(Elsewhere::Other(..))) => help_wanted(page, line, letter),
-        (None, _) => page.help_text(help_of(found)),
+    match (nearest_candidate(lines, index, found), elsewhere) {
+        (_, Some(Elsewhere::FieldOfClass(_))) => {}
+        (Some(near), _) => help_with_candidate(page, near),
+        (None, Some(Elsewhere::OtherKind(..))) => help_with_operand(page, line, letter),
+        (None, _) => page.write_help_text(help_of(found)),
     }
 }

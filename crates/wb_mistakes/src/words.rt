@@ -4,8 +4,8 @@ use wb_lines::words::{
     base_name, field_name, is_digit, literal_of, number_of, parameter_name, parameter_taken,
 };
 
-/// Whether a byte stands in a word.
-pub(crate) fn has(byte: u8, word: &[u8]) -> bool {
+/// Whether a word has a byte.
+pub(crate) fn has_byte(byte: u8, word: &[u8]) -> bool {
     word.contains(&byte)
 }
 
@@ -13,7 +13,7 @@ pub(crate) fn is_field(word: &[u8]) -> bool {
     base_name(word).is_some() && field_name(word).is_some()
 }
 
-/// The digits of a number, without what stands before them.
+/// The digits of a number, without its sign.
 pub(crate) fn digits<'a>(word: &'a [u8]) -> &'a [u8] {
     match word {
         [b'-', digits @ ..] => digits,

@@ -1,44 +1,45 @@
-//! What is wrong with a word that can't stand where it does, by its bytes alone, and what is wanted there.
+//! What is wrong with a word that is not allowed where it is, by its bytes alone, and what is expected there.
 
-use crate::words::{digits, has, is_field, is_literal, is_numeral};
+use crate::words::{digits, has_byte, is_field, is_literal, is_numeral};
 use wb_lines::words::{before_first, behind_first, is_digit, is_name, is_reserved};
 use wb_model::script_lines::{Keyword, Letter};
 
-/// What is wrong with a word, and a hint; there may be none.
+/// What is wrong with a word, and a hint, which may be empty.
 #[derive(Clone, Copy)]
 pub(crate) struct Complaint {
     pub problem: &'static str,
     pub hint: &'static str,
 }
 
-fn told(problem: &'static str, hint: &'static str) -> Complaint {
+fn complaint_with(problem: &'static str, hint: &'static str) -> Complaint {
     Complaint { problem, hint }
 }
 
-/// What a place takes.
-pub(crate) fn wanted(letter: Letter) -> &'static str {
+/// What is expected as an operand.
+pub(crate) fn expectation_of(letter: Letter) -> &'static str {
     match letter {
-        Letter::Declared => "a name that is declared",
-        Letter::ItsPointer => "the name of the pointer that it takes",
-        Letter::Pointer => "a pointer: its name, a field or `self`",
-        Letter::Written => "a pointer that is written: its name or a field",
-        Letter::Receiver => "a pointer that is written: its name",
+        Letter::Declared => "the name to declare",
+        Letter::ItsPointer => "a name for the pointer that it takes",
+        Letter::Pointer => "a pointer (its name, a field or `self`)",
+        Letter::Written => "a pointer that can be set (its name or a field)",
+        Letter::Receiver => "the name of a pointer that can be set",
         Letter::FieldTarget => "a field",
-        Letter::Value => "a number, or the name of an int",
+        Letter::Value => "a number or the name of an int",
         Letter::Variable => "the name of an int",
-        Letter::Target => "the name of an int or of a pointer",
-        Letter::Source => "a number, or the name of an int or of a pointer, or a field",
-        Letter::Size => "a number from 0 on",
-        Letter::Writable => "a text that can be changed: a buffer's name, or a pointer to a text",
-        Letter::Readable => "a text: a literal, or the name of a buffer, a view or a pointer",
+        Letter::Target => "the name of an int or a pointer",
+        Letter::Source => "a number, a field, or the name of an int or a pointer",
+        Letter::Size => "a number from 0 up",
+        Letter::Writable =>
+            "a text that can be changed (the name of a buffer, or a pointer to a text)",
+        Letter::Readable => "a text (a literal, or the name of a buffer, a view or a pointer)",
         Letter::ViewName => "the name of a view",
         Letter::Printed => "a number, a text, or the name of an int, a buffer, a view or a pointer",
         Letter::Class => "the name of a class",
         Letter::Procedure => "the name of a procedure",
         Letter::Operation => "the name of an operation",
-        Letter::Parameter => "a parameter: `NAME:ptr`, `NAME:int` or `NAME:CLASS`",
+        Letter::Parameter => "a parameter (`NAME:ptr`, `NAME:int` or `NAME:CLASS`)",
         Letter::Argument => {
-            "an argument: a number, or the name of an int or of a pointer, or a field"
+            "an argument (a number, a field, or the name of an int or a pointer)"
         }
         Letter::Keyword(Keyword::Null) => "`null`",
         Letter::Keyword(Keyword::Some) => "`some`",
@@ -47,7 +48,7 @@ pub(crate) fn wanted(letter: Letter) -> &'static str {
     }
 }
 
-/// Whether a number may stand at a letter.
+/// Whether an operand may be a number.
 fn takes_number(letter: Letter) -> bool {
     matches!(
         letter,
@@ -55,47 +56,47 @@ fn takes_number(letter: Letter) -> bool {
     )
 }
 
-fn of_numeral(letter: Letter, word: &[u8]) -> Complaint {
+fn numeral_complaint(letter: Letter, word: &[u8]) -> Complaint {
     if !takes_number(letter) {
-        told("a number can't stand here", "")
+        complaint_with("a number is not allowed here", "")
     } else if digits(word).len() > 9 {
-        told("the number is too long", "a number has one to nine digits")
+        complaint_with("the number is too long", "a number has one to nine digits")
     } else {
-        told("the number is below 0", "a size is 0 or more")
+        complaint_with("the number is below 0", "a size is 0 or more")
     }
 }
 
-fn of_quoted(word: &[u8]) -> Complaint {
+fn quoted_complaint(word: &[u8]) -> Complaint {
     if is_literal(word) {
-        told("a text between quotes can't stand here", "")
-    } else if has(b'\t', word) {
-        told("a tab can't stand in a text", "write blanks in its place")
+        complaint_with("a text in quotes is not allowed here", "")
+    } else if has_byte(b'\t', word) {
+        complaint_with("a text can't contain a tab", "use blanks instead")
     } else {
-        told(
+        complaint_with(
             "a text ends at its second quote",
-            "a blank follows the closing quote, and a text can't hold one",
+            "the closing quote is followed by a blank, and a text can't contain a quote",
         )
     }
 }
 
-/// Of a word with a colon, or one where a parameter is wanted.
-fn of_parameter(letter: Letter, word: &[u8]) -> Complaint {
+/// What is wrong with a word that has a colon, or is where a parameter is expected.
+fn parameter_complaint(letter: Letter, word: &[u8]) -> Complaint {
     if matches!(letter, Letter::ItsPointer) {
-        told(
-            "a word with a colon can't stand here",
-            "an operation takes one pointer, and no kind is written behind its name",
+        complaint_with(
+            "a word with a colon is not allowed here",
+            "an operation takes one pointer, and no kind is written after its name",
         )
     } else if !matches!(letter, Letter::Parameter) {
-        told("a word with a colon can't stand here", "")
+        complaint_with("a word with a colon is not allowed here", "")
     } else if is_reserved(before_first(b':', word)) {
-        of_reserved()
-    } else if !has(b':', word) {
-        told(
+        reserved_complaint()
+    } else if !has_byte(b':', word) {
+        complaint_with(
             "the parameter has no kind",
-            "write `:ptr`, `:int` or `:` and a class behind its name",
+            "write `:ptr`, `:int`, or `:` and a class after its name",
         )
     } else {
-        told("this is no parameter", hint_of_end(word, ""))
+        complaint_with("this is not a parameter", hint_at_end(word, ""))
     }
 }
 
@@ -104,10 +105,10 @@ fn ends_as_in_c(word: &[u8]) -> bool {
     matches!(word.last(), Some(b';' | b','))
 }
 
-/// What to do about the end of a word, where that is what is wrong; else another hint.
-fn hint_of_end(word: &[u8], other: &'static str) -> &'static str {
+/// What to do about the end of a word, if that is what is wrong; else another hint.
+fn hint_at_end(word: &[u8], other: &'static str) -> &'static str {
     if ends_as_in_c(word) {
-        "words stand apart by blanks alone, without `,` and `;`"
+        "words are separated by blanks, without `,` or `;`"
     } else {
         other
     }
@@ -118,62 +119,62 @@ fn is_chain(word: &[u8]) -> bool {
     is_name(before_first(b'.', word)) && is_field(behind_first(b'.', word))
 }
 
-fn of_reserved() -> Complaint {
-    told(
+fn reserved_complaint() -> Complaint {
+    complaint_with(
         "the name is reserved",
         "`self`, `ptr`, `int`, `null`, `some`, `eq` and `less` can't be declared",
     )
 }
 
-/// Of a word that is a name or a field.
-fn of_name(letter: Letter, word: &[u8]) -> Complaint {
+/// What is wrong with a word that is a name or a field.
+fn name_complaint(letter: Letter, word: &[u8]) -> Complaint {
     match letter {
-        Letter::Declared | Letter::ItsPointer if is_reserved(word) => of_reserved(),
-        _ if is_field(word) => told("a field can't stand here", ""),
-        _ => told("a name can't stand here", ""),
+        Letter::Declared | Letter::ItsPointer if is_reserved(word) => reserved_complaint(),
+        _ if is_field(word) => complaint_with("a field is not allowed here", ""),
+        _ => complaint_with("a name is not allowed here", ""),
     }
 }
 
-/// Of a word that is nothing of the language.
-fn of_other(word: &[u8]) -> Complaint {
+/// What is wrong with a word that is no word of the language.
+fn other_complaint(word: &[u8]) -> Complaint {
     match word {
         _ if is_chain(word) => {
-            told(
+            complaint_with(
                 "a word can't name a field of a field",
-                "`set` a pointer of its class to the first field, and name the second one through that",
+                "`set` a pointer of its class to the first field, and name the second field through that pointer",
             )
         }
         [first, ..] if is_digit(*first) => {
-            told(
+            complaint_with(
                 "this is neither a number nor a name",
-                hint_of_end(
+                hint_at_end(
                     word,
-                    "a number is decimal digits alone, and a name begins with a letter",
+                    "a number has only decimal digits, and a name begins with a letter",
                 ),
             )
         }
-        [b'+', ..] => told(
-            "this is no number",
-            "a number that isn't negative has no sign",
-        ),
-        _ => told(
-            "this is no name",
-            hint_of_end(word, "a name is a letter, then letters, digits and `_`"),
+        [b'+', ..] => complaint_with("this is not a number", "only a negative number has a sign"),
+        _ => complaint_with(
+            "this is not a name",
+            hint_at_end(
+                word,
+                "a name is a letter followed by letters, digits and `_`",
+            ),
         ),
     }
 }
 
-/// What is wrong with a word that doesn't fit a letter.
+/// What is wrong with a word that isn't allowed as this operand.
 pub(crate) fn complaint_of(letter: Letter, word: &[u8]) -> Complaint {
     if matches!(word, [b'"', ..]) {
-        of_quoted(word)
-    } else if has(b':', word) || matches!(letter, Letter::Parameter) {
-        of_parameter(letter, word)
+        quoted_complaint(word)
+    } else if has_byte(b':', word) || matches!(letter, Letter::Parameter) {
+        parameter_complaint(letter, word)
     } else if is_numeral(word) {
-        of_numeral(letter, word)
+        numeral_complaint(letter, word)
     } else if is_name(word) || is_field(word) {
-        of_name(letter, word)
+        name_complaint(letter, word)
     } else {
-        of_other(word)
+        other_complaint(word)
     }
 }

@@ -1,0 +1,41 @@
+//! Messages about further lines of the script.
+
+use crate::lines::Line;
+use crate::spaces::line_of_local;
+use wb_lines::words::before_first;
+use wb_pages::{Page, Span};
+
+/// Writes a message about another line of the script, and shows that line with its first word marked.
+pub(crate) fn mark_line(page: &mut Page, lines: &[Line], index: usize, text: &str) {
+    if let Some(line) = lines.get(index) {
+        page.mark_text(line.spot(0), text);
+    }
+}
+
+/// The part of a line that declares a name: after its first word, and without the kind of a parameter. The whole line if it doesn't
+/// declare it.
+fn span_of(line: &Line, name: &[u8]) -> Span {
+    for word in &line.words {
+        if word.column > 0 && before_first(b':', word.text) == name {
+            return Span {
+                column: word.column,
+                length: name.len(),
+            };
+        }
+    }
+    line.span()
+}
+
+/// Writes a message about another line of the script, and shows that line with a name marked that it declares.
+pub(crate) fn mark_name(page: &mut Page, lines: &[Line], index: usize, name: &[u8], text: &str) {
+    if let Some(line) = lines.get(index) {
+        page.mark_text(line.spot_of(span_of(line, name), &[]), text);
+    }
+}
+
+/// Says where the local with a name is declared, if there is one.
+pub(crate) fn mark_declaration(page: &mut Page, lines: &[Line], index: usize, name: &[u8]) {
+    if let Some(local) = line_of_local(lines, index, name) {
+        mark_name(page, lines, local, name, "declared here");
+    }
+}

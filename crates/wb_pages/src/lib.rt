@@ -1,0 +1,14 @@
+//! Pages of explanations: messages about lines of a script, which are shown with carets under what is meant.
+//!
+//! Plain functions from values to text. No report rests on them, and what the messages say is written in the crates above.
+#![tactic(auto)]
+
+pub mod fragments;
+pub mod page;
+pub mod spots;
+pub mod words;
+
+pub use fragments::Fragment;
+pub use page::Page;
+pub use spots::{Span, Spot};
+pub use words::Word;

@@ -1,0 +1,283 @@
+//! The text of an explanation as it is written, fragment by fragment and line by line. What the messages are isn't said here.
+
+use crate::fragments::Fragment;
+use crate::spots::{Span, Spot};
+use std::alloc::{AllocError, Global};
+use std::fmt::Write;
+
+/// The most columns of a script's line that are shown.
+const MOST_COLUMNS: usize = 100;
+
+/// How many columns are shown before the part that is meant, if the line is too long to be shown whole.
+const COLUMNS_BEFORE: usize = 40;
+
+/// The most bytes of a word that are written in a message.
+const LONGEST_WORD: usize = 70;
+
+/// What is written in the place of what is left out.
+const ELLIPSIS: &str = "...";
+
+/// What comes before a line that is shown.
+const INDENT: &str = "    ";
+
+/// What is written so far of an explanation of a file. If memory runs out the rest is left out, and `is_cut` says so.
+#[derive(Drop)]
+pub struct Page<'f> {
+    file: &'f str,
+    text: String,
+    is_cut: bool,
+}
+
+/// The character that is shown for a byte of a script: a blank for each kind of blank, a question mark for what can't be shown.
+fn visible_char(byte: u8) -> char {
+    match byte {
+        b' '..=b'~' => byte as char,
+        b'\t' | b'\r' => ' ',
+        _ => '?',
+    }
+}
+
+impl<'f> Page<'f> {
+    /// An empty page about a file with this name.
+    pub fn new(alloc: Global, file: &'f str) -> Page<'f> {
+        Page {
+            file,
+            text: String::new(alloc),
+            is_cut: false,
+        }
+    }
+
+    /// Returns what was written. The only error is that memory ran out.
+    pub fn whole_text(self) -> Result<String, AllocError> {
+        if self.is_cut {
+            Err(AllocError)
+        } else {
+            Ok(self.text)
+        }
+    }
+
+    fn add_text(&mut self, text: &str) {
+        if !self.is_cut {
+            self.is_cut = self.text.push_str(text).is_err();
+        }
+    }
+
+    fn add_char(&mut self, char: char) {
+        if !self.is_cut {
+            self.is_cut = self.text.push(char).is_err();
+        }
+    }
+
+    fn add_repeated(&mut self, char: char, count: usize) {
+        for _ in 0..count {
+            self.add_char(char);
+        }
+    }
+
+    fn add_bytes(&mut self, bytes: &[u8]) {
+        for byte in bytes {
+            self.add_char(visible_char(*byte));
+        }
+    }
+
+    /// Writes the beginning of a word, and that there is more of it if there is.
+    fn add_word(&mut self, word: &[u8]) {
+        match word.split_at_checked(LONGEST_WORD) {
+            Some((begin, [_, ..])) => {
+                self.add_bytes(begin);
+                self.add_text(ELLIPSIS);
+            }
+            _ => self.add_bytes(word),
+        }
+    }
+
+    fn add_number(&mut self, number: usize) {
+        if !self.is_cut {
+            self.is_cut = write!(self.text, "{number}").is_err();
+        }
+    }
+
+    fn add_value(&mut self, value: i64) {
+        if !self.is_cut {
+            self.is_cut = write!(self.text, "{value}").is_err();
+        }
+    }
+
+    fn add_place(&mut self, place: u32) {
+        if !self.is_cut {
+            self.is_cut = write!(self.text, "{place:08x}").is_err();
+        }
+    }
+
+    fn add(&mut self, fragment: Fragment) {
+        match fragment {
+            Fragment::Text(text) => self.add_text(text),
+            Fragment::Word(word) => self.add_word(word),
+            Fragment::Line(line) => self.add_line(line, 0),
+            Fragment::Number(number) => self.add_number(number),
+            Fragment::Value(value) => self.add_value(value),
+            Fragment::Place(place) => self.add_place(place),
+        }
+    }
+
+    /// Writes a line of the script from a column on, as much as is shown of it. What is left out before is marked in the place of
+    /// as many columns, so that all others are where they were.
+    fn add_line(&mut self, line: &[u8], from: usize) {
+        let (_, rest) = line.split_at_checked(from).unwrap_or((line, line));
+        let (part, after) = rest.split_at_checked(MOST_COLUMNS).unwrap_or((rest, &[]));
+        match part.split_at_checked(ELLIPSIS.len()) {
+            Some((_, part)) if from > 0 => {
+                self.add_text(ELLIPSIS);
+                self.add_bytes(part);
+            }
+            _ => self.add_bytes(part),
+        }
+        if !after.is_empty() {
+            self.add_text(ELLIPSIS);
+        }
+    }
+
+    /// Writes fragments of a line that goes on.
+    pub fn write(&mut self, fragments: &[Fragment]) {
+        for fragment in fragments {
+            self.add(*fragment);
+        }
+    }
+
+    /// Writes a text of a line that goes on.
+    pub fn write_text(&mut self, text: &str) {
+        self.add_text(text);
+    }
+
+    /// Writes a word of a line that goes on, between two texts.
+    pub fn write_word(&mut self, before: &str, word: &[u8], after: &str) {
+        self.add_text(before);
+        self.add_word(word);
+        self.add_text(after);
+    }
+
+    /// Ends a line.
+    pub fn end_line(&mut self) {
+        self.add_char('\n');
+    }
+
+    /// Begins a message about the whole file.
+    pub fn begin_file_message(&mut self) {
+        self.add_text(self.file);
+        self.add_text(": ");
+    }
+
+    /// Begins a message about a line of the file, by its number.
+    pub fn begin_message(&mut self, number: usize) {
+        self.add_text(self.file);
+        self.add_text(":");
+        self.add_number(number);
+        self.add_text(": ");
+    }
+
+    /// Begins a line that says what to do.
+    pub fn begin_help(&mut self) {
+        self.add_text("help: ");
+    }
+
+    /// Writes a message about the whole file, by one text.
+    pub fn write_file_text(&mut self, text: &str) {
+        self.begin_file_message();
+        self.add_text(text);
+        self.end_line();
+    }
+
+    /// Writes a message about the whole file.
+    pub fn write_file_message(&mut self, fragments: &[Fragment]) {
+        self.begin_file_message();
+        self.write(fragments);
+        self.end_line();
+    }
+
+    /// Writes a message about a line of the file, by its number, and doesn't show the line.
+    pub fn write_message(&mut self, number: usize, text: &str) {
+        self.begin_message(number);
+        self.add_text(text);
+        self.end_line();
+    }
+
+    /// Writes a message about a part of the script, and shows that part.
+    pub fn mark(&mut self, spot: Spot, fragments: &[Fragment]) {
+        self.begin_message(spot.number);
+        self.write(fragments);
+        self.end_line();
+        self.show(spot);
+    }
+
+    /// Writes a message about a word of the script, the word between two texts, and shows where it is.
+    pub fn mark_word(&mut self, spot: Spot, before: &str, after: &str) {
+        self.begin_message(spot.number);
+        self.write_word(before, spot.word, after);
+        self.end_line();
+        self.show(spot);
+    }
+
+    /// Writes a message about a part of the script, by one text, and shows that part.
+    pub fn mark_text(&mut self, spot: Spot, text: &str) {
+        self.write_message(spot.number, text);
+        self.show(spot);
+    }
+
+    /// Shows a line of the script, with carets under a part of it: below a message that `begin_message` began and `end_line`
+    /// ended.
+    pub fn show(&mut self, spot: Spot) {
+        let from = if spot.text.len() <= MOST_COLUMNS {
+            0
+        } else {
+            spot.span.column.saturating_sub(COLUMNS_BEFORE)
+        };
+        self.add_text(INDENT);
+        self.add_line(spot.text, from);
+        self.end_line();
+        self.add_carets(spot.span, from);
+    }
+
+    /// Writes the line of carets under a part of a line that is shown from a column on.
+    fn add_carets(&mut self, span: Span, from: usize) {
+        let column = span.column.saturating_sub(from);
+        self.add_text(INDENT);
+        self.add_repeated(' ', column.min(MOST_COLUMNS));
+        self.add_repeated('^', span.length.clamp(1, MOST_COLUMNS - COLUMNS_BEFORE));
+        self.end_line();
+    }
+
+    /// Writes a row of a table, below a message.
+    pub fn write_row(&mut self, fragments: &[Fragment]) {
+        self.add_text(INDENT);
+        self.write(fragments);
+        self.end_line();
+    }
+
+    /// Writes what to do.
+    pub fn write_help(&mut self, fragments: &[Fragment]) {
+        self.begin_help();
+        self.write(fragments);
+        self.end_line();
+    }
+
+    /// Writes what to do, by one text.
+    pub fn write_help_text(&mut self, text: &str) {
+        self.begin_help();
+        self.add_text(text);
+        self.end_line();
+    }
+
+    /// Writes what to do, with a word between two texts.
+    pub fn write_help_word(&mut self, before: &str, word: &[u8], after: &str) {
+        self.begin_help();
+        self.write_word(before, word, after);
+        self.end_line();
+    }
+
+    /// Writes what else there is to know, by one text.
+    pub fn write_note_text(&mut self, text: &str) {
+        self.add_text("note: ");
+        self.add_text(text);
+        self.end_line();
+    }
+}

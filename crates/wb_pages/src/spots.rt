@@ -1,0 +1,48 @@
+//! Parts of a script's lines that a message is about.
+
+use crate::words::Word;
+
+/// A part of a line: the column in which it begins, counted from 0, and its length in bytes.
+#[derive(Clone, Copy)]
+pub struct Span {
+    pub column: usize,
+    pub length: usize,
+}
+
+/// A part of a line of the script: the line's number, counted from 1, its text without the blanks around it, and the part, with the
+/// word that is written there, if it is one.
+#[derive(Clone, Copy)]
+pub struct Spot<'a> {
+    pub number: usize,
+    pub text: &'a [u8],
+    pub span: Span,
+    pub word: &'a [u8],
+}
+
+impl<'a> Spot<'a> {
+    /// The whole line, and no word of it.
+    pub fn of_line(number: usize, text: &'a [u8]) -> Spot<'a> {
+        Spot {
+            number,
+            text,
+            span: Span {
+                column: 0,
+                length: text.len(),
+            },
+            word: &[],
+        }
+    }
+
+    /// The word with an index, counted from 0, of the line's words; the whole line if there is no such word.
+    pub fn of_word(number: usize, text: &'a [u8], words: &[Word<'a>], index: usize) -> Spot<'a> {
+        match words.get(index) {
+            Some(word) => Spot {
+                number,
+                text,
+                span: word.span(),
+                word: word.text,
+            },
+            None => Spot::of_line(number, text),
+        }
+    }
+}

@@ -1,0 +1,76 @@
+//! The words of a line with the columns in which they begin. Which bytes are words is said in `wb_lines`.
+
+use crate::spots::Span;
+use std::alloc::{AllocError, Global};
+use wb_lines::pieces::{add_words, is_blank};
+
+/// A word of a line, and the column in which it begins, counted from 0.
+#[derive(Clone, Copy)]
+pub struct Word<'a> {
+    pub text: &'a [u8],
+    pub column: usize,
+}
+
+impl<'a> Word<'a> {
+    /// The columns that the word takes up.
+    pub fn span(self) -> Span {
+        Span {
+            column: self.column,
+            length: self.text.len(),
+        }
+    }
+}
+
+/// The bytes from one index up to another; none if there is no such part.
+fn part<'a>(bytes: &'a [u8], from: usize, to: usize) -> &'a [u8] {
+    if from <= to && to <= bytes.len() {
+        &bytes[from..to]
+    } else {
+        &[]
+    }
+}
+
+/// How many blanks a line begins with.
+pub fn count_blanks(line: &[u8]) -> usize {
+    for (index, byte) in line.iter().enumerate() {
+        if !is_blank(*byte) {
+            return index;
+        }
+    }
+    line.len()
+}
+
+/// Returns a line without the blanks around it.
+pub fn trim<'a>(line: &'a [u8]) -> &'a [u8] {
+    let mut end = 0;
+    for (index, byte) in line.iter().enumerate() {
+        if !is_blank(*byte) {
+            end = index + 1;
+        }
+    }
+    part(line, count_blanks(line), end)
+}
+
+/// Returns the texts of a line's words with their columns: what is between two words is blanks alone. The only error is that
+/// memory ran out.
+pub fn place_words<'a>(
+    alloc: Global,
+    line: &'a [u8],
+    texts: &[&'a [u8]],
+) -> Result<Vec<Word<'a>>, AllocError> {
+    let mut words = Vec::with_capacity(alloc, texts.len())?;
+    let mut end: usize = 0;
+    for text in texts {
+        let column = end.saturating_add(count_blanks(part(line, end, line.len())));
+        words.push(Word { text, column })?;
+        end = column.saturating_add(text.len());
+    }
+    Ok(words)
+}
+
+/// Returns the words of a line. The only error is that memory ran out.
+pub fn words_of<'a>(alloc: Global, line: &'a [u8]) -> Result<Vec<Word<'a>>, AllocError> {
+    let mut texts = Vec::new(alloc);
+    add_words(&mut texts, line)?;
+    place_words(alloc, line, &texts)
+}
