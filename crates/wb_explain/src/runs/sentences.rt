@@ -1,64 +1,105 @@
 //! What is said of the values with which a line panicked.
 
 use crate::runs::counts::{is_or_are, plural};
+use crate::runs::script_page::{ScriptPage, number};
 use crate::runs::values::Values;
-use std::alloc::AllocError;
+use wb_pages::Fragment;
+use wb_pages::Fragment::Text;
 
 /// Writes what is said of values.
-pub fn put_values(text: &mut String, values: Values) -> Result<(), AllocError> {
+pub fn put_values(page: &mut ScriptPage<'_>, values: Values) {
     match values {
-        Values::WouldHave { units, maximum } => put_total(text, units, maximum),
-        Values::PastEnd { position, length } => put_position(text, position, length),
-        Values::Fewer { wanted, length } => put_wanted(text, wanted, length),
+        Values::WouldHave { units, maximum } => put_total(page, units, maximum),
+        Values::PastEnd { position, length } => put_position(page, position, length),
+        Values::Fewer { wanted, length } => put_wanted(page, wanted, length),
         Values::Part {
             position,
             wanted,
             length,
-        } => put_part(text, position, wanted, length),
-        Values::NoWord { index, bytes } => write!(
-            text,
-            "there is no word {index}: the cell has {bytes} bytes, its words are 4 each and count from 0"
-        ),
-        Values::Sum { first, second } => write!(
-            text,
-            "{first} and {second} make more or less than an int holds"
-        ),
-        Values::OutOfRange(number) => write!(text, "{number} is out of the line's range"),
-        Values::BelowZero(number) => write!(text, "{number} is below 0"),
-        Values::OwnText => text.push_str("the text would be inserted into itself"),
+        } => put_part(page, position, wanted, length),
+        Values::NoWord { index, bytes } => put_index(page, index, bytes),
+        Values::Sum { first, second } => put_sum(page, first, second),
+        Values::OutOfRange(number) => {
+            page.page
+                .write(&[value(number), Text(" is out of the line's range")])
+        }
+        Values::BelowZero(number) => page.page.write(&[value(number), Text(" is below 0")]),
+        Values::OwnText => page
+            .page
+            .write_text("the text would be inserted into itself"),
     }
 }
 
-fn put_total(text: &mut String, units: u32, maximum: u32) -> Result<(), AllocError> {
-    let s = plural(i64::from(units));
-    write!(
-        text,
-        "the text would have {units} unit{s}, its maximum is {maximum}"
-    )
+/// A value of the script, to be written in decimal digits and with its sign.
+fn value(number: i32) -> Fragment<'static> {
+    Fragment::Value(i64::from(number))
 }
 
-fn put_position(text: &mut String, position: i32, length: u32) -> Result<(), AllocError> {
-    let s = plural(i64::from(length));
-    write!(
-        text,
-        "position {position} is behind the end of the text, which has {length} unit{s}"
-    )
+fn put_total(page: &mut ScriptPage<'_>, units: u32, maximum: u32) {
+    page.page.write(&[
+        Text("the text would have "),
+        number(units),
+        Text(" unit"),
+        Text(plural(i64::from(units))),
+        Text(", its maximum is "),
+        number(maximum),
+    ]);
 }
 
-fn put_wanted(text: &mut String, wanted: i32, length: u32) -> Result<(), AllocError> {
+fn put_position(page: &mut ScriptPage<'_>, position: i32, length: u32) {
+    page.page.write(&[
+        Text("position "),
+        value(position),
+        Text(" is behind the end of the text, which has "),
+        number(length),
+        Text(" unit"),
+        Text(plural(i64::from(length))),
+    ]);
+}
+
+fn put_wanted(page: &mut ScriptPage<'_>, wanted: i32, length: u32) {
     let count = i64::from(wanted);
-    let (s, are) = (plural(count), is_or_are(count));
-    write!(
-        text,
-        "{wanted} unit{s} {are} asked for, the text has {length}"
-    )
+    page.page.write(&[
+        value(wanted),
+        Text(" unit"),
+        Text(plural(count)),
+        Text(" "),
+        Text(is_or_are(count)),
+        Text(" asked for, the text has "),
+        number(length),
+    ]);
 }
 
-fn put_part(text: &mut String, position: i32, wanted: i32, length: u32) -> Result<(), AllocError> {
+fn put_part(page: &mut ScriptPage<'_>, position: i32, wanted: i32, length: u32) {
     let count = i64::from(wanted);
-    let (s, are) = (plural(count), is_or_are(count));
-    write!(
-        text,
-        "{wanted} unit{s} from position {position} on {are} asked for, the text has {length}"
-    )
+    page.page.write(&[
+        value(wanted),
+        Text(" unit"),
+        Text(plural(count)),
+        Text(" from position "),
+        value(position),
+        Text(" on "),
+        Text(is_or_are(count)),
+        Text(" asked for, the text has "),
+        number(length),
+    ]);
+}
+
+fn put_index(page: &mut ScriptPage<'_>, index: i32, bytes: u32) {
+    page.page.write(&[
+        Text("there is no word "),
+        value(index),
+        Text(": the cell has "),
+        number(bytes),
+        Text(" bytes, its words are 4 each and count from 0"),
+    ]);
+}
+
+fn put_sum(page: &mut ScriptPage<'_>, first: i32, second: i32) {
+    page.page.write(&[
+        value(first),
+        Text(" and "),
+        value(second),
+        Text(" make more or less than an int holds"),
+    ]);
 }

@@ -44,8 +44,15 @@ pub enum Values {
     OwnText,
 }
 
+/// The values with which a line panicked, and the index of the word that they are about among the words of the line.
+#[derive(Clone, Copy, Debug, PartialEq, Eq)]
+pub struct Meant {
+    pub word: usize,
+    pub values: Values,
+}
+
 /// The values with which a line raised the panic that ended a run; `None` where nothing is said of any.
-pub fn values_of(machine: &Machine<'_>) -> Option<Values> {
+pub fn values_of(machine: &Machine<'_>) -> Option<Meant> {
     let raised = machine.raised()?;
     if raised.raiser != Raiser::Statement {
         return None;
@@ -61,7 +68,7 @@ pub fn values_of(machine: &Machine<'_>) -> Option<Values> {
 }
 
 /// How long a text would have been.
-fn too_long(machine: &Machine<'_>, statement: &Statement) -> Option<Values> {
+fn too_long(machine: &Machine<'_>, statement: &Statement) -> Option<Meant> {
     match statement {
         Statement::Copy(target, text) => would_have(machine, *target, machine.length(*text)),
         Statement::Append(target, text) | Statement::Insert(target, _, text) => {
@@ -75,10 +82,11 @@ fn too_long(machine: &Machine<'_>, statement: &Statement) -> Option<Values> {
     }
 }
 
-fn would_have(machine: &Machine<'_>, target: Writable, units: Option<u32>) -> Option<Values> {
+fn would_have(machine: &Machine<'_>, target: Writable, units: Option<u32>) -> Option<Meant> {
     let units = units?;
     let maximum = machine.maximum(target)?;
-    Some(Values::WouldHave { units, maximum })
+    // the text that would be too long is the first operand
+    about(1, Values::WouldHave { units, maximum })
 }
 
 /// How many units a text has and another that is put into it.
@@ -89,7 +97,7 @@ fn both_lengths(machine: &Machine<'_>, target: Writable, text: Readable) -> Opti
 }
 
 /// Which position or part a text doesn't have.
-fn out_of_bounds(machine: &Machine<'_>, statement: &Statement) -> Option<Values> {
+fn out_of_bounds(machine: &Machine<'_>, statement: &Statement) -> Option<Meant> {
     match statement {
         Statement::Insert(target, position, _) | Statement::DeleteText(target, position, _) => {
             past_end(machine, Readable::Of(*target), *position)
@@ -104,16 +112,16 @@ fn out_of_bounds(machine: &Machine<'_>, statement: &Statement) -> Option<Values>
     }
 }
 
-fn past_end(machine: &Machine<'_>, text: Readable, position: Number) -> Option<Values> {
+fn past_end(machine: &Machine<'_>, text: Readable, position: Number) -> Option<Meant> {
     let length = machine.length(text)?;
     let position = machine.number(position);
-    Some(Values::PastEnd { position, length })
+    about(2, Values::PastEnd { position, length })
 }
 
-fn fewer(machine: &Machine<'_>, text: Readable, wanted: Number) -> Option<Values> {
+fn fewer(machine: &Machine<'_>, text: Readable, wanted: Number) -> Option<Meant> {
     let length = machine.length(text)?;
     let wanted = machine.number(wanted);
-    Some(Values::Fewer { wanted, length })
+    about(3, Values::Fewer { wanted, length })
 }
 
 fn past_part(
@@ -121,17 +129,20 @@ fn past_part(
     text: Readable,
     position: Number,
     wanted: Number,
-) -> Option<Values> {
+) -> Option<Meant> {
     let length = machine.length(text)?;
-    Some(Values::Part {
-        position: machine.number(position),
-        wanted: machine.number(wanted),
-        length,
-    })
+    about(
+        3,
+        Values::Part {
+            position: machine.number(position),
+            wanted: machine.number(wanted),
+            length,
+        },
+    )
 }
 
 /// For how many units a text was to have room.
-fn too_little_room(machine: &Machine<'_>, statement: &Statement) -> Option<Values> {
+fn too_little_room(machine: &Machine<'_>, statement: &Statement) -> Option<Meant> {
     match statement {
         Statement::ReallocText(_, source, room) => {
             fewer(machine, Readable::Of(Writable::InCell(*source)), *room)
@@ -141,57 +152,78 @@ fn too_little_room(machine: &Machine<'_>, statement: &Statement) -> Option<Value
 }
 
 /// Which number is out of the line's range.
-fn out_of_range(machine: &Machine<'_>, statement: &Statement) -> Option<Values> {
+fn out_of_range(machine: &Machine<'_>, statement: &Statement) -> Option<Meant> {
     match statement {
-        Statement::Store(pointer, index, _) | Statement::Load(_, pointer, index) => {
-            past_words(machine, *pointer, *index)
-        }
+        Statement::Store(pointer, index, _) => past_words(machine, 2, *pointer, *index),
+        Statement::Load(_, pointer, index) => past_words(machine, 3, *pointer, *index),
         Statement::Add(local, number) => {
             let first = machine.number(Number::Variable(*local));
             let second = machine.number(*number);
-            Some(Values::Sum { first, second })
+            about(2, Values::Sum { first, second })
         }
-        Statement::Insert(_, position, _) => Some(inserted(machine.number(*position))),
-        Statement::DeleteText(_, one, other) | Statement::Mid(_, _, one, other) => {
-            below_zero(machine.number(*one)).or(below_zero(machine.number(*other)))
+        Statement::Insert(_, position, _) => inserted(machine.number(*position)),
+        Statement::DeleteText(_, one, other) => either_below_zero(machine, 2, *one, *other),
+        Statement::Mid(_, _, one, other) => either_below_zero(machine, 3, *one, *other),
+        Statement::Repeat(number, _) | Statement::FailNext(number) | Statement::FailEvery(number) =>
+            out_of_line(machine, 1, *number),
+        Statement::Alloc(_, number, _) | Statement::NewText(_, number, _) => {
+            out_of_line(machine, 2, *number)
         }
-        Statement::Alloc(_, number, _)
-        | Statement::NewText(_, number, _)
-        | Statement::Realloc(_, _, number, _)
-        | Statement::ReallocText(_, _, number)
-        | Statement::Repeat(number, _)
-        | Statement::FailNext(number)
-        | Statement::FailEvery(number) => Some(Values::OutOfRange(machine.number(*number))),
-        Statement::SetLength(_, number)
-        | Statement::Left(_, _, number)
-        | Statement::Right(_, _, number)
-        | Statement::Pop(number)
+        Statement::Realloc(_, _, number, _) | Statement::ReallocText(_, _, number) => {
+            out_of_line(machine, 3, *number)
+        }
+        Statement::Pop(number)
         | Statement::PopDestroy(number)
         | Statement::MarkEnd(number)
         | Statement::Check(number)
-        | Statement::CheckAll(number) => below_zero(machine.number(*number)),
+        | Statement::CheckAll(number) => below_zero(1, machine.number(*number)),
+        Statement::SetLength(_, number) => below_zero(2, machine.number(*number)),
+        Statement::Left(_, _, number) | Statement::Right(_, _, number) => {
+            below_zero(3, machine.number(*number))
+        }
         _ => None,
     }
 }
 
-fn past_words(machine: &Machine<'_>, pointer: Pointer, index: Number) -> Option<Values> {
+fn past_words(
+    machine: &Machine<'_>,
+    word: usize,
+    pointer: Pointer,
+    index: Number,
+) -> Option<Meant> {
     let bytes = machine.bytes(pointer)?;
     let index = machine.number(index);
-    Some(Values::NoWord { index, bytes })
+    about(word, Values::NoWord { index, bytes })
+}
+
+fn out_of_line(machine: &Machine<'_>, word: usize, number: Number) -> Option<Meant> {
+    about(word, Values::OutOfRange(machine.number(number)))
 }
 
 /// A text can't be inserted at a position below 0, nor into itself.
-fn inserted(position: i32) -> Values {
-    match below_zero(position) {
-        Some(values) => values,
-        None => Values::OwnText,
-    }
+fn inserted(position: i32) -> Option<Meant> {
+    below_zero(2, position).or(about(3, Values::OwnText))
 }
 
-fn below_zero(number: i32) -> Option<Values> {
+/// The first of two numbers that is below 0, by the index of the first one's word.
+fn either_below_zero(
+    machine: &Machine<'_>,
+    word: usize,
+    one: Number,
+    other: Number,
+) -> Option<Meant> {
+    let first = below_zero(word, machine.number(one));
+    first.or(below_zero(word.saturating_add(1), machine.number(other)))
+}
+
+fn below_zero(word: usize, number: i32) -> Option<Meant> {
     if number < 0 {
-        Some(Values::BelowZero(number))
+        about(word, Values::BelowZero(number))
     } else {
         None
     }
+}
+
+fn about(word: usize, values: Values) -> Option<Meant> {
+    Some(Meant { word, values })
 }

@@ -6,7 +6,7 @@ ghost use Rattle.wb_model.specs.Sound.{is_script};
 use crate::runs::Setting;
 use crate::runs::bodies::Bodies;
 use crate::runs::makers::Maker;
-use crate::runs::values::{Values, values_of};
+use crate::runs::values::{Meant, values_of};
 use std::alloc::{AllocError, Global};
 use wb_machine::{Machine, Raised, RunFault, Turn};
 use wb_model::heap::{Answer, Attempt};
@@ -34,7 +34,7 @@ pub struct Seen {
     pub lines: Lines,
     /// The panic that ended it, and the values with which its line raised it; `None` if nothing is to be said of any.
     pub raised: Option<Raised>,
-    pub values: Option<Values>,
+    pub values: Option<Meant>,
 }
 
 impl Seen {
