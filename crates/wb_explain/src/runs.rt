@@ -1,6 +1,6 @@
 //! What runs found: panics, leaks, what a failed attempt led to, which attempts a shorter heap refuses, and cuts.
 //!
-//! The script is run once more for this, and watched turn by turn, so that lines can be told.
+//! The script is run once more for this, and watched turn by turn, so that lines can be named.
 
 ghost use Rattle.std.specs.Prelude.{◌≤◌, IsTrue};
 ghost use Rattle.wb_model.specs.Sound.{is_script};
@@ -14,21 +14,20 @@ mod destroyed;
 mod ends;
 mod failures;
 mod lengths;
+mod makers;
 mod pairs;
 mod panics;
-mod probe;
-mod questions;
 mod rates;
-mod script_file;
+mod script_page;
 mod sentences;
 mod values;
 mod watch;
-mod words;
 
 use crate::runs::ends::put_findings;
 use crate::runs::lengths::put_lengths;
+use crate::runs::script_page::ScriptPage;
 use crate::runs::watch::watch_run;
-pub use script_file::ScriptFile;
+pub use script_page::ScriptFile;
 use std::alloc::Global;
 use wb_model::heap::{Rule, Shape};
 use wb_model::limits::LARGEST_BUDGET;
@@ -55,11 +54,11 @@ pub fn run_found(
     requires least { 1 ≤ setting.budget }
     requires greatest { setting.budget ≤ LARGEST_BUDGET }
 {
-    let mut text = String::new(alloc);
+    let mut page = ScriptPage::new(alloc, file);
     if let Some(seen) = watch_run(alloc, script, setting)? {
-        put_findings(&mut text, file, setting, &seen)?;
+        put_findings(&mut page, script, setting, &seen)?;
     }
-    Ok(text)
+    Ok(page.whole_text()?)
 }
 
 /// Returns which line made each attempt that a shorter heap refuses first: those of `rises`, which the run without a limit
@@ -76,7 +75,7 @@ pub fn lengths_found(
     requires least { 1 ≤ budget }
     requires greatest { budget ≤ LARGEST_BUDGET }
 {
-    let mut text = String::new(alloc);
-    put_lengths(&mut text, file, script, budget, shape, rises)?;
-    Ok(text)
+    let mut page = ScriptPage::new(alloc, file);
+    put_lengths(&mut page, alloc, script, budget, shape, rises)?;
+    Ok(page.whole_text()?)
 }

@@ -1,124 +1,77 @@
-//! Which body a line stands in, as far as explanations ask: `main`, one that only undoes, or another; and which line of
-//! each body was begun last.
+//! In which bodies of a script lines are, as far as explanations ask: in one that only undoes, or in which class.
 
 use std::alloc::{AllocError, Global};
-use wb_model::script::{Class, Procedure, Script};
+use wb_model::script::{Class, Script};
 
-/// What a body is for.
-#[derive(Clone, Copy, Debug, PartialEq, Eq)]
-pub enum BodyKind {
-    Main,
-    /// An operation or a destructor: what a leave runs on its way.
-    Undoing,
-    Other,
-}
-
-/// A body: the line with which it begins, what it is for, and which of its lines was begun last, 0 before the first.
+/// A body, or a class up to its destructor.
 #[derive(Clone, Copy)]
-struct SeenBody {
+struct Part {
+    /// The line with which it begins.
     begin: u32,
-    kind: BodyKind,
-    last: u32,
+    /// Whether it is an operation or a destructor: what a leave runs on its way.
+    undoes: bool,
 }
 
 /// The bodies of a script.
 #[derive(Drop)]
 pub struct Bodies {
     /// In no order.
-    bodies: Vec<SeenBody>,
+    parts: Vec<Part>,
 }
 
 impl Bodies {
     pub fn of(alloc: Global, script: &Script) -> Result<Bodies, AllocError> {
-        let mut bodies = Vec::new(alloc);
-        put_procedures(&mut bodies, script.procedures.as_slice(), script.main)?;
-        put_classes(&mut bodies, script.classes.as_slice())?;
+        let mut parts = Vec::new(alloc);
+        for procedure in script.procedures.as_slice() {
+            put_part(&mut parts, procedure.line, false)?;
+        }
+        for class in script.classes.as_slice() {
+            put_class(&mut parts, class)?;
+        }
         for operation in script.operations.as_slice() {
-            put_body(&mut bodies, operation.line, BodyKind::Undoing)?;
+            put_part(&mut parts, operation.line, true)?;
         }
-        Ok(Bodies { bodies })
+        Ok(Bodies { parts })
     }
 
-    /// Notes that a line was begun, and tells the kind of the body that it stands in.
-    pub fn see(&mut self, line: u32) -> BodyKind {
-        let at = self.body_of(line);
-        match self.bodies.get_mut(at) {
-            Some(body) if body.begin <= line => {
-                body.last = line;
-                body.kind
-            }
-            _ => BodyKind::Other,
-        }
-    }
-
-    /// The line that was begun last in the same body as a line stands.
-    pub fn last_beside(&self, line: u32) -> u32 {
-        match self.bodies.get(self.body_of(line)) {
-            Some(body) => body.last,
-            None => 0,
-        }
-    }
-
-    /// The line of `main` that was begun last.
-    pub fn last_of_main(&self) -> u32 {
-        match self.bodies.iter().find(|body| body.kind == BodyKind::Main) {
-            Some(body) => body.last,
-            None => 0,
-        }
-    }
-
-    /// The index of the body that a line stands in: the last one that begins up to it.
-    fn body_of(&self, line: u32) -> usize {
-        let mut nearest = (0, 0);
-        for (index, body) in self.bodies.iter().enumerate() {
-            if nearest.1 <= body.begin && body.begin <= line {
-                nearest = (index, body.begin);
-            }
-        }
-        nearest.0
-    }
-}
-
-fn put_body(bodies: &mut Vec<SeenBody>, begin: u32, kind: BodyKind) -> Result<(), AllocError> {
-    bodies.push(SeenBody {
-        begin,
-        kind,
-        last: 0,
-    })?;
-    Ok(())
-}
-
-fn put_procedures(
-    bodies: &mut Vec<SeenBody>,
-    procedures: &[Procedure],
-    main: u16,
-) -> Result<(), AllocError> {
-    for (index, procedure) in procedures.iter().enumerate() {
-        let kind = if index == usize::from(main) {
-            BodyKind::Main
-        } else {
-            BodyKind::Other
+    /// Whether a line is in an operation or a destructor: the last part that begins up to it is one.
+    pub fn undoes(&self, line: u32) -> bool {
+        let mut nearest = Part {
+            begin: 0,
+            undoes: false,
         };
-        put_body(bodies, procedure.line, kind)?;
+        for part in self.parts.as_slice() {
+            if nearest.begin <= part.begin && part.begin <= line {
+                nearest = *part;
+            }
+        }
+        nearest.undoes
     }
+}
+
+/// The line with which the class of a line begins: the last that begins up to it.
+pub fn class_around(script: &Script, line: u32) -> Option<u32> {
+    let mut begin = None;
+    for class in script.classes.as_slice() {
+        if class.line <= line {
+            begin = Some(class.line);
+        }
+    }
+    begin
+}
+
+fn put_part(parts: &mut Vec<Part>, begin: u32, undoes: bool) -> Result<(), AllocError> {
+    parts.push(Part { begin, undoes })?;
     Ok(())
 }
 
 /// A class's destructor is the last of it.
-fn put_classes(bodies: &mut Vec<SeenBody>, classes: &[Class]) -> Result<(), AllocError> {
-    for class in classes {
-        put_body(bodies, class.line, BodyKind::Other)?;
-        if let Some(first) = first_of_destructor(class) {
-            put_body(bodies, first, BodyKind::Undoing)?;
-        }
+fn put_class(parts: &mut Vec<Part>, class: &Class) -> Result<(), AllocError> {
+    put_part(parts, class.line, false)?;
+    if let Some(body) = &class.destroy
+        && let Some(first) = body.statements.get(0)
+    {
+        put_part(parts, first.line, true)?;
     }
     Ok(())
-}
-
-/// The line of the first statement of a class's destructor.
-fn first_of_destructor(class: &Class) -> Option<u32> {
-    match &class.destroy {
-        Some(body) => body.statements.get(0).map(|first| first.line),
-        None => None,
-    }
 }

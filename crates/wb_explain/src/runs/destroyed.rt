@@ -35,9 +35,3 @@ pub const OF_MAIN: (&str, &str) = (
     "`main` came to its end behind this line, and items are left on the cleanup stack",
     "pop what was pushed, by `pop` or `popdestroy`, before `main` ends",
 );
-
-/// What is said where nobody can tell what raised the panic.
-pub const OF_ANYTHING: (&str, &str) = (
-    "this line, or what was destroyed behind it, met a pointer that names no cell of the kind that it needs",
-    "",
-);

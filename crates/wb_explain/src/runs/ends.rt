@@ -2,65 +2,48 @@
 
 use crate::runs::Setting;
 use crate::runs::attempts::put_refused;
-use crate::runs::blame::{Blame, Cause, blame_of};
+use crate::runs::blame::{class_of, line_of};
 use crate::runs::cuts::put_cut;
-use crate::runs::destroyed::{OF_ANYTHING, OF_MAIN, OF_OBJECT, of_item};
-use crate::runs::failures::put_place;
+use crate::runs::destroyed::{OF_MAIN, OF_OBJECT, of_item};
 use crate::runs::panics::{meaning_of, symbian_of};
-use crate::runs::questions::question_of;
-use crate::runs::script_file::ScriptFile;
-use crate::runs::sentences::put_sentence;
-use crate::runs::values::values_at;
+use crate::runs::script_page::{ScriptPage, number};
+use crate::runs::sentences::put_values;
 use crate::runs::watch::Seen;
 use std::alloc::AllocError;
+use wb_machine::{Raised, Raiser};
 use wb_model::heap::{Panic, Rule};
-use wb_model::memory::NoMemory;
 use wb_model::run::{Leak, Outcome};
+use wb_model::script::Script;
+use wb_pages::Fragment::{Number, Place, Text, Value};
 
 /// The most leaks that are told one by one.
 const MOST_LEAKS: usize = 20;
 
 /// Says what a run found: first which attempts failed, if any were to, and then its end.
 pub fn put_findings(
-    text: &mut String,
-    file: ScriptFile<'_>,
+    page: &mut ScriptPage<'_>,
+    script: &Script,
     setting: Setting,
     seen: &Seen,
-) -> Result<(), NoMemory> {
-    let blame = put_failure(text, file, setting, seen)?;
+) -> Result<(), AllocError> {
+    let panicked_at = seen.raised.map(|raised| line_of(raised, seen));
+    put_refused(page, setting.rule, panicked_at, seen)?;
     match &seen.result.outcome {
         Outcome::Ended { left, leaks } => {
             if let Some(code) = *left
                 && (leaks.len() > 0 || refuses(setting.rule))
             {
-                put_left(text, file, code, seen)?;
+                put_left(page, code, seen)?;
             }
-            Ok(put_leaks(text, file, leaks.as_slice(), seen)?)
+            put_leaks(page, leaks.as_slice(), seen)
         }
-        Outcome::Panicked(panic) => put_panic(text, file, *panic, blame, setting, seen),
+        Outcome::Panicked(_) => match seen.raised {
+            Some(raised) => put_panic(page, script, raised, seen),
+            None => Ok(()),
+        },
         Outcome::NoCleanup => Ok(()),
-        Outcome::Cut(why) => Ok(put_cut(text, file, *why, setting.budget, seen)?),
+        Outcome::Cut(why) => put_cut(page, *why, setting.budget, seen),
     }
-}
-
-/// Says which attempts failed, if any were to, and tells what raised the panic, if the run ended with one.
-fn put_failure(
-    text: &mut String,
-    file: ScriptFile<'_>,
-    setting: Setting,
-    seen: &Seen,
-) -> Result<Blame, NoMemory> {
-    let alloc = *text.allocator();
-    let Outcome::Panicked(panic) = &seen.result.outcome else {
-        put_refused(text, file, setting.rule, None, seen)?;
-        return Ok(Blame {
-            line: seen.last(),
-            cause: Cause::Line,
-        });
-    };
-    let blame = blame_of(alloc, file, setting, *panic, seen)?;
-    put_refused(text, file, setting.rule, Some(blame.line), seen)?;
-    Ok(blame)
 }
 
 /// Whether a rule may refuse anything. A leave of a run under another is what the script means to do.
@@ -72,20 +55,15 @@ fn refuses(rule: Rule) -> bool {
 }
 
 /// Says where a leave came out of `main`.
-fn put_left(
-    text: &mut String,
-    file: ScriptFile<'_>,
-    code: i32,
-    seen: &Seen,
-) -> Result<(), AllocError> {
-    let line = seen.last_of_main();
-    put_place(text, file, line)?;
-    write!(
-        text,
-        "a leave came out of `main` here, with {code}{}",
-        name_of(code)
-    )?;
-    file.put_below(text, line)
+fn put_left(page: &mut ScriptPage<'_>, code: i32, seen: &Seen) -> Result<(), AllocError> {
+    page.mark(
+        seen.last_at(1),
+        &[
+            Text("a leave came out of `main` here, with "),
+            Value(i64::from(code)),
+            Text(name_of(code)),
+        ],
+    )
 }
 
 /// Symbian's name of a code that scripts often leave with, behind a comma; empty for others.
@@ -107,81 +85,59 @@ fn name_of(code: i32) -> &'static str {
     }
 }
 
+/// Says what the panic was, and shows its line, with carets under the operand that it is about, or else the first word.
 fn put_panic(
-    text: &mut String,
-    file: ScriptFile<'_>,
-    panic: Panic,
-    blame: Blame,
-    setting: Setting,
+    page: &mut ScriptPage<'_>,
+    script: &Script,
+    raised: Raised,
     seen: &Seen,
-) -> Result<(), NoMemory> {
-    let line = blame.line;
-    put_place(text, file, line)?;
-    put_name(text, panic)?;
-    write!(text, "{}: ", file.first_word(line))?;
-    let (says, help) = said_of(panic, blame, file);
-    if !put_values(text, file, panic, setting, line)? {
-        text.push_str(says)?;
+) -> Result<(), AllocError> {
+    let line = line_of(raised, seen);
+    let word = page.first_word(line);
+    let (says, help) = said_of(raised, word);
+    page.page.begin_message(line as usize);
+    put_name(page, raised.panic);
+    page.page.write(&[Text(word), Text(": ")]);
+    let meant = put_meaning(page, says, seen);
+    page.page.end_line();
+    let spot = page.spot(line, meant)?;
+    page.page.show(spot);
+    // the destructor that ended is of the object's own class
+    if let Some(class) = class_of(raised, script, seen) {
+        page.mark_word(class, 1, &[Text("the object is of this class")])?;
     }
-    file.put_below(text, line)?;
-    put_class(text, file, blame.cause)?;
-    put_lowest(text, file, panic, seen)?;
-    put_if(text, "note", symbian_of(panic))?;
-    Ok(put_if(text, "help", help)?)
+    put_lowest(page, raised.panic, seen)?;
+    put_remarks(page, symbian_of(raised.panic), help);
+    Ok(())
 }
 
-/// What a panic means and what to look for, by what raised it.
-fn said_of(panic: Panic, blame: Blame, file: ScriptFile<'_>) -> (&'static str, &'static str) {
-    match blame.cause {
-        // what holds a field may be what the line refuses
-        Cause::Line if panic == Panic::WRONG_KIND && file.line(blame.line).contains('.') => {
-            meaning_of(panic, "")
+/// Says with which values the line panicked, or else what the panic means. Returns the index of the word that is meant.
+fn put_meaning(page: &mut ScriptPage<'_>, says: &str, seen: &Seen) -> usize {
+    match seen.values {
+        Some(meant) => {
+            put_values(page, meant.values);
+            meant.word
         }
-        Cause::Line => meaning_of(panic, file.first_word(blame.line)),
-        Cause::Holder => meaning_of(panic, ""),
-        Cause::Main => OF_MAIN,
-        Cause::Item => of_item(panic),
-        Cause::Object(_) => OF_OBJECT,
-        Cause::Unknown => OF_ANYTHING,
+        None => {
+            page.page.write_text(says);
+            0
+        }
     }
 }
 
-/// Says of which class an object was that couldn't be released: the last that begins before its destructor's end.
-fn put_class(text: &mut String, file: ScriptFile<'_>, cause: Cause) -> Result<(), AllocError> {
-    let Cause::Object(end) = cause else {
-        return Ok(());
-    };
-    match file.class_before(end) {
-        Some(line) => file.put(text, line, "the object is of this class"),
-        None => Ok(()),
-    }
-}
-
-/// Says with which values the line panicked, and tells whether anything is said.
-fn put_values(
-    text: &mut String,
-    file: ScriptFile<'_>,
-    panic: Panic,
-    setting: Setting,
-    line: u32,
-) -> Result<bool, NoMemory> {
-    let alloc = *text.allocator();
-    let Some(question) = question_of(panic, file.first_word(line)) else {
-        return Ok(false);
-    };
-    match values_at(alloc, file, setting, line, panic, question.asks)? {
-        Some(values) => Ok(put_sentence(text, question.sentence, values.as_slice())?),
-        None => Ok(false),
+/// What a panic means and what to look for, by what raised it, and by the first word of the line that is named for it.
+fn said_of(raised: Raised, word: &str) -> (&'static str, &'static str) {
+    match raised.raiser {
+        Raiser::Statement | Raiser::TrapEnd => meaning_of(raised.panic, word),
+        Raiser::Holder => meaning_of(raised.panic, ""),
+        Raiser::MainEnd => OF_MAIN,
+        Raiser::Item => of_item(raised.panic),
+        Raiser::Release => OF_OBJECT,
     }
 }
 
 /// Says which line made the lowest cell that a heap check counted.
-fn put_lowest(
-    text: &mut String,
-    file: ScriptFile<'_>,
-    panic: Panic,
-    seen: &Seen,
-) -> Result<(), AllocError> {
+fn put_lowest(page: &mut ScriptPage<'_>, panic: Panic, seen: &Seen) -> Result<(), AllocError> {
     let Panic::Alloc(place) = panic else {
         return Ok(());
     };
@@ -189,88 +145,79 @@ fn put_lowest(
     if place == 0 {
         return Ok(());
     }
-    match seen.maker_at(place) {
-        Some(maker) if reallocates(file, maker.line) => file.put(
-            text,
-            maker.line,
-            "the lowest cell that was counted was made, moved or grown here",
-        ),
-        Some(maker) => file.put(
-            text,
-            maker.line,
-            "the lowest cell that was counted was made here",
-        ),
-        None => Ok(()),
-    }
-}
-
-/// Whether a line reallocates: then its attempt may have made a cell, moved it, or made it longer where it was.
-fn reallocates(file: ScriptFile<'_>, line: u32) -> bool {
-    matches!(file.first_word(line), "realloc" | "reallocl" | "hrealloc")
-}
-
-/// Writes a line of its own, unless there is nothing to say.
-fn put_if(text: &mut String, kind: &str, said: &str) -> Result<(), AllocError> {
-    if said.is_empty() {
+    let Some(maker) = seen.maker_at(place) else {
         return Ok(());
+    };
+    let said = if maker.deed.reallocates {
+        "the lowest cell that was counted was made, moved or grown here"
+    } else {
+        "the lowest cell that was counted was made here"
+    };
+    page.mark_word(maker.line, 1, &[Text(said)])
+}
+
+/// Writes where Symbian raises the panic, and what to look for; nothing of what is empty.
+fn put_remarks(page: &mut ScriptPage<'_>, note: &str, help: &str) {
+    if !note.is_empty() {
+        page.page.write_note_text(note);
     }
-    write!(text, "{kind}: {said}\n")
+    if !help.is_empty() {
+        page.page.write_help_text(help);
+    }
 }
 
 /// The panic as the report names it.
-fn put_name(text: &mut String, panic: Panic) -> Result<(), AllocError> {
+fn put_name(page: &mut ScriptPage<'_>, panic: Panic) {
     match panic {
-        Panic::User(number) => write!(text, "panic USER {number}: "),
-        Panic::Alloc(place) => write!(text, "panic ALLOC {place:08x}: "),
-        Panic::Workbench(number) => write!(text, "panic WORKBENCH {number}: "),
+        Panic::User(code) => page
+            .page
+            .write(&[Text("panic USER "), number(u32::from(code))]),
+        Panic::Alloc(place) => page.page.write(&[Text("panic ALLOC "), Place(place)]),
+        Panic::Workbench(code) => page
+            .page
+            .write(&[Text("panic WORKBENCH "), number(u32::from(code))]),
     }
+    page.page.write_text(": ");
 }
 
 /// Says of each leak which line made the cell, up to as many as anybody reads.
-fn put_leaks(
-    text: &mut String,
-    file: ScriptFile<'_>,
-    leaks: &[Leak],
-    seen: &Seen,
-) -> Result<(), AllocError> {
+fn put_leaks(page: &mut ScriptPage<'_>, leaks: &[Leak], seen: &Seen) -> Result<(), AllocError> {
     for leak in leaks.iter().take(MOST_LEAKS) {
-        put_leak(text, file, *leak, seen)?;
+        put_leak(page, *leak, seen)?;
     }
     let more = leaks.len().saturating_sub(MOST_LEAKS);
     if more == 0 {
         return Ok(());
     }
     let leak = if more == 1 {
-        "cell leaks"
+        " more cell leaks"
     } else {
-        "cells leak"
+        " more cells leak"
     };
-    write!(text, "{}: {more} more {leak}\n", file.name)
+    page.page.write_file_message(&[Number(more), Text(leak)]);
+    Ok(())
 }
 
-fn put_leak(
-    text: &mut String,
-    file: ScriptFile<'_>,
-    leak: Leak,
-    seen: &Seen,
-) -> Result<(), AllocError> {
-    let Leak {
-        number,
-        length,
-        place,
-    } = leak;
-    let Some((_, maker)) = seen.attempt(number) else {
+/// Says which line made a cell that leaks, and shows the pointer that got it.
+fn put_leak(page: &mut ScriptPage<'_>, leak: Leak, seen: &Seen) -> Result<(), AllocError> {
+    let Some((_, maker)) = seen.attempt(leak.number) else {
         return Ok(());
     };
-    let made = if reallocates(file, maker.line) {
-        "made or moved"
+    let made = if maker.deed.reallocates {
+        " that was made or moved here, "
     } else {
-        "made"
+        " that was made here, "
     };
-    put_place(text, file, maker.line)?;
-    write!(
-        text,
-        "leak: nothing freed the cell of attempt {number} that was {made} here, {length} bytes at place {place}"
-    )?;
-    file.put_below(text, maker.line)
+    page.mark_word(
+        maker.line,
+        1,
+        &[
+            Text("leak: nothing freed the cell of attempt "),
+            number(leak.number),
+            Text(made),
+            number(leak.length),
+            Text(" bytes at place "),
+            number(leak.place),
+        ],
+    )
 }

@@ -1,10 +1,12 @@
 //! What is said of an attempt that failed: the line that made it, and where the run went on.
 
-use crate::runs::script_file::ScriptFile;
-use crate::runs::watch::{Maker, Seen};
+use crate::runs::makers::Maker;
+use crate::runs::script_page::{ScriptPage, number};
+use crate::runs::watch::Seen;
 use std::alloc::AllocError;
 use wb_model::heap::Attempt;
 use wb_model::run::Outcome;
+use wb_pages::Fragment::Text;
 
 /// Where a run went on after an attempt that failed, as far as it is said.
 #[derive(Clone, Copy, Debug, PartialEq, Eq)]
@@ -31,55 +33,48 @@ impl Next {
 
 /// Says which line's attempt failed, and where the run went on.
 pub fn put_failed(
-    text: &mut String,
-    file: ScriptFile<'_>,
+    page: &mut ScriptPage<'_>,
     attempt: Attempt,
     maker: Maker,
     panicked_at: Option<u32>,
     seen: &Seen,
 ) -> Result<(), AllocError> {
-    let Attempt { number, .. } = attempt;
     if maker.line == 0 {
-        let name = file.name;
-        return write!(
-            text,
-            "{name}: attempt {number} failed, the cell of the cleanup stack, so that `main` did not begin\n"
-        );
+        page.page.write_file_message(&[
+            Text("attempt "),
+            number(attempt.number),
+            Text(" failed, the cell of the cleanup stack, so that `main` did not begin"),
+        ]);
+        return Ok(());
     }
-    put_failed_here(text, file, attempt, maker.line, "")?;
-    put_next(text, file, next_after(file, maker, panicked_at, seen))
+    put_failed_here(page, attempt, maker.line, "")?;
+    put_next(page, next_after(maker, panicked_at, seen))
 }
 
 /// Says that an attempt failed in this line; `also` is what follows the word `here`, with a blank before it, or nothing.
 pub fn put_failed_here(
-    text: &mut String,
-    file: ScriptFile<'_>,
+    page: &mut ScriptPage<'_>,
     attempt: Attempt,
     line: u32,
     also: &str,
 ) -> Result<(), AllocError> {
-    let Attempt { number, length, .. } = attempt;
-    put_place(text, file, line)?;
-    write!(
-        text,
-        "attempt {number} failed here{also}, of a cell of {length} bytes"
-    )?;
-    file.put_below(text, line)
-}
-
-/// The place of a line, before what is said of it.
-pub fn put_place(text: &mut String, file: ScriptFile<'_>, line: u32) -> Result<(), AllocError> {
-    write!(text, "{}:{line}: ", file.name)
+    page.mark(
+        line,
+        &[
+            Text("attempt "),
+            number(attempt.number),
+            Text(" failed here"),
+            Text(also),
+            Text(", of a cell of "),
+            number(attempt.length),
+            Text(" bytes"),
+        ],
+    )
 }
 
 /// Where the run went on after an attempt that failed, which a line of the script made.
-pub fn next_after(
-    file: ScriptFile<'_>,
-    maker: Maker,
-    panicked_at: Option<u32>,
-    seen: &Seen,
-) -> Next {
-    let again = maker.idle >= 2 && gives_null(file.first_word(maker.line));
+pub fn next_after(maker: Maker, panicked_at: Option<u32>, seen: &Seen) -> Next {
+    let again = maker.idle >= 2 && maker.deed.gives_null;
     let line = if again { maker.line } else { maker.after };
     if panicked_at == Some(line) {
         return Next::Unsaid;
@@ -96,20 +91,22 @@ pub fn next_after(
     }
 }
 
-/// Whether lines with this first word give null where their attempt fails, and go on.
-fn gives_null(word: &str) -> bool {
-    matches!(word, "alloc" | "realloc" | "new" | "hnew" | "hrealloc")
-}
-
 /// Says where the run went on. Of a line that went on with itself the place alone is shown.
-pub fn put_next(text: &mut String, file: ScriptFile<'_>, next: Next) -> Result<(), AllocError> {
+pub fn put_next(page: &mut ScriptPage<'_>, next: Next) -> Result<(), AllocError> {
     match next {
         Next::Unsaid => Ok(()),
-        Next::Line(line) => file.put(text, line, "the run went on here"),
+        Next::Line(line) => page.mark(line, &[Text("the run went on here")]),
         Next::Again(line) => {
-            put_place(text, file, line)?;
-            text.push_str("the run went on with the same line, in the next turn of its `repeat`\n")
+            page.page.write_message(
+                line as usize,
+                "the run went on with the same line, in the next turn of its `repeat`",
+            );
+            Ok(())
         }
-        Next::End => write!(text, "{}: after that `main` came to its end\n", file.name),
+        Next::End => {
+            page.page
+                .write_file_text("after that `main` came to its end");
+            Ok(())
+        }
     }
 }

@@ -4,23 +4,23 @@
 ghost use Rattle.std.specs.Prelude.{◌≤◌, IsTrue};
 ghost use Rattle.wb_model.specs.Sound.{is_script};
 
-use crate::runs::counts::plural;
-use crate::runs::script_file::ScriptFile;
-use std::alloc::{AllocError, Global};
+use crate::runs::script_page::{ScriptPage, number};
+use std::alloc::Global;
 use wb_machine::{Machine, RunFault};
 use wb_model::heap::Shape;
 use wb_model::limits::LARGEST_BUDGET;
 use wb_model::memory::NoMemory;
 use wb_model::script::Script;
 use wb_model::size::Rise;
+use wb_pages::Fragment::{Line, Number, Text};
 
 /// The most rows that are shown.
 const MOST_ROWS: usize = 20;
 
 /// Says of each row of the table which line makes its attempt, unless no heap may have the shape.
 pub fn put_lengths(
-    text: &mut String,
-    file: ScriptFile<'_>,
+    page: &mut ScriptPage<'_>,
+    alloc: Global,
     script: &Script,
     budget: u32,
     shape: Shape,
@@ -30,9 +30,8 @@ pub fn put_lengths(
     requires least { 1 ≤ budget }
     requires greatest { budget ≤ LARGEST_BUDGET }
 {
-    let alloc = *text.allocator();
     match Machine::new_rises(alloc, script, budget, shape) {
-        Ok(mut machine) => put_rows(text, file, &mut machine, budget, rises),
+        Ok(mut machine) => put_rows(page, &mut machine, budget, rises),
         Err(RunFault::BadShape) => Ok(()),
         Err(RunFault::NoMemory) => Err(NoMemory),
     }
@@ -40,26 +39,35 @@ pub fn put_lengths(
 
 /// The rows, by a machine that goes on from one of their attempts to the next.
 fn put_rows(
-    text: &mut String,
-    file: ScriptFile<'_>,
+    page: &mut ScriptPage<'_>,
     machine: &mut Machine<'_>,
     budget: u32,
     rises: &[Rise],
 ) -> Result<(), NoMemory> {
-    write!(text, "{}: what shorter heaps refuse first\n", file.name)?;
+    page.page.write_file_text("what shorter heaps refuse first");
     let mut from = 0;
     for rise in rises.iter().take(MOST_ROWS) {
         go_to_attempt(machine, budget, rise.number)?;
-        put_row(text, file, from, rise.number, machine.line())?;
+        put_row(page, from, rise.number, machine.line());
         from = rise.top;
     }
-    let more = rises.len().saturating_sub(MOST_ROWS);
-    if more == 0 {
-        return Ok(());
-    }
-    let s = plural(i64::try_from(more).unwrap_or(i64::MAX));
-    write!(text, "    and {more} row{s} more\n")?;
+    put_more(page, rises.len().saturating_sub(MOST_ROWS));
     Ok(())
+}
+
+/// Says how many rows more there are, if there are any.
+fn put_more(page: &mut ScriptPage<'_>, more: usize) {
+    if more == 0 {
+        return;
+    }
+    let s = if more == 1 { "" } else { "s" };
+    page.page.write_row(&[
+        Text("and "),
+        Number(more),
+        Text(" row"),
+        Text(s),
+        Text(" more"),
+    ]);
 }
 
 /// Takes turns until the attempt with this number is made, at most one for each step of the budget and the first.
@@ -74,20 +82,26 @@ fn go_to_attempt(machine: &mut Machine<'_>, budget: u32, number: u32) -> Result<
 }
 
 /// The row of an attempt, by the line that made it; 0 of the first, which no line makes.
-fn put_row(
-    text: &mut String,
-    file: ScriptFile<'_>,
-    from: u32,
-    number: u32,
-    line: u32,
-) -> Result<(), AllocError> {
+fn put_row(page: &mut ScriptPage<'_>, from: u32, attempt: u32, line: u32) {
     if line == 0 {
-        return write!(
-            text,
-            "    from {from}: attempt {number}, the cell of the cleanup stack\n"
-        );
+        page.page.write_row(&[
+            Text("from "),
+            number(from),
+            Text(": attempt "),
+            number(attempt),
+            Text(", the cell of the cleanup stack"),
+        ]);
+        return;
     }
-    write!(text, "    from {from}: attempt {number}, line {line}: ")?;
-    file.put_line(text, line)?;
-    text.push_str("\n")
+    let shown = page.line(line);
+    page.page.write_row(&[
+        Text("from "),
+        number(from),
+        Text(": attempt "),
+        number(attempt),
+        Text(", line "),
+        number(line),
+        Text(": "),
+        Line(shown),
+    ]);
 }

@@ -1,37 +1,39 @@
 //! What is said of two attempts of which both were to fail.
 
 use crate::runs::failures::{Next, next_after, put_failed, put_failed_here, put_next};
-use crate::runs::script_file::ScriptFile;
-use crate::runs::watch::{Maker, Seen};
+use crate::runs::makers::Maker;
+use crate::runs::script_page::{ScriptPage, number};
+use crate::runs::watch::Seen;
 use std::alloc::AllocError;
 use wb_model::heap::Attempt;
+use wb_pages::Fragment::{Number, Text};
 
 /// Says which lines' attempts failed, those with these two numbers, and where the run went on after each. Where the run
 /// makes the first alone, or neither, it says that.
 pub fn put_pair(
-    text: &mut String,
-    file: ScriptFile<'_>,
+    page: &mut ScriptPage<'_>,
     first: u32,
     second: u32,
     panicked_at: Option<u32>,
     seen: &Seen,
 ) -> Result<(), AllocError> {
     let Some((attempt, maker)) = seen.attempt(first) else {
-        return put_neither_made(text, file, first, second, seen);
+        put_neither_made(page, first, second, seen);
+        return Ok(());
     };
     match seen.attempt(second) {
-        Some(later) => put_both(text, file, (attempt, maker), later, panicked_at, seen),
+        Some(later) => put_both(page, (attempt, maker), later, panicked_at, seen),
         None => {
-            put_failed(text, file, attempt, maker, panicked_at, seen)?;
-            put_second_not_made(text, file, second, seen)
+            put_failed(page, attempt, maker, panicked_at, seen)?;
+            put_second_not_made(page, second, seen);
+            Ok(())
         }
     }
 }
 
 /// The run made both. The first isn't the cell of the cleanup stack: a run in which that one fails makes no other.
 fn put_both(
-    text: &mut String,
-    file: ScriptFile<'_>,
+    page: &mut ScriptPage<'_>,
     first: (Attempt, Maker),
     second: (Attempt, Maker),
     panicked_at: Option<u32>,
@@ -39,14 +41,14 @@ fn put_both(
 ) -> Result<(), AllocError> {
     let (attempt, maker) = first;
     let (later, later_maker) = second;
-    let next = next_after(file, maker, panicked_at, seen);
-    let later_next = next_after(file, later_maker, panicked_at, seen);
-    put_failed_here(text, file, attempt, maker.line, "")?;
+    let next = next_after(maker, panicked_at, seen);
+    let later_next = next_after(later_maker, panicked_at, seen);
+    put_failed_here(page, attempt, maker.line, "")?;
     if names_new_line(next, later_maker.line, later_next) {
-        put_next(text, file, next)?;
+        put_next(page, next)?;
     }
-    put_failed_here(text, file, later, later_maker.line, " as well")?;
-    put_next(text, file, later_next)
+    put_failed_here(page, later, later_maker.line, " as well")?;
+    put_next(page, later_next)
 }
 
 /// Whether the run went on after the first failure with a line that nothing names later: neither that of the second
@@ -59,32 +61,23 @@ fn names_new_line(next: Next, later_line: u32, later_next: Next) -> bool {
 }
 
 /// No attempt has the number of the second that was to fail.
-fn put_second_not_made(
-    text: &mut String,
-    file: ScriptFile<'_>,
-    second: u32,
-    seen: &Seen,
-) -> Result<(), AllocError> {
-    let name = file.name;
-    let made = seen.result.trace.len();
-    write!(
-        text,
-        "{name}: attempt {second} was never made, so that it could not fail as well: the run makes {made}\n"
-    )
+fn put_second_not_made(page: &mut ScriptPage<'_>, second: u32, seen: &Seen) {
+    page.page.write_file_message(&[
+        Text("attempt "),
+        number(second),
+        Text(" was never made, so that it could not fail as well: the run makes "),
+        Number(seen.result.trace.len()),
+    ]);
 }
 
 /// No attempt has either number.
-fn put_neither_made(
-    text: &mut String,
-    file: ScriptFile<'_>,
-    first: u32,
-    second: u32,
-    seen: &Seen,
-) -> Result<(), AllocError> {
-    let name = file.name;
-    let made = seen.result.trace.len();
-    write!(
-        text,
-        "{name}: attempts {first} and {second} were never made, so that neither failed: the run makes {made}\n"
-    )
+fn put_neither_made(page: &mut ScriptPage<'_>, first: u32, second: u32, seen: &Seen) {
+    page.page.write_file_message(&[
+        Text("attempts "),
+        number(first),
+        Text(" and "),
+        number(second),
+        Text(" were never made, so that neither failed: the run makes "),
+        Number(seen.result.trace.len()),
+    ]);
 }

@@ -1,7 +1,8 @@
 //! What is said of a rate at which attempts fail.
 
-use std::alloc::AllocError;
+use crate::runs::script_page::{ScriptPage, number};
 use wb_model::heap::{Answer, Attempt};
+use wb_pages::Fragment::{Number, Text};
 
 /// How many attempts of a run failed, each counted once.
 #[derive(Clone, Copy, Debug, PartialEq, Eq)]
@@ -13,38 +14,44 @@ struct Failed {
 }
 
 /// Says how many attempts failed where those were to whose number is a multiple of the rate, and which one first.
-pub fn put_rate(
-    text: &mut String,
-    name: &str,
-    rate: u32,
-    trace: &[Attempt],
-) -> Result<(), AllocError> {
+pub fn put_rate(page: &mut ScriptPage<'_>, rate: u32, trace: &[Attempt]) {
     if rate == 1 {
-        return write!(
-            text,
-            "{name}: every attempt fails, and the run makes only one\n"
-        );
+        page.page
+            .write_file_text("every attempt fails, and the run makes only one");
+        return;
     }
-    let ending = ending_of(rate);
-    let made = trace.len();
-    let Failed { by_rate, by_script } = count_failed(trace, rate);
-    if by_rate == 0 {
-        return write!(
-            text,
-            "{name}: every {rate}{ending} attempt was to fail, but the run makes only {made}\n"
-        );
+    let failed = count_failed(trace, rate);
+    page.page.begin_file_message();
+    page.page
+        .write(&[Text("every "), number(rate), Text(ending_of(rate))]);
+    if failed.by_rate == 0 {
+        page.page.write(&[
+            Text(" attempt was to fail, but the run makes only "),
+            Number(trace.len()),
+        ]);
+    } else {
+        put_failed_count(page, rate, failed, trace.len());
     }
-    write!(
-        text,
-        "{name}: every {rate}{ending} attempt fails, attempt {rate} first: {by_rate} of {made} did"
-    )?;
-    if by_script != 0 {
-        write!(
-            text,
-            ", and {by_script} more by the script's own setting alone"
-        )?;
+    page.page.end_line();
+}
+
+fn put_failed_count(page: &mut ScriptPage<'_>, rate: u32, failed: Failed, made: usize) {
+    page.page.write(&[
+        Text(" attempt fails, attempt "),
+        number(rate),
+        Text(" first: "),
+        number(failed.by_rate),
+        Text(" of "),
+        Number(made),
+        Text(" did"),
+    ]);
+    if failed.by_script != 0 {
+        page.page.write(&[
+            Text(", and "),
+            number(failed.by_script),
+            Text(" more by the script's own setting alone"),
+        ]);
     }
-    text.push_str("\n")
 }
 
 /// Counts the attempts that failed.

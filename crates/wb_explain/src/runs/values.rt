@@ -1,141 +1,229 @@
-//! The values with which a line panicked. The script is run once more, with lines before that one that print them.
+//! The values with which a line panicked, read off the machine that it stopped.
 
-ghost use Rattle.std.specs.Prelude.{◌≤◌};
-
-use crate::runs::Setting;
-use crate::runs::script_file::ScriptFile;
-use crate::runs::words::{Word, put_words};
-use std::alloc::{AllocError, Global};
+use wb_machine::{Machine, Raiser};
 use wb_model::heap::Panic;
-use wb_model::limits::LARGEST_BUDGET;
-use wb_model::memory::NoMemory;
-use wb_model::printed_line::Line;
-use wb_model::run::{Outcome, RunResult};
+use wb_model::script::{Number, Pointer, Readable, Statement, Writable};
 
-/// What is asked of an operand, by the index of its word in the line: a number itself, a text's length or maximum, or the
-/// bytes of a cell.
-#[derive(Clone, Copy, Debug)]
-pub enum Ask {
-    Number(usize),
-    Length(usize),
-    Maximum(usize),
-    Bytes(usize),
+/// The values with which a line panicked. Lengths and maxima are units, `bytes` are those of a cell that can be used.
+#[derive(Clone, Copy, Debug, PartialEq, Eq)]
+pub enum Values {
+    /// How long a text would have been.
+    WouldHave {
+        units: u32,
+        maximum: u32,
+    },
+    /// A position that a text doesn't have.
+    PastEnd {
+        position: i32,
+        length: u32,
+    },
+    /// More units were asked for than a text has.
+    Fewer {
+        wanted: i32,
+        length: u32,
+    },
+    /// A part was asked for that doesn't end in the text.
+    Part {
+        position: i32,
+        wanted: i32,
+        length: u32,
+    },
+    /// An index that no word of a cell has.
+    NoWord {
+        index: i32,
+        bytes: u32,
+    },
+    /// Two numbers whose sum is no int.
+    Sum {
+        first: i32,
+        second: i32,
+    },
+    OutOfRange(i32),
+    BelowZero(i32),
+    /// A text was to be inserted into itself.
+    OwnText,
 }
 
-/// The name of the int that the lines use, which no script is likely to have.
-const SPARE: &str = "workbench_value";
+/// The values with which a line panicked, and the index of the word that they are about among the words of the line.
+#[derive(Clone, Copy, Debug, PartialEq, Eq)]
+pub struct Meant {
+    pub word: usize,
+    pub values: Values,
+}
 
-/// The values that are asked for, as they were when the line panicked; `None` where they can't be had.
-pub fn values_at(
-    alloc: Global,
-    file: ScriptFile<'_>,
-    setting: Setting,
-    line: u32,
-    panic: Panic,
-    asks: &[Ask],
-) -> Result<Option<Vec<i64>>, NoMemory> {
-    if asks.is_empty() {
-        return Ok(None);
+/// The values with which a line raised the panic that ended a run; `None` where nothing is said of any.
+pub fn values_of(machine: &Machine<'_>) -> Option<Meant> {
+    let raised = machine.raised()?;
+    if raised.raiser != Raiser::Statement {
+        return None;
     }
-    let told = with_prints(alloc, file, line, asks)?;
-    let Some(result) = result_of(alloc, told.as_str(), setting)? else {
-        return Ok(None);
-    };
-    match &result.outcome {
-        Outcome::Panicked(it) if *it == panic => {
-            Ok(Some(last_numbers(alloc, result.lines.as_slice(), asks.len())?))
+    let statement = machine.statement()?;
+    match raised.panic {
+        Panic::TOO_LONG => too_long(machine, statement),
+        Panic::POSITION_OUT_OF_BOUNDS => out_of_bounds(machine, statement),
+        Panic::SHORTER_THAN_TEXT => too_little_room(machine, statement),
+        Panic::NUMBER_OUT_OF_RANGE => out_of_range(machine, statement),
+        _ => None,
+    }
+}
+
+/// How long a text would have been.
+fn too_long(machine: &Machine<'_>, statement: &Statement) -> Option<Meant> {
+    match statement {
+        Statement::Copy(target, text) => would_have(machine, *target, machine.length(*text)),
+        Statement::Append(target, text) | Statement::Insert(target, _, text) => {
+            would_have(machine, *target, both_lengths(machine, *target, *text))
         }
-        _ => Ok(None),
-    }
-}
-
-/// The run of a text, if it is a script; steps that were added don't count.
-fn result_of(alloc: Global, text: &str, setting: Setting) -> Result<Option<RunResult>, NoMemory> {
-    let Ok(script) = wb_script::read(alloc, text.as_bytes()) else {
-        return Ok(None);
-    };
-    let ran = wb_machine::run(alloc, &script, setting.rule, LARGEST_BUDGET, setting.shape);
-    Ok(ran.ok())
-}
-
-/// The script with lines before one that print what is asked for.
-fn with_prints(
-    alloc: Global,
-    file: ScriptFile<'_>,
-    line: u32,
-    asks: &[Ask],
-) -> Result<String, AllocError> {
-    let head = head_of(file, line);
-    let mut words = Vec::new(alloc);
-    put_words(&mut words, file.line(line))?;
-    let mut text = String::new(alloc);
-    for (before, shown) in (0..u32::MAX).zip(file.text.lines()) {
-        if before == head {
-            write!(text, "int {SPARE}\n")?;
+        Statement::SetLength(target, length) => {
+            let units = u32::try_from(machine.number(*length)).ok();
+            would_have(machine, *target, units)
         }
-        if before.checked_add(1) == Some(line) {
-            put_prints(&mut text, words.as_slice(), asks)?;
+        _ => None,
+    }
+}
+
+fn would_have(machine: &Machine<'_>, target: Writable, units: Option<u32>) -> Option<Meant> {
+    let units = units?;
+    let maximum = machine.maximum(target)?;
+    // the text that would be too long is the first operand
+    about(1, Values::WouldHave { units, maximum })
+}
+
+/// How many units a text has and another that is put into it.
+fn both_lengths(machine: &Machine<'_>, target: Writable, text: Readable) -> Option<u32> {
+    let own = machine.length(Readable::Of(target))?;
+    let other = machine.length(text)?;
+    Some(own.saturating_add(other))
+}
+
+/// Which position or part a text doesn't have.
+fn out_of_bounds(machine: &Machine<'_>, statement: &Statement) -> Option<Meant> {
+    match statement {
+        Statement::Insert(target, position, _) | Statement::DeleteText(target, position, _) => {
+            past_end(machine, Readable::Of(*target), *position)
         }
-        write!(text, "{shown}\n")?;
-    }
-    Ok(text)
-}
-
-/// The line with which the body of a line begins: the last before it that begins one.
-fn head_of(file: ScriptFile<'_>, line: u32) -> u32 {
-    let mut head = 0;
-    for (number, shown) in (1..line).zip(file.text.lines()) {
-        if begins_body(shown.trim()) {
-            head = number;
+        Statement::Left(_, text, wanted) | Statement::Right(_, text, wanted) => {
+            fewer(machine, *text, *wanted)
         }
-    }
-    head
-}
-
-fn begins_body(line: &str) -> bool {
-    match line.split_whitespace().next() {
-        Some("proc" | "op" | "destroy") => true,
-        _ => line == "construct",
+        Statement::Mid(_, text, position, wanted) => {
+            past_part(machine, *text, *position, *wanted)
+        }
+        _ => None,
     }
 }
 
-fn put_prints(text: &mut String, words: &[Word<'_>], asks: &[Ask]) -> Result<(), AllocError> {
-    for ask in asks {
-        put_print(text, words, *ask)?;
-    }
-    Ok(())
+fn past_end(machine: &Machine<'_>, text: Readable, position: Number) -> Option<Meant> {
+    let length = machine.length(text)?;
+    let position = machine.number(position);
+    about(2, Values::PastEnd { position, length })
 }
 
-fn put_print(text: &mut String, words: &[Word<'_>], ask: Ask) -> Result<(), AllocError> {
-    let (query, at) = match ask {
-        Ask::Number(at) => ("", at),
-        Ask::Length(at) => ("getlen", at),
-        Ask::Maximum(at) => ("getmax", at),
-        Ask::Bytes(at) => ("alloclen", at),
-    };
-    match words.get(at) {
-        Some(Word::Plain(word)) if query.is_empty() => write!(text, "print {word}\n"),
-        Some(Word::Plain(word)) => write!(text, "{query} {SPARE} {word}\nprint {SPARE}\n"),
-        Some(Word::Quoted(word)) => write!(text, "{query} {SPARE} \"{word}\"\nprint {SPARE}\n"),
-        None => Ok(()),
-    }
+fn fewer(machine: &Machine<'_>, text: Readable, wanted: Number) -> Option<Meant> {
+    let length = machine.length(text)?;
+    let wanted = machine.number(wanted);
+    about(3, Values::Fewer { wanted, length })
 }
 
-/// The last printed lines, as numbers.
-fn last_numbers(alloc: Global, lines: &[Line], count: usize) -> Result<Vec<i64>, AllocError> {
-    let mut numbers = Vec::new(alloc);
-    for line in lines.iter().skip(lines.len().saturating_sub(count)) {
-        numbers.push(number_of(line.as_slice()))?;
-    }
-    Ok(numbers)
-}
-
-fn number_of(bytes: &[u8]) -> i64 {
-    match str::from_utf8(bytes) {
-        Ok(text) => match text.parse::<i64>() {
-            Ok(number) => number,
-            Err(_) => 0,
+fn past_part(
+    machine: &Machine<'_>,
+    text: Readable,
+    position: Number,
+    wanted: Number,
+) -> Option<Meant> {
+    let length = machine.length(text)?;
+    about(
+        3,
+        Values::Part {
+            position: machine.number(position),
+            wanted: machine.number(wanted),
+            length,
         },
-        Err(_) => 0,
+    )
+}
+
+/// For how many units a text was to have room.
+fn too_little_room(machine: &Machine<'_>, statement: &Statement) -> Option<Meant> {
+    match statement {
+        Statement::ReallocText(_, source, room) => {
+            fewer(machine, Readable::Of(Writable::InCell(*source)), *room)
+        }
+        _ => None,
     }
+}
+
+/// Which number is out of the line's range.
+fn out_of_range(machine: &Machine<'_>, statement: &Statement) -> Option<Meant> {
+    match statement {
+        Statement::Store(pointer, index, _) => past_words(machine, 2, *pointer, *index),
+        Statement::Load(_, pointer, index) => past_words(machine, 3, *pointer, *index),
+        Statement::Add(local, number) => {
+            let first = machine.number(Number::Variable(*local));
+            let second = machine.number(*number);
+            about(2, Values::Sum { first, second })
+        }
+        Statement::Insert(_, position, _) => inserted(machine.number(*position)),
+        Statement::DeleteText(_, one, other) => either_below_zero(machine, 2, *one, *other),
+        Statement::Mid(_, _, one, other) => either_below_zero(machine, 3, *one, *other),
+        Statement::Repeat(number, _) | Statement::FailNext(number) | Statement::FailEvery(number) =>
+            out_of_line(machine, 1, *number),
+        Statement::Alloc(_, number, _) | Statement::NewText(_, number, _) => {
+            out_of_line(machine, 2, *number)
+        }
+        Statement::Realloc(_, _, number, _) | Statement::ReallocText(_, _, number) => {
+            out_of_line(machine, 3, *number)
+        }
+        Statement::Pop(number)
+        | Statement::PopDestroy(number)
+        | Statement::MarkEnd(number)
+        | Statement::Check(number)
+        | Statement::CheckAll(number) => below_zero(1, machine.number(*number)),
+        Statement::SetLength(_, number) => below_zero(2, machine.number(*number)),
+        Statement::Left(_, _, number) | Statement::Right(_, _, number) => {
+            below_zero(3, machine.number(*number))
+        }
+        _ => None,
+    }
+}
+
+fn past_words(
+    machine: &Machine<'_>,
+    word: usize,
+    pointer: Pointer,
+    index: Number,
+) -> Option<Meant> {
+    let bytes = machine.bytes(pointer)?;
+    let index = machine.number(index);
+    about(word, Values::NoWord { index, bytes })
+}
+
+fn out_of_line(machine: &Machine<'_>, word: usize, number: Number) -> Option<Meant> {
+    about(word, Values::OutOfRange(machine.number(number)))
+}
+
+/// A text can't be inserted at a position below 0, nor into itself.
+fn inserted(position: i32) -> Option<Meant> {
+    below_zero(2, position).or(about(3, Values::OwnText))
+}
+
+/// The first of two numbers that is below 0, by the index of the first one's word.
+fn either_below_zero(
+    machine: &Machine<'_>,
+    word: usize,
+    one: Number,
+    other: Number,
+) -> Option<Meant> {
+    let first = below_zero(word, machine.number(one));
+    first.or(below_zero(word.saturating_add(1), machine.number(other)))
+}
+
+fn below_zero(word: usize, number: i32) -> Option<Meant> {
+    if number < 0 {
+        about(word, Values::BelowZero(number))
+    } else {
+        None
+    }
+}
+
+fn about(word: usize, values: Values) -> Option<Meant> {
+    Some(Meant { word, values })
 }

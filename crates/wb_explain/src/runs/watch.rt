@@ -1,41 +1,19 @@
-//! A run that is watched turn by turn: its result, and which line made which attempt.
+//! A run that is watched turn by turn: its result, which line made which attempt, and what raised its panic.
 
 ghost use Rattle.std.specs.Prelude.{◌≤◌, IsTrue};
 ghost use Rattle.wb_model.specs.Sound.{is_script};
 
 use crate::runs::Setting;
-use crate::runs::bodies::{Bodies, BodyKind};
+use crate::runs::bodies::Bodies;
+use crate::runs::makers::Maker;
+use crate::runs::values::{Meant, values_of};
 use std::alloc::{AllocError, Global};
-use wb_machine::{Machine, RunFault, Turn};
+use wb_machine::{Machine, Raised, RunFault, Turn};
 use wb_model::heap::{Answer, Attempt};
-use wb_model::limits::LARGEST_BUDGET;
+use wb_model::limits::{LARGEST_BUDGET, MOST_FRAMES};
 use wb_model::memory::NoMemory;
 use wb_model::run::RunResult;
 use wb_model::script::Script;
-
-/// Which line made an attempt, and what came after it.
-#[derive(Clone, Copy, Debug, PartialEq, Eq)]
-pub struct Maker {
-    pub line: u32,
-    /// The first other line that was begun, outside of all that undoes; 0 where there is none.
-    pub after: u32,
-    /// The turns before any other line was begun. A `repeat` of the line alone takes two for each time.
-    pub idle: u32,
-}
-
-impl Maker {
-    /// Sees a turn after the attempt, and the line that was begun last.
-    fn see(&mut self, line: u32, kind: BodyKind) {
-        if self.after != 0 {
-            return;
-        }
-        if line == self.line {
-            self.idle = self.idle.saturating_add(1);
-        } else if kind != BodyKind::Undoing {
-            self.after = line;
-        }
-    }
-}
 
 /// What was seen of a run while it was watched.
 #[derive(Drop)]
@@ -45,8 +23,8 @@ pub struct Lines {
     /// The line that was begun last, and the last one outside of all that undoes.
     last: u32,
     last_outside: u32,
-    /// Whether another line was begun in the last turn than in those before.
-    is_new: bool,
+    /// For each number of bodies, the line that was begun last while as many ran; 0 if none was.
+    by_depth: Vec<u32>,
 }
 
 /// A run that is over, and what was seen of it.
@@ -54,6 +32,9 @@ pub struct Lines {
 pub struct Seen {
     pub result: RunResult,
     pub lines: Lines,
+    /// The panic that ended it, and the values with which its line raised it; `None` if nothing is to be said of any.
+    pub raised: Option<Raised>,
+    pub values: Option<Meant>,
 }
 
 impl Seen {
@@ -86,40 +67,45 @@ impl Seen {
         self.lines.last_outside
     }
 
-    /// The line that was begun last in the same body as a line stands.
-    pub fn last_beside(&self, line: u32) -> u32 {
-        self.lines.bodies.last_beside(line)
-    }
-
-    /// The line of `main` that was begun last.
-    pub fn last_of_main(&self) -> u32 {
-        self.lines.bodies.last_of_main()
-    }
-
-    /// Whether another line was begun in the last turn than in those before.
-    pub fn ended_with_new_line(&self) -> bool {
-        self.lines.is_new
+    /// The line that was begun last while this many bodies ran, 1 for a line of `main`; 0 if none was.
+    pub fn last_at(&self, depth: u32) -> u32 {
+        match self.lines.by_depth.get(depth as usize) {
+            Some(line) => *line,
+            None => 0,
+        }
     }
 }
 
 impl Lines {
-    /// What is seen after a turn: the line that was begun last, and how many attempts were made.
-    fn see(&mut self, line: u32, attempts: u32) -> Result<(), AllocError> {
-        let kind = self.bodies.see(line);
-        if kind != BodyKind::Undoing {
+    /// Nothing is seen yet.
+    fn new(alloc: Global, script: &Script) -> Result<Lines, AllocError> {
+        let mut by_depth = Vec::new(alloc);
+        by_depth.resize(MOST_FRAMES as usize + 1, 0)?;
+        Ok(Lines {
+            bodies: Bodies::of(alloc, script)?,
+            makers: Vec::new(alloc),
+            last: 0,
+            last_outside: 0,
+            by_depth,
+        })
+    }
+
+    /// Sees what a turn left.
+    fn see(&mut self, machine: &Machine<'_>) -> Result<(), AllocError> {
+        let line = machine.line();
+        let undoes = self.bodies.undoes(line);
+        if !undoes {
             self.last_outside = line;
         }
         if let Some(maker) = self.makers.last_mut() {
-            maker.see(line, kind);
+            maker.see(line, undoes);
         }
-        self.is_new = line != self.last;
         self.last = line;
-        if self.makers.len() < attempts as usize {
-            self.makers.push(Maker {
-                line,
-                after: 0,
-                idle: 0,
-            })?;
+        if let Some(last) = self.by_depth.get_mut(machine.depth() as usize) {
+            *last = line;
+        }
+        if self.makers.len() < machine.attempts() as usize {
+            self.makers.push(Maker::of(line, machine.statement()))?;
         }
         Ok(())
     }
@@ -137,13 +123,7 @@ pub fn watch_run(alloc: Global, script: &Script, setting: Setting) -> Result<Opt
         budget,
         shape,
     } = setting;
-    let mut lines = Lines {
-        bodies: Bodies::of(alloc, script)?,
-        makers: Vec::new(alloc),
-        last: 0,
-        last_outside: 0,
-        is_new: false,
-    };
+    let mut lines = Lines::new(alloc, script)?;
     let mut machine = match Machine::new(alloc, script, rule, budget, shape) {
         Ok(machine) => machine,
         Err(RunFault::BadShape) => return Ok(None),
@@ -166,14 +146,18 @@ fn watch(machine: &mut Machine<'_>, lines: &mut Lines, budget: u32) -> Result<()
 
 fn take_turn(machine: &mut Machine<'_>, lines: &mut Lines) -> Result<Turn, NoMemory> {
     let turn = machine.step()?;
-    lines.see(machine.line(), machine.attempts())?;
+    lines.see(machine)?;
     Ok(turn)
 }
 
 /// The result of a run whose turns were watched. Those left, if any, are taken unwatched.
 fn finish(machine: Machine<'_>, lines: Lines) -> Result<Seen, NoMemory> {
+    let raised = machine.raised();
+    let values = values_of(&machine);
     Ok(Seen {
         result: machine.run_to_end()?,
         lines,
+        raised,
+        values,
     })
 }
