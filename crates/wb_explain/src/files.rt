@@ -33,16 +33,16 @@ fn reason(kind: ErrorKind) -> &'static str {
         ErrorKind::NotFound => "no such file",
         ErrorKind::PermissionDenied => "no permission",
         ErrorKind::IsADirectory => "it is a directory, not a script",
-        ErrorKind::NotADirectory => "a part of its path is no directory",
-        ErrorKind::FilesystemLoop => "its links lead round in a circle",
-        ErrorKind::InvalidFilename => "its name is too long, or none that a file may have",
-        ErrorKind::InvalidInput => "its name is none that a file may have",
-        ErrorKind::BrokenPipe => "nobody reads it any more",
-        ErrorKind::StorageFull => "no room is left on the device",
-        ErrorKind::QuotaExceeded => "no more room is allowed",
+        ErrorKind::NotADirectory => "a part of its path is not a directory",
+        ErrorKind::FilesystemLoop => "its symbolic links form a loop",
+        ErrorKind::InvalidFilename => "invalid or too long file name",
+        ErrorKind::InvalidInput => "invalid file name",
+        ErrorKind::BrokenPipe => "nobody is reading it any more",
+        ErrorKind::StorageFull => "no space is left on the device",
+        ErrorKind::QuotaExceeded => "the disk quota is used up",
         ErrorKind::FileTooLarge => "it would be too large",
-        ErrorKind::WriteZero => "it takes no more bytes",
-        ErrorKind::Interrupted => "a signal came in between",
+        ErrorKind::WriteZero => "it accepts no more bytes",
+        ErrorKind::Interrupted => "interrupted by a signal",
         ErrorKind::WouldBlock => "it isn't ready, and the workbench doesn't wait",
         _ => "",
     }
@@ -51,7 +51,7 @@ fn reason(kind: ErrorKind) -> &'static str {
 /// What the permission would have been for.
 fn purpose(deed: Deed, kind: ErrorKind) -> &'static str {
     match (kind, deed) {
-        (ErrorKind::PermissionDenied, Deed::Writing) => " to write it",
+        (ErrorKind::PermissionDenied, Deed::Writing) => " to write to it",
         (ErrorKind::PermissionDenied, _) => " to read it",
         _ => "",
     }

@@ -46,7 +46,7 @@ fn put_never_made(page: &mut ScriptPage<'_>, attempt: u32, seen: &Seen) {
     page.page.write_file_message(&[
         Text("attempt "),
         number(attempt),
-        Text(" was never made, so that none failed: the run makes "),
+        Text(" was never made, so none failed: the run makes only "),
         Number(seen.result.trace.len()),
     ]);
 }
@@ -79,7 +79,7 @@ fn put_limit(
     page.page.write_file_message(&[
         Text("a heap of "),
         number(limit),
-        Text(" bytes refuses nothing of this run"),
+        Text(" bytes refuses nothing in this run"),
     ]);
     Ok(())
 }

@@ -25,7 +25,7 @@ fn put_budget(page: &mut ScriptPage<'_>, line: u32, budget: u32) -> Result<(), A
     page.mark(
         line,
         &[
-            Text("the run was cut behind this line: it took "),
+            Text("the run was cut after this line: it took "),
             number(budget),
             Text(" step"),
             Text(plural(i64::from(budget))),
@@ -34,14 +34,14 @@ fn put_budget(page: &mut ScriptPage<'_>, line: u32, budget: u32) -> Result<(), A
     )?;
     if budget >= LARGEST_BUDGET {
         page.page.write_help_text(
-            "no run may take more; see that what repeats here comes to an end",
+            "no run may take more steps; make sure that what repeats here comes to an end",
         );
         return Ok(());
     }
     page.page.write_help(&[
-        Text("raise the budget, as by `--budget "),
+        Text("raise the budget, for example with `--budget "),
         number(budget.saturating_mul(10).min(LARGEST_BUDGET)),
-        Text("`, unless what repeats here has no end"),
+        Text("`, unless what repeats here never ends"),
     ]);
     Ok(())
 }
@@ -55,7 +55,6 @@ fn put_ceiling(page: &mut ScriptPage<'_>, line: u32) -> Result<(), AllocError> {
             Text(" bytes, the most that a heap may have"),
         ],
     )?;
-    page.page
-        .write_help_text("nothing raises this; ask for less, or free cells earlier");
+    page.page.write_help_text("this limit can't be raised; ask for less, or free cells earlier");
     Ok(())
 }

@@ -54,33 +54,40 @@ fn refuses(rule: Rule) -> bool {
     }
 }
 
-/// Says where a leave came out of `main`.
+/// Says where `main` left, and with which code.
 fn put_left(page: &mut ScriptPage<'_>, code: i32, seen: &Seen) -> Result<(), AllocError> {
-    page.mark(
-        seen.last_at(1),
-        &[
-            Text("a leave came out of `main` here, with "),
-            Value(i64::from(code)),
-            Text(name_of(code)),
-        ],
-    )
+    let line = seen.last_at(1);
+    let code_value = Value(i64::from(code));
+    match name_of(code) {
+        "" => page.mark(line, &[Text("`main` left here with "), code_value]),
+        name => page.mark(
+            line,
+            &[
+                Text("`main` left here with "),
+                Text(name),
+                Text(" ("),
+                code_value,
+                Text(")"),
+            ],
+        ),
+    }
 }
 
-/// Symbian's name of a code that scripts often leave with, behind a comma; empty for others.
+/// Symbian's name of a code that scripts often leave with; empty for others.
 fn name_of(code: i32) -> &'static str {
     match code {
-        -1 => ", KErrNotFound",
-        -2 => ", KErrGeneral",
-        -3 => ", KErrCancel",
-        -4 => ", KErrNoMemory",
-        -5 => ", KErrNotSupported",
-        -6 => ", KErrArgument",
-        -9 => ", KErrOverflow",
-        -11 => ", KErrAlreadyExists",
-        -14 => ", KErrInUse",
-        -18 => ", KErrNotReady",
-        -20 => ", KErrCorrupt",
-        -26 => ", KErrDiskFull",
+        -1 => "KErrNotFound",
+        -2 => "KErrGeneral",
+        -3 => "KErrCancel",
+        -4 => "KErrNoMemory",
+        -5 => "KErrNotSupported",
+        -6 => "KErrArgument",
+        -9 => "KErrOverflow",
+        -11 => "KErrAlreadyExists",
+        -14 => "KErrInUse",
+        -18 => "KErrNotReady",
+        -20 => "KErrCorrupt",
+        -26 => "KErrDiskFull",
         _ => "",
     }
 }
@@ -104,7 +111,7 @@ fn put_panic(
     page.page.show(spot);
     // the destructor that ended is of the object's own class
     if let Some(class) = class_of(raised, script, seen) {
-        page.mark_word(class, 1, &[Text("the object is of this class")])?;
+        page.mark_word(class, 1, &[Text("this is the class of the object")])?;
     }
     put_lowest(page, raised.panic, seen)?;
     put_remarks(page, symbian_of(raised.panic), help);
@@ -204,15 +211,15 @@ fn put_leak(page: &mut ScriptPage<'_>, leak: Leak, seen: &Seen) -> Result<(), Al
         return Ok(());
     };
     let made = if maker.deed.reallocates {
-        " that was made or moved here, "
+        ", made or moved here, was never freed: "
     } else {
-        " that was made here, "
+        ", made here, was never freed: "
     };
     page.mark_word(
         maker.line,
         1,
         &[
-            Text("leak: nothing freed the cell of attempt "),
+            Text("leak: the cell of attempt "),
             number(leak.number),
             Text(made),
             number(leak.length),

@@ -1,5 +1,6 @@
 //! What is said of an attempt that failed: the line that made it, and where the run went on.
 
+use crate::runs::counts::article_of;
 use crate::runs::makers::Maker;
 use crate::runs::script_page::{ScriptPage, number};
 use crate::runs::watch::Seen;
@@ -43,7 +44,7 @@ pub fn put_failed(
         page.page.write_file_message(&[
             Text("attempt "),
             number(attempt.number),
-            Text(" failed, the cell of the cleanup stack, so that `main` did not begin"),
+            Text(" (the cell of the cleanup stack) failed, so `main` did not begin"),
         ]);
         return Ok(());
     }
@@ -63,11 +64,12 @@ pub fn put_failed_here(
         &[
             Text("attempt "),
             number(attempt.number),
-            Text(" failed here"),
-            Text(also),
-            Text(", of a cell of "),
+            Text(" ("),
+            Text(article_of(attempt.length)),
+            Text(" "),
             number(attempt.length),
-            Text(" bytes"),
+            Text("-byte cell) failed here"),
+            Text(also),
         ],
     )
 }
@@ -105,7 +107,7 @@ pub fn put_next(page: &mut ScriptPage<'_>, next: Next) -> Result<(), AllocError>
         }
         Next::End => {
             page.page
-                .write_file_text("after that `main` came to its end");
+                .write_file_text("after that `main` ran to its end");
             Ok(())
         }
     }

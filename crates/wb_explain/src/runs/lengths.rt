@@ -61,13 +61,8 @@ fn put_more(page: &mut ScriptPage<'_>, more: usize) {
         return;
     }
     let s = if more == 1 { "" } else { "s" };
-    page.page.write_row(&[
-        Text("and "),
-        Number(more),
-        Text(" row"),
-        Text(s),
-        Text(" more"),
-    ]);
+    page.page
+        .write_row(&[Text("and "), Number(more), Text(" more row"), Text(s)]);
 }
 
 /// Takes turns until the attempt with this number is made, at most one for each step of the budget and the first.

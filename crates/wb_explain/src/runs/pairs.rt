@@ -65,7 +65,7 @@ fn put_second_not_made(page: &mut ScriptPage<'_>, second: u32, seen: &Seen) {
     page.page.write_file_message(&[
         Text("attempt "),
         number(second),
-        Text(" was never made, so that it could not fail as well: the run makes "),
+        Text(" was never made, so it could not fail as well: the run makes only "),
         Number(seen.result.trace.len()),
     ]);
 }
@@ -77,7 +77,7 @@ fn put_neither_made(page: &mut ScriptPage<'_>, first: u32, second: u32, seen: &S
         number(first),
         Text(" and "),
         number(second),
-        Text(" were never made, so that neither failed: the run makes "),
+        Text(" were never made, so neither failed: the run makes only "),
         Number(seen.result.trace.len()),
     ]);
 }

@@ -32,19 +32,19 @@ pub fn meaning_of(panic: Panic, word: &str) -> (&'static str, &'static str) {
 pub fn symbian_of(panic: Panic) -> &'static str {
     match panic {
         Panic::POSITION_OUT_OF_BOUNDS => {
-            "USER 10 in Symbian: a position handed to a 16-bit descriptor is out of its bounds"
+            "USER 10 in Symbian: a position passed to a 16-bit descriptor is out of bounds"
         }
         Panic::TOO_LONG => {
             "USER 11 in Symbian: a 16-bit descriptor would become longer than its maximum length"
         }
         Panic::BAD_CELL => {
-            "USER 42 in Symbian: a pointer handed to RHeap::Free, AllocLen or ReAlloc is that of no valid cell"
+            "USER 42 in Symbian: a pointer passed to RHeap::Free, AllocLen or ReAlloc is not that of a valid cell"
         }
         Panic::Alloc(0) => {
-            "ALLOC in Symbian: __UHEAP_MARKEND or a heap check found another number of cells than it should"
+            "ALLOC in Symbian: __UHEAP_MARKEND or a heap check found a different number of cells than expected"
         }
         Panic::Alloc(_) => {
-            "ALLOC in Symbian: __UHEAP_MARKEND or a heap check found another number of cells than it should; the number is a cell's address"
+            "ALLOC in Symbian: __UHEAP_MARKEND or a heap check found a different number of cells than expected; the number is a cell's address"
         }
         _ => "",
     }
@@ -57,12 +57,12 @@ fn fits(words: &[&str], word: &str) -> bool {
 /// What a check of the heap means that found another number of cells.
 const CELLS: (&str, &str) = (
     "there are more or fewer cells than the line says",
-    "where there are more, free each cell that isn't meant to stay before the check; where there are fewer, look for one that was refused or freed too early",
+    "if there are more, free each cell that isn't meant to stay before the check; if there are fewer, look for one that was refused or freed too early",
 );
 
 /// What a check of the heap means that found no cell.
 const NO_CELL: (&str, &str) = (
-    "no cell was counted, and the line says that there are some",
+    "no cell was counted, but the line says that there are some",
     "look for a cell that was refused, freed too early, or made before the mark",
 );
 
@@ -76,110 +76,110 @@ static MEANINGS: [Meaning; 27] = [
     Meaning {
         panic: Panic::POSITION_OUT_OF_BOUNDS,
         words: &["insert", "deltext"],
-        says: "the position is behind the end of the text",
-        help: "a position goes from 0 to the text's length, which `getlen` tells",
+        says: "the position is past the end of the text",
+        help: "a position is between 0 and the text's length, which `getlen` gives",
     },
     Meaning {
         panic: Panic::POSITION_OUT_OF_BOUNDS,
         words: &["left", "right"],
         says: "the text is shorter than that",
-        help: "`getlen` tells how many units the text has",
+        help: "`getlen` gives the number of units in the text",
     },
     Meaning {
         panic: Panic::POSITION_OUT_OF_BOUNDS,
         words: &[],
-        says: "the part would end behind the text",
-        help: "`getlen` tells how many units the text has",
+        says: "the part would end past the end of the text",
+        help: "`getlen` gives the number of units in the text",
     },
     Meaning {
         panic: Panic::TOO_LONG,
         words: &[],
         says: "the text would be longer than its maximum",
-        help: "`getmax` tells the maximum; a buffer's stands where it is declared, and `hrealloc` makes a text in a cell roomier",
+        help: "`getmax` gives the maximum; that of a buffer is in its declaration, and `hrealloc` gives a text in a cell more room",
     },
     Meaning {
         panic: Panic::BAD_CELL,
         words: &["free"],
-        says: "the pointer names no live cell: it was freed before, or has moved",
-        help: "set the pointer to null, as by `null`, where its cell is freed: to free null does nothing",
+        says: "the pointer names no live cell: the cell was already freed, or has moved",
+        help: "set the pointer to null, for example with `null`, when its cell is freed: freeing null does nothing",
     },
     Meaning {
         panic: Panic::BAD_CELL,
         words: &["realloc", "reallocl"],
-        says: "the pointer names no live cell: it was freed before, or has moved",
-        help: "where a cell grew it may have moved, and only the answer of that line names it",
+        says: "the pointer names no live cell: the cell was already freed, or has moved",
+        help: "a cell that grew may have moved, and then only the result of that line names it",
     },
     Meaning {
         panic: Panic::BAD_CELL,
         words: &["alloclen"],
-        says: "the pointer names no live cell: it is null, was freed before, or has moved",
-        help: "ask `if some` before, and set the pointer to null where its cell is freed",
+        says: "the pointer names no live cell: it is null, or the cell was already freed or has moved",
+        help: "check with `if some` first, and set the pointer to null when its cell is freed",
     },
     Meaning {
         panic: Panic::NULL_OR_STALE,
         words: &["construct"],
         says: "the pointer is null, or its object was deleted",
-        help: "after `new` ask `if some`; `newleave` leaves in place of giving null",
+        help: "after `new` check with `if some`; `newleave` leaves instead of giving null",
     },
     Meaning {
         panic: Panic::NULL_OR_STALE,
         words: &["delete"],
-        says: "the pointer names no object any more: it was deleted before",
-        help: "set the pointer to null where its object is deleted: to delete null does nothing",
+        says: "the pointer no longer names an object: it was already deleted",
+        help: "set the pointer to null when its object is deleted: deleting null does nothing",
     },
     Meaning {
         panic: Panic::NULL_OR_STALE,
         words: &["store", "load"],
         says: "the pointer is null, or its cell was freed or has moved",
-        help: "after `alloc` ask `if some`; `allocl` leaves in place of giving null",
+        help: "after `alloc` check with `if some`; `allocl` leaves instead of giving null",
     },
     Meaning {
         panic: Panic::NULL_OR_STALE,
         words: VIEWERS,
         says: "a pointer or a view that the line uses is null, or its cell was freed or has moved",
-        help: "ask `if some` before; lines that leave, as `allocl`, never give null",
+        help: "check with `if some` first; lines that leave, such as `allocl`, never give null",
     },
     Meaning {
         panic: Panic::NULL_OR_STALE,
         words: &[],
         says: "a pointer that the line uses is null, or its cell was freed or has moved",
-        help: "ask `if some` before; lines that leave, as `allocl`, never give null",
+        help: "check with `if some` first; lines that leave, such as `allocl`, never give null",
     },
     Meaning {
         panic: Panic::WRONG_KIND,
         words: &["construct", "delete", "pushobj"],
-        says: "the pointer names no object, but a cell of another kind",
-        help: "what `alloc` and `hnew` make is freed by `free`",
+        says: "the pointer does not name an object but a cell of another kind",
+        help: "what `alloc` and `hnew` make is freed with `free`",
     },
     Meaning {
         panic: Panic::WRONG_KIND,
         words: &["store", "load", "realloc", "reallocl"],
-        says: "the cell is no plain one, but that of a text or an object",
-        help: "texts have lines of their own, as `hrealloc`; an object's fields are named with a dot",
+        says: "the cell is not a plain one but that of a text or an object",
+        help: "texts have statements of their own, such as `hrealloc`; an object's fields are named with a dot",
     },
     Meaning {
         panic: Panic::WRONG_KIND,
         words: &[],
-        says: "a cell that the line uses is of another kind, or its object of another class",
-        help: "what made the cell says what it is: `alloc` a plain one, `hnew` a text, `new` an object",
+        says: "a cell that the line uses is of another kind, or its object is of another class",
+        help: "the kind of a cell is that of the line that made it: `alloc` makes a plain one, `hnew` a text, `new` an object",
     },
     Meaning {
         panic: Panic::POP_BELOW_TRAP,
         words: &[],
-        says: "the cleanup stack has fewer items since the innermost TRAP began than were to be popped",
-        help: "items of an outer TRAP are popped outside of the inner one",
+        says: "the cleanup stack has fewer items from the innermost TRAP than were to be popped",
+        help: "items of an outer TRAP are popped outside the inner one",
     },
     Meaning {
         panic: Panic::ANOTHER_ITEM_ON_TOP,
         words: &[],
-        says: "the newest item of the cleanup stack is of another pointer",
-        help: "items come off in the order opposite to that in which they were pushed",
+        says: "the newest item on the cleanup stack is that of another pointer",
+        help: "items come off in the reverse of the order in which they were pushed",
     },
     Meaning {
         panic: Panic::ITEMS_LEFT,
         words: &[],
-        says: "the TRAP came to its end behind this line, and items are left on its cleanup stack",
-        help: "pop what was pushed, by `pop` or `popdestroy`, before the TRAP ends",
+        says: "the TRAP ended after this line with items still on its cleanup stack",
+        help: "pop what was pushed, with `pop` or `popdestroy`, before the TRAP ends",
     },
     Meaning {
         panic: Panic::NO_OPEN_MARK,
@@ -190,49 +190,49 @@ static MEANINGS: [Meaning; 27] = [
     Meaning {
         panic: Panic::TOO_MANY_FRAMES,
         words: &[],
-        says: "this would be the 129th body that runs at once",
+        says: "this would be the 129th body running at once",
         help: "look for procedures that call one another without end, or objects that delete one another",
     },
     Meaning {
         panic: Panic::SHORTER_THAN_TEXT,
         words: &[],
-        says: "fewer units are asked for than the text has",
-        help: "`getlen` tells how much room it needs; `setlength` shortens it first",
+        says: "fewer units are requested than the text has",
+        help: "`getlen` gives the room that it needs; `setlength` can shorten it first",
     },
     Meaning {
         panic: Panic::NUMBER_OUT_OF_RANGE,
         words: &["add"],
-        says: "the sum is none that an int holds",
+        says: "the sum does not fit in an int",
         help: "an int goes from -2147483648 to 2147483647",
     },
     Meaning {
         panic: Panic::NUMBER_OUT_OF_RANGE,
         words: &["store", "load"],
         says: "the cell has no word with that index",
-        help: "indexes count from 0, a word is 4 bytes, and `alloclen` tells the cell's bytes",
+        help: "indexes start at 0, a word is 4 bytes, and `alloclen` gives the cell's length in bytes",
     },
     Meaning {
         panic: Panic::NUMBER_OUT_OF_RANGE,
         words: &["insert"],
         says: "the position is below 0, or a text was to be inserted into itself",
-        help: "a position goes from 0 to the text's length; a text is copied elsewhere before it is inserted into itself",
+        help: "a position is between 0 and the text's length; copy a text elsewhere before inserting it into itself",
     },
     Meaning {
         panic: Panic::NUMBER_OUT_OF_RANGE,
         words: &["deltext", "setlength", "left", "right", "mid"],
         says: "a number is below 0",
-        help: "positions, lengths and counts of units go from 0 on",
+        help: "positions, lengths and counts of units are 0 or more",
     },
     Meaning {
         panic: Panic::NUMBER_OUT_OF_RANGE,
         words: &["pop", "popdestroy", "check", "checkall", "markend"],
         says: "the number is below 0",
-        help: "items and cells are counted from 0 on",
+        help: "numbers of items and cells are 0 or more",
     },
     Meaning {
         panic: Panic::NUMBER_OUT_OF_RANGE,
         words: &[],
-        says: "a number is out of its range",
-        help: "bytes go from 0 to 1048576, units from 0 to 524286, turns from 0 to 1048576, and failures from 1",
+        says: "a number is out of range",
+        help: "bytes are from 0 to 1048576, units from 0 to 524286, turns from 0 to 1048576, and failures from 1 up",
     },
 ];

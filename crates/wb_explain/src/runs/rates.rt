@@ -17,7 +17,7 @@ struct Failed {
 pub fn put_rate(page: &mut ScriptPage<'_>, rate: u32, trace: &[Attempt]) {
     if rate == 1 {
         page.page
-            .write_file_text("every attempt fails, and the run makes only one");
+            .write_file_text("every attempt fails, so the run makes only one");
         return;
     }
     let failed = count_failed(trace, rate);
@@ -37,19 +37,18 @@ pub fn put_rate(page: &mut ScriptPage<'_>, rate: u32, trace: &[Attempt]) {
 
 fn put_failed_count(page: &mut ScriptPage<'_>, rate: u32, failed: Failed, made: usize) {
     page.page.write(&[
-        Text(" attempt fails, attempt "),
+        Text(" attempt failed, attempt "),
         number(rate),
         Text(" first: "),
         number(failed.by_rate),
         Text(" of "),
         Number(made),
-        Text(" did"),
     ]);
     if failed.by_script != 0 {
         page.page.write(&[
             Text(", and "),
             number(failed.by_script),
-            Text(" more by the script's own setting alone"),
+            Text(" more by the script's own setting only"),
         ]);
     }
 }

@@ -21,7 +21,7 @@ pub fn put_values(page: &mut ScriptPage<'_>, values: Values) {
         Values::Sum { first, second } => put_sum(page, first, second),
         Values::OutOfRange(number) => {
             page.page
-                .write(&[value(number), Text(" is out of the line's range")])
+                .write(&[value(number), Text(" is out of range for this line")])
         }
         Values::BelowZero(number) => page.page.write(&[value(number), Text(" is below 0")]),
         Values::OwnText => page
@@ -41,7 +41,7 @@ fn put_total(page: &mut ScriptPage<'_>, units: u32, maximum: u32) {
         number(units),
         Text(" unit"),
         Text(plural(i64::from(units))),
-        Text(", its maximum is "),
+        Text(", but its maximum is "),
         number(maximum),
     ]);
 }
@@ -50,7 +50,7 @@ fn put_position(page: &mut ScriptPage<'_>, position: i32, length: u32) {
     page.page.write(&[
         Text("position "),
         value(position),
-        Text(" is behind the end of the text, which has "),
+        Text(" is past the end of the text, which has "),
         number(length),
         Text(" unit"),
         Text(plural(i64::from(length))),
@@ -65,7 +65,7 @@ fn put_wanted(page: &mut ScriptPage<'_>, wanted: i32, length: u32) {
         Text(plural(count)),
         Text(" "),
         Text(is_or_are(count)),
-        Text(" asked for, the text has "),
+        Text(" requested, but the text has "),
         number(length),
     ]);
 }
@@ -78,9 +78,9 @@ fn put_part(page: &mut ScriptPage<'_>, position: i32, wanted: i32, length: u32) 
         Text(plural(count)),
         Text(" from position "),
         value(position),
-        Text(" on "),
+        Text(" "),
         Text(is_or_are(count)),
-        Text(" asked for, the text has "),
+        Text(" requested, but the text has "),
         number(length),
     ]);
 }
@@ -91,15 +91,16 @@ fn put_index(page: &mut ScriptPage<'_>, index: i32, bytes: u32) {
         value(index),
         Text(": the cell has "),
         number(bytes),
-        Text(" bytes, its words are 4 each and count from 0"),
+        Text(" bytes, and its words are 4 bytes each, counted from 0"),
     ]);
 }
 
 fn put_sum(page: &mut ScriptPage<'_>, first: i32, second: i32) {
     page.page.write(&[
+        Text("the sum of "),
         value(first),
         Text(" and "),
         value(second),
-        Text(" make more or less than an int holds"),
+        Text(" does not fit in an int"),
     ]);
 }
