@@ -22,6 +22,7 @@ mod log;
 mod marks;
 mod notes;
 mod payloads;
+mod readers;
 mod rules;
 mod setting;
 mod tally;

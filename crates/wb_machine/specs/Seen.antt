@@ -1,9 +1,11 @@
 -- What callers see of a machine.
-use Rattle.std.specs.Prelude.{ℕ, Bool, true, false, ◌&&◌, Option, None, nat_lt, unwrap_or, if◌then◌else◌}
+use Rattle.std.specs.Prelude.{ℕ, Bool, true, false, ◌&&◌, List, [], Option, None, nat_lt, unwrap_or, if◌then◌else◌}
+use Rattle.wb_model.specs.declared.heap.Header.{Header}
 use Rattle.wb_model.specs.declared.heap.Rule.{Rule}
 use Rattle.wb_model.specs.declared.heap.Shape.{Shape}
 use Rattle.wb_model.specs.declared.script.Script.{Script}
 use Rattle.wb_model.specs.Run.{WholeRun, whole_run}
+use Rattle.wb_model.specs.Space.{space_of}
 
 pub record Seen : Type 0 where
   pub script : Script
@@ -15,6 +17,12 @@ pub record Seen : Type 0 where
   pub attempts : ℕ
   -- how many steps were counted
   pub steps : ℕ
+  -- the live cells by place, the cleanup stack's own among them
+  pub live : List Header
+  -- the committed length, in bytes
+  pub committed : ℕ
+  -- how many marks are open
+  pub level : ℕ
   -- the line of the statement begun last, 0 before the first
   pub line : ℕ
   -- the line of the statement that is to begin next, where one is
@@ -41,6 +49,9 @@ seen_at_start keeps_rises script rule budget shape = record {
   shape = shape;
   attempts = 0;
   steps = 0;
+  live = [];
+  committed = (space_of rule shape).least;
+  level = 0;
   line = 0;
   next = None;
   begun = false;

@@ -4,6 +4,7 @@ use Rattle.wb_model.specs.declared.limits.TheConstants.{LARGEST_BUDGET}
 use Rattle.wb_model.specs.declared.heap.Rule.{Rule}
 use Rattle.wb_model.specs.Sound.{is_script}
 use Rattle.wb_model.specs.Debug.{keeps_rises}
+use Rattle.wb_model.specs.Row.{headers}
 use Rattle.wb_model.specs.Run.{WholeRun, whole_run}
 use Rattle.wb_model.specs.Rest.{Fits, Progress, next_line}
 use Rattle.wb_machine.specs.declared.machine.Machine.TheInside.{Inside}
@@ -29,6 +30,9 @@ seen m = record {
   shape = m.state.debug.shape;
   attempts = m.state.debug.attempts;
   steps = m.state.steps;
+  live = headers m.state.debug.heap.row;
+  committed = m.state.debug.committed;
+  level = m.state.debug.heap.level;
   line = m.control.line;
   next = next_line (progress_in m);
   begun = m.begun;

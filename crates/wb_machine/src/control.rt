@@ -24,6 +24,7 @@ ghost use Rattle.wb_machine.specs.Owed.{HasStack, MayAttempt, Stays};
 ghost use Rattle.wb_machine.specs.SlotInvariant.{slots_for, slots_for_all, to_destroy, to_destroy_first, IsFree, HasRoom};
 
 mod calls;
+mod depths;
 mod destroying;
 mod heads;
 mod running;

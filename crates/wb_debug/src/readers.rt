@@ -1,0 +1,42 @@
+//! Readers for those who watch a run: the live cells by place, what they come to, the committed length, and the marks that are
+//! open. Nothing here changes a heap.
+
+ghost use Rattle.std.specs.Prelude.{◌≡◌, length};
+ghost use Rattle.wb_model.specs.LimitedHeap.{next_live_of};
+ghost use Rattle.wb_model.specs.Row.{headers, total_length};
+
+use crate::debug_heap::DebugHeap;
+use wb_model::heap::Header;
+
+impl DebugHeap {
+    /// The first live cell that begins at this place, in bytes, or above it; `None` if there is none.
+    ///
+    /// From place 0 on, and then from the end of each cell that came, this gives every live cell in order of place.
+    pub fn next_live(&self, from: u32) -> Option<Header>
+        ensures { result ≡ next_live_of from (headers self.now.heap.row) }
+    {
+        self.heap.next_live(from)
+    }
+
+    /// The number of live cells, and their cell lengths together, in bytes.
+    pub fn alloc_size(&self) -> (u32, u32)
+        ensures count { result.0 ≡ length self.now.heap.row }
+        ensures total { result.1 ≡ total_length (headers self.now.heap.row) }
+    {
+        self.heap.alloc_size()
+    }
+
+    /// The committed length, in bytes.
+    pub fn committed(&self) -> u32
+        ensures { result ≡ self.now.committed }
+    {
+        self.heap.committed()
+    }
+
+    /// How many marks are open.
+    pub fn level(&self) -> u32
+        ensures { result ≡ self.now.heap.level }
+    {
+        self.level
+    }
+}

@@ -1,0 +1,50 @@
+//! Readers for those who watch a run turn by turn, which its view pins: the live cells, the committed length, the marks that are
+//! open, and the steps. Nothing here takes a turn.
+
+ghost use Rattle.std.specs.Prelude.{◌≡◌, length};
+ghost use Rattle.wb_model.specs.LimitedHeap.{next_live_of};
+ghost use Rattle.wb_model.specs.Row.{total_length};
+
+use crate::machine::Machine;
+use wb_model::heap::Header;
+
+impl<'a> Machine<'a> {
+    /// The first live cell that begins at this place, in bytes, or above it; `None` if there is none. The cleanup stack's own
+    /// cell is one of them.
+    ///
+    /// From place 0 on, and then from the end of each cell that came, this gives every live cell in order of place.
+    pub fn next_live(&self, from: u32) -> Option<Header>
+        ensures { result ≡ next_live_of from self.now.live }
+    {
+        self.state.heap.next_live(from)
+    }
+
+    /// The number of live cells, and their cell lengths together, in bytes.
+    pub fn alloc_size(&self) -> (u32, u32)
+        ensures count { result.0 ≡ length self.now.live }
+        ensures total { result.1 ≡ total_length self.now.live }
+    {
+        self.state.heap.alloc_size()
+    }
+
+    /// The committed length, in bytes.
+    pub fn committed(&self) -> u32
+        ensures { result ≡ self.now.committed }
+    {
+        self.state.heap.committed()
+    }
+
+    /// How many marks are open.
+    pub fn level(&self) -> u32
+        ensures { result ≡ self.now.level }
+    {
+        self.state.heap.level()
+    }
+
+    /// How many steps were counted.
+    pub fn steps(&self) -> u32
+        ensures { result ≡ self.now.steps }
+    {
+        self.state.steps()
+    }
+}

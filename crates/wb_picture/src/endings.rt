@@ -1,0 +1,89 @@
+//! How a run ended: in words, and as a line in its panel.
+
+use crate::labels::{close_line, close_text, open_line, open_text};
+use crate::lines::ScriptLines;
+use crate::scale::{Area, Scale};
+use crate::watch::WatchedRun;
+use std::alloc::AllocError;
+use wb_model::heap::Panic;
+use wb_model::run::{Outcome, Why};
+
+/// How far above the frame the words are, in pixels.
+const ABOVE: u32 = 24;
+
+/// Draws the end of a run that panicked or was cut, or that ended before the other run of its picture.
+pub fn put_ending(
+    text: &mut String,
+    lines: &ScriptLines<'_>,
+    scale: &Scale,
+    run: &WatchedRun,
+) -> Result<(), AllocError> {
+    let x = match &run.result.outcome {
+        Outcome::Panicked(_) => middle_of_last(scale),
+        Outcome::Cut(_) => scale.end(),
+        Outcome::Ended { .. } | Outcome::NoCleanup if scale.end() == scale.frame.right() => {
+            return Ok(());
+        }
+        Outcome::Ended { .. } | Outcome::NoCleanup => scale.end(),
+    };
+    let line = Area {
+        left: x,
+        top: scale.frame.top,
+        right: x,
+        bottom: scale.frame.bottom(),
+    };
+    open_line(text, class_of(&run.result.outcome), line)?;
+    put_outcome(text, &run.result.outcome)?;
+    lines.put_line(text, run.course.line)?;
+    close_line(text)?;
+    put_label(text, scale, run, x)
+}
+
+/// The style of the line at an end.
+fn class_of(outcome: &Outcome) -> &'static str {
+    match outcome {
+        Outcome::Panicked(_) | Outcome::Cut(_) => "end",
+        Outcome::Ended { .. } | Outcome::NoCleanup => "strong",
+    }
+}
+
+fn middle_of_last(scale: &Scale) -> u32 {
+    let left = scale.x_of_step(scale.last);
+    left.saturating_add(scale.end().saturating_sub(left) / 2)
+}
+
+/// Writes how the run ended above its line.
+fn put_label(text: &mut String, scale: &Scale, run: &WatchedRun, x: u32) -> Result<(), AllocError> {
+    let is_right = x > scale.frame.left.saturating_add(scale.frame.width / 2);
+    let class = if is_right { "e" } else { "" };
+    open_text(text, class, x, scale.frame.top.saturating_sub(ABOVE))?;
+    put_outcome(text, &run.result.outcome)?;
+    let (step, line) = (run.course.steps, run.course.line);
+    write!(text, ", in step {step}, line {line}")?;
+    close_text(text)
+}
+
+/// Says how a run ended.
+pub fn put_outcome(text: &mut String, outcome: &Outcome) -> Result<(), AllocError> {
+    match outcome {
+        Outcome::Ended { left, leaks } => put_ended(text, *left, leaks.len()),
+        Outcome::Panicked(Panic::User(number)) => write!(text, "panic USER {number}"),
+        Outcome::Panicked(Panic::Alloc(place)) => write!(text, "panic ALLOC {place:08x}"),
+        Outcome::Panicked(Panic::Workbench(number)) => write!(text, "panic WORKBENCH {number}"),
+        Outcome::NoCleanup => text.push_str("no cleanup stack"),
+        Outcome::Cut(Why::Budget) => text.push_str("cut at the budget"),
+        Outcome::Cut(Why::Ceiling) => text.push_str("cut at the ceiling"),
+    }
+}
+
+fn put_ended(text: &mut String, left: Option<i32>, leaks: usize) -> Result<(), AllocError> {
+    match left {
+        Some(code) => write!(text, "left with {code}")?,
+        None => text.push_str("ended")?,
+    }
+    match leaks {
+        0 => text.push_str(", no leaks"),
+        1 => text.push_str(", 1 leak"),
+        _ => write!(text, ", {leaks} leaks"),
+    }
+}

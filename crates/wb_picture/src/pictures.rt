@@ -1,0 +1,345 @@
+//! The pictures of the four commands: which runs each shows, and how they are put on a page.
+
+ghost use Rattle.std.specs.Prelude.{◌≤◌, IsTrue};
+ghost use Rattle.wb_model.specs.Sound.{is_script};
+
+use crate::columns::Columns;
+use crate::labels::{close_line, close_text, open_line, open_text};
+use crate::lengths::longest_end;
+use crate::lines::{ScriptFile, ScriptLines};
+use crate::page::{close_page, legend_height, open_page, put_heading_text, put_legend};
+use crate::panel::{ABOVE, Panel, UNDER, put_panel};
+use crate::scale::{Area, Frame, Scale};
+use crate::watch::{LocatedAttempt, Setting, WatchedRun, watch_run};
+use std::alloc::{AllocError, Global};
+use wb_model::failures::Failing;
+use wb_model::heap::{Rule, Shape};
+use wb_model::limits::LARGEST_BUDGET;
+use wb_model::memory::NoMemory;
+use wb_model::script::Script;
+
+/// The margins of a picture, in pixels; the right one holds labels, and the table where there is one.
+const LEFT: u32 = 76;
+
+const TOP: u32 = 8;
+
+const RIGHT: u32 = 150;
+
+const TABLE: u32 = 170;
+
+/// How wide a frame is at least, and how high, if there is one or if there are two.
+const LEAST_WIDTH: u32 = 960;
+
+const HEIGHT: u32 = 340;
+
+const HEIGHT_OF_TWO: u32 = 260;
+
+/// The most columns of a picture, and the most rectangles of cells.
+const MOST_COLUMNS: u32 = 2000;
+
+const MOST_CELLS: usize = 3000;
+
+/// Returns the picture of one run of a script in this setting; empty if the shape is none that a heap may have. The only error is
+/// that memory ran out.
+pub fn picture_of_run(
+    alloc: Global,
+    file: ScriptFile<'_>,
+    script: &Script,
+    setting: Setting,
+) -> Result<String, NoMemory>
+    requires script { IsTrue (is_script script.now) }
+    requires least { 1 ≤ setting.budget }
+    requires greatest { setting.budget ≤ LARGEST_BUDGET }
+{
+    match watch_run(alloc, script, setting)? {
+        Some(run) => Ok(draw(alloc, file, &[&run], false)?),
+        None => Ok(String::new(alloc)),
+    }
+}
+
+/// Returns the picture of the run without failure, beside the table of what shorter heaps refuse first. Empty and error as in
+/// `picture_of_run`.
+pub fn picture_of_size(
+    alloc: Global,
+    file: ScriptFile<'_>,
+    script: &Script,
+    budget: u32,
+    shape: Shape,
+) -> Result<String, NoMemory>
+    requires script { IsTrue (is_script script.now) }
+    requires least { 1 ≤ budget }
+    requires greatest { budget ≤ LARGEST_BUDGET }
+{
+    picture_of_failure(alloc, file, script, budget, shape, None, true)
+}
+
+/// Returns the picture of the run without failure, and below it of the run under the failure that was found, if one was. Empty
+/// and error as in `picture_of_run`.
+pub fn picture_of_sweep(
+    alloc: Global,
+    file: ScriptFile<'_>,
+    script: &Script,
+    budget: u32,
+    shape: Shape,
+    found: Option<Failing>,
+) -> Result<String, NoMemory>
+    requires script { IsTrue (is_script script.now) }
+    requires least { 1 ≤ budget }
+    requires greatest { budget ≤ LARGEST_BUDGET }
+{
+    picture_of_failure(alloc, file, script, budget, shape, found, false)
+}
+
+/// The same, with the table of what shorter heaps refuse first.
+pub fn picture_of_check(
+    alloc: Global,
+    file: ScriptFile<'_>,
+    script: &Script,
+    budget: u32,
+    shape: Shape,
+    found: Option<Failing>,
+) -> Result<String, NoMemory>
+    requires script { IsTrue (is_script script.now) }
+    requires least { 1 ≤ budget }
+    requires greatest { budget ≤ LARGEST_BUDGET }
+{
+    picture_of_failure(alloc, file, script, budget, shape, found, true)
+}
+
+fn picture_of_failure(
+    alloc: Global,
+    file: ScriptFile<'_>,
+    script: &Script,
+    budget: u32,
+    shape: Shape,
+    found: Option<Failing>,
+    has_table: bool,
+) -> Result<String, NoMemory>
+    requires script { IsTrue (is_script script.now) }
+    requires least { 1 ≤ budget }
+    requires greatest { budget ≤ LARGEST_BUDGET }
+{
+    let rule = Rule::Unlimited;
+    let setting = Setting {
+        rule,
+        budget,
+        shape,
+    };
+    let Some(plain) = watch_run(alloc, script, setting)? else {
+        return Ok(String::new(alloc));
+    };
+    let Some(rule) = failing_rule(found) else {
+        return Ok(draw(alloc, file, &[&plain], has_table)?);
+    };
+    match watch_run(alloc, script, Setting { rule, ..setting })? {
+        Some(failing) => Ok(draw(alloc, file, &[&plain, &failing], has_table)?),
+        None => Ok(String::new(alloc)),
+    }
+}
+
+/// The rule of the run with the failure that was found; `None` if that is the run without failure.
+fn failing_rule(found: Option<Failing>) -> Option<Rule> {
+    match found? {
+        Failing::Number(0) | Failing::Every(0) => None,
+        found => Some(found.rule()),
+    }
+}
+
+/// What all panels of a picture share.
+#[derive(Clone, Copy)]
+struct Sheet<'a, 'b> {
+    lines: &'a ScriptLines<'b>,
+    columns: Columns,
+    reach: u32,
+    width: u32,
+    height: u32,
+    most_cells: usize,
+}
+
+fn draw(
+    alloc: Global,
+    file: ScriptFile<'_>,
+    runs: &[&WatchedRun],
+    has_table: bool,
+) -> Result<String, AllocError> {
+    let lines = ScriptLines::of(alloc, file)?;
+    let mut text = String::new(alloc);
+    let sheet = sheet_for(&lines, runs);
+    put_page(&mut text, &sheet, runs, has_table)?;
+    Ok(text)
+}
+
+fn put_page(
+    text: &mut String,
+    sheet: &Sheet<'_, '_>,
+    runs: &[&WatchedRun],
+    has_table: bool,
+) -> Result<(), AllocError> {
+    let lines = sheet.lines;
+    let right = LEFT.saturating_add(sheet.width).saturating_add(RIGHT);
+    let width = right.saturating_add(if has_table { TABLE } else { 0 });
+    let bottom = panel_top(sheet, u32::try_from(runs.len()).unwrap_or(2));
+    let legend = legend_height(lines, width.saturating_sub(LEFT));
+    let height = bottom.saturating_add(legend).saturating_add(24);
+    open_page(text, width, height, lines, runs)?;
+    put_panels(text, sheet, runs, has_table)?;
+    put_failing_step(text, sheet, runs)?;
+    put_legend(text, lines, LEFT, width, bottom.saturating_add(14))?;
+    put_note(text, sheet, height.saturating_sub(12))?;
+    close_page(text)
+}
+
+fn put_panels(
+    text: &mut String,
+    sheet: &Sheet<'_, '_>,
+    runs: &[&WatchedRun],
+    has_table: bool,
+) -> Result<(), AllocError> {
+    let mut index = 0u32;
+    for run in runs {
+        let top = panel_top(sheet, index);
+        let panel = Panel {
+            run,
+            lines: sheet.lines,
+            scale: scale_at(sheet, top, run),
+            has_table: has_table && index == 0,
+            most_cells: sheet.most_cells,
+        };
+        put_heading_text(text, run, LEFT, top.saturating_add(16))?;
+        put_panel(text, &panel)?;
+        index = index.saturating_add(1);
+    }
+    Ok(())
+}
+
+/// Draws one line through both panels where the lower run begins to fail.
+fn put_failing_step(
+    text: &mut String,
+    sheet: &Sheet<'_, '_>,
+    runs: &[&WatchedRun],
+) -> Result<(), AllocError> {
+    let [upper, failing] = runs else {
+        return Ok(());
+    };
+    let Some(attempt) = first_failing(failing) else {
+        return Ok(());
+    };
+    put_failing_line(text, sheet, 0, upper, attempt)?;
+    put_failing_line(text, sheet, 1, failing, attempt)
+}
+
+/// The part of the line that is in one panel.
+fn put_failing_line(
+    text: &mut String,
+    sheet: &Sheet<'_, '_>,
+    index: u32,
+    run: &WatchedRun,
+    attempt: LocatedAttempt,
+) -> Result<(), AllocError> {
+    let scale = scale_at(sheet, panel_top(sheet, index), run);
+    let x = scale.x_of_step(attempt.step);
+    let line = Area {
+        left: x,
+        top: scale.frame.top,
+        right: x,
+        bottom: scale
+            .frame
+            .bottom()
+            .saturating_add(UNDER)
+            .saturating_sub(14),
+    };
+    open_line(text, "fail strong", line)?;
+    let (number, step) = (attempt.number, attempt.step);
+    write!(
+        text,
+        "attempt {number}, in step {step}: from here on the run below fails"
+    )?;
+    close_line(text)
+}
+
+/// The first attempt that the run's own rule made fail.
+fn first_failing(run: &WatchedRun) -> Option<LocatedAttempt> {
+    let number = match run.rule {
+        Rule::Number(number) | Rule::Every(number) | Rule::Pair(number, _) => number,
+        Rule::Unlimited | Rule::Limit(_) => return None,
+    };
+    let at = number.checked_sub(1)? as usize;
+    run.course.attempts.get(at).copied()
+}
+
+/// What the panels of these runs share: their columns, their scale of places, and their size.
+fn sheet_for<'a, 'b>(lines: &'a ScriptLines<'b>, runs: &[&WatchedRun]) -> Sheet<'a, 'b> {
+    let mut last = 0;
+    let mut reach = 16;
+    for run in runs {
+        last = run.course.steps.max(last);
+        reach = reach_of(run).max(reach);
+    }
+    let is_one = runs.len() == 1;
+    let most = if is_one {
+        MOST_COLUMNS
+    } else {
+        MOST_COLUMNS / 2
+    };
+    let columns = Columns::up_to(last, most);
+    Sheet {
+        lines,
+        columns,
+        reach,
+        width: columns.count.max(LEAST_WIDTH),
+        height: if is_one { HEIGHT } else { HEIGHT_OF_TWO },
+        most_cells: if is_one { MOST_CELLS } else { MOST_CELLS / 2 },
+    }
+}
+
+/// The place up to which a run's frame reaches: the longest that the heap was, and past that to what was refused and to the limit,
+/// unless these are so far that little would be left for the cells.
+fn reach_of(run: &WatchedRun) -> u32 {
+    let attempts = run.course.attempts.as_slice();
+    let longest = longest_end(attempts);
+    let most = longest.saturating_mul(2).max(512);
+    let mut reach = longest.saturating_add(longest / 16);
+    for it in attempts {
+        reach = it.top().min(most).max(reach);
+    }
+    if let Rule::Limit(limit) = run.rule
+        && limit <= most
+    {
+        reach = limit.saturating_add(limit / 16).max(reach);
+    }
+    reach
+}
+
+/// The top of a panel, by its index.
+fn panel_top(sheet: &Sheet<'_, '_>, index: u32) -> u32 {
+    let height = ABOVE.saturating_add(sheet.height).saturating_add(UNDER);
+    TOP.saturating_add(height.saturating_mul(index))
+}
+
+fn scale_at(sheet: &Sheet<'_, '_>, top: u32, run: &WatchedRun) -> Scale {
+    Scale {
+        frame: Frame {
+            left: LEFT,
+            top: top.saturating_add(ABOVE),
+            width: sheet.width,
+            height: sheet.height,
+        },
+        columns: sheet.columns,
+        reach: sheet.reach,
+        last: run.course.steps,
+    }
+}
+
+/// Says how much is drawn as one.
+fn put_note(text: &mut String, sheet: &Sheet<'_, '_>, y: u32) -> Result<(), AllocError> {
+    if sheet.columns.steps == 1 {
+        return Ok(());
+    }
+    open_text(text, "dim", LEFT, y)?;
+    let steps = sheet.columns.steps;
+    write!(
+        text,
+        "Each column is {steps} steps. What falls in one column and looks the same is drawn as one mark, which says how much it is."
+    )?;
+    close_text(text)
+}

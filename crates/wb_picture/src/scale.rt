@@ -1,0 +1,125 @@
+//! Where steps and places are in a panel. What is drawn there is said elsewhere.
+
+use crate::columns::Columns;
+
+/// The frame of a panel, in pixels from the picture's upper left corner; y grows downwards.
+#[derive(Clone, Copy)]
+pub struct Frame {
+    pub left: u32,
+    pub top: u32,
+    pub width: u32,
+    pub height: u32,
+}
+
+/// A rectangle, in pixels, with its right and lower edges.
+#[derive(Clone, Copy)]
+pub struct Area {
+    pub left: u32,
+    pub top: u32,
+    pub right: u32,
+    pub bottom: u32,
+}
+
+/// Where steps and places are in a frame.
+#[derive(Clone, Copy)]
+pub struct Scale {
+    pub frame: Frame,
+    pub columns: Columns,
+    /// The place at the upper edge, in bytes.
+    pub reach: u32,
+    /// The last step of the run.
+    pub last: u32,
+}
+
+impl Frame {
+    pub fn right(&self) -> u32 {
+        self.left.saturating_add(self.width)
+    }
+
+    pub fn bottom(&self) -> u32 {
+        self.top.saturating_add(self.height)
+    }
+}
+
+impl Area {
+    pub fn width(&self) -> u32 {
+        self.right.saturating_sub(self.left)
+    }
+
+    pub fn height(&self) -> u32 {
+        self.bottom.saturating_sub(self.top)
+    }
+
+    /// The middle of its height.
+    pub fn middle(&self) -> u32 {
+        self.top.saturating_add(self.height() / 2)
+    }
+
+    /// The middle of its width.
+    pub fn centre(&self) -> u32 {
+        self.left.saturating_add(self.width() / 2)
+    }
+
+    /// The same, at least so many pixels wide and high, so that it can be seen.
+    pub fn at_least(self, width: u32, height: u32) -> Area {
+        let missing = height.saturating_sub(self.height());
+        Area {
+            left: self.left,
+            top: self.top.saturating_sub(missing),
+            right: self.right.max(self.left.saturating_add(width)),
+            bottom: self.bottom,
+        }
+    }
+}
+
+impl Scale {
+    /// The left edge of a column.
+    pub fn x(&self, column: u32) -> u32 {
+        let Frame { left, width, .. } = self.frame;
+        left.saturating_add(share_of(column.min(self.columns.count), self.columns.count, width))
+    }
+
+    /// The left edge of a step's column.
+    pub fn x_of_step(&self, step: u32) -> u32 {
+        self.x(self.columns.column(step))
+    }
+
+    /// The right edge of a step's column.
+    pub fn end_of_step(&self, step: u32) -> u32 {
+        self.x(self.columns.column(step).saturating_add(1))
+    }
+
+    /// The right edge of the run's last step.
+    pub fn end(&self) -> u32 {
+        self.end_of_step(self.last)
+    }
+
+    /// The height of a place; one past the reach is at the upper edge.
+    pub fn y(&self, place: u32) -> u32 {
+        let height = self.frame.height;
+        let above = share_of(place.min(self.reach), self.reach, height);
+        self.frame.bottom().saturating_sub(above)
+    }
+
+    /// Whether a place is in the frame.
+    pub fn shows(&self, place: u32) -> bool {
+        place <= self.reach
+    }
+
+    /// The area of what is at these places, from one step on and up to before another.
+    pub fn area(&self, from: u32, until: u32, place: u32, top: u32) -> Area {
+        Area {
+            left: self.x_of_step(from),
+            top: self.y(top),
+            right: self.end_of_step(until.saturating_sub(1).max(from)),
+            bottom: self.y(place),
+        }
+    }
+}
+
+/// A part of a whole, on a length; 0 if the whole is.
+pub fn share_of(part: u32, whole: u32, length: u32) -> u32 {
+    let product = u64::from(part).saturating_mul(u64::from(length));
+    let quotient = product.checked_div(u64::from(whole)).unwrap_or(0);
+    u32::try_from(quotient).unwrap_or(u32::MAX)
+}
