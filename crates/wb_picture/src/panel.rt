@@ -153,7 +153,7 @@ fn put_group(
     let name = group.paint.name();
     let Area { left, top, .. } = group.area;
     let (width, height) = (group.area.width(), group.area.height());
-    let edge = if width < 4 || height < 4 {
+    let edge = if width < 4 || height < 8 {
         "thin"
     } else {
         "cell"
