@@ -78,7 +78,7 @@ text{fill:#222}.dim{fill:#555}.h{font-size:13px;font-weight:bold}
 const SHAPES: &str = ".raw{fill:#56b4e9}.txt{fill:#009e73}.stk{fill:#aaa}
 .ob1{fill:#e69f00}.ob2{fill:#f0e442}.ob3{fill:#cc79a7}.ob4{fill:#0072b2}
 .cell{stroke:#fff;stroke-opacity:.7;stroke-width:.5}
-.leak{fill:#d55e00;stroke:#000;stroke-opacity:1;stroke-width:1}
+.leak{fill:#d55e00}.cell.leak{stroke:#000;stroke-opacity:1;stroke-width:1}
 .n{fill:#000;text-anchor:middle;pointer-events:none}.n4{fill:#fff}
 .c{text-anchor:middle}.e{text-anchor:end}
 .sim{stroke:#d55e00;fill:none;stroke-width:1.5}
@@ -92,6 +92,6 @@ const SHAPES: &str = ".raw{fill:#56b4e9}.txt{fill:#009e73}.stk{fill:#aaa}
 const DARK: &str = "@media(prefers-color-scheme:dark){svg{background:#161616}
 text{fill:#ddd}.dim{fill:#aaa}.n{fill:#000}.n4{fill:#fff}
 .paper{fill:#161616}.plot{fill:#222;stroke:#777}.grid{stroke:#444}
-.strong{stroke:#ddd}.cell{stroke:#222}.leak{stroke:#fff}
+.strong{stroke:#ddd}.cell{stroke:#222}.cell.leak{stroke:#fff}
 .limit{stroke:#56b4e9}.ref{stroke:#56b4e9}.band{fill:#56b4e9}}
 ";

@@ -122,11 +122,12 @@ fn put_tick(
     put_run_title(text, lines, run)?;
     close_line(text)?;
     let number = run.first.number;
-    if x < free {
+    let half = width_of_number(number) / 2;
+    if x < free.saturating_add(half) {
         return Ok(free);
     }
     put_number(text, "c", x, bottom.saturating_sub(TICK + 3), number)?;
-    Ok(x.saturating_add(width_of_number(number)).saturating_add(5))
+    Ok(x.saturating_add(half).saturating_add(5))
 }
 
 /// Draws a mark: a box where the cell would have been, with a cross.

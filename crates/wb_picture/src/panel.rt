@@ -153,7 +153,11 @@ fn put_group(
     let name = group.paint.name();
     let Area { left, top, .. } = group.area;
     let (width, height) = (group.area.width(), group.area.height());
-    let edge = if width < 4 { "thin" } else { "cell" };
+    let edge = if width < 4 || height < 8 {
+        "thin"
+    } else {
+        "cell"
+    };
     write!(
         text,
         "<rect class=\"{edge} {name}\" x=\"{left}\" y=\"{top}\" width=\"{width}\" height=\"{height}\"><title>"
