@@ -27,9 +27,9 @@ returns-in-Fine-clause-pushed c =
     record {
       answer = made.answer;
       items =
-        c.put.ensures.items ∙ ap (λ l. l ++ c.args.item ∷ []) c.make_room.ensures.items.items
-        ∙ one_more (items_of c.args.self.now c.args.heap.now) c.args.item (push_made c.args.self.now c.args.heap.now).gave
-        (apart _ _ c.in-Fine.is made.answer);
+          c.put.ensures.items ∙ ap (λ l. l ++ c.args.item ∷ []) c.make_room.ensures.items.items
+          ∙ one_more (items_of c.args.self.now c.args.heap.now) c.args.item (push_made c.args.self.now c.args.heap.now).gave
+          (apart _ _ c.in-Fine.is made.answer);
       slots = c.put.ensures.slots ∙ made.slots;
       cell = c.put.ensures.cell ∙ made.cell;
       heap = search rules;
