@@ -1,13 +1,28 @@
 -- Proof: find_with_next. The fork is of the lead's own script, budget and shape.
-use Rattle.std.proofs.Common.{rules, ◌≡◌, ℕ, None, IfOk, IfSome}
+use Rattle.std.proofs.Common.{rules, ◌≡◌, ◌+◌, ℕ, None, IfOk, IfSome, sym, subst}
 use Rattle.wb_model.specs.declared.failures.Failures.TheVariants.{Single}
+use Rattle.wb_model.specs.declared.heap.Rule.{Rule}
+use Rattle.wb_model.specs.declared.heap.Rule.TheVariants.{Number}
 use Rattle.wb_model.specs.declared.heap.Shape.{Shape}
 use Rattle.wb_model.specs.declared.script.Script.{Script}
 use Rattle.wb_model.specs.Pairs.{failing_with, pair_run, ArePairsFineWith}
+use Rattle.wb_model.specs.Rest.{SameSoFar}
 use Rattle.wb_model.specs.Sweeps.{runs_of, AreAllFine, IsCutAmong, IsFoundAmong}
+use Rattle.wb_machine.specs.Seen.{Seen}
+use Rattle.wb_sweep.specs.declared.family.Family.TheVariants.{Of}
 use Rattle.wb_sweep.proofs.AnswerLemmas.{map_ok}
+use Rattle.wb_sweep.proofs.FamilyLemmas.{family-fits}
 use Rattle.wb_sweep.proofs.Further.{IsOfSameRun, of-same}
 use Rattle.wb_sweep.proofs.pairs.find_with_next.Goals as goal
+
+-- the lead's rule refuses nothing, and the fork's nothing of the attempts that were made
+pub set_rule-requires-clause-same : goal.set_rule-requires-clause-same
+set_rule-requires-clause-same g c =
+    let lead = c.args.lead.now in
+    let fits : SameSoFar (Number (lead.attempts + 1)) (Number 0) lead.attempts = family-fits (Of Single) lead.attempts in
+    subst (λ (m : Seen). SameSoFar (Number c.args.number) m.rule m.attempts) (sym c.in_ok-fork.ensures)
+    (subst (λ (q : Rule). SameSoFar (Number c.args.number) q lead.attempts) (sym c.requires.rule)
+    (subst (λ n. SameSoFar (Number n) (Number 0) lead.attempts) (sym c.requires.number) fits))
 
 pub find_along-requires-clause-alone : goal.find_along-requires-clause-alone
 find_along-requires-clause-alone g c =
